@@ -3,10 +3,9 @@ use Rattle.std.proofs.Common.{◌≡◌, ◌∙◌, inl, inr, sym, ap, subst, re
 use Rattle.std.specs.List.{filter}
 use Rattle.pim_addr.specs.declared.family.AddressFamily.{AddressFamily}
 use Rattle.pim_addr.specs.Routes.{RouteTable}
-use Rattle.pim_capture.specs.Capture.{Answer}
 use Rattle.pim_files.specs.declared.fault.OpenFault.{OpenFault}
 use Rattle.pim_files.specs.declared.fault.OpenFault.TheVariants as opening
-use Rattle.pim_files.specs.Captures.{file_name, is_of, HoldFiles, HoldFilesBy, StopsAtPort}
+use Rattle.pim_files.specs.Captures.{file_name, is_of, HoldFiles, StopsAtPort}
 use Rattle.pim_files.specs.Files.{Files, Known, Grows, AsksFor, AsksFront}
 use Rattle.pim_files.specs.Table.{IsTable, IsTableFault, table_names}
 use Rattle.pim_merge.specs.Next.{MergeState}
@@ -66,10 +65,10 @@ front_after a b c xs ys p q = record {
 module _ {A R : Type 0} (family : AddressFamily) (bytes_of : A → List ℕ) (remaining : R → Option (List ℕ)) (failures : R → ℕ) (known last : Known) (captures : Captures A)
     (upstream : Option A) where
   -- of one router
-  pub over_open : (results : List ℕ → List Answer) (Answers : RouteTable → MergeState → MergeState → Type 0) (table : RouteTable) (merge merge' : MergeState)
-      → IsOpen family bytes_of remaining failures known last captures upstream table results merge → Answers table merge merge'
-      → OverOne family bytes_of remaining failures known last captures upstream results Answers
-  over_open results Answers table merge merge' o is = record {
+  pub over_open : (Answers : RouteTable → MergeState → MergeState → Type 0) (table : RouteTable) (merge merge' : MergeState)
+      → IsOpen family bytes_of remaining failures known last captures upstream table merge → Answers table merge merge'
+      → OverOne family bytes_of remaining failures known last captures upstream Answers
+  over_open Answers table merge merge' o is = record {
     table = table;
     is_table = o.is_table;
     merge = merge;
@@ -144,15 +143,15 @@ module _ {A R : Type 0} (family : AddressFamily) (bytes_of : A → List ℕ) (re
       (subst (λ (l : List (Port A)). AsksFor middle last (map file_name l)) same asked)
 
   -- the captures of one router are open
-  pub is_open : (results : List ℕ → List Answer) (table : RouteTable) (merge : MergeState) (ports : List (Port A)) → ports ≡ captures.ports.items
+  pub is_open : (table : RouteTable) (merge : MergeState) (ports : List (Port A)) → ports ≡ captures.ports.items
       → IsTable family bytes_of remaining failures known.files captures upstream table → AsksFor known middle (table_names captures)
-      → length merge.lanes ≡ length ports → merge.clock ≡ None → HoldFilesBy results middle.files ports merge.lanes → AsksFor middle last (map file_name ports)
-      → IsOpen family bytes_of remaining failures known last captures upstream table results merge
-  is_open results table merge ports same is_table named each untaken held asked = record {
+      → length merge.lanes ≡ length ports → merge.clock ≡ None → HoldFiles middle.files ports merge.lanes → AsksFor middle last (map file_name ports)
+      → IsOpen family bytes_of remaining failures known last captures upstream table merge
+  is_open table merge ports same is_table named each untaken held asked = record {
     is_table = is_table;
     each = each ∙ ap length same;
     untaken = untaken;
-    held = subst (λ (l : List (Port A)). HoldFilesBy results known.files l merge.lanes) same (subst (λ (f : Option Files). HoldFilesBy results f ports merge.lanes) named.files held);
+    held = subst (λ (l : List (Port A)). HoldFiles known.files l merge.lanes) same (subst (λ (f : Option Files). HoldFiles f ports merge.lanes) named.files held);
     asked = names_asked ports same named asked;
   }
 

@@ -2,8 +2,7 @@
 use Rattle.std.specs.Prelude.{◌≡◌, ℕ, List, ◌++◌, length, map, filter, Option, None, Err}
 use Rattle.pim_addr.specs.declared.family.AddressFamily.{AddressFamily}
 use Rattle.pim_addr.specs.Routes.{RouteTable}
-use Rattle.pim_capture.specs.Capture.{Answer}
-use Rattle.pim_files.specs.Captures.{file_name, is_of, HoldFiles, HoldFilesBy}
+use Rattle.pim_files.specs.Captures.{file_name, is_of, HoldFiles}
 use Rattle.pim_files.specs.Files.{Known, AsksFor}
 use Rattle.pim_files.specs.Table.{IsTable, table_names}
 use Rattle.pim_merge.specs.Next.{MergeState}
@@ -18,13 +17,12 @@ IsUnwritten fault = (before : ℕ) → before ≡ write_failures_after {A = ℕ}
 
 module _ {A R : Type 0} (family : AddressFamily) (bytes_of : A → List ℕ) (remaining : R → Option (List ℕ))
     (failures : R → ℕ) (known known' : Known) (captures : Captures A) (upstream : Option A) (table : RouteTable) where
-  -- There are a table and the captures of one router, of which nothing was read. `results` gives the
-  -- results for the bytes of a file.
-  pub record IsOpen (results : List ℕ → List Answer) (merge : MergeState) : Type 0 where
+  -- There are a table and the captures of one router, of which nothing was read.
+  pub record IsOpen (merge : MergeState) : Type 0 where
     pub is_table : IsTable family bytes_of remaining failures known.files captures upstream table
     pub each : length merge.lanes ≡ length captures.ports.items
     pub untaken : merge.clock ≡ None
-    pub held : HoldFilesBy results known.files captures.ports.items merge.lanes
+    pub held : HoldFiles known.files captures.ports.items merge.lanes
     pub asked : AsksFor known known' (table_names captures ++ map file_name captures.ports.items)
 
   -- The same for two routers.

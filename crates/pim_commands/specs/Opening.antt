@@ -6,14 +6,11 @@ use Rattle.std.specs.Prelude.{Option, None, Some, Result, Ok, Err}
 use Rattle.pim_addr.specs.declared.family.AddressFamily.{AddressFamily}
 use Rattle.pim_addr.specs.Routes.{RouteTable}
 use Rattle.pim_files.specs.declared.fault.OpenFault.{OpenFault}
-use Rattle.pim_capture.specs.Capture.{Answer, answers as results_of}
-use Rattle.pim_container.specs.declared.choice.Choice.{Choice}
-use Rattle.pim_files.specs.Captures.{file_name, is_of, HoldFiles, HoldFilesBy, StopsAtPort}
+use Rattle.pim_files.specs.Captures.{file_name, is_of, HoldFiles, StopsAtPort}
 use Rattle.pim_files.specs.Files.{Known, AsksFor, AsksFront}
 use Rattle.pim_files.specs.Table.{IsTable, IsTableFault, table_names}
 use Rattle.pim_form.specs.Messages.{Writing as MessageWriting}
 use Rattle.pim_form.specs.Seen.{writing_seen}
-use Rattle.pim_merge.specs.Chosen.{answers_by}
 use Rattle.pim_merge.specs.Next.{MergeState}
 use Rattle.pim_router.specs.Seen.{setup_seen}
 use Rattle.pim_router.specs.State.{Setup}
@@ -61,19 +58,18 @@ module _ {A R : Type 0} (family : AddressFamily) (bytes_of : A → List ℕ) (re
   Opens old new (Err fault) Answered = (OpensNot fault × (new ≡ old)) ⊎ Answered
 
   -- The result is so over a table and the captures of one router. They are those of its ports'
-  -- files, in their order, and nothing of them was read before all were open. `results` gives the
-  -- results for the bytes of a file.
-  pub record OverOne (results : List ℕ → List Answer) (Answers : RouteTable → MergeState → MergeState → Type 0) : Type 0
-    where
-      pub table : RouteTable
-      pub is_table : IsTable family bytes_of remaining failures known.files captures upstream table
-      pub merge : MergeState
-      pub merge' : MergeState
-      pub each : length merge.lanes ≡ length captures.ports.items
-      pub untaken : merge.clock ≡ None
-      pub held : HoldFilesBy results known.files captures.ports.items merge.lanes
-      pub asked : AsksFor known known' names
-      pub answers : Answers table merge merge'
+  -- files, in their order, each by the link of its port, and nothing of them was read before all
+  -- were open.
+  pub record OverOne (Answers : RouteTable → MergeState → MergeState → Type 0) : Type 0 where
+    pub table : RouteTable
+    pub is_table : IsTable family bytes_of remaining failures known.files captures upstream table
+    pub merge : MergeState
+    pub merge' : MergeState
+    pub each : length merge.lanes ≡ length captures.ports.items
+    pub untaken : merge.clock ≡ None
+    pub held : HoldFiles known.files captures.ports.items merge.lanes
+    pub asked : AsksFor known known' names
+    pub answers : Answers table merge merge'
 
   -- The same for two routers, each with the captures of its own ports.
   pub record OverBoth (Answers : RouteTable → MergeState → MergeState → MergeState → MergeState → Type 0) : Type 0
@@ -93,10 +89,6 @@ module _ {A R : Type 0} (family : AddressFamily) (bytes_of : A → List ℕ) (re
       pub asked : AsksFor known known' names
       pub answers : Answers table merge merge' other other'
 
--- Each packet is taken, as long as all are of one VLAN and interface.
-abbrev pub each_packet : Choice
-each_packet = record { vlan = None; interface = None; index = None; sent = true }
-
 -- ---- what each command returns and writes
 
 module _ {A R : Type 0} (family : AddressFamily) (bytes_of : A → List ℕ) (remaining : R → Option (List ℕ))
@@ -114,16 +106,10 @@ module _ {A R : Type 0} (family : AddressFamily) (bytes_of : A → List ℕ) (re
   writing_of writing = writing_seen bytes_of writing.upstream writing.own writing.holdtime writing.budget
 
   -- The result has the property, over what is opened for one router.
-  abbrev pub OpensBy : (List ℕ → List Answer) → Option A → Option (List ℕ) → Option (List ℕ) → Result ℕ Fault →
-      (RouteTable → MergeState → MergeState → Type 0) → Type 0
-  OpensBy results upstream old new result Answers =
-      Opens family bytes_of remaining failures known known' captures upstream old new result
-      (OverOne family bytes_of remaining failures known known' captures upstream results Answers)
-
-  -- The same for classic captures.
   abbrev pub OpensOne : Option A → Option (List ℕ) → Option (List ℕ) → Result ℕ Fault →
       (RouteTable → MergeState → MergeState → Type 0) → Type 0
-  OpensOne upstream old new result Answers = OpensBy results_of upstream old new result Answers
+  OpensOne upstream old new result Answers = Opens family bytes_of remaining failures known known' captures upstream
+      old new result (OverOne family bytes_of remaining failures known known' captures upstream Answers)
 
   -- The result has the property, over what is opened for two routers.
   abbrev pub OpensBoth : Option A → Option (List ℕ) → Option (List ℕ) → Result ℕ Fault →
@@ -136,9 +122,9 @@ module _ {A R : Type 0} (family : AddressFamily) (bytes_of : A → List ℕ) (re
   ReplaysFiles old new result = OpensOne None old new result (λ table merge merge'.
       ReplaysNew family (is_some captures.routes) (end_of captures) merge merge' (setup_under table) old new result)
 
-  -- What `trace` returns and writes. It reads any container.
+  -- What `trace` returns and writes.
   abbrev pub TracesFiles : Tracing A → Option (List ℕ) → Option (List ℕ) → Result ℕ Fault → Type 0
-  TracesFiles tracing old new result = OpensBy (answers_by each_packet) None old new result (λ table merge merge'.
+  TracesFiles tracing old new result = OpensOne None old new result (λ table merge merge'.
       TracesNew family (line_of family bytes_of (names_of 0 tracing.names.items) tracing) (end_of captures) merge merge'
       (setup_under table) old new result)
 

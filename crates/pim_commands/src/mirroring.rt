@@ -152,7 +152,7 @@ pub fn mirror<'a, F: Family, O: Opener, W: Drain>(
     ensures count { W.failures writer.new ≡ write_failures_after (W.failures writer.old) result }
 {
     let upstream = Some(writing.upstream);
-    let mut files = match open_one::<F, O>(alloc, opener, captures, upstream, None) {
+    let mut files = match open_one::<F, O>(alloc, opener, captures, upstream) {
         Ok(files) => files,
         Err(fault) => return Err(fault),
     };

@@ -1,13 +1,11 @@
 //! The files that words name, opened: the table of routes, and the captures of one router or two.
 
 ghost use Rattle.std.specs.Prelude.{IfOk, IfErr};
-ghost use Rattle.pim_files.specs.Captures.{results_by};
 ghost use Rattle.pim_commands.specs.Opened.{IsOpen, AreOpen};
 ghost use Rattle.pim_commands.specs.Opening.{OpensNot};
 
 use pim_addr::{Family, Feed, Routes};
 use pim_check::Fault;
-use pim_container::Choice;
 use pim_files::{Opener, Pair, open_all, open_both, table};
 use pim_merge::Merge;
 use pim_words::Captures;
@@ -27,8 +25,7 @@ pub(crate) struct OpenTwo<F: Family, R: Feed + Drop> {
     pub(crate) pair: Pair<R>,
 }
 
-/// Reads the file of routes, then opens the captures of one router: any container with this choice
-/// of packets, or without one classic captures.
+/// Reads the file of routes, then opens the captures of one router, each by the link of its port.
 ///
 /// # Errors
 /// The fault of the first file that isn't open.
@@ -37,20 +34,19 @@ pub(crate) fn open_one<'a, F: Family, O: Opener>(
     opener: &mut O,
     captures: &Captures<'a, F::Addr>,
     upstream: Option<F::Addr>,
-    choice: Option<Choice>,
 ) -> Result<OpenOne<F, O::Reader>, Fault<'a>>
     ensures opened { IfOk result (λ files. IsOpen F.family F.bytes_of O.Reader.remaining
         O.Reader.failures (O.known opener.old) (O.known opener.new) captures.now upstream
-        files.routes (results_by choice) files.merge) }
+        files.routes files.merge) }
     ensures unopened { IfErr result (OpensNot F.family F.bytes_of O.Reader.remaining
         O.Reader.failures (O.known opener.old) (O.known opener.new) captures.now upstream) }
 {
     let routes = table::<F, O>(alloc, opener, captures, upstream)?;
-    let merge = open_all(alloc, opener, &captures.ports, choice)?;
+    let merge = open_all(alloc, opener, &captures.ports)?;
     Ok(OpenOne { routes, merge })
 }
 
-/// Reads the file of routes, then opens the captures of two routers.
+/// Reads the file of routes, then opens the captures of two routers, each by the link of its port.
 ///
 /// # Errors
 /// The fault of the first file that isn't open.

@@ -219,7 +219,7 @@ pub fn replay<'a, F: Family, O: Opener, W: Drain>(
         (W.contents writer.old) (W.contents writer.new) result }
     ensures count { W.failures writer.new ≡ write_failures_after (W.failures writer.old) result }
 {
-    let mut files = match open_one::<F, O>(alloc, opener, captures, None, None) {
+    let mut files = match open_one::<F, O>(alloc, opener, captures, None) {
         Ok(files) => files,
         Err(fault) => return Err(fault),
     };

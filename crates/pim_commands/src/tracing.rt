@@ -19,7 +19,6 @@ use crate::opening::open_one;
 use crate::replaying::{capture_fault, configs, end_of, router_of};
 use pim_addr::{Drain, Family, Feed, Routes};
 use pim_check::Fault;
-use pim_container::Choice;
 use pim_event_lines::{JsonPrinter, TextPrinter};
 use pim_events::{Filter, Name};
 use pim_files::Opener;
@@ -28,14 +27,6 @@ use pim_router::Router;
 use pim_trace::{TraceFault, trace_into};
 use pim_words::{Captures, TimeForm, Tracing};
 use std::alloc::{AllocError, Global};
-
-/// Takes each packet, as long as all are of one VLAN and interface.
-const EACH_PACKET: Choice = Choice {
-    vlan: None,
-    interface: None,
-    index: None,
-    sent: true,
-};
 
 /// The form of moments that the words ask for, as the printer of text takes it.
 fn form_of(form: TimeForm) -> pim_event_lines::TimeForm
@@ -204,7 +195,7 @@ pub fn trace<'a, F: Family, O: Opener, W: Drain>(
         (W.contents writer.old) (W.contents writer.new) result }
     ensures count { W.failures writer.new ≡ write_failures_after (W.failures writer.old) result }
 {
-    let mut files = match open_one::<F, O>(alloc, opener, captures, None, Some(EACH_PACKET)) {
+    let mut files = match open_one::<F, O>(alloc, opener, captures, None) {
         Ok(files) => files,
         Err(fault) => return Err(fault),
     };

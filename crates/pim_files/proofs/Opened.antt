@@ -5,20 +5,20 @@ use Rattle.std.specs.List.{filter}
 use Rattle.std.proofs.lemmas.List.{take-append-drop, map-append, length-map, length-append}
 use Rattle.std.proofs.lemmas.List.Elements.{filter-append}
 use Rattle.std.proofs.lemmas.Bool.{false≢true}
-use Rattle.pim_capture.specs.Capture.{Answer, answers}
+use Rattle.pim_capture.specs.Capture.{Answer}
 use Rattle.pim_merge.specs.Lane.{LaneState, coming_on}
 use Rattle.pim_words.specs.declared.fault.Side.{Side}
 use Rattle.pim_words.specs.declared.task.Port.{Port}
 use Rattle.pim_words.specs.Faults.{is_side}
 use Rattle.pim_files.specs.declared.fault.OpenFault.{OpenFault}
 use Rattle.pim_files.specs.Files.{Files, Known, AsksFor}
-use Rattle.pim_files.specs.Captures.{file_name, IsPortFault, AreContents, CanOpen, AreFiles, HoldFilesBy, HoldFiles, StopsAtPort, is_of, one_of, AddsLane}
+use Rattle.pim_files.specs.Captures.{file_name, IsPortFault, AreContents, CanOpen, results_by, results_of, AreFiles, HoldFiles, StopsAtPort, is_of, one_of, AddsLane}
 use Rattle.pim_files.proofs.Asked.{asks_more}
 
 -- no captures of no ports
-pub none_held : (A : Type 0) (results : List ℕ → List Answer) (known : Option Files) (lanes : List LaneState) → lanes ≡ [] → HoldFilesBy {A = A} results known [] lanes
-none_held A results None lanes none = tt
-none_held A results (Some files) lanes none = record { contents = []; are = refl; coming = ap (map coming_on) none }
+pub none_held : (A : Type 0) (known : Option Files) (lanes : List LaneState) → lanes ≡ [] → HoldFiles {A = A} known [] lanes
+none_held A None lanes none = tt
+none_held A (Some files) lanes none = record { results = []; are = refl; coming = ap (map coming_on) none }
 
 -- one capture more
 pub lanes_more : (lanes lanes' : List LaneState) (one : Option (List Answer)) → map coming_on lanes' ≡ map coming_on lanes ++ one ∷ [] → length lanes' ≡ length lanes + 1
@@ -59,46 +59,41 @@ module _ {A : Type 0} where
 
   -- ---- captures
 
-  one_more_content : (results : List ℕ → List Answer) (files : Files) (ports : List (Port A)) (port : Port A) (held remaining : Option (List ℕ)) (lanes lanes' : List LaneState)
-      → files (file_name port) ≡ held → AreFiles results files ports lanes → IsSome held × (remaining ≡ held)
-      → map coming_on lanes' ≡ map coming_on lanes ++ option_map results remaining ∷ [] → AreFiles results files (ports ++ port ∷ []) lanes'
-  one_more_content results files ports port None remaining lanes lanes' is are opened more = absurd (false≢true opened.0)
-  one_more_content results files ports port (Some content) remaining lanes lanes' is are opened more = record {
-    contents = are.contents ++ content ∷ [];
-    are = map-append (λ p. files (file_name p)) ports (port ∷ [])
-        ∙ ap (λ l. l ++ files (file_name port) ∷ []) are.are
-        ∙ ap (λ o. map Some are.contents ++ o ∷ []) is
-        ∙ sym (map-append Some are.contents (content ∷ []));
+  one_more_result : (files : Files) (ports : List (Port A)) (port : Port A) (held remaining : Option (List ℕ)) (lanes lanes' : List LaneState)
+      → files (file_name port) ≡ held → AreFiles files ports lanes → IsSome held × (remaining ≡ held)
+      → map coming_on lanes' ≡ map coming_on lanes ++ option_map (results_by port.link) remaining ∷ [] → AreFiles files (ports ++ port ∷ []) lanes'
+  one_more_result files ports port None remaining lanes lanes' is are opened more = absurd (false≢true opened.0)
+  one_more_result files ports port (Some content) remaining lanes lanes' is are opened more = record {
+    results = are.results ++ results_by port.link content ∷ [];
+    are = map-append (results_of files) ports (port ∷ [])
+        ∙ ap (λ l. l ++ results_of files port ∷ []) are.are
+        ∙ ap (λ o. map Some are.results ++ option_map (results_by port.link) o ∷ []) is
+        ∙ sym (map-append Some are.results (results_by port.link content ∷ []));
     coming = more
-        ∙ ap (λ l. l ++ option_map results remaining ∷ []) are.coming
-        ∙ ap (λ o. map Some (map results are.contents) ++ option_map results o ∷ []) opened.1
-        ∙ sym (map-append Some (map results are.contents) (results content ∷ []))
-        ∙ sym (ap (map Some) (map-append results are.contents (content ∷ [])));
+        ∙ ap (λ l. l ++ option_map (results_by port.link) remaining ∷ []) are.coming
+        ∙ ap (λ o. map Some are.results ++ option_map (results_by port.link) o ∷ []) opened.1
+        ∙ sym (map-append Some are.results (results_by port.link content ∷ []));
   }
 
   -- one more capture
-  one_more_held : (results : List ℕ → List Answer) (known : Option Files) (ports : List (Port A)) (port : Port A) (remaining : Option (List ℕ)) (lanes lanes' : List LaneState)
-      → HoldFilesBy results known ports lanes → IfSome known (λ files. IsSome (files (file_name port)) × (remaining ≡ files (file_name port)))
-      → map coming_on lanes' ≡ map coming_on lanes ++ option_map results remaining ∷ [] → HoldFilesBy results known (ports ++ port ∷ []) lanes'
-  one_more_held results None ports port remaining lanes lanes' are opened more = tt
-  one_more_held results (Some files) ports port remaining lanes lanes' are opened more =
-      one_more_content results files ports port (files (file_name port)) remaining lanes lanes' refl are opened more
+  one_more_held : (known : Option Files) (ports : List (Port A)) (port : Port A) (remaining : Option (List ℕ)) (lanes lanes' : List LaneState)
+      → HoldFiles known ports lanes → IfSome known (λ files. IsSome (files (file_name port)) × (remaining ≡ files (file_name port)))
+      → map coming_on lanes' ≡ map coming_on lanes ++ option_map (results_by port.link) remaining ∷ [] → HoldFiles known (ports ++ port ∷ []) lanes'
+  one_more_held None ports port remaining lanes lanes' are opened more = tt
+  one_more_held (Some files) ports port remaining lanes lanes' are opened more =
+      one_more_result files ports port (files (file_name port)) remaining lanes lanes' refl are opened more
 
   -- the capture of the port at this place
-  pub one_more_lane : (results : List ℕ → List Answer) (known known' : Option Files) (ports : List (Port A)) (place next : ℕ) (port : Port A) (remaining : Option (List ℕ)) (lanes lanes' : List LaneState)
+  pub one_more_lane : (known known' : Option Files) (ports : List (Port A)) (place next : ℕ) (port : Port A) (remaining : Option (List ℕ)) (lanes lanes' : List LaneState)
       → known' ≡ known → next ≡ suc place → place < length ports → port ≡ get_or ports place port
-      → HoldFilesBy results known (take place ports) lanes → IfSome known' (λ files. IsSome (files (file_name port)) × (remaining ≡ files (file_name port)))
-      → map coming_on lanes' ≡ map coming_on lanes ++ option_map results remaining ∷ [] → HoldFilesBy results known (take next ports) lanes'
-  one_more_lane results known known' ports place next port remaining lanes lanes' same is below here are opened more =
-      subst (λ l. HoldFilesBy results known l lanes') (sym (one_more_port ports place next port is below here))
-      (one_more_held results known (take place ports) port remaining lanes lanes' are
+      → HoldFiles known (take place ports) lanes → IfSome known' (λ files. IsSome (files (file_name port)) × (remaining ≡ files (file_name port)))
+      → map coming_on lanes' ≡ map coming_on lanes ++ option_map (results_by port.link) remaining ∷ [] → HoldFiles known (take next ports) lanes'
+  one_more_lane known known' ports place next port remaining lanes lanes' same is below here are opened more =
+      subst (λ l. HoldFiles known l lanes') (sym (one_more_port ports place next port is below here))
+      (one_more_held known (take place ports) port remaining lanes lanes' are
       (subst (λ (k : Option Files). IfSome k (λ files. IsSome (files (file_name port)) × (remaining ≡ files (file_name port)))) same opened) more)
 
   -- ---- a port whose file isn't open
-
-  present : (results : List ℕ → List Answer) (known : Option Files) (ports : List (Port A)) (lanes : List LaneState) → HoldFilesBy results known ports lanes → CanOpen known ports
-  present results None ports lanes are = tt
-  present results (Some files) ports lanes are = (are.contents, are.are)
 
   pub stops_after : (known known' : Option Files) (ports : List (Port A)) (place : ℕ) (port : Port A) (fault : OpenFault)
       → known' ≡ known → place < length ports → port ≡ get_or ports place port → CanOpen known (take place ports) → IsPortFault known' port fault → StopsAtPort known ports fault
@@ -111,21 +106,16 @@ module _ {A : Type 0} where
     opened = are;
   }
 
-  pub stops : (results : List ℕ → List Answer) (known known' : Option Files) (ports : List (Port A)) (place : ℕ) (port : Port A) (lanes : List LaneState) (fault : OpenFault)
-      → known' ≡ known → place < length ports → port ≡ get_or ports place port → HoldFilesBy results known (take place ports) lanes → IsPortFault known' port fault → StopsAtPort known ports fault
-  stops results known known' ports place port lanes fault same below here are wrong =
-      stops_after known known' ports place port fault same below here (present results known (take place ports) lanes are) wrong
-
   -- ---- two routers
 
   coming_same : (known : Option Files) (ports : List (Port A)) (lanes lanes' : List LaneState) → map coming_on lanes' ≡ map coming_on lanes → HoldFiles known ports lanes → HoldFiles known ports lanes'
   coming_same None ports lanes lanes' same are = tt
-  coming_same (Some files) ports lanes lanes' same are = record { contents = are.contents; are = are.are; coming = same ∙ are.coming }
+  coming_same (Some files) ports lanes lanes' same are = record { results = are.results; are = are.are; coming = same ∙ are.coming }
 
   one_more_if : (known : Option Files) (ports : List (Port A)) (port : Port A) (remaining : Option (List ℕ)) (lanes lanes' : List LaneState) (b : Bool)
       → HoldFiles known ports lanes → IfSome known (λ files. IsSome (files (file_name port)) × (remaining ≡ files (file_name port)))
-      → map coming_on lanes' ≡ map coming_on lanes ++ cond b (option_map answers remaining ∷ []) [] → HoldFiles known (ports ++ cond b (port ∷ []) []) lanes'
-  one_more_if known ports port remaining lanes lanes' true are opened more = one_more_held answers known ports port remaining lanes lanes' are opened more
+      → map coming_on lanes' ≡ map coming_on lanes ++ cond b (option_map (results_by port.link) remaining ∷ []) [] → HoldFiles known (ports ++ cond b (port ∷ []) []) lanes'
+  one_more_if known ports port remaining lanes lanes' true are opened more = one_more_held known ports port remaining lanes lanes' are opened more
   one_more_if known ports port remaining lanes lanes' false are opened more =
       subst (λ l. HoldFiles known l lanes') (sym (append-nil ports)) (coming_same known ports lanes lanes' (more ∙ append-nil (map coming_on lanes)) are)
 
@@ -133,7 +123,7 @@ module _ {A : Type 0} where
   pub one_more_of : (side : Side) (known known' : Option Files) (ports : List (Port A)) (place next : ℕ) (port : Port A) (remaining : Option (List ℕ)) (lanes lanes' : List LaneState)
       → known' ≡ known → next ≡ suc place → place < length ports → port ≡ get_or ports place port
       → HoldFiles known (filter (is_of side) (take place ports)) lanes → IfSome known' (λ files. IsSome (files (file_name port)) × (remaining ≡ files (file_name port)))
-      → AddsLane side port.side remaining lanes lanes' → HoldFiles known (filter (is_of side) (take next ports)) lanes'
+      → AddsLane side port.side port.link remaining lanes lanes' → HoldFiles known (filter (is_of side) (take next ports)) lanes'
   one_more_of side known known' ports place next port remaining lanes lanes' same is below here are opened more =
       subst (λ l. HoldFiles known l lanes') (sym (ap (filter (is_of side)) (one_more_port ports place next port is below here) ∙ filter-append (is_of side) (take place ports) (port ∷ [])))
       (one_more_if known (filter (is_of side) (take place ports)) port remaining lanes lanes' (is_side side port.side) are

@@ -1,11 +1,12 @@
 -- The captures of ports that are opened one by one. `known` is what files hold, where it is known.
-use Rattle.std.specs.Prelude.{◌≡◌, ⊤, ℕ, Bool, cond, List, [], ◌∷◌, ◌++◌, map}
+use Rattle.std.specs.Prelude.{◌≡◌, ⊤, ℕ, Bool, cond, true, List, [], ◌∷◌, ◌++◌, map}
 use Rattle.std.specs.Prelude.{Option, None, Some, IsSome, IfSome, option_map}
 use Rattle.pim_capture.specs.Capture.{Answer, answers}
 use Rattle.pim_container.specs.declared.choice.Choice.{Choice}
 use Rattle.pim_merge.specs.Lane.{LaneState, IsComing, coming_on}
 use Rattle.pim_merge.specs.Chosen.{answers_by}
 use Rattle.pim_words.specs.declared.fault.Side.{Side}
+use Rattle.pim_words.specs.declared.task.Link.{Link}
 use Rattle.pim_words.specs.declared.task.Port.{Port}
 use Rattle.pim_words.specs.Faults.{is_side}
 use Rattle.pim_files.specs.declared.fault.OpenFault.{OpenFault}
@@ -41,26 +42,30 @@ AreContents files ports contents = map (λ port. files (file_name port)) ports �
 abbrev pub CanOpen : {A : Type 0} → Option Files → List (Port A) → Type 0
 CanOpen known ports = IfSome known (λ files. (contents : List (List ℕ)) × AreContents files ports contents)
 
--- The results for the bytes of a file: of any container by this choice, or of a classic capture.
-abbrev pub results_by : Option Choice → List ℕ → List Answer
+-- The packets that are taken of a link: those of its VLAN and of its interface, and those that the
+-- host sent itself, too.
+abbrev pub choice_of : Link → Choice
+choice_of link = record { vlan = link.vlan; interface = link.interface; index = None; sent = true }
+
+-- The results for the bytes of a file: of any container by this link, or of a classic capture.
+abbrev pub results_by : Option Link → List ℕ → List Answer
 results_by None = answers
-results_by (Some choice) = answers_by choice
+results_by (Some link) = answers_by (choice_of link)
+
+-- The results of a port's file by the port's link, if it can be opened.
+abbrev pub results_of : {A : Type 0} → Files → Port A → Option (List Answer)
+results_of files port = option_map (results_by port.link) (files (file_name port))
 
 -- These captures are those of the ports' files, in their order. Nothing of them is read: each has
--- all results of its file to return. `results` gives those for the bytes of a file.
-pub record AreFiles {A : Type 0} (results : List ℕ → List Answer) (files : Files) (ports : List (Port A))
-    (lanes : List LaneState) : Type 0 where
-  pub contents : List (List ℕ)
-  pub are : AreContents files ports contents
-  pub coming : IsComing lanes (map results contents)
+-- all results of its file to return, by the link of its port.
+pub record AreFiles {A : Type 0} (files : Files) (ports : List (Port A)) (lanes : List LaneState) : Type 0 where
+  pub results : List (List Answer)
+  pub are : map (results_of files) ports ≡ map Some results
+  pub coming : IsComing lanes results
 
 -- The same, where it is known what files hold.
-abbrev pub HoldFilesBy : {A : Type 0} → (List ℕ → List Answer) → Option Files → List (Port A) → List LaneState → Type 0
-HoldFilesBy results known ports lanes = IfSome known (λ files. AreFiles results files ports lanes)
-
--- The same for classic captures.
 abbrev pub HoldFiles : {A : Type 0} → Option Files → List (Port A) → List LaneState → Type 0
-HoldFiles known ports lanes = HoldFilesBy answers known ports lanes
+HoldFiles known ports lanes = IfSome known (λ files. AreFiles files ports lanes)
 
 -- This port's file isn't open. It is the first such one: the files of the ports before it can be
 -- opened.
@@ -82,7 +87,8 @@ is_of side port = is_side side port.side
 abbrev pub one_of : Side → Side → ℕ
 one_of side other = cond (is_side side other) 1 0
 
--- The capture of this reader is one more of the router `side` if its port is one of that router.
-abbrev pub AddsLane : Side → Side → Option (List ℕ) → List LaneState → List LaneState → Type 0
-AddsLane side other remaining old new =
-    map coming_on new ≡ map coming_on old ++ cond (is_side side other) (option_map answers remaining ∷ []) []
+-- The capture of this reader, by this link, is one more of the router `side` if its port is one of
+-- that router.
+abbrev pub AddsLane : Side → Side → Option Link → Option (List ℕ) → List LaneState → List LaneState → Type 0
+AddsLane side other link remaining old new = map coming_on new
+    ≡ map coming_on old ++ cond (is_side side other) (option_map (results_by link) remaining ∷ []) []

@@ -5,14 +5,14 @@ ghost use Rattle.std.specs.Prelude.{option_map};
 ghost use Rattle.pim_merge.specs.Lane.{coming_on};
 ghost use Rattle.pim_files.specs.Files.{AsksFor, AsksAll};
 ghost use Rattle.pim_files.specs.Captures.{file_name, IsReaderOf, IsPortFault};
-ghost use Rattle.pim_files.specs.Captures.{HoldFilesBy, StopsAtPort, results_by};
+ghost use Rattle.pim_files.specs.Captures.{HoldFiles, StopsAtPort, choice_of, results_by};
 
 use crate::fault::OpenFault;
 use crate::opener::{Opener, Unopened};
 use pim_addr::Feed;
 use pim_container::Choice;
 use pim_merge::Merge;
-use pim_words::Port;
+use pim_words::{Link, Port};
 use std::alloc::{AllocError, Global};
 
 /// Opens the capture of a port.
@@ -36,26 +36,38 @@ pub fn open_port<'a, A, O: Opener>(
     }
 }
 
-/// Appends the capture of a reader: any container with this choice, or without one a classic
-/// capture.
-fn add_by<R: Feed + Drop>(
+/// The packets that are taken of a link.
+fn choice_of(link: Link) -> Choice
+    ensures { result ≡ choice_of link }
+{
+    Choice {
+        vlan: link.vlan,
+        interface: link.interface,
+        index: None,
+        sent: true,
+    }
+}
+
+/// Appends the capture of a reader: any container with the packets of this link, or without a link
+/// a classic capture.
+pub fn add_by<R: Feed + Drop>(
     merge: &mut Merge<R>,
     alloc: Global,
     reader: R,
-    choice: Option<Choice>,
+    link: Option<Link>,
 ) -> Result<(), AllocError>
     ensures coming { IfOk result (λ _. map coming_on merge.new.lanes ≡
-        map coming_on merge.old.lanes ++ option_map (results_by choice) (R.remaining reader) ∷ []) }
+        map coming_on merge.old.lanes ++ option_map (results_by link) (R.remaining reader) ∷ []) }
     ensures clock { merge.new.clock ≡ merge.old.clock }
 {
-    match choice {
-        Some(choice) => merge.add_any(alloc, reader, choice),
+    match link {
+        Some(link) => merge.add_any(alloc, reader, choice_of(link)),
         None => merge.add(alloc, reader),
     }
 }
 
-/// Opens the capture of each port, in the order of the words: any container with this choice of
-/// packets, or without one classic captures. Nothing is read.
+/// Opens the capture of each port, in the order of the words, each by the link of its port. Nothing
+/// is read.
 ///
 /// # Errors
 /// That of the first port whose capture isn't open.
@@ -63,12 +75,11 @@ pub fn open_all<'a, A, O: Opener>(
     alloc: Global,
     opener: &mut O,
     ports: &[Port<'a, A>],
-    choice: Option<Choice>,
 ) -> Result<Merge<O::Reader>, OpenFault<'a>>
     ensures each { IfOk result (λ merge. length merge.lanes ≡ length ports.now) }
     ensures untaken { IfOk result (λ merge. merge.clock ≡ None) }
     ensures opened { IfOk result (λ merge.
-        HoldFilesBy (results_by choice) (O.known opener.old).files ports.now merge.lanes) }
+        HoldFiles (O.known opener.old).files ports.now merge.lanes) }
     ensures fault { IfErr result (StopsAtPort (O.known opener.old).files ports.now) }
     ensures asked { AsksAll (O.known opener.old) (O.known opener.new) (map file_name ports.now)
         result }
@@ -76,7 +87,7 @@ pub fn open_all<'a, A, O: Opener>(
     let mut merge = Merge::new(alloc);
     for port in ports {
         let reader = open_port(alloc, opener, port)?;
-        let Ok(()) = add_by(&mut merge, alloc, reader, choice) else {
+        let Ok(()) = add_by(&mut merge, alloc, reader, port.link) else {
             return Err(OpenFault::Memory);
         };
     }

@@ -5,7 +5,8 @@
 //!   where it can: files in memory do, files of the system do not.
 //! - `table` makes the route table. It reads the file of routes, if one is named.
 //! - `open_all` opens the captures of one router, `open_both` those of two, in the order of the
-//!   words.
+//!   words. A port's link says whether its capture is a classic one or any container, and which of
+//!   its packets are taken.
 //! - `HeldFiles` is an opener of files in memory, for tests.
 //!
 //! Where the opener tells what files hold, the contracts say that each port has the capture of its

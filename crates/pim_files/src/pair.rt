@@ -5,12 +5,12 @@ ghost use Rattle.pim_files.specs.Files.{AsksAll};
 ghost use Rattle.pim_files.specs.Captures.{file_name, is_of, one_of};
 ghost use Rattle.pim_files.specs.Captures.{HoldFiles, StopsAtPort, AddsLane};
 
-use crate::captures::open_port;
+use crate::captures::{add_by, open_port};
 use crate::fault::OpenFault;
 use crate::opener::Opener;
 use pim_addr::Feed;
 use pim_merge::Merge;
-use pim_words::{Port, Side};
+use pim_words::{Link, Port, Side};
 use std::alloc::{AllocError, Global};
 
 /// The captures of two routers: of each router one for each of its ports.
@@ -22,31 +22,34 @@ pub struct Pair<R: Feed + Drop> {
     pub b: Merge<R>,
 }
 
-/// Adds the capture of this reader to those of a router. It is that of the router's next port.
+/// Adds the capture of this reader, by this link, to those of a router. It is that of the router's
+/// next port.
 pub fn add_to<R: Feed + Drop>(
     alloc: Global,
     pair: &mut Pair<R>,
     side: Side,
     reader: R,
+    link: Option<Link>,
 ) -> Result<(), AllocError>
     ensures a { IfOk result (λ done.
         length pair.new.a.lanes ≡ length pair.old.a.lanes + one_of Side.A side) }
     ensures b { IfOk result (λ done.
         length pair.new.b.lanes ≡ length pair.old.b.lanes + one_of Side.B side) }
     ensures lanes_of_a { IfOk result (λ done.
-        AddsLane Side.A side (R.remaining reader) pair.old.a.lanes pair.new.a.lanes) }
+        AddsLane Side.A side link (R.remaining reader) pair.old.a.lanes pair.new.a.lanes) }
     ensures lanes_of_b { IfOk result (λ done.
-        AddsLane Side.B side (R.remaining reader) pair.old.b.lanes pair.new.b.lanes) }
+        AddsLane Side.B side link (R.remaining reader) pair.old.b.lanes pair.new.b.lanes) }
     ensures clock_of_a { pair.new.a.clock ≡ pair.old.a.clock }
     ensures clock_of_b { pair.new.b.clock ≡ pair.old.b.clock }
 {
     match side {
-        Side::A => pair.a.add(alloc, reader),
-        Side::B => pair.b.add(alloc, reader),
+        Side::A => add_by(&mut pair.a, alloc, reader, link),
+        Side::B => add_by(&mut pair.b, alloc, reader, link),
     }
 }
 
-/// Opens the capture of each port, in the order of the words, for its router. Nothing is read.
+/// Opens the capture of each port, in the order of the words, for its router, and by the link of
+/// the port. Nothing is read.
 ///
 /// # Errors
 /// That of the first port whose capture isn't open.
@@ -75,7 +78,7 @@ pub fn open_both<'a, A, O: Opener>(
     };
     for port in ports {
         let reader = open_port(alloc, opener, port)?;
-        let Ok(()) = add_to(alloc, &mut pair, port.side, reader) else {
+        let Ok(()) = add_to(alloc, &mut pair, port.side, reader, port.link) else {
             return Err(OpenFault::Memory);
         };
     }

@@ -1,11 +1,13 @@
 pub mod Choosing
 pub mod FirstWrong
 pub mod Labelling
+pub mod Linking
 pub mod Numbers
 pub mod Offered
 pub mod OneFamily
 pub mod Orders
 pub mod Passed
+pub mod Picking
 pub mod Planned
 pub mod Refusals
 pub mod Tables

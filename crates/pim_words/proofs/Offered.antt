@@ -103,7 +103,7 @@ task_in_range Build rows other is = absurd is
 task_in_range Replay rows (task.Replay captures) is = ((is.1.run.after.most, is.1.run.early), (is.1.run.limit.least, is.1.run.limit.most))
 task_in_range Replay rows other is = absurd is
 task_in_range Trace rows (task.Trace captures tracing) is =
-    ((is.1.run.after.most, is.1.run.early), (is.1.run.limit.least, is.1.run.limit.most), given_names (words_of rows) captures.ports.items tracing.names.items is.1.labelled)
+    ((is.1.run.after.most, is.1.run.early), (is.1.run.limit.least, is.1.run.limit.most), given_names (words_of rows) captures.ports.items tracing.names.items is.1.ports.labelled)
 task_in_range Trace rows other is = absurd is
 task_in_range Same rows (task.Same captures writing) is = ((is.0.1.run.after.most, is.0.1.run.early), (is.0.1.run.limit.least, is.0.1.run.limit.most), writable rows writing is.1)
 task_in_range Same rows other is = absurd is

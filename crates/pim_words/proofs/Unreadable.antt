@@ -1,14 +1,19 @@
 -- Words that aren't read, behind options that are.
-use Rattle.std.proofs.Common.{◌≡◌, inr, false, List}
-use Rattle.clap.specs.Words.{Row}
+use Rattle.std.proofs.Common.{◌≡◌, sym, subst, inr, false, List, codes, Option, None, Some, Result, Ok, Err, IfOk, IfErr, MatchResult}
+use Rattle.std.specs.Prelude.{IfSome}
+use Rattle.clap.specs.Words.{Row, Text, first_of}
+use Rattle.pim_words.specs.declared.addresses.Address.{Address}
 use Rattle.pim_words.specs.declared.fault.Fault.{Fault}
 use Rattle.pim_words.specs.declared.fault.Fault.TheVariants.{Memory}
 use Rattle.pim_words.specs.declared.reading.Addresses.{Addresses}
 use Rattle.pim_words.specs.declared.task.Kind.{Kind}
-use Rattle.pim_words.specs.declared.task.Kind.TheVariants.{Same, Mirror, Emit, Change}
+use Rattle.pim_words.specs.declared.task.Kind.TheVariants.{Replay, Trace, Same, Mirror, Emit, Change}
+use Rattle.pim_words.specs.declared.task.Task.{Task}
+use Rattle.pim_words.specs.declared.task.Task.TheVariants as task
+use Rattle.pim_words.specs.Addresses.{IsRead}
 use Rattle.pim_words.specs.Ends.{are_both_given, has_two_ends}
 use Rattle.pim_words.specs.Given.{address_texts, is_sided}
-use Rattle.pim_words.specs.Reading.{AreRead, IsUnreadable, IsWrongRun, IsWrongRunOf}
+use Rattle.pim_words.specs.Reading.{AreRead, IsNamed, IsTask, IsTraced, IsUnreadable, IsWrongRun, IsWrongRunOf, IsWrongTrace}
 use Rattle.pim_words.specs.Seen.{AreWritten, OrMemory}
 
 wrong_run : (kind : Kind) (rows : List Row) (fault : Fault) → has_two_ends kind rows ≡ false → AreRead (address_texts kind rows) → OrMemory (IsWrongRunOf kind rows) fault
@@ -31,3 +36,22 @@ module _ (rows : List Row) (addresses : Addresses) (fault : Fault) (one : are_bo
 
   pub of_change : OrMemory (IsWrongRun (is_sided Change) rows) fault → IsUnreadable Change rows fault
   of_change is = wrong_run Change rows fault one read is
+
+-- ---- commands whose RP may lack
+
+named_read : (given : Option Text) (found : Option Address) → IsNamed given found → IfSome given IsRead
+named_read None found is = tt
+named_read (Some text) None is = absurd is
+named_read (Some text) (Some address) is = (address, is)
+
+module _ (rows : List Row) (rp : Option Address) (one : are_both_given rows ≡ false) (named : IsNamed (first_of (codes "rp") rows) rp) where
+  pub of_replay : (fault : Fault) → OrMemory (IsWrongRun false rows) fault → IsUnreadable Replay rows fault
+  of_replay fault is = wrong_run Replay rows fault one (named_read (first_of (codes "rp") rows) rp named, tt) is
+
+  traced : (asked : Task Address) → IsTraced rows rp asked → IsTask Trace rows asked
+  traced (task.Trace captures tracing) is = (subst (IsNamed (first_of (codes "rp") rows)) (sym is.0) named, is.1)
+  traced other is = absurd is
+
+  pub of_trace : (r : Result (Task Address) Fault) → IfOk r (IsTraced rows rp) → IfErr r (OrMemory (IsWrongTrace rows)) → MatchResult r (IsTask Trace rows) (IsUnreadable Trace rows)
+  of_trace (Ok asked) is wrong = traced asked is
+  of_trace (Err fault) is wrong = wrong_run Trace rows fault one (named_read (first_of (codes "rp") rows) rp named, tt) wrong

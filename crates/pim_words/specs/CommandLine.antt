@@ -31,11 +31,25 @@ flag name = record (new_rule name) { long = Some name; action = Some SetTrue }
 abbrev pub words_rule : Rule
 words_rule = record (new_rule (codes "words")) { action = Some Append; value_names = 1 }
 
--- The options of a run: `[--limit N] [--after MS] [--at TIME] WORD...`.
+-- The end of a run, and what a port may hold: `[--limit N] [--after MS] [--at TIME]`.
+abbrev pub with_ends : App → App
+with_ends command =
+    with_rule (with_rule (with_rule command (number_option (codes "limit") 1 100000))
+    (number_option (codes "after") 0 1000000000)) (text_option (codes "at"))
+
+-- The links of ports: `[--vlan [P=]VLAN].. [--interface [P=]N]..`.
+abbrev pub with_links : App → App
+with_links command =
+    with_rule (with_rule command (repeated_option (codes "vlan"))) (repeated_option (codes "interface"))
+
+-- The options of a run: its end, `[--input KIND]`, the links of ports, and `WORD...`.
 abbrev pub with_run_options : App → App
 with_run_options command =
-    with_rule (with_rule (with_rule (with_rule command (number_option (codes "limit") 1 100000))
-    (number_option (codes "after") 0 1000000000)) (text_option (codes "at"))) words_rule
+    with_rule (with_links (with_rule (with_ends command) (text_option (codes "input")))) words_rule
+
+-- The same of a trace, which reads any container.
+abbrev pub with_trace_options : App → App
+with_trace_options command = with_rule (with_links (with_ends command)) words_rule
 
 -- The addresses of a command that writes messages: `--rp A --upstream A --own A`.
 abbrev pub with_addresses : App → App
@@ -76,7 +90,7 @@ replay = (with_run_options (with_rule (with_rule (new_app (codes "replay")) (tex
 
 -- `trace [--rp A] [--routes FILE]`, the options of a run, and what is shown.
 abbrev pub trace : Shape
-trace = (with_shown (with_run_options (with_rule (with_rule (new_app (codes "trace")) (text_option (codes "rp")))
+trace = (with_shown (with_trace_options (with_rule (with_rule (new_app (codes "trace")) (text_option (codes "rp")))
     (text_option (codes "routes"))))).top
 
 -- A command that writes messages: `same`, `mirror`, `emit` or `change`.

@@ -5,6 +5,7 @@ pub mod Faults
 pub mod Ends
 pub mod Given
 pub mod Labels
+pub mod Links
 pub mod Ports
 pub mod Shown
 pub mod Reading

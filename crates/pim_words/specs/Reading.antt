@@ -2,12 +2,15 @@
 -- can't be read.
 use Rattle.std.specs.Prelude.{◌≡◌, ◌⊎◌, ⊤, Bool, true, false, List, [], ◌∷◌, Option, Some, None, codes, option_map}
 use Rattle.std.specs.Prelude.{IfSome, IsSomeAnd}
+use Rattle.std.specs.Borrow.{Bor}
 use Rattle.std.specs.List.{AllZip}
 use Rattle.clap.specs.Words.{Row, Text, first_of}
 use Rattle.pim_words.specs.declared.addresses.Address.{Address}
 use Rattle.pim_words.specs.declared.fault.Fault.{Fault}
 use Rattle.pim_words.specs.declared.fault.Fault.TheVariants as cause
+use Rattle.pim_words.specs.declared.links.Links.{Links}
 use Rattle.pim_words.specs.declared.task.Captures.{Captures}
+use Rattle.pim_words.specs.declared.task.Port.{Port}
 use Rattle.pim_words.specs.declared.task.Tracing.{Tracing}
 use Rattle.pim_words.specs.declared.task.Writing.{Writing}
 use Rattle.pim_words.specs.declared.task.Kind.{Kind}
@@ -19,6 +22,8 @@ use Rattle.pim_words.specs.Ends.{are_both_given, has_two_ends, time_text, IsTime
 use Rattle.pim_words.specs.Given.{IsNumber, address_texts, is_flag, is_sided, option_or, required, rp_text, words_of}
 use Rattle.pim_words.specs.Given.{source_text, destination_text}
 use Rattle.pim_words.specs.Labels.{AreLabelled, IsFirstWrongLabelled}
+use Rattle.pim_words.specs.Links.{AreLinks, AreLinkable, AreLinkedFrom, IsWrongLinks}
+use Rattle.pim_words.specs.Links.{AreChosenLinks, AreChoosableLinks, AreWrongChoices}
 use Rattle.pim_words.specs.Ports.{IsPort, IsFirstWrongOf}
 use Rattle.pim_words.specs.Shown.{IsShown, IsShowable, IsWrongShown, shown_of}
 
@@ -39,10 +44,25 @@ pub record IsRun (rows : List Row) (captures : Captures Address) : Type 0 where
   pub early : IsEarly captures.at
   pub one_end : are_both_given rows ≡ false
 
+-- The words name these ports, with the links that the options choose.
+pub record ArePorts (is_sided : Bool) (rows : List Row) (ports : List (Port Address)) : Type 0 where
+  pub links : Links
+  pub chosen : AreChosenLinks rows links
+  pub named : AllZip (IsPort is_sided) (words_of rows) ports
+  pub linked : AreLinkedFrom links 0 ports
+
+-- The words of a trace name these ports so, with the links that the options choose.
+pub record AreNamedPorts (rows : List Row) (ports : List (Port Address))
+    (names : List (Option (Bor Text))) : Type 0 where
+  pub links : Links
+  pub chosen : AreLinks true rows links
+  pub labelled : AreLabelled (words_of rows) ports names
+  pub linked : AreLinkedFrom links 0 ports
+
 -- The options of a run other than the RP, and the ports that the words name.
 pub record AreCaptures (is_sided : Bool) (rows : List Row) (captures : Captures Address) : Type 0 where
   pub run : IsRun rows captures
-  pub ports : AllZip (IsPort is_sided) (words_of rows) captures.ports.items
+  pub ports : ArePorts is_sided rows captures.ports.items
 
 -- The options of a trace, and the ports with their names.
 pub record AreTraced (rows : List Row) (captures : Captures Address) (tracing : Tracing Address) : Type 0 where
@@ -50,7 +70,7 @@ pub record AreTraced (rows : List Row) (captures : Captures Address) (tracing : 
   pub shown : IsShown rows (shown_of tracing)
   pub all : tracing.all ≡ is_flag (codes "all") rows
   pub json : tracing.json ≡ is_flag (codes "json") rows
-  pub labelled : AreLabelled (words_of rows) captures.ports.items tracing.names.items
+  pub ports : AreNamedPorts rows captures.ports.items tracing.names.items
 
 -- The task of a trace with this RP.
 abbrev pub IsTraced : List Row → Option Address → Task Address → Type 0
@@ -105,19 +125,28 @@ abbrev pub AreRead : List (Option Text) → Type 0
 AreRead [] = ⊤
 AreRead (value ∷ values) = IfSome value IsRead × AreRead values
 
--- The fault of a run's words: its time can't be read, or else a word can't.
+-- The fault of ports: of a value that chooses their links, otherwise of a word.
+abbrev pub AreWrongPorts : Bool → List Row → Fault → Type 0
+AreWrongPorts is_sided rows fault =
+    AreWrongChoices rows fault ⊎ (AreChoosableLinks rows × IsFirstWrongOf is_sided (words_of rows) fault)
+
+-- The same of a trace.
+abbrev pub AreWrongNamedPorts : List Row → Fault → Type 0
+AreWrongNamedPorts rows fault =
+    IsWrongLinks true rows fault ⊎ (AreLinkable true rows × IsFirstWrongLabelled [] (words_of rows) fault)
+
+-- The fault of a run's words: its time can't be read, or else it is a fault of the ports.
 abbrev pub IsWrongRun : Bool → List Row → Fault → Type 0
 IsWrongRun is_sided rows fault =
-    IsUntimed (time_text rows) fault
-    ⊎ (IsTimely (time_text rows) × IsFirstWrongOf is_sided (words_of rows) fault)
+    IsUntimed (time_text rows) fault ⊎ (IsTimely (time_text rows) × AreWrongPorts is_sided rows fault)
 
 -- The fault of a trace's words: the time of its end can't be read, or else a value of what it shows, or
--- else a word.
+-- else it is a fault of the ports.
 abbrev pub IsWrongTrace : List Row → Fault → Type 0
 IsWrongTrace rows fault =
     IsUntimed (time_text rows) fault
     ⊎ (IsTimely (time_text rows) × (IsWrongShown rows fault
-    ⊎ (IsShowable rows × IsFirstWrongLabelled [] (words_of rows) fault)))
+    ⊎ (IsShowable rows × AreWrongNamedPorts rows fault)))
 
 -- The same, of the run of a command.
 abbrev pub IsWrongRunOf : Kind → List Row → Fault → Type 0
@@ -125,7 +154,7 @@ IsWrongRunOf kind.Trace rows fault = IsWrongTrace rows fault
 IsWrongRunOf command rows fault = IsWrongRun (is_sided command) rows fault
 
 -- The fault of texts that can't be read: of the first such address of an option, otherwise of the
--- time, of what a trace shows, or of the first such word.
+-- time, of what a trace shows, of the links, or of the first such word.
 abbrev pub IsUnreadOf : Kind → List Row → Fault → Type 0
 IsUnreadOf command rows fault =
     IsFirstUnread (address_texts command rows) fault

@@ -1,5 +1,6 @@
 -- What contracts say of the steps of `plan`.
-use Rattle.std.specs.Prelude.{◌≡◌, ◌==◌, ◌&&◌, ◌||◌, not, ℕ, Bool, true, false, List, Option, Some, ⊤, codes}
+use Rattle.std.specs.Prelude.{◌≡◌, ◌==◌, ◌&&◌, ◌||◌, ◌+◌, not, ℕ, Bool, true, false, List, [], ◌∷◌}
+use Rattle.std.specs.Prelude.{Option, Some, ⊤, codes}
 use Rattle.std.specs.List.{AllByRecursion, list_all}
 use Rattle.std.specs.Str.{bytes_eq}
 use Rattle.clap.specs.Words.{App, IsUnsignedIn, Row, Rule, Shape, Text, built, is_simple, is_simple_and_free}
@@ -8,11 +9,15 @@ use Rattle.clap.specs.declared.builder.value_parser.ValueParser.TheVariants.{Uns
 use Rattle.pim_words.specs.declared.fault.Fault.{Fault}
 use Rattle.pim_words.specs.declared.fault.Fault.TheVariants.{Family, Memory}
 use Rattle.pim_words.specs.declared.fault.Side.{Side}
+use Rattle.pim_words.specs.declared.addresses.Address.{Address}
+use Rattle.pim_words.specs.declared.links.Links.{Links}
 use Rattle.pim_words.specs.declared.port.Cut.{Cut}
+use Rattle.pim_words.specs.declared.task.Port.{Port}
 use Rattle.pim_words.specs.declared.reading.Addresses.{Addresses}
 use Rattle.pim_words.specs.declared.reading.Ends.{Ends}
 use Rattle.pim_words.specs.Addresses.{Names}
 use Rattle.pim_words.specs.Given.{IsKnown, destination_text, option_or, required, source_text}
+use Rattle.pim_words.specs.Links.{link_at}
 use Rattle.pim_words.specs.Ports.{IsCut, IsCutWord}
 
 -- A fault of this kind, or memory is refused.
@@ -38,6 +43,15 @@ pub record AreWritten (rows : List Row) (addresses : Addresses) : Type 0 where
   pub rp : Names (required (codes "rp") rows) addresses.rp
   pub upstream : Names (required (codes "upstream") rows) addresses.upstream
   pub own : Names (required (codes "own") rows) addresses.own
+
+-- The port with the link of this number.
+abbrev pub with_link : Links → ℕ → Port Address → Port Address
+with_link links number port = record port { link = link_at links number }
+
+-- The ports, each with the link of its number, which counts from this one.
+abbrev pub with_links : Links → ℕ → List (Port Address) → List (Port Address)
+with_links links number [] = []
+with_links links number (port ∷ ports) = with_link links number port ∷ with_links links (number + 1) ports
 
 -- The test for one family failed, or memory is refused.
 abbrev pub IsForeign : Bool → Fault → Type 0

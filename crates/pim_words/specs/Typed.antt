@@ -26,7 +26,13 @@ module _ {A : Type 0} (family : AddressFamily) (bytes_of : A → List ℕ) where
 
   -- A port of the family, with an address of either family.
   abbrev pub port_seen : Port A → Port Address
-  port_seen port = record { side = port.side; address = address_seen port.address; file = port.file; word = port.word }
+  port_seen port = record {
+    side = port.side;
+    address = address_seen port.address;
+    file = port.file;
+    word = port.word;
+    link = port.link;
+  }
 
   -- The two have the same RP, file of routes, limit, times and ports.
   pub record SameCaptures (typed : Captures A) (captures : Captures Address) : Type 0 where

@@ -70,10 +70,9 @@ on the link, and 10.9.9.9 the rendezvous point:
 `pimtree COMMAND --help` explains each line that a command prints.
 
 Faults that are often met first, on standard error:
-  capture magic      FILE isn't classic pcap: `editcap -F pcap IN OUT` makes one
-                     of pcapng, which only `trace` reads
-  capture link-type  FILE is neither Ethernet nor raw IP: `tcpdump -i any` makes
-                     cooked captures, which only `trace` reads
+  capture magic      FILE isn't classic pcap: `--input any` reads pcapng, too
+  capture link-type  FILE is neither Ethernet nor raw IP: `--input any` reads
+                     what `tcpdump -i any` makes, too
   config ports       no word ADDRESS@FILE was given, or more than 64 were
 
 Exit status: 0 for success, 1 where `same` prints `different`, 2 for a fault.";
@@ -109,9 +108,8 @@ const REPLAY_RP: Row<'static> = Row {
     name: "rp",
     form: Form::Text,
     value: "ADDRESS",
-    help: "Rendezvous point of all groups. A Join(*,G) counts only{n}where it names the RP of G: \
-without \
---rp and --routes{n}none does",
+    help: "Rendezvous point of all groups. A Join(*,G) counts{n}only where it names the RP of G: \
+without --rp and{n}--routes none does",
 };
 
 /// `--rp` of `trace`.
@@ -119,9 +117,8 @@ const TRACE_RP: Row<'static> = Row {
     name: "rp",
     form: Form::Text,
     value: "ADDRESS",
-    help: "Rendezvous point of all groups. A Join(*,G) that names{n}another one is ignored; \
-without --rp \
-and --routes{n}each is",
+    help: "Rendezvous point of all groups. A Join(*,G) that{n}names another one is ignored; \
+without --rp and{n}--routes each is",
 };
 
 /// `--upstream`.
@@ -190,6 +187,51 @@ const AT: Row<'static> = Row {
     value: "TIME",
     help: "Time at which the run ends, in place of --after:{n}milliseconds since the first record,\
 {n}seconds since 1970 (1795329744.5), or a{n}UTC date (2026-11-22T06:42:24.5Z)",
+};
+
+/// `--input`.
+const INPUT: Row<'static> = Row {
+    name: "input",
+    form: Form::Text,
+    value: "KIND",
+    help: "Kind of each FILE: classic, or any for whatever{n}`trace` reads, such as pcapng \
+[default: classic]",
+};
+
+/// `--vlan` of a command that reads classic captures unless `--input any` is given.
+const VLAN: Row<'static> = Row {
+    name: "vlan",
+    form: Form::Repeated,
+    value: "[P=]VLAN",
+    help: "With --input any: only packets of this VLAN, 5, or{n}5.7 for two tags, or 0 for none; \
+at all ports, or{n}at the port P",
+};
+
+/// `--interface` of such a command.
+const INTERFACE: Row<'static> = Row {
+    name: "interface",
+    form: Form::Repeated,
+    value: "[P=]N",
+    help: "With --input any: only packets of this interface of{n}pcapng, by its number; at all \
+ports, or at P",
+};
+
+/// `--vlan` of `trace`.
+const TRACE_VLAN: Row<'static> = Row {
+    name: "vlan",
+    form: Form::Repeated,
+    value: "[P=]VLAN",
+    help: "Only packets of this VLAN, 5, or 5.7 for two tags,{n}or 0 for none; at all ports, or \
+at the port P",
+};
+
+/// `--interface` of `trace`.
+const TRACE_INTERFACE: Row<'static> = Row {
+    name: "interface",
+    form: Form::Repeated,
+    value: "[P=]N",
+    help: "Only packets of this interface of pcapng, by its{n}number; at all ports, or at the \
+port P",
 };
 
 /// `--from`.
@@ -271,15 +313,19 @@ of each",
 const OF_MESSAGE: [Row<'static>; 2] = [SRC, DST];
 
 /// The options and words of `replay`.
-const OF_REPLAY: [Row<'static>; 6] = [REPLAY_RP, ROUTES, LIMIT, AFTER, AT, PORTS];
+const OF_REPLAY: [Row<'static>; 9] = [
+    REPLAY_RP, ROUTES, LIMIT, AFTER, AT, INPUT, VLAN, INTERFACE, PORTS,
+];
 
 /// The options and words of `trace`.
-const OF_TRACE: [Row<'static>; 12] = [
+const OF_TRACE: [Row<'static>; 14] = [
     TRACE_RP,
     ROUTES,
     LIMIT,
     AFTER,
     AT,
+    TRACE_VLAN,
+    TRACE_INTERFACE,
     NAMED_PORTS,
     FROM,
     GROUP,
@@ -290,12 +336,12 @@ const OF_TRACE: [Row<'static>; 12] = [
 ];
 
 /// The options and words of a command that writes messages of one router.
-const OF_ONE: [Row<'static>; 10] = [
-    RP, UPSTREAM, OWN, ROUTES, HOLDTIME, BUDGET, LIMIT, AFTER, AT, PORTS,
+const OF_ONE: [Row<'static>; 13] = [
+    RP, UPSTREAM, OWN, ROUTES, HOLDTIME, BUDGET, LIMIT, AFTER, AT, INPUT, VLAN, INTERFACE, PORTS,
 ];
 
 /// The options and words of a command with two routers.
-const OF_TWO: [Row<'static>; 10] = [
+const OF_TWO: [Row<'static>; 13] = [
     RP,
     UPSTREAM,
     OWN,
@@ -305,6 +351,9 @@ const OF_TWO: [Row<'static>; 10] = [
     LIMIT,
     AFTER,
     AT,
+    INPUT,
+    VLAN,
+    INTERFACE,
     SIDED_PORTS,
 ];
 
@@ -354,10 +403,10 @@ const REPLAY: Offer<'static> = Offer {
     name: "replay",
     about: "What state did this router hold, and why?",
     usage: Some("pimtree replay [OPTIONS] ADDRESS@FILE..."),
-    after_help: "FILE is a classic pcap file of Ethernet or raw IP. `editcap -F pcap IN OUT`
-makes one of a pcapng file. `tcpdump -i any` makes cooked captures, so name an
-interface. A FIFO, /dev/stdin and <(zcat x.pcap.gz) work as FILE, too; each line
-is then written as soon as it is complete. `pimtree --help` explains faults.
+    after_help: "FILE is a classic pcap file of Ethernet or raw IP, or with `--input any` one of
+those that `pimtree trace --help` names. P is the place of a port's word, from
+0. A FIFO, /dev/stdin and <(zcat x.pcap.gz) work as FILE, too; each line is then
+written as soon as it is complete. `pimtree --help` explains faults.
 
 Each PIM packet has a line `MS port P from A VERDICT`. MS is milliseconds since
 the first record, P the place of the port's word, from 0. VERDICT is
@@ -407,7 +456,7 @@ FILE is pcapng or classic pcap: Ethernet, raw IP, Linux cooked as by
 and <(zcat x.pcap.gz) work, too. A port is one link, so these are faults:
   capture vlans 5,7       PIM packets of two VLANs, here 5 and 7
   capture interfaces 0,1  PIM packets of two interfaces
-`tshark -r IN -Y 'vlan.id == 5' -w OUT` takes one VLAN out of a file.
+--vlan and --interface choose one. P is the place of a port's word, from 0.
 
 A machine is `star G` for (*,G), `source S G` or `rpt S G`. Its states are
 no-info, join, prune-pending and prune. A packet that changes one has a line

@@ -30,7 +30,7 @@ pub(crate) fn is_flag(options: &ArgMatches<'_>, name: &str) -> bool
 }
 
 /// The number that a text spells, if it is from `low` to `high`.
-fn number_between(text: &str, low: u64, high: u64) -> Option<u64>
+pub(crate) fn number_between(text: &str, low: u64, high: u64) -> Option<u64>
     ensures { MatchOption result (IsNoNumber low high text.now) (IsNumber low high text.now) }
 {
     match text.parse::<u64>() {

@@ -8,6 +8,9 @@
 //! - The holdtime is at least 99 s, and the budget is 70 to 65,000 bytes.
 //! - A trace shows at most 64 groups and 64 sources. Each port has a name or none, and no two ports
 //!   have the same.
+//! - A port has a link where its file is read as any container: in a trace, and by `--input any`.
+//!   The link has the VLAN and the interface that `--vlan` and `--interface` choose for the port
+//!   (`specs/Links.antt`).
 //!
 //! Otherwise it returns a fault whose cause exists, the first in the order that `plan` lists, or
 //! `Memory`. A request for help or the version is a fault too (`Clap`). Faults that name a word,
@@ -31,7 +34,9 @@ mod fault;
 mod given;
 mod judging;
 mod label;
+mod links;
 mod named;
+mod picks;
 mod planning;
 mod port;
 mod reading;
@@ -42,6 +47,7 @@ mod typed;
 
 pub use addresses::Address;
 pub use fault::{ConfigCause, Fault, Refusal, Side};
+pub use pim_capture::Vlan;
 pub use planning::plan;
 pub use table::given_table;
-pub use task::{Captures, Kind, Plan, Port, Task, TimeForm, Tracing, Writing};
+pub use task::{Captures, Kind, Link, Plan, Port, Task, TimeForm, Tracing, Writing};

@@ -64,6 +64,7 @@ fn read_named<'a>(earlier: &[Option<&'a str>], word: &'a str) -> Result<Named<'a
         address,
         file: cut.file,
         word,
+        link: None,
     };
     Ok(Named {
         port,

@@ -166,6 +166,8 @@ fn plan_by<'a, S: AsStr>(
 /// - `Word` of the value of `--at`.
 /// - Of a trace: `Word` of the value of `--from`. `Address` and `Word` of the values of `--group`,
 ///   in their order. The same of those of `--source`. `Word` of the value of `--time`.
+/// - `Word` of the value of `--input`, then of the values of `--vlan` and of `--interface`, in
+///   their order.
 /// - `Word` and `Address` of the words, in their order.
 /// - `Family`.
 /// - `NoPort` of router a, then of b, in a command with two routers.

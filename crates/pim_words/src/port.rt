@@ -78,6 +78,7 @@ fn read_port<'a>(is_sided: bool, word: &'a str) -> Result<Port<'a, Address>, Fau
         address,
         file: cut.file,
         word,
+        link: None,
     })
 }
 

@@ -14,7 +14,8 @@ ghost use Rattle.pim_words.specs.Given.{words_of, required, address_texts, is_si
 ghost use Rattle.pim_words.specs.Labels.{AreLabelled, IsFirstWrongLabelled};
 ghost use Rattle.pim_words.specs.Ports.{IsPort, IsFirstWrongOf};
 ghost use Rattle.pim_words.specs.Reading.{IsNamed, IsUnreadText, IsUnreadValue, IsFirstUnread};
-ghost use Rattle.pim_words.specs.Reading.{IsRun, AreCaptures};
+ghost use Rattle.pim_words.specs.Reading.{ArePorts, AreWrongPorts, AreNamedPorts};
+ghost use Rattle.pim_words.specs.Reading.{AreWrongNamedPorts, IsRun, AreCaptures};
 ghost use Rattle.pim_words.specs.Reading.{IsWriting, IsTraced, IsTask, IsUnreadable, IsWrongRun};
 ghost use Rattle.pim_words.specs.Reading.{IsWrongTrace};
 ghost use Rattle.pim_words.specs.Seen.{OrMemory, AreEnds, AreWritten, HasNumbers};
@@ -22,6 +23,7 @@ ghost use Rattle.pim_words.specs.Seen.{OrMemory, AreEnds, AreWritten, HasNumbers
 use crate::addresses::{Address, read_address};
 use crate::fault::Fault;
 use crate::given::{is_flag, number_of, option_of, option_or};
+use crate::links::{linked, read_chosen_links, read_links};
 use crate::named::{Labelled, read_labelled};
 use crate::port::read_ports;
 use crate::shown::read_shown;
@@ -103,6 +105,21 @@ fn read_words<'a>(
     }
 }
 
+/// The ports that the words of a command name, with their links.
+fn read_linked<'a>(
+    alloc: Global,
+    is_sided: bool,
+    options: &ArgMatches<'a>,
+) -> Result<Vec<Port<'a, Address>>, Fault<'a>>
+    ensures { MatchResult result
+        (λ ports. ArePorts is_sided (rows_of (found_of options.now)) ports.items)
+        (OrMemory (AreWrongPorts is_sided (rows_of (found_of options.now)))) }
+{
+    let links = read_chosen_links(alloc, options)?;
+    let ports = read_words(alloc, is_sided, options)?;
+    linked(alloc, &links, &ports)
+}
+
 /// The captures of these ports with this RP and this time, and the other options of their run.
 fn captures_of<'a>(
     rp: Option<Address>,
@@ -144,7 +161,7 @@ fn read_captures<'a>(
     ensures told { IfErr result (OrMemory (IsWrongRun is_sided (rows_of (found_of options.now)))) }
 {
     let at = read_at(option_of(options, "at"))?;
-    let ports = read_words(alloc, is_sided, options)?;
+    let ports = read_linked(alloc, is_sided, options)?;
     Ok(captures_of(rp, at, ports, options))
 }
 
@@ -219,6 +236,22 @@ fn read_labelled_words<'a>(
     }
 }
 
+/// The ports that the words of a trace name, with their names and links.
+fn read_named_ports<'a>(alloc: Global, options: &ArgMatches<'a>) -> Result<Labelled<'a>, Fault<'a>>
+    ensures { MatchResult result
+        (λ labelled. AreNamedPorts (rows_of (found_of options.now)) labelled.ports.items
+        labelled.names.items)
+        (OrMemory (AreWrongNamedPorts (rows_of (found_of options.now)))) }
+{
+    let links = read_links(alloc, true, options)?;
+    let labelled = read_labelled_words(alloc, options)?;
+    let ports = linked(alloc, &links, &labelled.ports)?;
+    Ok(Labelled {
+        ports,
+        names: labelled.names,
+    })
+}
+
 /// The captures of a trace with this RP, and what it shows.
 fn read_traced<'a>(
     alloc: Global,
@@ -232,7 +265,7 @@ fn read_traced<'a>(
 {
     let end = read_at(option_of(options, "at"))?;
     let shown = read_shown(alloc, options)?;
-    let labelled = read_labelled_words(alloc, options)?;
+    let labelled = read_named_ports(alloc, options)?;
     let captures = captures_of(rp, end, labelled.ports, options);
     let tracing = Tracing {
         from: shown.from,

@@ -4,7 +4,18 @@
 //! below are those of a plan.
 
 use crate::fault::Side;
+use pim_capture::Vlan;
 use pim_time::Time;
+
+/// The link of a port, in a capture of any container: the packets that are taken are of it.
+#[derive(Clone, Copy, Debug, PartialEq, Eq)]
+pub struct Link {
+    /// The VLAN. `None` is each, as long as all packets have one.
+    pub vlan: Option<Vlan>,
+    /// The number of the interface in a section of a pcapng file. `None` is each, as long as all
+    /// packets have one.
+    pub interface: Option<u32>,
+}
 
 /// A port of a router, which a word of the command line names.
 #[derive(Clone, Copy, Debug, PartialEq, Eq)]
@@ -17,6 +28,8 @@ pub struct Port<'a, A> {
     pub file: &'a str,
     /// The whole word.
     pub word: &'a str,
+    /// The port's link, if its file is read as any container. `None` reads a classic capture.
+    pub link: Option<Link>,
 }
 
 /// The routers of a command with captures, and how they run.

@@ -62,6 +62,7 @@ fn port_in_family<'a, F: Family>(
             address,
             file: port.file,
             word: port.word,
+            link: port.link,
         }),
         Err(fault) => Err(fault),
     }

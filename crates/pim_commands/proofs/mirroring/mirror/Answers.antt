@@ -1,5 +1,4 @@
 use Rattle.std.proofs.Common.{inl, refl, Some}
-use Rattle.pim_capture.specs.Capture.{answers}
 use Rattle.pim_commands.proofs.Opened.{over_open, not_failed, answered}
 use Rattle.pim_commands.proofs.mirroring.mirror.Goals as goal
 
@@ -16,4 +15,4 @@ returns-clause-text g c =
     answered g.F.Family.family g.F.Family.bytes_of g.O.Reader.Feed.remaining g.O.Reader.Feed.failures (g.O.Opener.known c.args.opener.now) (g.O.Opener.known c.args.opener.now) (g.O.Opener.known c.open_one.new.opener)
     c.args.captures.now (Some c.args.writing.now.upstream) (g.W.Drain.contents c.args.writer.now) (g.W.Drain.contents c.mirror_opened.new.writer) c.mirror_opened.result _
     (over_open g.F.Family.family g.F.Family.bytes_of g.O.Reader.Feed.remaining g.O.Reader.Feed.failures (g.O.Opener.known c.args.opener.now) (g.O.Opener.known c.open_one.new.opener)
-    c.args.captures.now (Some c.args.writing.now.upstream) answers _ c.in-Ok.files.routes c.in-Ok.files.merge c.mirror_opened.new.merge c.in-Ok.ensures.opened c.mirror_opened.ensures.text)
+    c.args.captures.now (Some c.args.writing.now.upstream) _ c.in-Ok.files.routes c.in-Ok.files.merge c.mirror_opened.new.merge c.in-Ok.ensures.opened c.mirror_opened.ensures.text)

@@ -1,5 +1,4 @@
 use Rattle.std.proofs.lemmas.Result.{err_from_is_err_and}
-use Rattle.pim_files.specs.Captures.{results_by}
 use Rattle.pim_commands.proofs.Opened.{no_table, no_port, is_open}
 use Rattle.pim_commands.proofs.opening.open_one.Goals as goal
 
@@ -21,5 +20,5 @@ returns-in_err-merge-clause-unopened g c =
 pub returns-clause-opened : goal.returns-clause-opened
 returns-clause-opened g c =
     is_open g.F.Family.family g.F.Family.bytes_of g.O.Reader.Feed.remaining g.O.Reader.Feed.failures (g.O.Opener.known c.args.opener.now) (g.O.Opener.known c.table.new.opener) (g.O.Opener.known c.open_all.new.opener)
-    c.args.captures.now c.args.upstream (results_by c.args.choice) c.in_ok-routes.routes c.in_ok-merge.merge c.deref.result.now c.deref.ensures.value c.in_ok-routes.ensures.table c.in_ok-routes.ensures.asked
+    c.args.captures.now c.args.upstream c.in_ok-routes.routes c.in_ok-merge.merge c.deref.result.now c.deref.ensures.value c.in_ok-routes.ensures.table c.in_ok-routes.ensures.asked
     c.in_ok-merge.ensures.each c.in_ok-merge.ensures.untaken c.in_ok-merge.ensures.opened c.in_ok-merge.ensures.asked

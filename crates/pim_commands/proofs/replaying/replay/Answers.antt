@@ -1,5 +1,4 @@
 use Rattle.std.proofs.Common.{inl, refl, None}
-use Rattle.pim_capture.specs.Capture.{answers}
 use Rattle.pim_commands.proofs.Opened.{over_open, not_failed, answered}
 use Rattle.pim_commands.proofs.replaying.replay.Goals as goal
 
@@ -16,4 +15,4 @@ returns-clause-report g c =
     answered g.F.Family.family g.F.Family.bytes_of g.O.Reader.Feed.remaining g.O.Reader.Feed.failures (g.O.Opener.known c.args.opener.now) (g.O.Opener.known c.args.opener.now) (g.O.Opener.known c.open_one.new.opener)
     c.args.captures.now None (g.W.Drain.contents c.args.writer.now) (g.W.Drain.contents c.replay_opened.new.writer) c.replay_opened.result _
     (over_open g.F.Family.family g.F.Family.bytes_of g.O.Reader.Feed.remaining g.O.Reader.Feed.failures (g.O.Opener.known c.args.opener.now) (g.O.Opener.known c.open_one.new.opener)
-    c.args.captures.now None answers _ c.in-Ok.files.routes c.in-Ok.files.merge c.replay_opened.new.merge c.in-Ok.ensures.opened c.replay_opened.ensures.report)
+    c.args.captures.now None _ c.in-Ok.files.routes c.in-Ok.files.merge c.replay_opened.new.merge c.in-Ok.ensures.opened c.replay_opened.ensures.report)

@@ -1,6 +1,4 @@
 use Rattle.std.proofs.Common.{inl, refl, None}
-use Rattle.pim_merge.specs.Chosen.{answers_by}
-use Rattle.pim_commands.specs.Opening.{each_packet}
 use Rattle.pim_commands.proofs.Opened.{over_open, not_failed, answered}
 use Rattle.pim_commands.proofs.tracing.trace.Goals as goal
 
@@ -17,4 +15,4 @@ returns-clause-events g c =
     answered g.F.Family.family g.F.Family.bytes_of g.O.Reader.Feed.remaining g.O.Reader.Feed.failures (g.O.Opener.known c.args.opener.now) (g.O.Opener.known c.args.opener.now) (g.O.Opener.known c.open_one.new.opener)
     c.args.captures.now None (g.W.Drain.contents c.args.writer.now) (g.W.Drain.contents c.trace_opened.new.writer) c.trace_opened.result _
     (over_open g.F.Family.family g.F.Family.bytes_of g.O.Reader.Feed.remaining g.O.Reader.Feed.failures (g.O.Opener.known c.args.opener.now) (g.O.Opener.known c.open_one.new.opener)
-    c.args.captures.now None (answers_by each_packet) _ c.in-Ok.files.routes c.in-Ok.files.merge c.trace_opened.new.merge c.in-Ok.ensures.opened c.trace_opened.ensures.events)
+    c.args.captures.now None _ c.in-Ok.files.routes c.in-Ok.files.merge c.trace_opened.new.merge c.in-Ok.ensures.opened c.trace_opened.ensures.events)

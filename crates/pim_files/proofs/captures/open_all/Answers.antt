@@ -3,9 +3,9 @@ use Rattle.std.proofs.lemmas.List.{take_all, length-drop}
 use Rattle.std.proofs.lemmas.Result.{err_from_is_err_and}
 use Rattle.pim_words.specs.declared.task.Port.{Port}
 use Rattle.pim_files.specs.Files.{AsksFor}
-use Rattle.pim_files.specs.Captures.{file_name, HoldFilesBy, results_by}
+use Rattle.pim_files.specs.Captures.{file_name, HoldFiles}
 use Rattle.pim_files.proofs.Asked.{asks_none, some_in_front}
-use Rattle.pim_files.proofs.Opened.{lanes_more, one_more_name, none_held, one_more_lane, stops}
+use Rattle.pim_files.proofs.Opened.{lanes_more, one_more_name, none_held, one_more_lane, none_present, one_more_present, stops_after}
 use Rattle.pim_files.proofs.captures.open_all.Goals as goal
 
 pub loop-port-init : goal.loop-port-init
@@ -13,7 +13,8 @@ loop-port-init g c = record {
   each = omega (arith, ap length c.new-merge.ensures.lanes);
   untaken = c.new-merge.ensures.clock;
   asked = asks_none (g.O.Opener.known c.args.opener.now);
-  held = none_held g.row.A.Denot (results_by c.args.choice) (g.O.Opener.known c.args.opener.now).files c.new-merge.result.lanes c.new-merge.ensures.lanes;
+  present = none_present g.row.A.Denot (g.O.Opener.known c.args.opener.now).files;
+  held = none_held g.row.A.Denot (g.O.Opener.known c.args.opener.now).files c.new-merge.result.lanes c.new-merge.ensures.lanes;
 }
 
 pub loop-port-preserved : goal.loop-port-preserved
@@ -29,7 +30,10 @@ loop-port-preserved g c = record {
   untaken = c.in-Ok.ensures.clock ∙ c.loop-port.invariant.untaken;
   asked = one_more_name (g.O.Opener.known c.args.opener.now) (g.O.Opener.known c.loop-port.opener) (g.O.Opener.known c.open_port.new.opener) c.args.ports.now
       c.loop-port.port-index (c.loop-port.port-index + 1) c.port-item.result (omega arith) c.loop-port-test.true c.port-item.is c.loop-port.invariant.asked c.in_ok-reader.ensures.asked;
-  held = one_more_lane (results_by c.args.choice) (g.O.Opener.known c.args.opener.now).files (g.O.Opener.known c.loop-port.opener).files c.args.ports.now
+  present = one_more_present (g.O.Opener.known c.args.opener.now).files (g.O.Opener.known c.loop-port.opener).files c.args.ports.now
+      c.loop-port.port-index (c.loop-port.port-index + 1) c.port-item.result (g.O.Reader.Feed.remaining c.in_ok-reader.reader)
+      c.loop-port.invariant.asked.files (omega arith) c.loop-port-test.true c.port-item.is c.loop-port.invariant.present c.in_ok-reader.ensures.opened;
+  held = one_more_lane (g.O.Opener.known c.args.opener.now).files (g.O.Opener.known c.loop-port.opener).files c.args.ports.now
       c.loop-port.port-index (c.loop-port.port-index + 1) c.port-item.result (g.O.Reader.Feed.remaining c.in_ok-reader.reader) c.loop-port.merge.lanes c.add_by.new.merge.lanes
       c.loop-port.invariant.asked.files (omega arith) c.loop-port-test.true c.port-item.is c.loop-port.invariant.held c.in_ok-reader.ensures.opened c.in-Ok.ensures.coming;
 }
@@ -37,8 +41,8 @@ loop-port-preserved g c = record {
 pub returns-in_err-reader-clause-fault : goal.returns-in_err-reader-clause-fault
 returns-in_err-reader-clause-fault g c =
     let p = err_from_is_err_and c.from_residual.result c.from_residual.ensures.1 in
-    rw (p.1, p.2) (stops (results_by c.args.choice) (g.O.Opener.known c.args.opener.now).files (g.O.Opener.known c.loop-port.opener).files c.args.ports.now c.loop-port.port-index c.port-item.result
-    c.loop-port.merge.lanes c.in_err-reader.field-0.0 c.loop-port.invariant.asked.files c.loop-port-test.true c.port-item.is c.loop-port.invariant.held c.in_err-reader.ensures.opened)
+    rw (p.1, p.2) (stops_after (g.O.Opener.known c.args.opener.now).files (g.O.Opener.known c.loop-port.opener).files c.args.ports.now c.loop-port.port-index c.port-item.result
+    c.in_err-reader.field-0.0 c.loop-port.invariant.asked.files c.loop-port-test.true c.port-item.is c.loop-port.invariant.present c.in_err-reader.ensures.opened)
 
 pub returns-in_err-reader-clause-asked : goal.returns-in_err-reader-clause-asked
 returns-in_err-reader-clause-asked g c =
@@ -49,8 +53,8 @@ returns-in_err-reader-clause-asked g c =
 
 pub returns-in_default-clause-fault : goal.returns-in_default-clause-fault
 returns-in_default-clause-fault g c =
-    stops (results_by c.args.choice) (g.O.Opener.known c.args.opener.now).files (g.O.Opener.known c.loop-port.opener).files c.args.ports.now c.loop-port.port-index c.port-item.result
-    c.loop-port.merge.lanes _ c.loop-port.invariant.asked.files c.loop-port-test.true c.port-item.is c.loop-port.invariant.held tt
+    stops_after (g.O.Opener.known c.args.opener.now).files (g.O.Opener.known c.loop-port.opener).files c.args.ports.now c.loop-port.port-index c.port-item.result
+    _ c.loop-port.invariant.asked.files c.loop-port-test.true c.port-item.is c.loop-port.invariant.present tt
 
 pub returns-in_default-clause-asked : goal.returns-in_default-clause-asked
 returns-in_default-clause-asked g c =
@@ -60,7 +64,7 @@ returns-in_default-clause-asked g c =
 
 pub returns-clause-opened : goal.returns-clause-opened
 returns-clause-opened g c =
-    subst (λ (ports : List (Port g.row.A.Denot)). HoldFilesBy (results_by c.args.choice) (g.O.Opener.known c.args.opener.now).files ports c.loop-port.merge.lanes)
+    subst (λ (ports : List (Port g.row.A.Denot)). HoldFiles (g.O.Opener.known c.args.opener.now).files ports c.loop-port.merge.lanes)
     (take_all c.loop-port.port-index c.args.ports.now c.loop-port-test.false) c.loop-port.invariant.held
 
 pub returns-clause-asked : goal.returns-clause-asked

@@ -1,6 +1,6 @@
 use Rattle.std.proofs.Common.{◌≡◌, ◌+◌, drop, take, map, length, None}
 use Rattle.pim_files.specs.Files.{AsksFor}
-use Rattle.pim_files.specs.Captures.{file_name, HoldFilesBy, results_by}
+use Rattle.pim_files.specs.Captures.{file_name, CanOpen, HoldFiles}
 use Rattle.pim_files.proofs.captures.open_all.Given as goal
 
 -- the captures of the ports before this one, of which nothing was taken
@@ -9,5 +9,6 @@ invariant-loop-port g l = record {
   each : length l.merge.lanes + length (drop l.port-index l.ports) ≡ length l.ports;
   untaken : l.merge.clock ≡ None;
   asked : AsksFor (g.O.Opener.known l.initial.opener) (g.O.Opener.known l.opener) (map file_name (take l.port-index l.ports));
-  held : HoldFilesBy (results_by l.choice) (g.O.Opener.known l.initial.opener).files (take l.port-index l.ports) l.merge.lanes;
+  present : CanOpen (g.O.Opener.known l.initial.opener).files (take l.port-index l.ports);
+  held : HoldFiles (g.O.Opener.known l.initial.opener).files (take l.port-index l.ports) l.merge.lanes;
 }

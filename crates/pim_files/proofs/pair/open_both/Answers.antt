@@ -2,7 +2,6 @@ use Rattle.std.proofs.Common.{subst, ap, ◌∙◌, arith, ◌+◌, List, length
 use Rattle.std.specs.List.{filter}
 use Rattle.std.proofs.lemmas.List.{take_all}
 use Rattle.std.proofs.lemmas.Result.{err_from_is_err_and}
-use Rattle.pim_capture.specs.Capture.{answers}
 use Rattle.pim_words.specs.declared.task.Port.{Port}
 use Rattle.pim_words.specs.declared.fault.Side.TheVariants.{A, B}
 use Rattle.pim_files.specs.Files.{AsksFor}
@@ -19,8 +18,8 @@ loop-port-init g c = record {
   untaken_of_b = c.new-2.ensures.clock;
   asked = asks_none (g.O.Opener.known c.args.opener.now);
   present = none_present g.row.A.Denot (g.O.Opener.known c.args.opener.now).files;
-  held_of_a = none_held g.row.A.Denot answers (g.O.Opener.known c.args.opener.now).files c.new.result.lanes c.new.ensures.lanes;
-  held_of_b = none_held g.row.A.Denot answers (g.O.Opener.known c.args.opener.now).files c.new-2.result.lanes c.new-2.ensures.lanes;
+  held_of_a = none_held g.row.A.Denot (g.O.Opener.known c.args.opener.now).files c.new.result.lanes c.new.ensures.lanes;
+  held_of_b = none_held g.row.A.Denot (g.O.Opener.known c.args.opener.now).files c.new-2.result.lanes c.new-2.ensures.lanes;
 }
 
 pub loop-port-preserved : goal.loop-port-preserved

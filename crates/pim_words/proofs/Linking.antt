@@ -1,0 +1,70 @@
+-- Ports that get the links of their numbers.
+use Rattle.std.proofs.Common.{◌≡◌, ◌∙◌, sym, ap, subst, refl, ℕ, ◌+◌, Bool, true, List, [], ◌∷◌, ◌++◌, Option, Result, Ok, Err, MatchResult}
+use Rattle.std.specs.Borrow.{Bor}
+use Rattle.std.specs.List.{AllZip}
+use Rattle.clap.specs.Words.{Row, Text}
+use Rattle.pim_words.specs.declared.addresses.Address.{Address}
+use Rattle.pim_words.specs.declared.fault.Fault.{Fault}
+use Rattle.pim_words.specs.declared.fault.Fault.TheVariants.{Memory}
+use Rattle.pim_words.specs.declared.links.Links.{Links}
+use Rattle.pim_words.specs.declared.task.Port.{Port}
+use Rattle.pim_words.specs.Given.{words_of}
+use Rattle.pim_words.specs.Labels.{AreLabelled, AreLabelledAfter}
+use Rattle.pim_words.specs.Links.{AreLinks, AreChosenLinks, AreLinkedFrom}
+use Rattle.pim_words.specs.Ports.{IsPort}
+use Rattle.pim_words.specs.Reading.{ArePorts, AreWrongPorts, AreNamedPorts}
+use Rattle.pim_words.specs.Seen.{OrMemory, with_links}
+
+linked_from : (links : Links) (number : ℕ) (ports : List (Port Address)) → AreLinkedFrom links number (with_links links number ports)
+linked_from links number [] = tt
+linked_from links number (port ∷ ports) = (refl, linked_from links (number + 1) ports)
+
+named_with : (is_sided : Bool) (links : Links) (number : ℕ) (words : List Text) (ports : List (Port Address)) → AllZip (IsPort is_sided) words ports
+    → AllZip (IsPort is_sided) words (with_links links number ports)
+named_with is_sided links number [] [] are = are
+named_with is_sided links number [] (port ∷ ports) are = absurd are
+named_with is_sided links number (word ∷ words) [] are = absurd are
+named_with is_sided links number (word ∷ words) (port ∷ ports) are = (
+  record { address_text = are.0.address_text; cut = are.0.cut; address = are.0.address; whole = are.0.whole },
+  named_with is_sided links (number + 1) words ports are.1,
+)
+
+labelled_with : (earlier : List (Option (Bor Text))) (links : Links) (number : ℕ) (words : List Text) (ports : List (Port Address)) (names : List (Option (Bor Text)))
+    → AreLabelledAfter earlier words ports names → AreLabelledAfter earlier words (with_links links number ports) names
+labelled_with earlier links number [] [] [] are = are
+labelled_with earlier links number (word ∷ words) (port ∷ ports) (name ∷ names) are = (
+  record {
+    rest = are.0.rest;
+    cut = are.0.cut;
+    fresh = are.0.fresh;
+    side = are.0.side;
+    address_text = are.0.address_text;
+    parts = are.0.parts;
+    address = are.0.address;
+    whole = are.0.whole;
+  },
+  labelled_with (earlier ++ name ∷ []) links (number + 1) words ports names are.1,
+)
+labelled_with earlier links number words ports names are = absurd are
+
+module _ (rows : List Row) (links : Links) (ports seen : List (Port Address)) (same : seen ≡ ports) where
+  pub linked_ports : {V : Type 0} (items : V → List (Port Address)) (is_sided : Bool) (r : Result V Fault) → AreChosenLinks rows links → AllZip (IsPort is_sided) (words_of rows) ports
+      → MatchResult r (λ made. items made ≡ with_links links 0 seen) (λ fault. fault ≡ Memory) → MatchResult r (λ made. ArePorts is_sided rows (items made)) (OrMemory (AreWrongPorts is_sided rows))
+  linked_ports items is_sided (Ok made) chosen named is =
+      subst (λ (l : List (Port Address)). ArePorts is_sided rows l) (sym (is ∙ ap (with_links links 0) same)) (record {
+        links = links;
+        chosen = chosen;
+        named = named_with is_sided links 0 (words_of rows) ports named;
+        linked = linked_from links 0 ports;
+      })
+  linked_ports items is_sided (Err fault) chosen named is = subst (OrMemory (AreWrongPorts is_sided rows)) (sym is) tt
+
+  pub linked_names : (made : List (Port Address)) (names : List (Option (Bor Text))) → AreLinks true rows links → AreLabelled (words_of rows) ports names → made ≡ with_links links 0 seen
+      → AreNamedPorts rows made names
+  linked_names made names chosen labelled is =
+      subst (λ (l : List (Port Address)). AreNamedPorts rows l names) (sym (is ∙ ap (with_links links 0) same)) (record {
+        links = links;
+        chosen = chosen;
+        labelled = labelled_with [] links 0 (words_of rows) ports names labelled;
+        linked = linked_from links 0 ports;
+      })

@@ -1,0 +1,12 @@
+use Rattle.std.proofs.Common.{Option, subst}
+use Rattle.std.proofs.lemmas.Result.{err_from_is_err_and}
+use Rattle.clap.specs.Words.{Text, found_of, rows_of}
+use Rattle.pim_words.specs.Ends.{IsTimed}
+use Rattle.pim_words.proofs.Orders.{wrong_ports}
+use Rattle.pim_words.proofs.reading.read_captures.Goals as goal
+
+pub returns-in_err-ports-clause-told : goal.returns-in_err-ports-clause-told
+returns-in_err-ports-clause-told c =
+    let timed = subst (λ (o : Option Text). IsTimed o c.in_ok-at.at) c.option_of.ensures c.in_ok-at.ensures.read in
+    let p = err_from_is_err_and c.from_residual-in_err-ports.result c.from_residual-in_err-ports.ensures.1 in
+    rw (p.1, p.2) (wrong_ports c.args.is_sided (rows_of (found_of c.args.options.now)) c.in_ok-at.at _ timed c.in_err-ports.ensures)
