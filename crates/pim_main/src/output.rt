@@ -6,7 +6,7 @@ ghost use Rattle.pim_device.specs.Device.{top_count};
 use crate::files::STANDARD_INPUT;
 use pim_addr::{Drain, Failed};
 use pim_items::Answers;
-use pim_words::{Port, Task};
+use pim_words::{Captures, Port, Task};
 use std::alloc::Global;
 use std::fs::metadata;
 use std::io::{self, BufWriter, IsTerminal, Write};
@@ -41,14 +41,26 @@ impl<W: Write + Drop> Write for Output<W> {
     }
 }
 
-/// Whether `-` names standard input among the captures of this task.
+/// The captures that a task reads.
+fn captures_of<'t, 'a, A>(task: &'t Task<'a, A>) -> Option<&'t Captures<'a, A>> {
+    match task {
+        Task::Check { .. } | Task::Build { .. } => None,
+        Task::Replay(captures) | Task::Trace(captures, _) => Some(captures),
+        Task::Same(captures, _)
+        | Task::Mirror(captures, _)
+        | Task::Emit(captures, _)
+        | Task::Change(captures, _) => Some(captures),
+    }
+}
+
+/// Whether `-` names standard input among the captures of this task: they are of any container.
 pub fn names_input<A>(task: &Task<'_, A>) -> bool {
-    matches!(task, Task::Trace(..))
+    captures_of(task).is_some_and(|it| it.ports.iter().any(|port| port.link.is_some()))
 }
 
 /// The path of what a port is captured from.
-fn path_of<'a, A>(port: &Port<'a, A>, names_input: bool) -> &'a str {
-    if names_input && port.file == STANDARD_INPUT {
+fn path_of<'a, A>(port: &Port<'a, A>) -> &'a str {
+    if port.link.is_some() && port.file == STANDARD_INPUT {
         "/dev/stdin"
     } else {
         port.file
@@ -56,9 +68,9 @@ fn path_of<'a, A>(port: &Port<'a, A>, names_input: bool) -> &'a str {
 }
 
 /// Whether the capture of some port may still grow: it is a pipe, a terminal or another device.
-fn some_may_grow<A>(rt: &HostRuntime, ports: &[Port<'_, A>], names_input: bool) -> bool {
+fn some_may_grow<A>(rt: &HostRuntime, ports: &[Port<'_, A>]) -> bool {
     for port in ports {
-        if metadata(rt, path_of(port, names_input)).is_ok_and(|it| !it.is_file()) {
+        if metadata(rt, path_of(port)).is_ok_and(|it| !it.is_file()) {
             return true;
         }
     }
@@ -67,15 +79,7 @@ fn some_may_grow<A>(rt: &HostRuntime, ports: &[Port<'_, A>], names_input: bool) 
 
 /// Whether the task reads from a pipe, a terminal or another device.
 fn reads_live<A>(rt: &HostRuntime, task: &Task<'_, A>) -> bool {
-    let captures = match task {
-        Task::Check { .. } | Task::Build { .. } => return false,
-        Task::Replay(captures) | Task::Trace(captures, _) => captures,
-        Task::Same(captures, _)
-        | Task::Mirror(captures, _)
-        | Task::Emit(captures, _)
-        | Task::Change(captures, _) => captures,
-    };
-    some_may_grow(rt, &captures.ports, names_input(task))
+    captures_of(task).is_some_and(|it| some_may_grow(rt, &it.ports))
 }
 
 /// Whether standard output is a FIFO or a pipe. If the system doesn't say, it is none.
