@@ -82,7 +82,7 @@ piece_begins left c is (Some xs) (Some ms) head e = ap (λ it. Some (pieces left
 
 -- ---- which container begins
 
-section_front : (head ms : List ℕ) → 4 ≤ length head → is_section (head ++ ms) ≡ is_section head
+pub section_front : (head ms : List ℕ) → 4 ≤ length head → is_section (head ++ ms) ≡ is_section head
 section_front [] ms l = absurd (omega arith)
 section_front (a ∷ []) ms l = absurd (omega arith)
 section_front (a ∷ b ∷ []) ms l = absurd (omega arith)

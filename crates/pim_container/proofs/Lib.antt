@@ -4,3 +4,4 @@ pub mod Steps
 pub mod Whole
 pub mod Beginnings
 pub mod Agreement
+pub mod Room

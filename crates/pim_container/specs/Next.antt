@@ -1,9 +1,10 @@
 -- What a call of `Reader::next` returns, and what the reader has still to return after it.
-use Rattle.std.specs.Prelude.{◌≡◌, ◌+◌, ◌<◌, ◌≤◌, min, ℕ, List, [], ◌∷◌, ◌++◌, length, take, drop, Option, Some, None, Result, Ok, Err}
-use Rattle.std.specs.Prelude.{⊤, ◌⊎◌}
+use Rattle.std.specs.Prelude.{◌≡◌, ◌+◌, ◌<◌, ◌≤◌, min, ℕ, List, [], ◌∷◌, ◌++◌, length, take, drop, Option, Some, None}
+use Rattle.std.specs.Prelude.{Result, Ok, Err, true, false, ⊤, ◌⊎◌}
 use Rattle.std.specs.Option.{option_map}
 use Rattle.std.specs.Io.KnownBytes.{Consumes}
 use Rattle.pim_device.specs.Device.{FailedIn, top_count}
+use Rattle.pim_container.specs.declared.link.Endianness.TheVariants.{Big}
 use Rattle.pim_container.specs.declared.fault.Fault.{Fault}
 use Rattle.pim_container.specs.declared.fault.Fault.TheVariants as fault
 use Rattle.pim_container.specs.declared.event.Event.{Event}
@@ -18,9 +19,9 @@ use Rattle.pim_container.specs.declared.reader.State.{State}
 use Rattle.pim_container.specs.declared.reader.State.TheVariants.{Unbegun, Pieces, Ended, Failed}
 use Rattle.pim_container.specs.declared.reader.Reader.{Reader}
 use Rattle.pim_container.specs.Told.{ended, event_seen}
-use Rattle.pim_container.specs.Block.{block_type, least_block, most_block}
+use Rattle.pim_container.specs.Block.{block_type, least_block, most_block, is_section}
 use Rattle.pim_container.specs.Pieces.{Answer, answers, pieces, judge_beginning, judge_piece, head_of, piece_of, after_piece}
-use Rattle.pim_container.specs.Pieces.{container_after, interfaces_after}
+use Rattle.pim_container.specs.Pieces.{container_after, interfaces_after, piece_length}
 
 -- What the result of a call means if the buffer holds these bytes.
 abbrev pub seen : List ℕ → Result Event Fault → Answer
@@ -136,6 +137,39 @@ Tells failures failures' all remaining interfaces bytes (Ok step) =
 Tells failures failures' all remaining interfaces bytes (Err fault) =
     IsRefusal {A = Step} failures failures' (Err fault)
     ⊎ IsNext all (Err fault) (option_map (answers_in Failed interfaces) remaining)
+
+-- ---- refused memory
+
+-- The fact holds if the result is `Memory`.
+abbrev pub OnMemory : {A : Type 0} → Result A Fault → Type 0 → Type 0
+OnMemory (Err fault.Memory) fact = fact
+OnMemory _ fact = ⊤
+
+-- A piece describes an interface, which is added to a list.
+abbrev pub Describes : Container → List ℕ → Type 0
+Describes (Classic format) piece = ⊥
+Describes (Blocks order) piece = block_type order piece ≡ 1
+
+-- What the first piece needs memory for, where the buffer has this capacity: it is longer, or it
+-- describes an interface.
+abbrev pub NeedsMemory : ℕ → Container → List ℕ → Type 0
+NeedsMemory capacity container bytes =
+    (capacity < piece_length container (head_of container bytes))
+    ⊎ Describes (container_after container (head_of container bytes)) (piece_of container bytes)
+
+-- What the beginning of a file needs memory for: the first section header, or a file header of 24
+-- bytes.
+abbrev pub NeedsToBegin : ℕ → List ℕ → Type 0
+NeedsToBegin capacity bytes =
+    ((is_section bytes ≡ true) × NeedsMemory capacity (Blocks Big) bytes)
+    ⊎ ((is_section bytes ≡ false) × (capacity < 24))
+
+-- What the next call needs memory for in this state.
+abbrev pub NeedsNext : ℕ → State → List ℕ → Type 0
+NeedsNext capacity Unbegun bytes = NeedsToBegin capacity bytes
+NeedsNext capacity (Pieces container left) bytes = NeedsMemory capacity container bytes
+NeedsNext capacity Ended bytes = ⊥
+NeedsNext capacity Failed bytes = ⊥
 
 -- ---- after the last result
 

@@ -13,6 +13,7 @@ ghost use Rattle.pim_container.specs.Block.{without_end, block_told, is_untimed}
 ghost use Rattle.pim_container.specs.Block.{interfaces_after, with_interface};
 ghost use Rattle.pim_container.specs.Interface.{settings_of, interface_of};
 ghost use Rattle.pim_container.specs.Told.{latest_moment, event_seen, EventLiesIn, IsBy};
+ghost use Rattle.pim_container.specs.Next.{OnMemory};
 
 use crate::event::Event;
 use crate::fault::Fault;
@@ -176,6 +177,7 @@ fn captured_on(interface: Interface, order: Endianness, block: &[u8]) -> Result<
     ensures start { IfOk result (λ captured. 28 ≤ captured.end) }
     ensures end { IfOk result (λ captured. captured.end ≤ length block.now) }
     ensures not_read { result ≢ Err Fault.Read }
+    ensures not_memory { result ≢ Err Fault.Memory }
 {
     let captured_length = order.read_u32_at(block, 20) as usize;
     if block.len() < 32 + captured_length {
@@ -205,6 +207,7 @@ fn tell_packet(
     ensures moment { IfOk result (IsBy latest_moment) }
     ensures record { IfOk result (λ event. event ≢ Event.End) }
     ensures not_read { result ≢ Err Fault.Read }
+    ensures not_memory { result ≢ Err Fault.Memory }
     ensures length { vec_len buffer.new ≤ vec_len buffer.old }
     ensures capacity { vec_capacity buffer.new ≡ vec_capacity buffer.old }
 {
@@ -281,6 +284,7 @@ pub fn tell_block(
     ensures moment { IfOk result (IsBy latest_moment) }
     ensures record { IfOk result (λ event. event ≢ Event.End) }
     ensures not_read { result ≢ Err Fault.Read }
+    ensures memory { OnMemory result (block_type order buffer.old.items ≡ 1) }
     ensures length { vec_len buffer.new ≤ vec_len buffer.old }
     ensures capacity { vec_capacity buffer.new ≡ vec_capacity buffer.old }
 {

@@ -58,6 +58,7 @@ fn format_in(order: Endianness, header: &[u8]) -> Result<Format, Fault>
     ensures answer { Answers (λ format. format) result
         (format_with header.now (link_of order (link_type header.now))) }
     ensures not_read { result ≢ Err Fault.Read }
+    ensures not_memory { result ≢ Err Fault.Memory }
 {
     let number = (order.read_u32_at(header, 20) & 0xffff) as u16;
     let Some(link) = link_of(order, number) else {
@@ -83,6 +84,7 @@ pub fn read_header(header: &[u8]) -> Result<Format, Fault>
     requires { 24 ≤ length header.now }
     ensures answer { Answers (λ format. format) result (judge_header header.now) }
     ensures not_read { result ≢ Err Fault.Read }
+    ensures not_memory { result ≢ Err Fault.Memory }
 {
     if is_magic(Endianness::Big, header) {
         return format_in(Endianness::Big, header);

@@ -6,7 +6,7 @@ ghost use Rattle.pim_addr.specs.Faults.{Answers, judged};
 ghost use Rattle.pim_container.specs.Pieces.{head_length, head_faults, extent_of, piece_told};
 ghost use Rattle.pim_container.specs.Pieces.{interfaces_after};
 ghost use Rattle.pim_container.specs.Block.{most_block};
-ghost use Rattle.pim_container.specs.Next.{IsPiece, IsOfBytes};
+ghost use Rattle.pim_container.specs.Next.{IsPiece, IsOfBytes, OnMemory, Describes};
 ghost use Rattle.pim_container.specs.Told.{event_seen, EventLiesIn, IsBy, latest_moment};
 
 use crate::block::{read_head, tell_block};
@@ -85,6 +85,7 @@ impl Container {
         ensures moment { IfOk result (IsBy latest_moment) }
         ensures record { IfOk result (λ event. event ≢ Event.End) }
         ensures not_read { result ≢ Err Fault.Read }
+        ensures memory { OnMemory result (Describes self buffer.old.items) }
         ensures length { vec_len buffer.new ≤ vec_len buffer.old }
         ensures capacity { vec_capacity buffer.new ≡ vec_capacity buffer.old }
     {

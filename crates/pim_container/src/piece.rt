@@ -4,10 +4,11 @@
 //! promise that the capacity stays.
 
 ghost use Rattle.std.specs.Prelude.{◌≡◌, ◌≢◌, ◌+◌, ◌<◌, ◌≤◌, ◌⊎◌, ℕ, length, max, IfOk, OnOk};
-ghost use Rattle.std.specs.Prelude.{OnErr, vec_len, vec_capacity};
+ghost use Rattle.std.specs.Prelude.{OnErr, IfSome, vec_len, vec_capacity};
 ghost use Rattle.pim_container.specs.Pieces.{head_length};
 ghost use Rattle.pim_container.specs.Block.{most_block};
 ghost use Rattle.pim_container.specs.Next.{FillsAfter, TakesPiece, CountsReads, behind};
+ghost use Rattle.pim_container.specs.Next.{OnMemory, NeedsMemory};
 ghost use Rattle.pim_container.specs.Told.{EventLiesIn, IsBy, latest_moment};
 
 use crate::container::Container;
@@ -30,6 +31,7 @@ pub struct Found {
 /// length.
 fn fit(buffer: &mut Vec<u8>, size: usize) -> Result<(), AllocError>
     ensures length { OnOk result (vec_len buffer.new ≡ size) }
+    ensures refused { OnErr result (vec_capacity buffer.old < size) }
     ensures same_length { OnErr result (vec_len buffer.new ≡ vec_len buffer.old) }
     ensures capacity { vec_capacity buffer.new ≤ max (vec_capacity buffer.old) size }
 {
@@ -53,6 +55,7 @@ pub fn read_after<R: Feed>(
     ensures answer { FillsAfter head.now size (R.remaining device.old) (R.remaining device.new)
         buffer.new.items result }
     ensures reads { CountsReads ⊥ (R.failures device.old) (R.failures device.new) result }
+    ensures memory { OnMemory result (vec_capacity buffer.old < size) }
     ensures length { vec_len buffer.new ≤ max (vec_len buffer.old) size }
     ensures capacity { vec_capacity buffer.new ≤ max (vec_capacity buffer.old) size }
 {
@@ -82,6 +85,8 @@ pub fn take_piece<R: Feed>(
     ensures ranges { IfOk result (λ found. EventLiesIn buffer.new.items found.event) }
     ensures moment { IfOk result (λ found. IsBy latest_moment found.event) }
     ensures record { IfOk result (λ found. found.event ≢ Event.End) }
+    ensures memory { OnMemory result (IfSome (behind head.now (R.remaining device.old))
+        (NeedsMemory (vec_capacity buffer.old) container)) }
     ensures length { vec_len buffer.new ≤ max (vec_len buffer.old) most_block }
     ensures capacity { vec_capacity buffer.new ≤ max (vec_capacity buffer.old) most_block }
 {

@@ -1,7 +1,7 @@
 //! A capture that is read event by event.
 
 ghost use Rattle.std.specs.Prelude.{◌≡◌, ◌<◌, ◌≤◌, ◌⊎◌, [], length, IfOk, Ok, max, vec_len};
-ghost use Rattle.std.specs.Prelude.{vec_capacity};
+ghost use Rattle.std.specs.Prelude.{IfSome, vec_capacity};
 ghost use Rattle.std.specs.Option.{option_map};
 ghost use Rattle.pim_container.specs.declared.reader.State.TheVariants.{Unbegun};
 ghost use Rattle.pim_container.specs.Block.{most_block};
@@ -9,7 +9,8 @@ ghost use Rattle.pim_container.specs.Pieces.{answers, pieces, head_length};
 ghost use Rattle.pim_container.specs.Next.{coming, seen, device_of, state_of, IsNext, IsRefusal};
 ghost use Rattle.pim_container.specs.Next.{CountsReads};
 ghost use Rattle.pim_container.specs.Next.{pieces_left, IsRepeated, StaysOver, Tells, behind};
-ghost use Rattle.pim_container.specs.Next.{BeginsClassic};
+ghost use Rattle.pim_container.specs.Next.{BeginsClassic, OnMemory, NeedsMemory, NeedsToBegin};
+ghost use Rattle.pim_container.specs.Next.{NeedsNext};
 ghost use Rattle.pim_container.specs.Told.{EventLiesIn, IsBy, latest_moment};
 
 use crate::block::is_section;
@@ -79,6 +80,8 @@ fn go_on<R: Feed>(
     ensures moment { IfOk result (λ step. IsBy latest_moment step.event) }
     ensures over { IfOk result (λ step. StaysOver (Ok step.event) step.state) }
     ensures fewer { IfOk result (λ step. step.event ≡ Event.End ⊎ pieces_left step.state < left) }
+    ensures memory { OnMemory result (IfSome (behind head.now (R.remaining device.old))
+        (NeedsMemory (vec_capacity buffer.old) container)) }
     ensures length { vec_len buffer.new ≤ max (vec_len buffer.old) most_block }
     ensures capacity { vec_capacity buffer.new ≤ max (vec_capacity buffer.old) most_block }
 {
@@ -102,6 +105,7 @@ fn begin_classic<R: Feed>(
     ensures answer { BeginsClassic (behind head.now (R.remaining device.old))
         (R.remaining device.new) result }
     ensures reads { CountsReads ⊥ (R.failures device.old) (R.failures device.new) result }
+    ensures memory { OnMemory result (vec_capacity buffer.old < 24) }
     ensures length { vec_len buffer.new ≤ max (vec_len buffer.old) 24 }
     ensures capacity { vec_capacity buffer.new ≤ max (vec_capacity buffer.old) 24 }
 {
@@ -124,6 +128,8 @@ fn begin<R: Feed>(
     ensures over { IfOk result (λ step. StaysOver (Ok step.event) step.state) }
     ensures fewer { IfOk result (λ step.
         step.event ≡ Event.End ⊎ pieces_left step.state < 4294967296) }
+    ensures memory { OnMemory result (IfSome (R.remaining device.old)
+        (NeedsToBegin (vec_capacity buffer.old))) }
     ensures length { vec_len buffer.new ≤ max (vec_len buffer.old) most_block }
     ensures capacity { vec_capacity buffer.new ≤ max (vec_capacity buffer.old) most_block }
 {
@@ -163,6 +169,8 @@ fn next_piece<R: Feed>(
     ensures moment { IfOk result (λ step. IsBy latest_moment step.event) }
     ensures over { IfOk result (λ step. StaysOver (Ok step.event) step.state) }
     ensures fewer { IfOk result (λ step. step.event ≡ Event.End ⊎ pieces_left step.state < left) }
+    ensures memory { OnMemory result (IfSome (R.remaining device.old)
+        (NeedsMemory (vec_capacity buffer.old) container)) }
     ensures length { vec_len buffer.new ≤ max (vec_len buffer.old) most_block }
     ensures capacity { vec_capacity buffer.new ≤ max (vec_capacity buffer.old) most_block }
 {
@@ -215,6 +223,10 @@ impl<R: Feed> Reader<R> {
             ⊎ pieces_left (state_of self.new) < pieces_left (state_of self.old)) }
         ensures ranges { IfOk result (EventLiesIn buffer.new.items) }
         ensures moment { IfOk result (IsBy latest_moment) }
+        // Memory is refused only if the next piece is longer than the buffer's capacity, or
+        // describes an interface.
+        ensures memory { OnMemory result (IfSome (R.remaining (device_of self.old))
+            (NeedsNext (vec_capacity buffer.old) (state_of self.old))) }
         ensures length { vec_len buffer.new ≤ max (vec_len buffer.old) most_block }
         ensures capacity { vec_capacity buffer.new ≤ max (vec_capacity buffer.old) most_block }
         ensures repeated { IsRepeated (state_of self.old) result }

@@ -1,7 +1,7 @@
 //! Reads the records of any container, by a choice of packets.
 //!
-//! Each packet gives one event, so that a reader who counts events has the numbers of packets in the
-//! file. Packets that aren't taken are skipped. Sections, interfaces and blocks of other types give
+//! Each packet gives one event, so that who counts events has the numbers of packets in the file.
+//! Packets that aren't taken are skipped. Sections, interfaces and blocks of other types give
 //! nothing. Of a packet that is taken the message alone is kept, so that the bytes of a record are
 //! no more than those of a classic one.
 

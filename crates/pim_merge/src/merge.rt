@@ -11,8 +11,8 @@ ghost use Rattle.pim_capture.specs.Capture.{answers, most_captured, most_records
 ghost use Rattle.pim_capture.specs.Next.{latest_moment, event_seen, PayloadLiesIn, IsBy, named_in};
 ghost use Rattle.pim_capture.specs.declared.capture.State.TheVariants.{Unbegun};
 ghost use Rattle.pim_time.specs.Text.{millis_of};
-ghost use Rattle.pim_merge.specs.Merge.{turn, fails, earliest_from, clock_after, is_past, moment_of};
-ghost use Rattle.pim_merge.specs.Merge.{moment_at, time_told};
+ghost use Rattle.pim_merge.specs.Merge.{turn, fails, earliest_from, clock_after, is_past};
+ghost use Rattle.pim_merge.specs.Merge.{moment_of, moment_at, time_told};
 ghost use Rattle.pim_merge.specs.Lane.{IsComing, IsLooked, coming_on, failures_of, records_to_come};
 ghost use Rattle.pim_merge.specs.Lane.{head_time, head_rank, lane_at};
 ghost use Rattle.pim_merge.specs.Lane.{without_head, rooms_of, sizes_of, KeepRooms, FailsAt};
@@ -218,8 +218,8 @@ impl<R: Feed + Drop> Merge<R> {
 
     /// Takes the next turn: the first of the records that have the least time among the heads of
     /// the captures. A record without a time comes before all others, and has the moment of the
-    /// record before it. `None` means that all captures are at their ends. Each head that wasn't read
-    /// is read, so after the first call one record a call.
+    /// record before it. `None` means that all captures are at their ends. Each head that wasn't
+    /// read is read, so after the first call one record a call.
     ///
     /// # Errors
     /// The fault at the head of a capture, before any record is taken; of several faults the one of

@@ -1,9 +1,11 @@
-use Rattle.std.proofs.Common.{subst, sym, ◌∙◌}
+use Rattle.std.proofs.Common.{vec_capacity, subst, sym, ◌∙◌}
 use Rattle.std.proofs.lemmas.Result.{err_from_is_err_and}
 use Rattle.pim_container.specs.declared.container.Container.{Container}
 use Rattle.pim_container.specs.declared.piece.Found.{Found}
+use Rattle.pim_container.specs.declared.event.Event.{Event}
 use Rattle.pim_container.specs.Next.{IsPiece}
 use Rattle.pim_container.proofs.Whole.{extent_is, head_fault_known, rest_fault_known, told_fault_known, told_known, is_piece}
+use Rattle.pim_container.proofs.Room.{memory_passed, memory_not, room_known, described_known}
 use Rattle.pim_container.proofs.piece.take_piece.Goals as goal
 
 pub returns-in_err-extent-clause-answer : goal.returns-in_err-extent-clause-answer
@@ -40,3 +42,25 @@ returns-clause-answer g c =
     told_known c.args.container c.args.interfaces.now.items c.tell.new.interfaces.items c.args.head.now c.read_after.new.buffer.items c.tell.new.buffer.items
     c.in_ok-extent.extent.length (g.R.Feed.remaining c.args.device.now) (g.R.Feed.remaining c.read_after.new.device) found c.requires x.0 x.1 x.2
     c.in_ok-read_after.ensures.answer c.in_ok-event.ensures.answer c.in_ok-event.ensures.interfaces
+
+pub returns-in_err-extent-clause-memory : goal.returns-in_err-extent-clause-memory
+returns-in_err-extent-clause-memory g c =
+    let p = err_from_is_err_and c.from_residual.result c.from_residual.ensures.1 in
+    rw (p.1, p.2) (memory_not Found c.in_err-extent.field-0.0 _ c.in_err-extent.ensures.not_other)
+
+pub returns-in_err-read_after-clause-memory : goal.returns-in_err-read_after-clause-memory
+returns-in_err-read_after-clause-memory g c =
+    let p = err_from_is_err_and c.from_residual-in_err-read_after.result c.from_residual-in_err-read_after.ensures.1 in
+    let x = extent_is c.args.container c.args.head.now c.in_ok-extent.extent c.in_ok-extent.ensures.answer in
+    rw (p.1, p.2) (memory_passed (Unit {0}) Found c.in_err-read_after.field-0.0 _ _
+    (room_known (vec_capacity c.args.buffer.now) c.in_ok-extent.extent.length c.args.container c.args.head.now (g.R.Feed.remaining c.args.device.now) c.requires x.2)
+    c.in_err-read_after.ensures.memory)
+
+pub returns-in_err-event-clause-memory : goal.returns-in_err-event-clause-memory
+returns-in_err-event-clause-memory g c =
+    let p = err_from_is_err_and c.from_residual-in_err-event.result c.from_residual-in_err-event.ensures.1 in
+    let x = extent_is c.args.container c.args.head.now c.in_ok-extent.extent c.in_ok-extent.ensures.answer in
+    rw (p.1, p.2) (memory_passed Event Found c.in_err-event.field-0.0 _ _
+    (described_known (vec_capacity c.args.buffer.now) c.in_ok-extent.extent.length c.args.container c.in_ok-extent.extent.container c.args.head.now c.read_after.new.buffer.items
+    (g.R.Feed.remaining c.args.device.now) (g.R.Feed.remaining c.read_after.new.device) c.requires x.0 x.1 x.2 c.in_ok-read_after.ensures.answer)
+    c.in_err-event.ensures.memory)

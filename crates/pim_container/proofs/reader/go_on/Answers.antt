@@ -1,8 +1,11 @@
 use Rattle.std.proofs.Common.{arith}
 use Rattle.std.proofs.lemmas.Result.{err_from_is_err_and}
 use Rattle.pim_container.specs.declared.reader.State.TheVariants.{Failed}
+use Rattle.pim_container.specs.declared.reader.Step.{Step}
+use Rattle.pim_container.specs.declared.piece.Found.{Found}
 use Rattle.pim_container.specs.Next.{answers_in}
 use Rattle.pim_container.proofs.Steps.{head_some, found_known, fault_known}
+use Rattle.pim_container.proofs.Room.{memory_passed}
 use Rattle.pim_container.proofs.reader.go_on.Goals as goal
 
 pub returns-in_err-found-clause-answer : goal.returns-in_err-found-clause-answer
@@ -16,3 +19,8 @@ pub returns-clause-answer : goal.returns-clause-answer
 returns-clause-answer g c =
     found_known c.args.left c.args.container c.args.interfaces.now.items c.take_piece.new.interfaces.items c.args.head.now c.take_piece.new.buffer.items
     (g.R.Feed.remaining c.args.device.now) (g.R.Feed.remaining c.take_piece.new.device) c.in_ok-found.found (omega arith) (omega (arith, head_some c.args.container)) c.in_ok-found.ensures.record c.in_ok-found.ensures.answer
+
+pub returns-in_err-found-clause-memory : goal.returns-in_err-found-clause-memory
+returns-in_err-found-clause-memory g c =
+    let p = err_from_is_err_and c.from_residual.result c.from_residual.ensures.1 in
+    rw (p.1, p.2) (memory_passed Found Step c.in_err-found.field-0.0 _ _ (λ m. m) c.in_err-found.ensures.memory)
