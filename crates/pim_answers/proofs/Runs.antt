@@ -4,7 +4,7 @@ use Rattle.std.specs.Io.KnownBytes.{Appends}
 use Rattle.std.proofs.KnownBytes.{Appends-nil, Appends-trans}
 use Rattle.pim_addr.specs.declared.family.AddressFamily.{AddressFamily}
 use Rattle.pim_device.specs.Device.{AppendsFront, AppendsAll}
-use Rattle.pim_down.specs.declared.key.What.{What}
+use Rattle.pim_down.specs.declared.machines.key.What.{What}
 use Rattle.pim_router.specs.declared.step.Step.{Step}
 use Rattle.pim_router.specs.declared.step.Step.TheVariants.{Echo, Refresh, Reached}
 use Rattle.pim_router.specs.Course.{Telling, echo, refresh, verdict, runs_to, Reaches, IsCourse}

@@ -10,9 +10,9 @@ use Rattle.std.proofs.lemmas.Cmp.{nat_cmp_total, on_total, then_total}
 use Rattle.std.proofs.lemmas.List.{length-map, get_or-map}
 use Rattle.slab.specs.Slab.{Slab, get}
 use Rattle.sorted_blocks.specs.Found.{IsGap, IsEqualAt}
-use Rattle.pim_down.specs.declared.deadline.Alarm.{Alarm}
-use Rattle.pim_down.specs.declared.held.Held.{Held}
-use Rattle.pim_down.specs.declared.key.Key.{Key}
+use Rattle.pim_down.specs.declared.records.deadline.Alarm.{Alarm}
+use Rattle.pim_down.specs.declared.machines.held.Held.{Held}
+use Rattle.pim_down.specs.declared.machines.key.Key.{Key}
 use Rattle.pim_down.specs.Key.{key_cmp}
 use Rattle.pim_down.specs.Schedule.{placed, without, IsInOrder, Numbered, alarm_cmp, alarm_of, with_alarm, key_of, AreKnown, key_order, alarm_order}
 use Rattle.pim_down.specs.Seen.{key_seen}

@@ -6,9 +6,9 @@ use Rattle.std.proofs.lemmas.List.{drop-drop, take_at, drop_at, length-take-le, 
 use Rattle.std.proofs.lemmas.List.Edits.{length-remove, get_or-remove_above}
 use Rattle.slab.specs.Slab.{Slab, get}
 use Rattle.sorted_blocks.specs.Shape.{cut}
-use Rattle.pim_down.specs.declared.deadline.Alarm.{Alarm}
-use Rattle.pim_down.specs.declared.held.Held.{Held}
-use Rattle.pim_down.specs.declared.key.Key.{Key}
+use Rattle.pim_down.specs.declared.records.deadline.Alarm.{Alarm}
+use Rattle.pim_down.specs.declared.machines.held.Held.{Held}
+use Rattle.pim_down.specs.declared.machines.key.Key.{Key}
 use Rattle.pim_down.specs.Schedule.{placed, without, Numbered, alarm_cmp, alarm_of, alarm_seen, key_of, AreKnown}
 use Rattle.pim_down.specs.PutOff.{with_run}
 use Rattle.pim_down.specs.Seen.{key_seen}

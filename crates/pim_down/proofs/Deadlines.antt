@@ -6,11 +6,11 @@ use Rattle.std.specs.Cmp.{IsTotalOrder}
 use Rattle.std.specs.FinMap.{nat_cmp-IsAntisymmetric}
 use Rattle.std.proofs.lemmas.Cmp.{nat_cmp_total, on_total, then_total}
 use Rattle.std.proofs.lemmas.Bool.{false≢true}
-use Rattle.pim_down.specs.declared.deadline.Deadline.{Deadline}
-use Rattle.pim_down.specs.declared.deadline.TimerKind.{TimerKind}
-use Rattle.pim_down.specs.declared.deadline.TimerKind.TheVariants.{PendingTimer, ExpiryTimer}
-use Rattle.pim_down.specs.declared.key.Key.{Key}
-use Rattle.pim_down.specs.declared.machine.Record.{Record}
+use Rattle.pim_down.specs.declared.records.deadline.Deadline.{Deadline}
+use Rattle.pim_down.specs.declared.records.deadline.TimerKind.{TimerKind}
+use Rattle.pim_down.specs.declared.records.deadline.TimerKind.TheVariants.{PendingTimer, ExpiryTimer}
+use Rattle.pim_down.specs.declared.machines.key.Key.{Key}
+use Rattle.pim_down.specs.declared.machines.machine.Record.{Record}
 use Rattle.pim_down.specs.Key.{key_cmp}
 use Rattle.pim_down.specs.Schedule.{IsInOrder, timer_rank, deadline_cmp, end_of, with_end, timers_of}
 use Rattle.pim_down.proofs.Order.{key_total, both_equal, equal_keys}

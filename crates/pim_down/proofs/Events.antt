@@ -5,9 +5,9 @@ use Rattle.std.proofs.lemmas.List.{append_assoc}
 use Rattle.pim_jp.specs.declared.entry.Entry.{Entry}
 use Rattle.pim_jp.specs.declared.entry.Entry.TheVariants as entry
 use Rattle.pim_jp.specs.Message.{GroupSet}
-use Rattle.pim_down.specs.declared.key.What.TheVariants.{Star}
+use Rattle.pim_down.specs.declared.machines.key.What.TheVariants.{Star}
 use Rattle.pim_down.specs.Tables.{Start}
-use Rattle.pim_down.specs.declared.machine.Record.{Record}
+use Rattle.pim_down.specs.declared.machines.machine.Record.{Record}
 use Rattle.pim_down.specs.Hearing.{Event}
 use Rattle.pim_down.specs.Records.{IsAscending}
 use Rattle.pim_down.specs.Hearing.{act, act_all, is_new, count_new, is_known, entry_events, list_events, set_events}

@@ -8,14 +8,14 @@ use Rattle.std.proofs.lemmas.Bool.{false≢true, ltb-true, eqb-true}
 use Rattle.std.proofs.lemmas.Bool.Decides.{nat_tests}
 use Rattle.sorted_blocks.specs.declared.place.Place.{Place}
 use Rattle.sorted_slab.specs.Listed.{Listed, at, IsItem}
-use Rattle.pim_down.specs.declared.deadline.Deadline.{Deadline}
-use Rattle.pim_down.specs.declared.deadline.TimerKind.{TimerKind}
-use Rattle.pim_down.specs.declared.deadline.TimerKind.TheVariants.{PendingTimer, ExpiryTimer}
-use Rattle.pim_down.specs.declared.held.Held.{Held}
-use Rattle.pim_down.specs.declared.key.Key.{Key}
-use Rattle.pim_down.specs.declared.machine.Machine.{Machine}
-use Rattle.pim_down.specs.declared.machine.Pending.{Pending}
-use Rattle.pim_down.specs.declared.machine.Record.{Record}
+use Rattle.pim_down.specs.declared.records.deadline.Deadline.{Deadline}
+use Rattle.pim_down.specs.declared.records.deadline.TimerKind.{TimerKind}
+use Rattle.pim_down.specs.declared.records.deadline.TimerKind.TheVariants.{PendingTimer, ExpiryTimer}
+use Rattle.pim_down.specs.declared.machines.held.Held.{Held}
+use Rattle.pim_down.specs.declared.machines.key.Key.{Key}
+use Rattle.pim_down.specs.declared.machines.machine.Machine.{Machine}
+use Rattle.pim_down.specs.declared.machines.machine.Pending.{Pending}
+use Rattle.pim_down.specs.declared.machines.machine.Record.{Record}
 use Rattle.pim_down.specs.Key.{key_cmp, same_key}
 use Rattle.pim_down.specs.Records.{IsBelow, IsAscending, machine_at}
 use Rattle.pim_down.specs.Places.{StandsAt, WouldStandAt}

@@ -1,7 +1,7 @@
 -- The order of records after a timer has fired.
 use Rattle.std.proofs.Common.{◌≡◌, ℕ, List, Some}
-use Rattle.pim_down.specs.declared.held.Held.{Held}
-use Rattle.pim_down.specs.declared.step.Step.{Step}
+use Rattle.pim_down.specs.declared.machines.held.Held.{Held}
+use Rattle.pim_down.specs.declared.machines.step.Step.{Step}
 use Rattle.pim_down.specs.Records.{IsAscending}
 use Rattle.pim_down.specs.Time.{fired}
 use Rattle.pim_down.specs.Seen.{records_seen, shown}

@@ -4,12 +4,12 @@ use Rattle.std.specs.List.{insert, remove, AllByRecursion}
 use Rattle.std.proofs.lemmas.List.{length-map, length-set}
 use Rattle.slab.specs.Slab.{Slab, get}
 use Rattle.sorted_slab.specs.Listed.{Listed, numbers}
-use Rattle.pim_down.specs.declared.deadline.Alarm.{Alarm}
-use Rattle.pim_down.specs.declared.deadline.TimerKind.{TimerKind}
-use Rattle.pim_down.specs.declared.deadline.TimerKind.TheVariants.{PendingTimer, ExpiryTimer}
-use Rattle.pim_down.specs.declared.held.Held.{Held}
-use Rattle.pim_down.specs.declared.held.Timed.{Timed}
-use Rattle.pim_down.specs.declared.key.Key.{Key}
+use Rattle.pim_down.specs.declared.records.deadline.Alarm.{Alarm}
+use Rattle.pim_down.specs.declared.records.deadline.TimerKind.{TimerKind}
+use Rattle.pim_down.specs.declared.records.deadline.TimerKind.TheVariants.{PendingTimer, ExpiryTimer}
+use Rattle.pim_down.specs.declared.machines.held.Held.{Held}
+use Rattle.pim_down.specs.declared.machines.held.Timed.{Timed}
+use Rattle.pim_down.specs.declared.machines.key.Key.{Key}
 use Rattle.pim_down.specs.Schedule.{IsInOrder, Numbered, alarm_cmp, alarm_of, end_of, with_alarm, with_its, numbered, AreKnown, AlarmList, IsTimed}
 use Rattle.pim_down.specs.Seen.{timed_seen, key_seen, records_seen}
 use Rattle.pim_down.proofs.InOrder.{placed_swap, order_placed, length_placed}

@@ -3,7 +3,7 @@ use Rattle.std.proofs.Common.{◌≡◌, ℕ, ◌+◌, ◌<◌, ◌≤◌, Bool,
 use Rattle.std.specs.Ordering.{is_le}
 use Rattle.std.specs.List.Sorted.{IsPartitionPoint}
 use Rattle.std.proofs.lemmas.Bool.{ltb-true, ltb-false}
-use Rattle.pim_down.specs.declared.held.Held.{Held}
+use Rattle.pim_down.specs.declared.machines.held.Held.{Held}
 use Rattle.pim_down.specs.Key.{key_cmp}
 use Rattle.pim_down.specs.After.{is_up_to}
 use Rattle.pim_down.specs.Records.{IsAscending}

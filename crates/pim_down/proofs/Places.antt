@@ -3,9 +3,9 @@ use Rattle.std.proofs.Common.{◌≡◌, ℕ, ◌+◌, ◌<◌, cond, List, [], 
 use Rattle.std.specs.declared.cmp.Ordering.{Ordering}
 use Rattle.std.specs.declared.cmp.Ordering.TheVariants.{Less, Equal, Greater}
 use Rattle.std.proofs.lemmas.List.{drop_more, drop_all, take_more, append_assoc, append-nil}
-use Rattle.pim_down.specs.declared.key.Key.{Key}
-use Rattle.pim_down.specs.declared.machine.Machine.{Machine}
-use Rattle.pim_down.specs.declared.machine.Record.{Record}
+use Rattle.pim_down.specs.declared.machines.key.Key.{Key}
+use Rattle.pim_down.specs.declared.machines.machine.Machine.{Machine}
+use Rattle.pim_down.specs.declared.machines.machine.Record.{Record}
 use Rattle.pim_down.specs.Key.{key_cmp, same_key}
 use Rattle.pim_down.specs.Records.{IsBelow, IsAscending, machine_at, recorded, at_rank, changed}
 use Rattle.pim_down.specs.Places.{StandsAt, WouldStandAt}

@@ -4,10 +4,10 @@ use Rattle.std.specs.List.{All, AllByRecursion}
 use Rattle.std.proofs.lemmas.List.{drop-drop, take-append-drop, length-take-le, length-map}
 use Rattle.std.proofs.lemmas.List.Elements.{recursion_from_All}
 use Rattle.slab.specs.Slab.{Slab, get}
-use Rattle.pim_down.specs.declared.deadline.Alarm.{Alarm}
-use Rattle.pim_down.specs.declared.deadline.TimerKind.{TimerKind}
-use Rattle.pim_down.specs.declared.deadline.TimerKind.TheVariants.{PendingTimer, ExpiryTimer}
-use Rattle.pim_down.specs.declared.held.Held.{Held}
+use Rattle.pim_down.specs.declared.records.deadline.Alarm.{Alarm}
+use Rattle.pim_down.specs.declared.records.deadline.TimerKind.{TimerKind}
+use Rattle.pim_down.specs.declared.records.deadline.TimerKind.TheVariants.{PendingTimer, ExpiryTimer}
+use Rattle.pim_down.specs.declared.machines.held.Held.{Held}
 use Rattle.pim_down.specs.PutOff.{put_off, put_off_from, with_run}
 use Rattle.pim_down.specs.Schedule.{Numbered, alarm_of, end_of, with_alarm, with_its, numbered, AreKnown}
 use Rattle.pim_down.specs.Seen.{timed_seen, key_seen}

@@ -11,14 +11,14 @@ use Rattle.pim_jp.specs.declared.entry.Entry.{Entry}
 use Rattle.pim_jp.specs.declared.entry.Entry.TheVariants as entry
 use Rattle.pim_jp.specs.Message.{GroupSet, Message}
 use Rattle.pim_jp.specs.Canonical.{IsMessageEntry, IsMessageSet, IsMessage}
-use Rattle.pim_down.specs.declared.key.What.{What}
-use Rattle.pim_down.specs.declared.key.What.TheVariants.{Star, Source, Rpt}
-use Rattle.pim_down.specs.declared.key.Key.{Key}
-use Rattle.pim_down.specs.declared.machine.State.{State}
-use Rattle.pim_down.specs.declared.machine.State.TheVariants.{Join, PrunePending, Prune, PruneTmp, PrunePendingTmp}
-use Rattle.pim_down.specs.declared.machine.Pending.{Pending}
-use Rattle.pim_down.specs.declared.machine.Machine.{Machine}
-use Rattle.pim_down.specs.declared.machine.Record.{Record}
+use Rattle.pim_down.specs.declared.machines.key.What.{What}
+use Rattle.pim_down.specs.declared.machines.key.What.TheVariants.{Star, Source, Rpt}
+use Rattle.pim_down.specs.declared.machines.key.Key.{Key}
+use Rattle.pim_down.specs.declared.machines.machine.State.{State}
+use Rattle.pim_down.specs.declared.machines.machine.State.TheVariants.{Join, PrunePending, Prune, PruneTmp, PrunePendingTmp}
+use Rattle.pim_down.specs.declared.machines.machine.Pending.{Pending}
+use Rattle.pim_down.specs.declared.machines.machine.Machine.{Machine}
+use Rattle.pim_down.specs.declared.machines.machine.Record.{Record}
 use Rattle.pim_down.specs.Key.{key_cmp, same_key}
 use Rattle.pim_down.specs.Tables.{Start, join_in, on_join, prune_in, on_prune, star_join_in, on_star_join, rpt_prune_in, on_rpt_prune, end_in, on_end}
 use Rattle.pim_down.specs.Records.{machine_at, recorded, at_rank, changed, each_changed}

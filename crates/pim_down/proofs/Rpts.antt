@@ -9,12 +9,12 @@ use Rattle.std.specs.List.Sorted.{IsPartitionPoint}
 use Rattle.std.proofs.lemmas.Cmp.{nat_cmp_total, nat_list_cmp_total, tied_itself}
 use Rattle.std.proofs.lemmas.Bool.{false≢true, eqb-true, eq-eqb, ltb-true, ltb-false}
 use Rattle.std.proofs.lemmas.List.{length-map, length-take, take-append-drop, get_or-take, get_or-drop, get_or-map, length-drop, drop_at}
-use Rattle.pim_down.specs.declared.held.Held.{Held}
-use Rattle.pim_down.specs.declared.key.What.{What}
-use Rattle.pim_down.specs.declared.key.What.TheVariants.{Star, Source, Rpt}
-use Rattle.pim_down.specs.declared.key.Key.{Key}
-use Rattle.pim_down.specs.declared.machine.Machine.{Machine}
-use Rattle.pim_down.specs.declared.machine.Record.{Record}
+use Rattle.pim_down.specs.declared.machines.held.Held.{Held}
+use Rattle.pim_down.specs.declared.machines.key.What.{What}
+use Rattle.pim_down.specs.declared.machines.key.What.TheVariants.{Star, Source, Rpt}
+use Rattle.pim_down.specs.declared.machines.key.Key.{Key}
+use Rattle.pim_down.specs.declared.machines.machine.Machine.{Machine}
+use Rattle.pim_down.specs.declared.machines.machine.Record.{Record}
 use Rattle.pim_down.specs.Key.{address_cmp, what_cmp, key_cmp}
 use Rattle.pim_down.specs.Places.{is_below}
 use Rattle.pim_down.specs.Records.{IsAscending, recorded, each_changed}
@@ -22,7 +22,7 @@ use Rattle.pim_down.specs.Hearing.{is_rpt, is_rpt_of, on_rpts}
 use Rattle.pim_down.specs.Tables.{on_star_join}
 use Rattle.pim_down.specs.After.{beside_rpts, is_before_rpts}
 use Rattle.pim_down.specs.Seen.{timed_seen, key_seen, record_seen, records_seen}
-use Rattle.pim_down.specs.declared.held.Timed.{Timed}
+use Rattle.pim_down.specs.declared.machines.held.Timed.{Timed}
 use Rattle.pim_down.proofs.Order.{both_equal, same_address, key_total}
 use Rattle.pim_down.proofs.Searched.{first_part as first_of, second_part as second_of, front_of, rise_at}
 use Rattle.pim_down.proofs.Lists.{map_set, map_at}

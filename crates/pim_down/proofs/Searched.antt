@@ -11,17 +11,17 @@ use Rattle.std.proofs.lemmas.Cmp.{nat_cmp_total, nat_list_cmp_total, alike_right
 use Rattle.std.proofs.lemmas.Bool.{false≢true, ltb-true, ltb-false}
 use Rattle.std.proofs.lemmas.Bool.Decides.{nat_tests}
 use Rattle.std.proofs.lemmas.List.{get_or-drop, length-drop}
-use Rattle.pim_down.specs.declared.held.Held.{Held}
-use Rattle.pim_down.specs.declared.machine.Record.{Record}
+use Rattle.pim_down.specs.declared.machines.held.Held.{Held}
+use Rattle.pim_down.specs.declared.machines.machine.Record.{Record}
 use Rattle.pim_down.specs.Key.{rank, source_of, address_cmp, what_cmp, key_cmp}
-use Rattle.pim_down.specs.declared.key.What.{What}
+use Rattle.pim_down.specs.declared.machines.key.What.{What}
 use Rattle.pim_down.proofs.Order.{key_total}
 use Rattle.pim_down.specs.Records.{IsBelow, IsAscending}
 use Rattle.pim_down.specs.Seen.{record_seen, records_seen}
 use Rattle.pim_down.specs.Time.{record_after}
 use Rattle.pim_down.specs.After.{group_after, next_in_group, is_above, is_of_group_after, is_machine_after, is_before_groups, is_up_to, is_of_group}
 use Rattle.pim_down.proofs.OnPort.{ports_rise}
-use Rattle.pim_down.specs.declared.key.Key.{Key}
+use Rattle.pim_down.specs.declared.machines.key.Key.{Key}
 
 none_some : {X : Type 0} {x : X} → None ≡ Some x → ⊥
 none_some e = absurd (false≢true (ap is_some e))

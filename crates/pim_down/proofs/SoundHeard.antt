@@ -3,7 +3,7 @@ use Rattle.std.proofs.Common.{ℕ, ◌<◌, ◌≤◌, List, Option}
 use Rattle.pim_addr.specs.declared.family.AddressFamily.{AddressFamily}
 use Rattle.pim_jp.specs.Message.{Message}
 use Rattle.pim_jp.specs.Canonical.{IsMessage}
-use Rattle.pim_down.specs.declared.event.Timing.{Timing}
+use Rattle.pim_down.specs.declared.machines.event.Timing.{Timing}
 use Rattle.pim_down.specs.Hearing.{events_of, start_of}
 use Rattle.pim_down.specs.Time.{Downstream}
 use Rattle.pim_down.specs.Sound.{IsSound}

@@ -1,6 +1,6 @@
 -- The records as they are walked: the first, and then the others.
 use Rattle.std.proofs.Common.{◌≡◌, ℕ, List, ◌∷◌, refl}
-use Rattle.pim_down.specs.declared.held.Held.{Held}
+use Rattle.pim_down.specs.declared.machines.held.Held.{Held}
 use Rattle.pim_down.specs.Time.{record_after}
 use Rattle.pim_down.specs.Seen.{record_seen, shown}
 

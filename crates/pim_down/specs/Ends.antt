@@ -1,9 +1,9 @@
 -- When the timers of records end, counted from the same moment as their countdowns. The run by
 -- milliseconds of `Time` doesn't use these ends; the code uses them to jump from one to the next.
 use Rattle.std.specs.Prelude.{◌≤◌, ℕ, ◌+◌, Bool, false, List, [], ◌∷◌, Option, None, Some, min, nat_le}
-use Rattle.pim_down.specs.declared.machine.Pending.{Pending}
-use Rattle.pim_down.specs.declared.machine.Machine.{Machine}
-use Rattle.pim_down.specs.declared.machine.Record.{Record}
+use Rattle.pim_down.specs.declared.machines.machine.Pending.{Pending}
+use Rattle.pim_down.specs.declared.machines.machine.Machine.{Machine}
+use Rattle.pim_down.specs.declared.machines.machine.Record.{Record}
 use Rattle.pim_down.specs.Tables.{Start}
 
 -- The lesser of two times, where `None` is never.

@@ -1,11 +1,11 @@
 -- A run that stops at each timer that fires, and says which (RFC 7761, 4.5). It is the run of
 -- `Time` in smaller parts: a run of `Time` passes such firings up to the first PruneEcho.
 use Rattle.std.specs.Prelude.{◌≡◌, ℕ, ◌+◌, ◌-◌, ◌≤◌, max, false, if◌then◌else◌, List, Option, None, Some}
-use Rattle.pim_down.specs.declared.machine.Record.{Record}
-use Rattle.pim_down.specs.declared.step.Firing.{Firing}
-use Rattle.pim_down.specs.declared.step.Step.{Step}
-use Rattle.pim_down.specs.declared.step.Step.TheVariants.{Echo, Reached}
-use Rattle.pim_down.specs.declared.step.Timer.TheVariants.{PrunePending, Expiry}
+use Rattle.pim_down.specs.declared.machines.machine.Record.{Record}
+use Rattle.pim_down.specs.declared.machines.step.Firing.{Firing}
+use Rattle.pim_down.specs.declared.machines.step.Step.{Step}
+use Rattle.pim_down.specs.declared.machines.step.Step.TheVariants.{Echo, Reached}
+use Rattle.pim_down.specs.declared.machines.step.Timer.TheVariants.{PrunePending, Expiry}
 use Rattle.pim_down.specs.Records.{state_of_machine}
 use Rattle.pim_down.specs.Time.{Downstream, on_ppt, after_ppt, after_et, ppt_due, et_due, had_several, echoes_at}
 use Rattle.pim_down.specs.Time.{first_due, with_first, with_records, ticks, IsQuietFor}

@@ -2,10 +2,10 @@
 -- it is refused.
 use Rattle.std.specs.Prelude.{◌≡◌, ◌≢◌, ℕ, ◌≤◌, ◌<◌, List, Option, Result, Ok, Err}
 use Rattle.pim_jp.specs.Message.{Message}
-use Rattle.pim_down.specs.declared.key.Key.{Key}
-use Rattle.pim_down.specs.declared.event.Timing.{Timing}
-use Rattle.pim_down.specs.declared.fault.HearFault.{HearFault}
-use Rattle.pim_down.specs.declared.fault.HearFault.TheVariants.{Full, Memory}
+use Rattle.pim_down.specs.declared.machines.key.Key.{Key}
+use Rattle.pim_down.specs.declared.machines.event.Timing.{Timing}
+use Rattle.pim_down.specs.declared.machines.fault.HearFault.{HearFault}
+use Rattle.pim_down.specs.declared.machines.fault.HearFault.TheVariants.{Full, Memory}
 use Rattle.pim_down.specs.Records.{machine_at}
 use Rattle.pim_down.specs.Hearing.{events_of, start_of, hearing, count_new, needed}
 use Rattle.pim_down.specs.Time.{Downstream, with_records}

@@ -1,21 +1,21 @@
 -- Laws of the definitions: what they mean together. Each is proved, as the `ensures` of a function
--- of `src/laws.rt`.
+-- of `src/machines/laws.rt`.
 use Rattle.std.specs.Prelude.{◌≡◌, ◌≢◌, ◌<◌, ◌≤◌, ◌↔◌, ℕ, ◌-◌, max, true, false}
 use Rattle.std.specs.Prelude.{List, map, Option, Some, None, option_map}
 use Rattle.std.specs.declared.cmp.Ordering.TheVariants.{Equal}
 use Rattle.pim_addr.specs.declared.family.AddressFamily.{AddressFamily}
 use Rattle.pim_jp.specs.Message.{Message}
 use Rattle.pim_jp.specs.Canonical.{IsMessage}
-use Rattle.pim_down.specs.declared.event.Timing.{Timing}
-use Rattle.pim_down.specs.declared.key.What.{What}
-use Rattle.pim_down.specs.declared.key.Key.{Key}
-use Rattle.pim_down.specs.declared.machine.Record.{Record}
-use Rattle.pim_down.specs.declared.machine.Machine.{Machine}
+use Rattle.pim_down.specs.declared.machines.event.Timing.{Timing}
+use Rattle.pim_down.specs.declared.machines.key.What.{What}
+use Rattle.pim_down.specs.declared.machines.key.Key.{Key}
+use Rattle.pim_down.specs.declared.machines.machine.Record.{Record}
+use Rattle.pim_down.specs.declared.machines.machine.Machine.{Machine}
 use Rattle.pim_down.specs.Tables.{Start}
 use Rattle.pim_down.specs.Hearing.{Event}
-use Rattle.pim_down.specs.declared.step.Firing.{Firing}
-use Rattle.pim_down.specs.declared.step.Step.{Step}
-use Rattle.pim_down.specs.declared.step.Step.TheVariants.{Echo, Reached}
+use Rattle.pim_down.specs.declared.machines.step.Firing.{Firing}
+use Rattle.pim_down.specs.declared.machines.step.Step.{Step}
+use Rattle.pim_down.specs.declared.machines.step.Step.TheVariants.{Echo, Reached}
 use Rattle.pim_down.specs.Key.{key_cmp, same_key}
 use Rattle.pim_down.specs.Records.{IsAscending, ChangesAtEach, machine_at, changed, each_changed}
 use Rattle.pim_down.specs.Hearing.{effect, act, at_end, heard_at, hearing}

@@ -1,6 +1,6 @@
 -- Expiry Timers of records side by side that are put off together.
 use Rattle.std.specs.Prelude.{ℕ, ◌+◌, List, [], ◌∷◌, ◌++◌, Some, map, take, drop}
-use Rattle.pim_down.specs.declared.held.Held.{Held}
+use Rattle.pim_down.specs.declared.machines.held.Held.{Held}
 use Rattle.pim_down.specs.Schedule.{Numbered, with_alarm}
 use Rattle.pim_down.specs.Seen.{key_seen}
 

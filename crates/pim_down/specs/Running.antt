@@ -2,8 +2,8 @@
 -- Message.
 use Rattle.std.specs.Prelude.{◌≡◌, ℕ, ◌-◌, Bool, true, false, ◌&&◌, ◌||◌, nat_eq, List, [], ◌∷◌}
 use Rattle.std.specs.Cmp.Lexicographic.{pointwise}
-use Rattle.pim_down.specs.declared.held.Held.{Held}
-use Rattle.pim_down.specs.declared.machine.Record.{Record}
+use Rattle.pim_down.specs.declared.machines.held.Held.{Held}
+use Rattle.pim_down.specs.declared.machines.machine.Record.{Record}
 use Rattle.pim_down.specs.Tables.{Start}
 use Rattle.pim_down.specs.Time.{Downstream, expiry_after}
 use Rattle.pim_down.specs.Hearing.{Event, is_star_join, is_rpt_on, is_rpt_of}

@@ -8,14 +8,14 @@ use Rattle.std.specs.List.{slice_get, AllByRecursion}
 use Rattle.std.specs.Ordering.{nat_cmp, ordering_then, is_eq, is_gt}
 use Rattle.slab.specs.Slab.{Slab, get}
 use Rattle.sorted_slab.specs.Listed.{Listed, numbers}
-use Rattle.pim_down.specs.declared.deadline.Alarm.{Alarm}
-use Rattle.pim_down.specs.declared.deadline.Deadline.{Deadline}
-use Rattle.pim_down.specs.declared.deadline.TimerKind.{TimerKind}
-use Rattle.pim_down.specs.declared.deadline.TimerKind.TheVariants.{PendingTimer, ExpiryTimer}
-use Rattle.pim_down.specs.declared.held.Held.{Held}
-use Rattle.pim_down.specs.declared.key.Key.{Key}
-use Rattle.pim_down.specs.declared.machine.Machine.{Machine}
-use Rattle.pim_down.specs.declared.machine.Record.{Record}
+use Rattle.pim_down.specs.declared.records.deadline.Alarm.{Alarm}
+use Rattle.pim_down.specs.declared.records.deadline.Deadline.{Deadline}
+use Rattle.pim_down.specs.declared.records.deadline.TimerKind.{TimerKind}
+use Rattle.pim_down.specs.declared.records.deadline.TimerKind.TheVariants.{PendingTimer, ExpiryTimer}
+use Rattle.pim_down.specs.declared.machines.held.Held.{Held}
+use Rattle.pim_down.specs.declared.machines.key.Key.{Key}
+use Rattle.pim_down.specs.declared.machines.machine.Machine.{Machine}
+use Rattle.pim_down.specs.declared.machines.machine.Record.{Record}
 use Rattle.pim_down.specs.Key.{key_cmp}
 use Rattle.pim_down.specs.Ends.{pending_end, first_end, ends_by}
 use Rattle.pim_down.specs.Seen.{timed_seen, key_seen, records_seen}

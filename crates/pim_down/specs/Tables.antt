@@ -3,10 +3,10 @@
 -- NoInfo, since such a machine isn't held. Timers are countdowns in milliseconds: ET is the Expiry
 -- Timer, where `None` is never, and PPT the Prune-Pending Timer.
 use Rattle.std.specs.Prelude.{ℕ, Option, Some, None, max}
-use Rattle.pim_down.specs.declared.machine.State.{State}
-use Rattle.pim_down.specs.declared.machine.State.TheVariants.{Join, PrunePending, Prune, PruneTmp, PrunePendingTmp}
-use Rattle.pim_down.specs.declared.machine.Pending.{Pending}
-use Rattle.pim_down.specs.declared.machine.Machine.{Machine}
+use Rattle.pim_down.specs.declared.machines.machine.State.{State}
+use Rattle.pim_down.specs.declared.machines.machine.State.TheVariants.{Join, PrunePending, Prune, PruneTmp, PrunePendingTmp}
+use Rattle.pim_down.specs.declared.machines.machine.Pending.{Pending}
+use Rattle.pim_down.specs.declared.machines.machine.Machine.{Machine}
 
 -- The values that a message gives the timers that it starts: ET by its holdtime, PPT by the port.
 pub record Start : Type 0 where

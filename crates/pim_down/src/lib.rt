@@ -24,41 +24,17 @@
 //! fire. So time alone changes no record, and a run looks only at the first timers.
 #![tactic(auto)]
 
-mod after;
-mod alarms;
-mod blocks;
-mod bound;
-mod deadline;
-mod edits;
-mod end;
-mod event;
-mod fault;
-mod group;
-mod hear;
-mod held;
-mod key;
-mod laws;
-mod listed;
-mod machine;
-mod message;
-mod near;
-mod ordered;
+mod hearing;
+mod machines;
 mod ports;
-mod refresh;
-mod run;
-mod scattered;
-mod schedule;
-mod step;
-mod store;
-mod timers;
-mod walk;
+mod records;
+mod running;
 
-pub use event::{Event, Timing};
-pub use fault::HearFault;
-pub use group::GroupMachines;
-pub use hear::event_of;
-pub use key::{Key, What, compare_addresses, compare_whats};
-pub use laws::{
+pub use hearing::hear::event_of;
+pub use machines::event::{Event, Timing};
+pub use machines::fault::HearFault;
+pub use machines::key::{Key, What, compare_addresses, compare_whats};
+pub use machines::laws::{
     a_map_has_one_list, change_acts_at_its_key, echo_names_a_machine, end_acts_at_each_key,
     event_acts_at_each_key, event_keeps_the_order, every_state_has_a_run, firing_has_one_end,
     firing_says_more, hearing_acts_at_each_key, hearing_keeps_sound, hearing_keeps_the_order,
@@ -66,8 +42,9 @@ pub use laws::{
     run_is_a_chain_of_firings, run_keeps_its_bounds, run_keeps_sound, run_keeps_the_order,
     silence_acts_at_each_key, timers_run_out,
 };
-pub use machine::{Machine, Pending, Record, State};
-pub use near::Near;
+pub use machines::machine::{Machine, Pending, Record, State};
+pub use machines::step::{Firing, Step, Timer};
 pub use ports::Ports;
-pub use step::{Firing, Step, Timer};
-pub use walk::Records;
+pub use records::group::GroupMachines;
+pub use records::near::Near;
+pub use records::walk::Records;

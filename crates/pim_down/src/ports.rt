@@ -2,7 +2,7 @@
 
 ghost use Rattle.std.specs.Prelude.{◌≡◌, ◌≤◌, ◌<◌, [], None, max, option_map, OnOk, OnErr};
 ghost use Rattle.std.specs.List.{filter};
-ghost use Rattle.pim_down.specs.declared.step.Step.TheVariants.{Reached};
+ghost use Rattle.pim_down.specs.declared.machines.step.Step.TheVariants.{Reached};
 ghost use Rattle.pim_down.specs.Hearing.{rpt_count_on};
 ghost use Rattle.pim_down.specs.Records.{state_of, machine_at, is_on, count_on};
 ghost use Rattle.pim_down.specs.Heard.{heard, needed_for, new_for, IsWithin, MayWantMemory};
@@ -14,21 +14,21 @@ ghost use Rattle.pim_down.specs.Seen.{key_at, what_seen, step_seen, firing_seen,
 ghost use Rattle.pim_down.specs.After.{group_after, next_in_group};
 ghost use Rattle.pim_down.specs.Sound.{IsSound};
 
-use crate::after::{first_machine_after, first_of_groups_after};
-use crate::edits::machine_near;
-use crate::event::Timing;
-use crate::fault::HearFault;
-use crate::group::GroupMachines;
-use crate::hear::start_at;
-use crate::key::{Key, OfFamily, What};
-use crate::machine::{Machine, Record, State};
-use crate::message::hear_message;
-use crate::near::Near;
-use crate::run::{Halt, Stop, run, run_to_firing};
-use crate::step::{Firing, Step};
-use crate::store::Store;
-use crate::timers::next_end;
-use crate::walk::{Records, count_on, machine_after, on_port, record_after, rpt_count_on};
+use crate::hearing::hear::start_at;
+use crate::hearing::message::hear_message;
+use crate::machines::event::Timing;
+use crate::machines::fault::HearFault;
+use crate::machines::key::{Key, OfFamily, What};
+use crate::machines::machine::{Machine, Record, State};
+use crate::machines::step::{Firing, Step};
+use crate::records::after::{first_machine_after, first_of_groups_after};
+use crate::records::edits::machine_near;
+use crate::records::group::GroupMachines;
+use crate::records::near::Near;
+use crate::records::store::Store;
+use crate::records::walk::{Records, count_on, machine_after, on_port, record_after, rpt_count_on};
+use crate::running::run::{Halt, Stop, run, run_to_firing};
+use crate::running::timers::next_end;
 use pim_addr::{Family, Routes};
 use pim_jp::JpView;
 use std::alloc::Global;

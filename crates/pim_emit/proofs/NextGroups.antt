@@ -7,8 +7,8 @@ use Rattle.std.specs.List.{find, list_any}
 use Rattle.std.proofs.lemmas.Bool.{eqb-true, and_parts, and_from, or_left, or_right}
 use Rattle.std.proofs.lemmas.Cmp.{nat_cmp_total, tied_itself}
 use Rattle.pim_down.specs.After.{is_above, is_of_group_after, group_after}
-use Rattle.pim_down.specs.declared.key.Key.{Key}
-use Rattle.pim_down.specs.declared.machine.Record.{Record}
+use Rattle.pim_down.specs.declared.machines.key.Key.{Key}
+use Rattle.pim_down.specs.declared.machines.machine.Record.{Record}
 use Rattle.pim_down.specs.Key.{address_cmp, what_cmp, key_cmp}
 use Rattle.pim_down.specs.Records.{IsBelow, IsAscending, is_on}
 use Rattle.pim_down.specs.Time.{Downstream}

@@ -1,8 +1,8 @@
 -- What the first port that has the star of a group says of a source, before any other is asked.
 use Rattle.std.proofs.Common.{◌≡◌, ◌∙◌, ℕ, ◌+◌, true, false, ◌&&◌, not, List, Some, sym, ap}
 use Rattle.std.proofs.lemmas.Bool.{and_from}
-use Rattle.pim_down.specs.declared.key.What.TheVariants.{Rpt}
-use Rattle.pim_down.specs.declared.machine.State.{State}
+use Rattle.pim_down.specs.declared.machines.key.What.TheVariants.{Rpt}
+use Rattle.pim_down.specs.declared.machines.machine.State.{State}
 use Rattle.pim_down.specs.Time.{Downstream}
 use Rattle.pim_form.specs.declared.tree.Tree.TheVariants.{Shared}
 use Rattle.pim_form.specs.Wants.{is_pruned, some_below, state_on, wants, wants_on}

@@ -4,8 +4,8 @@ use Rattle.std.specs.Ordering.{is_le}
 use Rattle.pim_addr.specs.declared.family.AddressFamily.{AddressFamily}
 use Rattle.pim_down.specs.After.{is_above, MachinesLeft}
 use Rattle.pim_down.specs.Key.{address_cmp}
-use Rattle.pim_down.specs.declared.key.What.{What}
-use Rattle.pim_down.specs.declared.key.What.TheVariants.{Star, Source}
+use Rattle.pim_down.specs.declared.machines.key.What.{What}
+use Rattle.pim_down.specs.declared.machines.key.What.TheVariants.{Star, Source}
 use Rattle.pim_down.specs.Sound.{IsSound}
 use Rattle.pim_down.specs.Time.{Downstream}
 use Rattle.pim_form.specs.NormalForm.{same_address}

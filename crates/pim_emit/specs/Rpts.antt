@@ -2,7 +2,7 @@
 -- star.
 use Rattle.std.specs.Prelude.{◌≡◌, ℕ, List, Option, None, Some}
 use Rattle.pim_down.specs.After.{MachinesLeft}
-use Rattle.pim_down.specs.declared.key.What.TheVariants.{Rpt}
+use Rattle.pim_down.specs.declared.machines.key.What.TheVariants.{Rpt}
 use Rattle.pim_down.specs.Time.{Downstream}
 use Rattle.pim_emit.specs.Ahead.{machines_behind}
 

@@ -6,7 +6,7 @@ ghost use Rattle.std.specs.declared.cmp.Ordering.TheVariants.{Less};
 ghost use Rattle.pim_addr.specs.Address.{IsSourceAddress};
 ghost use Rattle.pim_down.specs.After.{is_above};
 ghost use Rattle.pim_down.specs.Key.{address_cmp};
-ghost use Rattle.pim_down.specs.declared.key.What.TheVariants.{Rpt};
+ghost use Rattle.pim_down.specs.declared.machines.key.What.TheVariants.{Rpt};
 ghost use Rattle.pim_form.specs.Wants.{state_on};
 ghost use Rattle.pim_emit.specs.Least.{IsLeast};
 ghost use Rattle.pim_emit.specs.Machines.{has_rpt, source_held};

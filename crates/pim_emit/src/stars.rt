@@ -2,7 +2,7 @@
 //! on its shared tree.
 
 ghost use Rattle.std.specs.Prelude.{◌≡◌, ◌≤◌, ℕ, Bool, false, Some};
-ghost use Rattle.pim_down.specs.declared.key.What.TheVariants.{Rpt};
+ghost use Rattle.pim_down.specs.declared.machines.key.What.TheVariants.{Rpt};
 ghost use Rattle.pim_form.specs.Wants.{is_pruned, state_on, some_below, wants_on, wants};
 ghost use Rattle.pim_form.specs.declared.tree.Tree.TheVariants.{Shared};
 ghost use Rattle.pim_emit.specs.Machines.{is_starred};

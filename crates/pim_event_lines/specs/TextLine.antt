@@ -5,11 +5,11 @@ use Rattle.pim_addr.specs.declared.family.AddressFamily.{AddressFamily}
 use Rattle.pim_capture.specs.declared.event.Why.{Why}
 use Rattle.pim_capture.specs.declared.event.Why.TheVariants.{Cut, NotIp, BadHeader, NotPim, Fragment}
 use Rattle.pim_capture.specs.declared.event.Why.TheVariants.{NoTime, LinkType, NotChosen}
-use Rattle.pim_down.specs.declared.key.What.{What}
-use Rattle.pim_down.specs.declared.key.What.TheVariants.{Star, Source, Rpt}
-use Rattle.pim_down.specs.declared.machine.Machine.{Machine}
-use Rattle.pim_down.specs.declared.machine.Pending.{Pending}
-use Rattle.pim_down.specs.declared.machine.State.{State}
+use Rattle.pim_down.specs.declared.machines.key.What.{What}
+use Rattle.pim_down.specs.declared.machines.key.What.TheVariants.{Star, Source, Rpt}
+use Rattle.pim_down.specs.declared.machines.machine.Machine.{Machine}
+use Rattle.pim_down.specs.declared.machines.machine.Pending.{Pending}
+use Rattle.pim_down.specs.declared.machines.machine.State.{State}
 use Rattle.pim_hello.specs.declared.heard.Heard.{Heard}
 use Rattle.pim_hello.specs.declared.heard.Heard.TheVariants.{New, Same, Restarted, Gone}
 use Rattle.pim_jp.specs.Message.{Message}
@@ -35,8 +35,8 @@ use Rattle.pim_events.specs.declared.event.Skip.TheVariants.{NoPacket, OtherFami
 use Rattle.pim_events.specs.declared.event.Skipping.{Skipping}
 use Rattle.pim_events.specs.declared.event.SkipCounts.{SkipCounts}
 use Rattle.pim_events.specs.declared.event.TimeOut.{TimeOut}
-use Rattle.pim_down.specs.declared.step.Timer.{Timer}
-use Rattle.pim_down.specs.declared.step.Timer.TheVariants.{PrunePending, Expiry}
+use Rattle.pim_down.specs.declared.machines.step.Timer.{Timer}
+use Rattle.pim_down.specs.declared.machines.step.Timer.TheVariants.{PrunePending, Expiry}
 use Rattle.pim_events.specs.declared.event.Transition.{Transition}
 use Rattle.pim_event_lines.specs.declared.moments.TimeForm.{TimeForm}
 

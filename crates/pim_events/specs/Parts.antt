@@ -1,8 +1,8 @@
 -- Parts of a machine that may not be held.
 use Rattle.std.specs.Prelude.{Option, None, Some}
-use Rattle.pim_down.specs.declared.machine.Machine.{Machine}
-use Rattle.pim_down.specs.declared.machine.Pending.{Pending}
-use Rattle.pim_down.specs.declared.machine.State.{State}
+use Rattle.pim_down.specs.declared.machines.machine.Machine.{Machine}
+use Rattle.pim_down.specs.declared.machines.machine.Pending.{Pending}
+use Rattle.pim_down.specs.declared.machines.machine.State.{State}
 
 -- The state of the machine; none is NoInfo.
 abbrev pub state_in : Option Machine → Option State

@@ -4,7 +4,7 @@ use Rattle.std.proofs.lemmas.Bool.{false≢true}
 use Rattle.pim_addr.specs.declared.family.AddressFamily.{AddressFamily}
 use Rattle.pim_addr.specs.Address.{IsAddress, IsGroupAddress}
 use Rattle.pim_addr.specs.Routes.{RouteTable, IsRouteTable, rp_of}
-use Rattle.pim_down.specs.declared.key.What.TheVariants.{Star, Rpt}
+use Rattle.pim_down.specs.declared.machines.key.What.TheVariants.{Star, Rpt}
 use Rattle.pim_down.specs.Known.{known_in}
 use Rattle.pim_down.specs.Time.{Downstream}
 use Rattle.pim_form.specs.declared.tree.Tree.TheVariants.{Shared, Source}

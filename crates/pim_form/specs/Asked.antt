@@ -6,7 +6,7 @@ use Rattle.std.specs.List.{AllByRecursion}
 use Rattle.pim_addr.specs.declared.family.AddressFamily.{AddressFamily}
 use Rattle.pim_addr.specs.Address.{IsGroupAddress, IsSourceAddress}
 use Rattle.pim_addr.specs.Routes.{RouteTable}
-use Rattle.pim_down.specs.declared.key.What.TheVariants.{Star}
+use Rattle.pim_down.specs.declared.machines.key.What.TheVariants.{Star}
 use Rattle.pim_down.specs.Known.{known_in}
 use Rattle.pim_down.specs.Sound.{IsSound}
 use Rattle.pim_down.specs.Time.{Downstream}

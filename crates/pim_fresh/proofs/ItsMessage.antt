@@ -2,7 +2,7 @@
 use Rattle.std.proofs.Common.{◌≡◌, ℕ, Bool, true, false, cond, List, [], ◌∷◌, Option, Some, None, eqb, refl, sym, ap, subst, ◌∙◌}
 use Rattle.std.specs.Prelude.{option_map}
 use Rattle.std.proofs.lemmas.Bool.{false≢true, eq-eqb, eqb-true}
-use Rattle.pim_down.specs.declared.key.Key.{Key}
+use Rattle.pim_down.specs.declared.machines.key.Key.{Key}
 use Rattle.pim_fresh.specs.Exchange.{Exchange, TellsUnitsOnce, is_named}
 use Rattle.pim_fresh.specs.Deliveries.{Delivery, earlier_or, first_of, last_of}
 use Rattle.pim_fresh.specs.Expected.{Span, up_to, span_of}

@@ -1,6 +1,6 @@
 -- Deliveries have one end.
 use Rattle.std.proofs.Common.{◌≡◌, [], ◌∷◌, sym, subst}
-use Rattle.pim_down.specs.declared.step.Step.TheVariants.{Reached}
+use Rattle.pim_down.specs.declared.machines.step.Step.TheVariants.{Reached}
 use Rattle.pim_down.specs.Time.{Downstream, Runs}
 use Rattle.pim_down.specs.Laws.{RunHasOneEnd}
 use Rattle.pim_fresh.specs.Hearing.{fresh, after_message, Leaves}

@@ -1,6 +1,6 @@
 -- The machines of a port that heard nothing but these deliveries.
 use Rattle.std.specs.Prelude.{ℕ, List, [], ◌∷◌}
-use Rattle.pim_down.specs.declared.step.Step.TheVariants.{Reached}
+use Rattle.pim_down.specs.declared.machines.step.Step.TheVariants.{Reached}
 use Rattle.pim_down.specs.Hearing.{hearing}
 use Rattle.pim_down.specs.Time.{Downstream, with_records, Runs}
 use Rattle.pim_fresh.specs.Exchange.{Exchange, starts}

@@ -1,7 +1,7 @@
 -- A router whose course was over all canonical messages asks again for what their form asks for.
 use Rattle.std.proofs.Common.{ℕ, ◌≤◌, List, [], ◌∷◌, sym, subst, arith}
-use Rattle.pim_down.specs.declared.step.Step.{Step}
-use Rattle.pim_down.specs.declared.step.Step.TheVariants.{Reached}
+use Rattle.pim_down.specs.declared.machines.step.Step.{Step}
+use Rattle.pim_down.specs.declared.machines.step.Step.TheVariants.{Reached}
 use Rattle.pim_down.specs.Time.{Downstream, Runs}
 use Rattle.pim_down.specs.Laws.{EveryStateHasARun, RunGoesOn, RunHasOneEnd}
 use Rattle.pim_fresh.specs.Exchange.{Exchange}

@@ -7,8 +7,8 @@ use Rattle.std.specs.List.Sorted.{IsStrictlySortedBy}
 use Rattle.std.specs.Ordering.{nat_cmp}
 use Rattle.std.specs.Cmp.Lexicographic.{slice_cmp}
 use Rattle.std.proofs.lemmas.Bool.{false≢true}
-use Rattle.pim_down.specs.declared.key.What.{What}
-use Rattle.pim_down.specs.declared.key.What.TheVariants.{Star, Rpt}
+use Rattle.pim_down.specs.declared.machines.key.What.{What}
+use Rattle.pim_down.specs.declared.machines.key.What.TheVariants.{Star, Rpt}
 use Rattle.pim_form.specs.declared.tree.Tree.TheVariants.{Shared}
 use Rattle.pim_form.specs.NormalForm.{GroupForm, AreAscending, same_address, is_listed, groups_of, is_excepted, form_wants}
 use Rattle.pim_form.specs.Rows.{exceptions_of}

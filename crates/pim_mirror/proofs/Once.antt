@@ -4,9 +4,9 @@ use Rattle.std.specs.List.{AllByRecursion, list_any, flat_map}
 use Rattle.std.specs.List.Sorted.{IsStrictlySortedBy}
 use Rattle.std.proofs.lemmas.Bool.{false≢true, eqb-true, eq-eqb}
 use Rattle.pim_addr.specs.declared.family.AddressFamily.{AddressFamily}
-use Rattle.pim_down.specs.declared.key.What.{What}
-use Rattle.pim_down.specs.declared.key.Key.{Key}
-use Rattle.pim_down.specs.declared.event.Timing.{Timing}
+use Rattle.pim_down.specs.declared.machines.key.What.{What}
+use Rattle.pim_down.specs.declared.machines.key.Key.{Key}
+use Rattle.pim_down.specs.declared.machines.event.Timing.{Timing}
 use Rattle.pim_form.specs.NormalForm.{GroupForm, AreAscending, AreExceptions, IsNormalGroup, IsNormal}
 use Rattle.pim_form.specs.Rows.{exceptions_of}
 use Rattle.pim_form.specs.Units.{units_of}

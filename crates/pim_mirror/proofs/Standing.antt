@@ -4,7 +4,7 @@ use Rattle.std.specs.List.{flat_map}
 use Rattle.std.proofs.lemmas.Bool.{ltb-true, ltb-false}
 use Rattle.pim_addr.specs.declared.family.AddressFamily.{AddressFamily}
 use Rattle.pim_addr.specs.Routes.{RouteTable, IsRouteTable}
-use Rattle.pim_down.specs.declared.key.What.{What}
+use Rattle.pim_down.specs.declared.machines.key.What.{What}
 use Rattle.pim_down.specs.Time.{Downstream}
 use Rattle.pim_form.specs.Messages.{Writing, IsWriting}
 use Rattle.pim_mirror.specs.declared.mirroring.MirrorFault.TheVariants as fault

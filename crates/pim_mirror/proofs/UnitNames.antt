@@ -3,8 +3,8 @@ use Rattle.std.proofs.Common.{◌≡◌, ◌∙◌, ℕ, Bool, true, false, ◌&
 use Rattle.std.specs.List.{AllByRecursion, list_any, flat_map}
 use Rattle.std.proofs.lemmas.Bool.{false≢true}
 use Rattle.std.proofs.lemmas.List.Folds.{list_any-append}
-use Rattle.pim_down.specs.declared.key.What.{What}
-use Rattle.pim_down.specs.declared.key.What.TheVariants.{Star, Source, Rpt}
+use Rattle.pim_down.specs.declared.machines.key.What.{What}
+use Rattle.pim_down.specs.declared.machines.key.What.TheVariants.{Star, Source, Rpt}
 use Rattle.pim_form.specs.NormalForm.{GroupForm, same_address, is_listed}
 use Rattle.pim_form.specs.Units.{WantUnit, star_unit, source_unit, star_units, group_units, units_of}
 use Rattle.pim_mirror.specs.CanonicalUnits.{group_names, form_names}

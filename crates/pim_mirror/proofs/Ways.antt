@@ -5,10 +5,10 @@ use Rattle.std.specs.List.{list_any}
 use Rattle.pim_addr.specs.declared.family.AddressFamily.{AddressFamily}
 use Rattle.pim_frame.specs.Frame.{Content, hello, join_prune, other, content, all_routers}
 use Rattle.pim_down.specs.Seen.{what_seen, step_seen as fires_seen}
-use Rattle.pim_down.specs.declared.key.What.{What}
-use Rattle.pim_down.specs.declared.machine.Record.{Record}
-use Rattle.pim_down.specs.declared.step.Step.{Step as Fires}
-use Rattle.pim_down.specs.declared.step.Step.TheVariants as fires
+use Rattle.pim_down.specs.declared.machines.key.What.{What}
+use Rattle.pim_down.specs.declared.machines.machine.Record.{Record}
+use Rattle.pim_down.specs.declared.machines.step.Step.{Step as Fires}
+use Rattle.pim_down.specs.declared.machines.step.Step.TheVariants as fires
 use Rattle.pim_down.specs.Time.{fired}
 use Rattle.pim_router.specs.declared.step.Step.{Step}
 use Rattle.pim_router.specs.declared.step.Step.TheVariants.{Echo, Refresh, Reached}

@@ -3,7 +3,7 @@
 use Rattle.std.specs.Prelude.{◌≡◌, ◌<◌, ◌≤◌, ◌-◌, ℕ, List, [], ◌∷◌, ◌++◌, length}
 use Rattle.std.specs.List.{AllByRecursion}
 use Rattle.pim_addr.specs.declared.family.AddressFamily.{AddressFamily}
-use Rattle.pim_down.specs.declared.event.Timing.{Timing}
+use Rattle.pim_down.specs.declared.machines.event.Timing.{Timing}
 use Rattle.pim_form.specs.Messages.{Writing}
 use Rattle.pim_hello.specs.Neighbours.{Neighbour, Table}
 use Rattle.pim_fresh.specs.Deliveries.{Delivery, IsShorter}

@@ -5,8 +5,8 @@ use Rattle.std.specs.Prelude.{◌≡◌, ℕ, ◌<◌, true, List, [], ◌∷◌
 use Rattle.pim_addr.specs.declared.family.AddressFamily.{AddressFamily}
 use Rattle.pim_frame.specs.Frame.{Content, hello, join_prune, other, content}
 use Rattle.pim_jp.specs.Message.{Message, message_of}
-use Rattle.pim_down.specs.declared.key.Key.{Key}
-use Rattle.pim_down.specs.declared.event.Timing.{Timing}
+use Rattle.pim_down.specs.declared.machines.key.Key.{Key}
+use Rattle.pim_down.specs.declared.machines.event.Timing.{Timing}
 use Rattle.pim_down.specs.Hearing.{Event, events_of}
 use Rattle.pim_form.specs.NormalForm.{GroupForm}
 use Rattle.pim_form.specs.Messages.{Rps, Writing}

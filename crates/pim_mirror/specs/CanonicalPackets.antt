@@ -4,7 +4,7 @@ use Rattle.std.specs.Prelude.{◌≡◌, ℕ, ◌<◌, ◌≤◌, nat_lt, true, 
 use Rattle.pim_addr.specs.Faults.{fault_if}
 use Rattle.pim_addr.specs.declared.family.AddressFamily.{AddressFamily}
 use Rattle.pim_frame.specs.Frame.{all_routers}
-use Rattle.pim_down.specs.declared.event.Timing.{Timing}
+use Rattle.pim_down.specs.declared.machines.event.Timing.{Timing}
 use Rattle.pim_down.specs.Hearing.{needed}
 use Rattle.pim_down.specs.Known.{known_in}
 use Rattle.pim_form.specs.Messages.{Writing}

@@ -4,8 +4,8 @@ use Rattle.pim_addr.specs.declared.family.AddressFamily.{AddressFamily}
 use Rattle.pim_addr.specs.Routes.{RouteTable, IsRouteTable}
 use Rattle.pim_frame.specs.Frame.{all_routers}
 use Rattle.pim_jp.specs.Message.{Message}
-use Rattle.pim_down.specs.declared.event.Timing.{Timing}
-use Rattle.pim_down.specs.declared.step.Step.{Step}
+use Rattle.pim_down.specs.declared.machines.event.Timing.{Timing}
+use Rattle.pim_down.specs.declared.machines.step.Step.{Step}
 use Rattle.pim_down.specs.Hearing.{start_of, events_of}
 use Rattle.pim_down.specs.Known.{known_in}
 use Rattle.pim_down.specs.Time.{Downstream, Runs}

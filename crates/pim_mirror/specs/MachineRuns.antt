@@ -1,7 +1,7 @@
 -- The runs of a router as runs of its downstream machines (RFC 7761, 4.5).
 use Rattle.std.specs.Prelude.{◌≡◌, ℕ, List, [], ◌∷◌}
-use Rattle.pim_down.specs.declared.step.Step.{Step}
-use Rattle.pim_down.specs.declared.step.Step.TheVariants.{Reached}
+use Rattle.pim_down.specs.declared.machines.step.Step.{Step}
+use Rattle.pim_down.specs.declared.machines.step.Step.TheVariants.{Reached}
 use Rattle.pim_down.specs.Time.{Downstream, Runs}
 use Rattle.pim_router.specs.State.{RouterState}
 

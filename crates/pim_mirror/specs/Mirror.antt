@@ -7,8 +7,8 @@ use Rattle.pim_frame.specs.Frame.{all_routers}
 use Rattle.pim_frame.specs.Seal.{IsSealed}
 use Rattle.pim_frame.specs.declared.frame.MessageType.TheVariants.{Hello}
 use Rattle.pim_hello.specs.Spelling.{spelling_of, ParametersFit}
-use Rattle.pim_down.specs.declared.step.Step.{Step}
-use Rattle.pim_down.specs.declared.step.Step.TheVariants.{Reached}
+use Rattle.pim_down.specs.declared.machines.step.Step.{Step}
+use Rattle.pim_down.specs.declared.machines.step.Step.TheVariants.{Reached}
 use Rattle.pim_router.specs.Course.{Input, runs_to, takes, Telling, verdict, Reaches, IsCourse}
 use Rattle.pim_router.specs.Packets.{Packet, causes, received}
 use Rattle.pim_router.specs.State.{RouterState, new_router}

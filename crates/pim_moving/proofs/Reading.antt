@@ -6,7 +6,7 @@ use Rattle.pim_addr.specs.Address.{IsGroupAddress}
 use Rattle.pim_jp.specs.declared.entry.Entry.{Entry}
 use Rattle.pim_jp.specs.declared.entry.Entry.TheVariants as entry
 use Rattle.pim_jp.specs.Message.{GroupSet, Message, message_of}
-use Rattle.pim_down.specs.declared.key.What.TheVariants.{Star}
+use Rattle.pim_down.specs.declared.machines.key.What.TheVariants.{Star}
 use Rattle.pim_down.specs.Hearing.{event, is_known, entry_events, list_events, set_events, events_of}
 use Rattle.pim_form.specs.Laws.{IsReadAs}
 use Rattle.pim_form.specs.Messages.{Writing, Rps}

@@ -4,7 +4,7 @@ use Rattle.std.specs.Prelude.{◌≡◌, ℕ, ◌≤◌, true, List, [], ◌∷�
 use Rattle.pim_addr.specs.declared.family.AddressFamily.{AddressFamily}
 use Rattle.pim_addr.specs.Address.{IsGroupAddress}
 use Rattle.pim_addr.specs.Routes.{RouteTable}
-use Rattle.pim_down.specs.declared.event.Timing.{Timing}
+use Rattle.pim_down.specs.declared.machines.event.Timing.{Timing}
 use Rattle.pim_down.specs.Known.{known_in}
 use Rattle.pim_down.specs.Sound.{IsSound}
 use Rattle.pim_form.specs.Messages.{Writing}

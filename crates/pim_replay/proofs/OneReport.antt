@@ -3,7 +3,7 @@ use Rattle.std.proofs.Common.{◌≡◌, ◌∙◌, ℕ, Bool, List, [], ◌∷�
 use Rattle.std.proofs.lemmas.List.Concat.{flat_map-append}
 use Rattle.pim_addr.specs.declared.family.AddressFamily.{AddressFamily}
 use Rattle.pim_capture.specs.Capture.{Answer}
-use Rattle.pim_down.specs.declared.key.What.{What}
+use Rattle.pim_down.specs.declared.machines.key.What.{What}
 use Rattle.pim_form.specs.Laws.{OneNormalForm}
 use Rattle.pim_form.specs.NormalForm.{GroupForm, IsFormOf}
 use Rattle.pim_form.specs.Wants.{wants}

@@ -3,7 +3,7 @@ use Rattle.std.proofs.Common.{◌≡◌, ◌++◌, ℕ, Bool, List, refl}
 use Rattle.std.specs.List.{flat_map}
 use Rattle.pim_addr.specs.declared.family.AddressFamily.{AddressFamily}
 use Rattle.pim_addr.specs.Routes.{RouteTable}
-use Rattle.pim_down.specs.declared.machine.Record.{Record}
+use Rattle.pim_down.specs.declared.machines.machine.Record.{Record}
 use Rattle.pim_down.specs.Time.{Downstream}
 use Rattle.pim_form.specs.NormalForm.{GroupForm}
 use Rattle.pim_router.specs.State.{RouterState}

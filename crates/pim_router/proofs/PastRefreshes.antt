@@ -5,10 +5,10 @@ use Rattle.std.proofs.lemmas.Bool.{le-ltb, ltb-true, ltb-false, ne_eqb}
 use Rattle.pim_addr.specs.Routes.{RouteTable}
 use Rattle.pim_hello.specs.Neighbours.{Table}
 use Rattle.pim_hello.specs.Laws.{expired_at, ExpiringTwiceIsExpiringOnce}
-use Rattle.pim_down.specs.declared.key.What.{What}
-use Rattle.pim_down.specs.declared.machine.Record.{Record}
-use Rattle.pim_down.specs.declared.step.Step.{Step as Fires}
-use Rattle.pim_down.specs.declared.step.Step.TheVariants as fires
+use Rattle.pim_down.specs.declared.machines.key.What.{What}
+use Rattle.pim_down.specs.declared.machines.machine.Record.{Record}
+use Rattle.pim_down.specs.declared.machines.step.Step.{Step as Fires}
+use Rattle.pim_down.specs.declared.machines.step.Step.TheVariants as fires
 use Rattle.pim_down.specs.Seen.{step_seen as fires_seen}
 use Rattle.pim_down.specs.Time.{Downstream, fired, with_records}
 use Rattle.pim_down.specs.Time as down

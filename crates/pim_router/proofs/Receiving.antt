@@ -6,12 +6,12 @@ use Rattle.pim_addr.specs.Routes.{RouteTable}
 use Rattle.pim_hello.specs.Neighbours.{Table}
 use Rattle.pim_jp.specs.Message.{Message}
 use Rattle.std.specs.declared.alloc.AllocError.{AllocError}
-use Rattle.pim_down.specs.declared.event.Timing.{Timing}
+use Rattle.pim_down.specs.declared.machines.event.Timing.{Timing}
 use Rattle.pim_down.specs.Time.{Downstream}
 use Rattle.pim_down.specs.Heard.{heard, IsWithin, MayWantMemory}
 use Rattle.pim_down.specs.Known.{known_in}
-use Rattle.pim_down.specs.declared.fault.HearFault.{HearFault}
-use Rattle.pim_down.specs.declared.fault.HearFault.TheVariants as machines
+use Rattle.pim_down.specs.declared.machines.fault.HearFault.{HearFault}
+use Rattle.pim_down.specs.declared.machines.fault.HearFault.TheVariants as machines
 use Rattle.pim_router.specs.declared.config.PortConfig.{PortConfig}
 use Rattle.pim_router.specs.declared.verdict.Verdict.{Verdict}
 use Rattle.pim_router.specs.declared.verdict.Verdict.TheVariants as verdict

@@ -5,8 +5,8 @@ use Rattle.std.proofs.lemmas.List.{length-map, take_at}
 use Rattle.pim_addr.specs.Routes.{RouteTable}
 use Rattle.pim_hello.specs.Neighbours.{Table}
 use Rattle.pim_hello.specs.Laws.{expired_at, ExpiringTwiceIsExpiringOnce}
-use Rattle.pim_down.specs.declared.key.What.{What}
-use Rattle.pim_down.specs.declared.step.Step.TheVariants as fires
+use Rattle.pim_down.specs.declared.machines.key.What.{What}
+use Rattle.pim_down.specs.declared.machines.step.Step.TheVariants as fires
 use Rattle.pim_down.specs.Time.{Downstream}
 use Rattle.pim_down.specs.Time as down
 use Rattle.pim_router.specs.declared.config.PortConfig.{PortConfig}

@@ -5,7 +5,7 @@ use Rattle.pim_addr.specs.declared.family.AddressFamily.{AddressFamily}
 use Rattle.pim_router.specs.declared.step.Step.{Step}
 use Rattle.pim_router.specs.declared.step.Step.TheVariants.{Reached}
 use Rattle.pim_router.specs.Course.{Input, Telling, IsCourse, HasCourse}
-use Rattle.pim_down.specs.declared.step.Firing.{Firing}
+use Rattle.pim_down.specs.declared.machines.step.Firing.{Firing}
 use Rattle.pim_hello.specs.Laws.{comes_by}
 use Rattle.pim_hello.specs.Neighbours.{passed_to}
 use Rattle.pim_router.specs.Happening.{Happening, timer_fired, Passes, Happens, FiresAfter, gone_between, gone_within}

@@ -15,7 +15,7 @@ use Rattle.pim_hello.specs.Neighbours.{Table, neighbour_at, hellos_of, without_e
 use Rattle.pim_hello.specs.Neighbours.{needs_no_memory}
 use Rattle.pim_jp.specs.Faults.{faults as join_prune_faults}
 use Rattle.pim_jp.specs.Message.{Message, message_of}
-use Rattle.pim_down.specs.declared.event.Timing.{Timing}
+use Rattle.pim_down.specs.declared.machines.event.Timing.{Timing}
 use Rattle.pim_down.specs.Heard.{heard, needed_for, new_for}
 use Rattle.pim_down.specs.Known.{known_in}
 use Rattle.pim_router.specs.declared.verdict.Verdict.{Verdict}

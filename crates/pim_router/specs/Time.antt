@@ -5,9 +5,9 @@ use Rattle.std.specs.Prelude.{◌≡◌, ℕ, zero, suc, ◌+◌, ◌-◌, ◌*�
 use Rattle.std.specs.Prelude.{List, map, Option, None, Some}
 use Rattle.std.specs.List.{list_any}
 use Rattle.pim_hello.specs.Neighbours.{Neighbour, Table, is_over, without_ended, passed_to}
-use Rattle.pim_down.specs.declared.machine.Record.{Record}
-use Rattle.pim_down.specs.declared.step.Step.{Step as Fires}
-use Rattle.pim_down.specs.declared.step.Step.TheVariants as fires
+use Rattle.pim_down.specs.declared.machines.machine.Record.{Record}
+use Rattle.pim_down.specs.declared.machines.step.Step.{Step as Fires}
+use Rattle.pim_down.specs.declared.machines.step.Step.TheVariants as fires
 use Rattle.pim_down.specs.Ends.{weight}
 use Rattle.pim_down.specs.Time.{fired, with_records, tick as machines_tick}
 use Rattle.pim_router.specs.declared.step.Step.{Step}

@@ -6,8 +6,8 @@ use Rattle.std.specs.Allocator.{alloc_error}
 use Rattle.pim_hello.specs.declared.heard.Heard.{Heard}
 use Rattle.pim_hello.specs.declared.heard.NeighbourFault.{NeighbourFault}
 use Rattle.pim_hello.specs.declared.heard.NeighbourFault.TheVariants as neighbours
-use Rattle.pim_down.specs.declared.fault.HearFault.{HearFault}
-use Rattle.pim_down.specs.declared.fault.HearFault.TheVariants as machines
+use Rattle.pim_down.specs.declared.machines.fault.HearFault.{HearFault}
+use Rattle.pim_down.specs.declared.machines.fault.HearFault.TheVariants as machines
 use Rattle.pim_router.specs.declared.verdict.Verdict.{Verdict}
 use Rattle.pim_router.specs.declared.verdict.Verdict.TheVariants.{HelloTaken, Applied, Full}
 use Rattle.pim_router.specs.declared.verdict.Store.TheVariants.{Neighbours, Records}

@@ -26,7 +26,7 @@ ghost use Rattle.pim_router.specs.Time.{Runs, turns_left};
 ghost use Rattle.pim_router.specs.Refreshes.{RunsPast, told_behind, first_untold};
 ghost use Rattle.pim_router.specs.Happening.{FiresTo, first_timeout, first_unpassed};
 ghost use Rattle.pim_router.specs.declared.step.Step.TheVariants.{Reached};
-ghost use Rattle.pim_down.specs.declared.step.Step.TheVariants as fires;
+ghost use Rattle.pim_down.specs.declared.machines.step.Step.TheVariants as fires;
 ghost use Rattle.pim_down.specs.Records.{count_on};
 ghost use Rattle.pim_down.specs.Seen.{step_seen as fires_seen, firing_seen};
 ghost use Rattle.pim_router.specs.Told.{hello_verdict, message_verdict};

@@ -3,12 +3,12 @@ use Rattle.std.proofs.Common.{◌≡◌, inl, inr, ℕ, ◌+◌, ◌-◌, ◌≤
 use Rattle.std.specs.Cmp.Lexicographic.{pointwise}
 use Rattle.std.specs.Prelude.{nat_eq}
 use Rattle.std.proofs.lemmas.Bool.{false≢true}
-use Rattle.pim_down.specs.declared.key.What.{What}
-use Rattle.pim_down.specs.declared.key.What.TheVariants.{Star, Source, Rpt}
-use Rattle.pim_down.specs.declared.key.Key.{Key}
-use Rattle.pim_down.specs.declared.machine.State.{State}
-use Rattle.pim_down.specs.declared.machine.State.TheVariants.{Join, PrunePending, Prune, PruneTmp, PrunePendingTmp}
-use Rattle.pim_down.specs.declared.machine.Machine.{Machine}
+use Rattle.pim_down.specs.declared.machines.key.What.{What}
+use Rattle.pim_down.specs.declared.machines.key.What.TheVariants.{Star, Source, Rpt}
+use Rattle.pim_down.specs.declared.machines.key.Key.{Key}
+use Rattle.pim_down.specs.declared.machines.machine.State.{State}
+use Rattle.pim_down.specs.declared.machines.machine.State.TheVariants.{Join, PrunePending, Prune, PruneTmp, PrunePendingTmp}
+use Rattle.pim_down.specs.declared.machines.machine.Machine.{Machine}
 use Rattle.pim_down.specs.Key.{same_key}
 use Rattle.pim_down.specs.Tables.{Start, machine_in, greater, on_join, on_prune, on_star_join, on_rpt_prune, on_end}
 use Rattle.pim_down.specs.Hearing.{Event, key_of, on_own, is_rpt, is_star_join, is_rpt_on, is_rpt_of, on_rpts, effect, effects, at_end, heard_at}

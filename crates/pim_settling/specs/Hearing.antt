@@ -1,12 +1,12 @@
 -- What a port hears, and the machines that are left, through the echoes (PruneEcho) on the way.
 use Rattle.std.specs.Prelude.{◌≡◌, ◌⊎◌, ℕ, ◌+◌, ◌-◌, ◌≤◌, ◌<◌, List, [], ◌∷◌, Option, None, Some}
-use Rattle.pim_down.specs.declared.key.What.{What}
-use Rattle.pim_down.specs.declared.key.What.TheVariants.{Star, Source, Rpt}
-use Rattle.pim_down.specs.declared.key.Key.{Key}
-use Rattle.pim_down.specs.declared.machine.Pending.{Pending}
-use Rattle.pim_down.specs.declared.machine.Machine.{Machine}
-use Rattle.pim_down.specs.declared.step.Step.{Step}
-use Rattle.pim_down.specs.declared.step.Step.TheVariants.{Reached}
+use Rattle.pim_down.specs.declared.machines.key.What.{What}
+use Rattle.pim_down.specs.declared.machines.key.What.TheVariants.{Star, Source, Rpt}
+use Rattle.pim_down.specs.declared.machines.key.Key.{Key}
+use Rattle.pim_down.specs.declared.machines.machine.Pending.{Pending}
+use Rattle.pim_down.specs.declared.machines.machine.Machine.{Machine}
+use Rattle.pim_down.specs.declared.machines.step.Step.{Step}
+use Rattle.pim_down.specs.declared.machines.step.Step.TheVariants.{Reached}
 use Rattle.pim_down.specs.Records.{machine_at}
 use Rattle.pim_down.specs.Time.{Downstream, Runs}
 use Rattle.pim_fresh.specs.Exchange.{Exchange, starts}

@@ -5,7 +5,7 @@ use Rattle.std.proofs.lemmas.Bool.{false≢true, ltb-true, ltb-false, lt-ltb, le
 use Rattle.std.specs.List.{AllByRecursion}
 use Rattle.pim_addr.specs.declared.family.AddressFamily.{AddressFamily}
 use Rattle.pim_hello.specs.Neighbours.{Table, no_neighbours, neighbour_limit}
-use Rattle.pim_down.specs.declared.machine.Record.{Record}
+use Rattle.pim_down.specs.declared.machines.machine.Record.{Record}
 use Rattle.pim_down.specs.Records.{count_on}
 use Rattle.pim_down.specs.Sound.{IsReal, IsSound}
 use Rattle.pim_down.specs.Time.{Downstream}

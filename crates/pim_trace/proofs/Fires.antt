@@ -5,10 +5,10 @@ use Rattle.std.specs.List.{list_any, AllByRecursion}
 use Rattle.std.proofs.lemmas.Bool.{false≢true, lt-leb, ltb-true, ltb-false}
 use Rattle.pim_hello.specs.Laws.{comes_by}
 use Rattle.pim_hello.specs.Neighbours.{Neighbour, Table, is_over, without_ended, passed_to}
-use Rattle.pim_down.specs.declared.machine.Record.{Record}
-use Rattle.pim_down.specs.declared.step.Firing.{Firing}
-use Rattle.pim_down.specs.declared.step.Step.{Step as Fires}
-use Rattle.pim_down.specs.declared.step.Step.TheVariants as fires
+use Rattle.pim_down.specs.declared.machines.machine.Record.{Record}
+use Rattle.pim_down.specs.declared.machines.step.Firing.{Firing}
+use Rattle.pim_down.specs.declared.machines.step.Step.{Step as Fires}
+use Rattle.pim_down.specs.declared.machines.step.Step.TheVariants as fires
 use Rattle.pim_down.specs.Firing.{firing}
 use Rattle.pim_down.specs.Laws.{FiringSaysMore, said_of}
 use Rattle.pim_down.specs.Time.{fired, with_records}

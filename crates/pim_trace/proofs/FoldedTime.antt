@@ -4,12 +4,12 @@ use Rattle.std.proofs.Common.{Option, None, Some, option_map, is_some, unwrap_or
 use Rattle.std.proofs.Common.{ap, subst}
 use Rattle.std.specs.List.{list_any, AllByRecursion}
 use Rattle.pim_hello.specs.Neighbours.{Neighbour, Table, is_over, without_ended}
-use Rattle.pim_down.specs.declared.key.Key.{Key}
-use Rattle.pim_down.specs.declared.machine.Machine.{Machine}
-use Rattle.pim_down.specs.declared.machine.Record.{Record}
-use Rattle.pim_down.specs.declared.step.Firing.{Firing}
-use Rattle.pim_down.specs.declared.step.Step.{Step as Fires}
-use Rattle.pim_down.specs.declared.step.Step.TheVariants as fires
+use Rattle.pim_down.specs.declared.machines.key.Key.{Key}
+use Rattle.pim_down.specs.declared.machines.machine.Machine.{Machine}
+use Rattle.pim_down.specs.declared.machines.machine.Record.{Record}
+use Rattle.pim_down.specs.declared.machines.step.Firing.{Firing}
+use Rattle.pim_down.specs.declared.machines.step.Step.{Step as Fires}
+use Rattle.pim_down.specs.declared.machines.step.Step.TheVariants as fires
 use Rattle.pim_down.specs.Firing.{firing, step_of}
 use Rattle.pim_down.specs.Key.{same_key}
 use Rattle.pim_down.specs.Laws.{KeysAreToldApart, FiringSaysMore, said_of}

@@ -17,7 +17,7 @@ use Rattle.pim_router.specs.Packets.{Packet, received, message_taken, neighbours
 use Rattle.pim_router.specs.State.{RouterState}
 use Rattle.pim_events.specs.Events.{Happened, Occurrence, hello_taken}
 use Rattle.pim_transitions.specs.declared.transition.Transition.{Transition}
-use Rattle.pim_down.specs.declared.machine.Record.{Record}
+use Rattle.pim_down.specs.declared.machines.machine.Record.{Record}
 use Rattle.pim_transitions.specs.Laws.{TransitionsAreThere}
 use Rattle.pim_trace.specs.declared.telling.TellFault.{TellFault}
 use Rattle.pim_trace.specs.Ledger.{Ledger, with_own, with_hello, with_changes}

@@ -19,9 +19,9 @@ use Rattle.std.proofs.lemmas.Option.{get_or_from_slice_get, slice_get_within, sl
 use Rattle.sorted_blocks.specs.declared.place.Place.{Place}
 use Rattle.sorted_blocks.specs.Found.{IsGap}
 use Rattle.sorted_slab.specs.Listed.{Listed, at}
-use Rattle.pim_down.specs.declared.key.What.{What}
-use Rattle.pim_down.specs.declared.key.What.TheVariants.{Star, Source, Rpt}
-use Rattle.pim_down.specs.declared.key.Key.{Key}
+use Rattle.pim_down.specs.declared.machines.key.What.{What}
+use Rattle.pim_down.specs.declared.machines.key.What.TheVariants.{Star, Source, Rpt}
+use Rattle.pim_down.specs.declared.machines.key.Key.{Key}
 use Rattle.pim_down.specs.Key.{rank, source_of, what_cmp, key_cmp, same_key}
 use Rattle.pim_down.specs.Seen.{key_seen, what_seen}
 use Rattle.pim_trace.specs.Machines.{order_of_keys, IsInKeyOrder, held_for, IsPlaceFor, Holds}

@@ -7,7 +7,7 @@ use Rattle.std.specs.Cmp.{tied_then, unsigned_tied}
 use Rattle.std.specs.Cmp.Lexicographic.{slice_cmp, pointwise, texts_ties}
 use Rattle.std.specs.BTreeMap.{is_at}
 use Rattle.std.specs.Map.{lookup}
-use Rattle.pim_down.specs.declared.key.Key.{Key}
+use Rattle.pim_down.specs.declared.machines.key.Key.{Key}
 use Rattle.pim_down.specs.Key.{same_key}
 use Rattle.pim_down.specs.Seen.{key_seen}
 use Rattle.pim_trace.specs.declared.ledger.Causes.{Causes}

@@ -2,7 +2,7 @@
 use Rattle.std.proofs.Common.{◌≡◌, ◌≤◌, ◌+◌, ℕ, max, List, [], ◌∷◌, ◌++◌, Option, refl, arith}
 use Rattle.std.specs.Io.KnownBytes.{Appends}
 use Rattle.pim_device.specs.Device.{AppendsFront}
-use Rattle.pim_down.specs.declared.step.Firing.{Firing}
+use Rattle.pim_down.specs.declared.machines.step.Firing.{Firing}
 use Rattle.pim_down.specs.Laws.{FiringSaysMore}
 use Rattle.pim_router.specs.Happening.{Happening, timer_fired, gone_between, Passes, Happens, FiresAfter}
 use Rattle.pim_router.specs.Laws.{FiringPasses, HappeningGoesOn, EveryStateGoesOn}

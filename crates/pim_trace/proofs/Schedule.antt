@@ -4,11 +4,11 @@ use Rattle.std.specs.Prelude.{map, filter, not, ◌||◌}
 use Rattle.std.specs.List.{list_any}
 use Rattle.std.proofs.lemmas.Bool.{false≢true, lt-ltb, ltb-true}
 use Rattle.pim_hello.specs.Neighbours.{Neighbour, Table, is_over, without_ended, passed_to}
-use Rattle.pim_down.specs.declared.key.What.{What}
-use Rattle.pim_down.specs.declared.machine.Record.{Record}
-use Rattle.pim_down.specs.declared.step.Firing.{Firing}
-use Rattle.pim_down.specs.declared.step.Step.{Step as Fires}
-use Rattle.pim_down.specs.declared.step.Step.TheVariants as fires
+use Rattle.pim_down.specs.declared.machines.key.What.{What}
+use Rattle.pim_down.specs.declared.machines.machine.Record.{Record}
+use Rattle.pim_down.specs.declared.machines.step.Firing.{Firing}
+use Rattle.pim_down.specs.declared.machines.step.Step.{Step as Fires}
+use Rattle.pim_down.specs.declared.machines.step.Step.TheVariants as fires
 use Rattle.pim_down.specs.Time.{fired, with_records}
 use Rattle.pim_router.specs.Happening.{Happening, timed_out, timer_fired, gone_of, gone_from, gone_within, happens_in, next_of, at_moment, told_then, in_turns, FiresAfter}
 use Rattle.pim_router.specs.declared.step.Step.TheVariants.{Echo, Refresh}

@@ -7,11 +7,11 @@ use Rattle.pim_addr.specs.declared.family.AddressFamily.{AddressFamily}
 use Rattle.pim_merge.specs.declared.end.End.{End}
 use Rattle.pim_merge.specs.Merge.{Taken}
 use Rattle.pim_merge.specs.Next.{MergeState}
-use Rattle.pim_down.specs.declared.key.Key.{Key}
-use Rattle.pim_down.specs.declared.key.What.{What}
-use Rattle.pim_down.specs.declared.machine.Machine.{Machine}
-use Rattle.pim_down.specs.declared.step.Timer.{Timer}
-use Rattle.pim_down.specs.declared.step.Timer.TheVariants.{PrunePending, Expiry}
+use Rattle.pim_down.specs.declared.machines.key.Key.{Key}
+use Rattle.pim_down.specs.declared.machines.key.What.{What}
+use Rattle.pim_down.specs.declared.machines.machine.Machine.{Machine}
+use Rattle.pim_down.specs.declared.machines.step.Timer.{Timer}
+use Rattle.pim_down.specs.declared.machines.step.Timer.TheVariants.{PrunePending, Expiry}
 use Rattle.pim_down.specs.Records.{IsAscending, machine_at, state_of_machine}
 use Rattle.pim_router.specs.State.{RouterState}
 use Rattle.pim_events.specs.declared.event.Cause.{Cause}

@@ -2,7 +2,7 @@
 use Rattle.std.specs.Prelude.{ℕ, ◌==◌, ◌&&◌, nat_eq, List, Option, option_map}
 use Rattle.std.specs.Cmp.Lexicographic.{pointwise}
 use Rattle.std.specs.Map.{lookup}
-use Rattle.pim_down.specs.declared.key.Key.{Key}
+use Rattle.pim_down.specs.declared.machines.key.Key.{Key}
 use Rattle.pim_events.specs.Events.{cause_seen}
 use Rattle.pim_trace.specs.declared.ledger.Causes.{Causes}
 use Rattle.pim_trace.specs.declared.ledger.Sent.{Sent}

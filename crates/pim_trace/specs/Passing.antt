@@ -4,9 +4,9 @@ use Rattle.std.specs.Io.KnownBytes.{Appends}
 use Rattle.std.specs.List.{flat_map}
 use Rattle.pim_device.specs.Device.{AppendsFront}
 use Rattle.pim_hello.specs.Neighbours.{Table, passed_to}
-use Rattle.pim_down.specs.declared.step.Firing.{Firing}
-use Rattle.pim_down.specs.declared.step.Timer.{Timer}
-use Rattle.pim_down.specs.declared.step.Timer.TheVariants.{PrunePending, Expiry}
+use Rattle.pim_down.specs.declared.machines.step.Firing.{Firing}
+use Rattle.pim_down.specs.declared.machines.step.Timer.{Timer}
+use Rattle.pim_down.specs.declared.machines.step.Timer.TheVariants.{PrunePending, Expiry}
 use Rattle.pim_router.specs.Happening.{Happening, timed_out, timer_fired, Happens, at_moment}
 use Rattle.pim_router.specs.Happening.{gone_of, gone_from, gone_within}
 use Rattle.pim_router.specs.State.{RouterState}

@@ -64,7 +64,7 @@ pub(crate) struct ByMachine<F: Family, V: Copy> {
 
 impl<F: Family, V: Copy> Model for ByMachine<F, V> {
     ghost use Rattle.sorted_slab.specs.Listed.{Listed};
-    ghost use Rattle.pim_down.specs.declared.key.Key.{Key};
+    ghost use Rattle.pim_down.specs.declared.machines.key.Key.{Key};
 
     ghost Value = { Listed (Key F.Addr × V) };
 

@@ -1,9 +1,9 @@
 -- Candidates, one after another: as they are made of marks, and as they are looked at after the message.
 use Rattle.std.proofs.Common.{◌≡◌, ℕ, true, false, cond, List, [], ◌∷◌, ◌++◌, map, Option, length, append_assoc, append-nil, refl, sym, ap, ◌∙◌, arith}
 use Rattle.std.proofs.lemmas.List.{map-append}
-use Rattle.pim_down.specs.declared.event.Event.{Event as EventOf}
-use Rattle.pim_down.specs.declared.machine.Machine.{Machine}
-use Rattle.pim_down.specs.declared.machine.Record.{Record}
+use Rattle.pim_down.specs.declared.machines.event.Event.{Event as EventOf}
+use Rattle.pim_down.specs.declared.machines.machine.Machine.{Machine}
+use Rattle.pim_down.specs.declared.machines.machine.Record.{Record}
 use Rattle.pim_down.specs.Records.{machine_at}
 use Rattle.pim_down.specs.Hearing.{Event}
 use Rattle.pim_down.specs.Seen.{event_seen}

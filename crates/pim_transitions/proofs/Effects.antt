@@ -2,13 +2,13 @@
 use Rattle.std.proofs.Common.{◌≡◌, ℕ, Bool, true, false, cond, not, ◌&&◌, ◌||◌, ◌==◌, eq-eqb, List, [], ◌∷◌, Option, None, Some, is_some, refl, sym, ap, subst, ◌∙◌}
 use Rattle.std.specs.List.{list_any}
 use Rattle.std.proofs.lemmas.Bool.{false≢true}
-use Rattle.pim_down.specs.declared.key.What.{What}
-use Rattle.pim_down.specs.declared.key.What.TheVariants.{Star, Source, Rpt}
-use Rattle.pim_down.specs.declared.key.Key.{Key}
-use Rattle.pim_down.specs.declared.machine.State.{State}
-use Rattle.pim_down.specs.declared.machine.State.TheVariants as state
-use Rattle.pim_down.specs.declared.machine.Machine.{Machine}
-use Rattle.pim_down.specs.declared.machine.Record.{Record}
+use Rattle.pim_down.specs.declared.machines.key.What.{What}
+use Rattle.pim_down.specs.declared.machines.key.What.TheVariants.{Star, Source, Rpt}
+use Rattle.pim_down.specs.declared.machines.key.Key.{Key}
+use Rattle.pim_down.specs.declared.machines.machine.State.{State}
+use Rattle.pim_down.specs.declared.machines.machine.State.TheVariants as state
+use Rattle.pim_down.specs.declared.machines.machine.Machine.{Machine}
+use Rattle.pim_down.specs.declared.machines.machine.Record.{Record}
 use Rattle.pim_down.specs.Key.{same_key}
 use Rattle.pim_down.specs.Records.{machine_at}
 use Rattle.pim_down.specs.Tables.{Start, on_join, join_in, on_prune, prune_in, on_star_join, star_join_in, on_rpt_prune, rpt_prune_in, on_end, end_in}

@@ -5,12 +5,12 @@ use Rattle.std.specs.declared.cmp.Ordering.TheVariants.{Less}
 use Rattle.std.specs.List.{AllByRecursion}
 use Rattle.std.specs.List.Sorted.{IsStrictlySortedBy}
 use Rattle.std.proofs.lemmas.Bool.{false≢true}
-use Rattle.pim_down.specs.declared.key.Key.{Key}
-use Rattle.pim_down.specs.declared.machine.State.{State}
-use Rattle.pim_down.specs.declared.machine.State.TheVariants as state
-use Rattle.pim_down.specs.declared.machine.Pending.{Pending}
-use Rattle.pim_down.specs.declared.machine.Machine.{Machine}
-use Rattle.pim_down.specs.declared.machine.Record.{Record}
+use Rattle.pim_down.specs.declared.machines.key.Key.{Key}
+use Rattle.pim_down.specs.declared.machines.machine.State.{State}
+use Rattle.pim_down.specs.declared.machines.machine.State.TheVariants as state
+use Rattle.pim_down.specs.declared.machines.machine.Pending.{Pending}
+use Rattle.pim_down.specs.declared.machines.machine.Machine.{Machine}
+use Rattle.pim_down.specs.declared.machines.machine.Record.{Record}
 use Rattle.pim_down.specs.Key.{key_cmp, same_key}
 use Rattle.pim_down.specs.Records.{machine_at}
 use Rattle.pim_down.specs.Tables.{Start}

@@ -1,5 +1,5 @@
 use Rattle.std.proofs.Common.{◌∙◌, Some, None, ap}
-use Rattle.pim_down.specs.declared.key.What.TheVariants.{Rpt}
+use Rattle.pim_down.specs.declared.machines.key.What.TheVariants.{Rpt}
 use Rattle.pim_down.specs.Seen.{what_seen, told_seen}
 use Rattle.pim_emit.specs.Rpts.{RptsLeft}
 use Rattle.pim_emit.proofs.NextMachines.{no_rpt_next, rpt_next, rpt_state, other_than_rpt_next, no_rpt_seen, told_next, left_of}

@@ -1,5 +1,5 @@
 use Rattle.std.proofs.Common.{List, ℕ, Some, Ok, refl}
-use Rattle.pim_down.specs.declared.machine.Record.{Record}
+use Rattle.pim_down.specs.declared.machines.machine.Record.{Record}
 use Rattle.pim_router.specs.Packets.{received}
 use Rattle.pim_transitions.specs.Named.{transitions_to}
 use Rattle.pim_trace.specs.Heard.{HearsPacket}

@@ -1,5 +1,5 @@
 use Rattle.std.proofs.Common.{◌≡◌, ◌≤◌, List, ℕ, length, option_map}
-use Rattle.pim_down.specs.declared.machine.Record.{Record}
+use Rattle.pim_down.specs.declared.machines.machine.Record.{Record}
 use Rattle.pim_down.specs.Key.{source_of}
 use Rattle.pim_emit.specs.Left.{next_above, sources_in}
 use Rattle.pim_emit.specs.Ahead.{AreNext}

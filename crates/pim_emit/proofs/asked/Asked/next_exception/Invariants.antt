@@ -1,5 +1,5 @@
 use Rattle.std.proofs.Common.{◌≡◌, List, ℕ, Some}
-use Rattle.pim_down.specs.declared.machine.Record.{Record}
+use Rattle.pim_down.specs.declared.machines.machine.Record.{Record}
 use Rattle.pim_down.specs.Key.{source_of}
 use Rattle.pim_emit.specs.Left.{next_above, exceptions_in}
 use Rattle.pim_emit.specs.Rpts.{AreRpts}

@@ -1,5 +1,5 @@
 use Rattle.std.proofs.Common.{◌≡◌, List, ℕ, option_map}
-use Rattle.pim_down.specs.declared.machine.Record.{Record}
+use Rattle.pim_down.specs.declared.machines.machine.Record.{Record}
 use Rattle.pim_form.specs.NormalForm.{groups_of}
 use Rattle.pim_emit.specs.Left.{next_above}
 use Rattle.pim_emit.proofs.CountAbove.{count_above}

@@ -1,0 +1,9 @@
+use Rattle.std.proofs.Common.{◌≡◌, ◌+◌}
+use Rattle.pim_down.specs.Hearing.{list_events, count_new}
+use Rattle.pim_down.specs.Known.{known_in}
+use Rattle.pim_down.specs.Seen.{records_seen}
+use Rattle.pim_down.proofs.hearing.message.count_list.Given as goal
+
+-- those so far and those of the entries that are left are those of all
+abbrev pub invariant-loop-entry : goal.invariant-loop-entry
+invariant-loop-entry g l = l.count + count_new l.port (records_seen g.F.Family.bytes_of l.records.items) (list_events (known_in g.F.Family.family l.routes) l.joins (g.F.Family.bytes_of l.group) l.entry-iterator) ≡ count_new l.port (records_seen g.F.Family.bytes_of l.records.items) (list_events (known_in g.F.Family.family l.routes) l.joins (g.F.Family.bytes_of l.group) l.fn.entries)

@@ -1,0 +1,12 @@
+use Rattle.std.proofs.Common.{◌≡◌, ◌≤◌, ◌+◌, ◌*◌, length}
+use Rattle.pim_down.specs.Hearing.{count_new}
+use Rattle.pim_down.specs.Known.{known_in}
+use Rattle.pim_down.specs.Seen.{records_seen}
+use Rattle.pim_down.proofs.Events.{sets_events}
+use Rattle.pim_down.proofs.hearing.message.count_sets.Given as goal
+
+abbrev pub invariant-loop-set : goal.invariant-loop-set
+invariant-loop-set g l = record {
+  so_far : l.count + count_new l.port (records_seen g.F.Family.bytes_of l.records.items) (sets_events (known_in g.F.Family.family l.routes) l.set-iterator) ≡ count_new l.port (records_seen g.F.Family.bytes_of l.records.items) (sets_events (known_in g.F.Family.family l.routes) l.fn.sets);
+  bound : l.count + 131070 * length l.set-iterator ≤ 131070 * length l.fn.sets;
+}

@@ -1,0 +1,16 @@
+use Rattle.std.proofs.Common.{◌≡◌}
+use Rattle.pim_down.specs.Records.{IsAscending}
+use Rattle.pim_down.specs.Hearing.{act_all}
+use Rattle.pim_down.specs.Space.{HasRoom}
+use Rattle.pim_down.specs.Known.{known_in}
+use Rattle.pim_down.specs.Seen.{start_seen, records_seen}
+use Rattle.pim_down.proofs.Events.{sets_events}
+use Rattle.pim_down.proofs.hearing.message.hear_sets.Given as goal
+
+-- what the sets that are left leave is what all leave
+abbrev pub invariant-loop-set : goal.invariant-loop-set
+invariant-loop-set g l = record {
+  ascending : IsAscending (records_seen g.F.Family.bytes_of l.records.items);
+  room : HasRoom l.port (start_seen l.start) l.records.capacity (sets_events (known_in g.F.Family.family l.routes) l.set-iterator) (records_seen g.F.Family.bytes_of l.records.items);
+  left : act_all l.port (start_seen l.start) (sets_events (known_in g.F.Family.family l.routes) l.set-iterator) (records_seen g.F.Family.bytes_of l.records.items) ≡ act_all l.port (start_seen l.start) (sets_events (known_in g.F.Family.family l.routes) l.message.sets) (records_seen g.F.Family.bytes_of l.fn.records.items);
+}

@@ -1,0 +1,11 @@
+use Rattle.std.proofs.Common.{◌≡◌, ◌++◌, map}
+use Rattle.pim_down.specs.Known.{known_in}
+use Rattle.pim_down.specs.Seen.{event_seen}
+use Rattle.pim_down.proofs.Events.{sets_events}
+use Rattle.pim_down.proofs.hearing.ordered.events_of.Given as goal
+
+-- the events so far and those of the sets that are left are all
+abbrev pub invariant-loop-set : goal.invariant-loop-set
+invariant-loop-set g l =
+    map (event_seen g.F.Family.bytes_of) l.events.items ++ sets_events (known_in g.F.Family.family l.routes) l.set-iterator
+    ≡ sets_events (known_in g.F.Family.family l.routes) l.message.sets

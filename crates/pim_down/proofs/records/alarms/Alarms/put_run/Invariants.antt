@@ -1,0 +1,14 @@
+use Rattle.std.proofs.Common.{◌≡◌, ℕ, List, ◌+◌, ◌≤◌, length, map, take}
+use Rattle.pim_down.specs.declared.machines.held.Held.{Held}
+use Rattle.pim_down.specs.PutOff.{with_run}
+use Rattle.pim_down.specs.Schedule.{Numbered, alarm_of, AreKnown}
+use Rattle.pim_down.proofs.records.alarms.Alarms.put_run.Given as goal
+
+abbrev pub invariant-loop-number : goal.invariant-loop-number
+invariant-loop-number g l = record {
+  alarms : (ends : ℕ) (run : List (Held g.row.A.Denot)) (timers : List Numbered) → length run ≡ length l.numbers →
+      AreKnown g.O.KeyOrder.bytes_of l.slab (with_run g.O.KeyOrder.bytes_of ends l.numbers run timers) → l.fn.self.alarms ≡ map alarm_of timers →
+      l.self.alarms ≡ map alarm_of (with_run g.O.KeyOrder.bytes_of l.to (take l.number-index l.numbers) (take l.number-index run) timers);
+  few : length l.self.alarms ≤ length l.fn.self.alarms + l.number-index;
+  capacity : l.self.capacity ≡ l.fn.self.capacity;
+}

@@ -1,0 +1,23 @@
+use Rattle.std.proofs.Common.{◌+◌, ◌≤◌, ℕ, List}
+use Rattle.pim_down.specs.declared.machines.step.Step.{Step}
+use Rattle.pim_down.specs.Records.{IsAscending}
+use Rattle.pim_down.specs.Time.{Downstream}
+use Rattle.pim_down.specs.Seen.{records_seen}
+use Rattle.pim_down.specs.Running.{downstream_at}
+use Rattle.pim_down.specs.Ends.{weight, AreLate}
+use Rattle.pim_down.proofs.Firings.{RunsFiring}
+use Rattle.pim_down.proofs.running.run.run.Given as goal
+
+-- whatever runs from here runs from the start
+abbrev pub invariant-loop-first : goal.invariant-loop-first
+invariant-loop-first g l = record {
+  from_start : (ports limit : ℕ) (answer : Step (List ℕ)) (after : Downstream) (timers : ℕ) → RunsFiring l.fn.moment (downstream_at g.F.Family.bytes_of ports limit l.now l.records.items) answer after timers → RunsFiring l.fn.moment (downstream_at g.F.Family.bytes_of ports limit l.fn.now l.fn.records.items) answer after (l.looks + timers);
+  few : l.looks + weight (records_seen g.F.Family.bytes_of l.records.items) ≤ weight (records_seen g.F.Family.bytes_of l.fn.records.items);
+  later : l.fn.now ≤ l.now;
+  within : l.now ≤ l.last;
+  ascending : IsAscending (records_seen g.F.Family.bytes_of l.records.items);
+  late : AreLate l.now (records_seen g.F.Family.bytes_of l.records.items);
+}
+
+abbrev pub decreases-loop-first : goal.decreases-loop-first
+decreases-loop-first g l = weight (records_seen g.F.Family.bytes_of l.records.items)

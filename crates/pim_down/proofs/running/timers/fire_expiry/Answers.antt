@@ -1,0 +1,13 @@
+use Rattle.std.proofs.Common.{ap, ◌∙◌}
+use Rattle.sorted_slab.specs.Listed.{at}
+use Rattle.pim_down.specs.Firing.{et_fires}
+use Rattle.pim_down.specs.Time.{record_after}
+use Rattle.pim_down.specs.Seen.{record_seen}
+use Rattle.pim_down.proofs.Rpts.{same_default}
+use Rattle.pim_down.proofs.running.timers.fire_expiry.Goals as goal
+
+pub returns-clause-told : goal.returns-clause-told
+returns-clause-told g c d =
+    let bytes_of = g.F.Family.bytes_of in
+    let items = c.args.records.now.items in
+    c.et_fires.ensures bytes_of ∙ ap (λ held. et_fires (record_after c.args.now (record_seen bytes_of held))) (c.get.ensures ∙ same_default items (at c.args.records.now c.args.place) c.get.result.now d c.requires.1)

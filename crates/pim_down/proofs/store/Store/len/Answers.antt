@@ -1,9 +1,0 @@
-use Rattle.std.proofs.Common.{◌+◌, ◌*◌, ◌≤◌, length, subst, arith}
-use Rattle.sorted_slab.specs.Listed.{Listed}
-use Rattle.pim_down.specs.declared.held.Held.{Held}
-use Rattle.pim_down.proofs.store.Store.len.Goals as goal
-
-pub returns-clause-small : goal.returns-clause-small
-returns-clause-small g c =
-    subst (λ (l : Listed (Held g.row.A.Denot)). 2 * length l.items + 2 ≤ 18446744073709551615) c.self.view_is
-    (omega (arith, c.self.invariant.1.fits, c.self.invariant.1.small))

@@ -1,0 +1,367 @@
+//! The timers of one kind that run, in the order in which they fire: by end, then by key. Each has
+//! the number of its record. Its key is read from the slab, only where ends are equal.
+
+ghost use Rattle.std.specs.Prelude.{◌≡◌, ℕ, List, Option, ◌+◌, ◌<◌, ◌≤◌, [], length, map, OnOk};
+ghost use Rattle.std.specs.Prelude.{slice_index_or, take};
+ghost use Rattle.std.specs.List.{slice_get, insert};
+ghost use Rattle.slab.specs.Slab.{get};
+ghost use Rattle.sorted_blocks.specs.Shape.{items};
+ghost use Rattle.sorted_blocks.specs.Places.{before, IsPlace};
+ghost use Rattle.pim_down.specs.declared.records.deadline.Alarm.{Alarm};
+ghost use Rattle.pim_down.specs.declared.machines.held.Held.{Held};
+ghost use Rattle.pim_down.specs.PutOff.{with_run};
+ghost use Rattle.pim_down.specs.Schedule.{Numbered, alarm_cmp, alarm_of, alarm_seen, with_alarm};
+ghost use Rattle.pim_down.specs.Schedule.{AreKnown, key_order, alarm_order, placed, without};
+ghost use Rattle.pim_down.specs.Seen.{key_seen};
+
+use crate::machines::held::Held;
+use crate::machines::key::{Key, KeyOrder};
+use crate::records::deadline::Alarm;
+use slab::Slab;
+use sorted_blocks::{Blocks, Place, Probe, item_has_a_place, place_is_within};
+use std::alloc::{AllocError, Global};
+use std::cmp::Ordering;
+use std::marker::{Model, PhantomData};
+
+/// Compares the key of the record with this number.
+fn compare_key<A: Copy, O: KeyOrder<A>>(
+    slab: &Slab<Held<A>>,
+    number: usize,
+    key: &Key<A>,
+) -> Ordering
+    ensures { result
+        ≡ key_order O.bytes_of slab.now (key_seen O.bytes_of key.now) (get slab.now number) }
+{
+    match slab.get(number) {
+        Some(held) => O::compare(&held.key, key),
+        None => Ordering::Less,
+    }
+}
+
+/// A timer that is searched among others of its kind.
+#[derive(Drop)]
+struct Wanted<'a, A: Copy, O> {
+    slab: &'a Slab<Held<A>>,
+    key: Key<A>,
+    alarm: Alarm,
+    order: PhantomData<O>,
+}
+
+#[tactic(auto, unfolding(crate::specs::Schedule::alarm_order))]
+impl<'a, A: Copy, O: KeyOrder<A>> Probe<Alarm> for Wanted<'a, A, O> {
+    ghost use Rattle.pim_down.specs.Schedule.{alarm_order, alarm_seen};
+
+    ghost can_compare = { λ _ _. Unit {0} };
+
+    ghost order = { λ sought other. alarm_order O.bytes_of sought.slab.now
+        (alarm_seen O.bytes_of sought.key sought.alarm) other };
+
+    fn compare(&self, other: &Alarm) -> Ordering {
+        let by_end = other.ends_at.cmp(&self.alarm.ends_at);
+        if by_end.is_ne() {
+            return by_end;
+        }
+        let by_key = compare_key::<A, O>(self.slab, other.number, &self.key);
+        if by_key.is_ne() {
+            return by_key;
+        }
+        other.number.cmp(&self.alarm.number)
+    }
+}
+
+/// The timers of one kind that run, in blocks of up to twice `HALF`. Contracts see the list of
+/// alarms, and how many fit without memory.
+#[derive(Drop)]
+pub(crate) struct Alarms<A: Copy, O: KeyOrder<A>, const HALF: usize> {
+    list: Blocks<Alarm, HALF>,
+    /// Where a timer was put in last: a hint.
+    put: Place,
+    /// What followed the timer that was taken out last: a hint.
+    taken: Place,
+    key: PhantomData<A>,
+    order: PhantomData<O>,
+}
+
+impl<A: Copy, O: KeyOrder<A>, const HALF: usize> Model for Alarms<A, O, HALF> {
+    ghost use Rattle.sorted_blocks.specs.Shape.{items, capacity};
+    ghost use Rattle.pim_down.specs.Schedule.{AlarmList};
+
+    ghost Value = { AlarmList };
+
+    ghost view = { λ s. record { alarms = items s.list; capacity = capacity HALF s.list } };
+}
+
+/// Where the timer belongs among these.
+fn slot_of<A: Copy, O: KeyOrder<A>, const HALF: usize>(
+    list: &Blocks<Alarm, HALF>,
+    near: Place,
+    slab: &Slab<Held<A>>,
+    key: Key<A>,
+    alarm: Alarm,
+) -> Place
+    ensures place { IsPlace list.now result }
+    ensures slot { (timers : List Numbered) → AreKnown O.bytes_of slab.now timers
+        → items list.now ≡ map alarm_of timers
+        → insert (items list.now) (before list.now result) alarm
+        ≡ map alarm_of (placed alarm_cmp (alarm_seen O.bytes_of key alarm) timers) }
+{
+    item_has_a_place::<Alarm>();
+    place_is_within::<Alarm>();
+    let wanted: Wanted<'_, A, O> = Wanted {
+        slab,
+        key,
+        alarm,
+        order: PhantomData,
+    };
+    match list.find_near(near, &wanted) {
+        Ok(place) => place,
+        Err(place) => place,
+    }
+}
+
+/// How many of these alarms, from the first one on, have this end and these numbers.
+fn count_run(row: &[Alarm], from: u64, numbers: &[usize]) -> usize
+    ensures numbers { result ≤ length numbers.now }
+    ensures row { result ≤ length row.now }
+    ensures same { (i d : ℕ) (a : Alarm) → i < result → slice_index_or row.now i a
+        ≡ record { ends_at = from; number = slice_index_or numbers.now i d } }
+{
+    let most = row.len().min(numbers.len());
+    let mut count = 0;
+    while count < most {
+        let alarm = row[count];
+        if alarm.ends_at != from {
+            return count;
+        }
+        if alarm.number != numbers[count] {
+            return count;
+        }
+        count += 1;
+    }
+    count
+}
+
+impl<A: Copy, O: KeyOrder<A>, const HALF: usize> Alarms<A, O, HALF> {
+    /// No timer; it takes no memory.
+    pub(crate) fn new(alloc: Global) -> Self
+        requires some { 1 ≤ HALF }
+        requires small { HALF ≤ 65536 }
+        ensures { result.alarms ≡ [] }
+    {
+        Alarms {
+            list: Blocks::new(alloc),
+            put: Place::START,
+            taken: Place::START,
+            key: PhantomData,
+            order: PhantomData,
+        }
+    }
+
+    /// Takes memory: after `Ok` this number of timers fit.
+    pub(crate) fn reserve_for(&mut self, timers: usize) -> Result<(), AllocError>
+        ensures ok { OnOk result (timers ≤ self.new.capacity) }
+        ensures alarms { self.new.alarms ≡ self.old.alarms }
+        ensures capacity { self.old.capacity ≤ self.new.capacity }
+    {
+        let running = self.list.len();
+        self.list.reserve_capacity(timers.saturating_sub(running))
+    }
+
+    /// The timer that fires first.
+    pub(crate) fn first(&self) -> Option<Alarm>
+        ensures { result ≡ slice_get self.now.alarms 0 }
+    {
+        item_has_a_place::<Alarm>();
+        let place = self.list.first();
+        if self.list.is_item(place) {
+            Some(*self.list.get(place))
+        } else {
+            None
+        }
+    }
+
+    /// Puts in a timer, within the capacity.
+    fn put(&mut self, slab: &Slab<Held<A>>, key: Key<A>, alarm: Alarm)
+        requires { length self.old.alarms < self.old.capacity }
+        ensures alarms { (timers : List Numbered) → AreKnown O.bytes_of slab.now timers
+            → self.old.alarms ≡ map alarm_of timers → self.new.alarms
+            ≡ map alarm_of (placed alarm_cmp (alarm_seen O.bytes_of key alarm) timers) }
+        ensures more { length self.new.alarms ≡ length self.old.alarms + 1 }
+        ensures capacity { self.new.capacity ≡ self.old.capacity }
+    {
+        let place = slot_of::<A, O, HALF>(&self.list, self.put, slab, key, alarm);
+        let stands = self.list.insert_within(place, alarm);
+        self.put = stands;
+    }
+
+    /// Removes a timer, if it runs.
+    fn take(&mut self, slab: &Slab<Held<A>>, key: Key<A>, alarm: Alarm)
+        ensures alarms { (timers : List Numbered) → AreKnown O.bytes_of slab.now timers
+            → self.old.alarms ≡ map alarm_of timers → self.new.alarms
+            ≡ map alarm_of (without alarm_cmp (alarm_seen O.bytes_of key alarm) timers) }
+        ensures fewer { length self.new.alarms ≤ length self.old.alarms }
+        ensures capacity { self.new.capacity ≡ self.old.capacity }
+    {
+        place_is_within::<Alarm>();
+        let wanted: Wanted<'_, A, O> = Wanted {
+            slab,
+            key,
+            alarm,
+            order: PhantomData,
+        };
+        if let Ok(place) = self.list.find_near(self.taken, &wanted) {
+            let (_gone, behind) = self.list.remove(place);
+            self.taken = behind;
+        }
+    }
+
+    /// Puts in the timer of the record with this number, if it runs.
+    pub(crate) fn start(
+        &mut self,
+        slab: &Slab<Held<A>>,
+        key: Key<A>,
+        number: usize,
+        end: Option<u64>,
+    )
+        requires { length self.old.alarms < self.old.capacity }
+        ensures alarms { (timers : List Numbered) → AreKnown O.bytes_of slab.now timers
+            → self.old.alarms ≡ map alarm_of timers → self.new.alarms
+            ≡ map alarm_of (with_alarm (key_seen O.bytes_of key) number end timers) }
+        ensures capacity { self.new.capacity ≡ self.old.capacity }
+    {
+        match end {
+            Some(ends_at) => self.put(slab, key, Alarm { ends_at, number }),
+            None => {}
+        }
+    }
+
+    /// Removes the timer of the record with this number, if it runs.
+    pub(crate) fn stop(
+        &mut self,
+        slab: &Slab<Held<A>>,
+        key: Key<A>,
+        number: usize,
+        end: Option<u64>,
+    )
+        ensures alarms { (timers : List Numbered)
+            → AreKnown O.bytes_of slab.now (with_alarm (key_seen O.bytes_of key) number end timers)
+            → self.old.alarms
+            ≡ map alarm_of (with_alarm (key_seen O.bytes_of key) number end timers)
+            → self.new.alarms ≡ map alarm_of timers }
+        ensures fewer { length self.new.alarms ≤ length self.old.alarms }
+        ensures capacity { self.new.capacity ≡ self.old.capacity }
+    {
+        match end {
+            Some(ends_at) => self.take(slab, key, Alarm { ends_at, number }),
+            None => {}
+        }
+    }
+
+    /// Gives the timer of the record with this number another end.
+    pub(crate) fn change(
+        &mut self,
+        slab: &Slab<Held<A>>,
+        key: Key<A>,
+        number: usize,
+        from: Option<u64>,
+        to: Option<u64>,
+    )
+        requires { length self.old.alarms < self.old.capacity }
+        ensures alarms { (timers : List Numbered)
+            → AreKnown O.bytes_of slab.now (with_alarm (key_seen O.bytes_of key) number from timers)
+            → self.old.alarms
+            ≡ map alarm_of (with_alarm (key_seen O.bytes_of key) number from timers)
+            → self.new.alarms
+            ≡ map alarm_of (with_alarm (key_seen O.bytes_of key) number to timers) }
+        ensures capacity { self.new.capacity ≡ self.old.capacity }
+    {
+        if from != to {
+            self.stop(slab, key, number, from);
+            self.start(slab, key, number, to);
+        }
+    }
+
+    /// Removes timers of the records with these numbers, all with this end. It takes as many of the
+    /// first ones as are side by side in a block, and returns their number.
+    fn take_run(&mut self, slab: &Slab<Held<A>>, from: u64, numbers: &[usize]) -> usize
+        ensures numbers { result ≤ length numbers.now }
+        ensures alarms { (run : List (Held A)) (timers : List Numbered) → length run ≡ result
+            → AreKnown O.bytes_of slab.now
+            (with_run O.bytes_of from (take result numbers.now) run timers)
+            → self.old.alarms
+            ≡ map alarm_of (with_run O.bytes_of from (take result numbers.now) run timers)
+            → self.new.alarms ≡ map alarm_of timers }
+        ensures fewer { length self.new.alarms + result ≡ length self.old.alarms }
+        ensures capacity { self.new.capacity ≡ self.old.capacity }
+    {
+        item_has_a_place::<Alarm>();
+        let Some(number) = numbers.first() else {
+            return 0;
+        };
+        let Some(held) = slab.get(*number) else {
+            return 0;
+        };
+        let wanted: Wanted<'_, A, O> = Wanted {
+            slab,
+            key: held.key,
+            alarm: Alarm {
+                ends_at: from,
+                number: *number,
+            },
+            order: PhantomData,
+        };
+        let Ok(place) = self.list.find_near(self.taken, &wanted) else {
+            return 0;
+        };
+        let count = count_run(self.list.row_from(place), from, numbers);
+        self.taken = self.list.remove_in_block(place, count);
+        count
+    }
+
+    /// Puts in the timers of the records with these numbers, all with this end.
+    fn put_run(&mut self, slab: &Slab<Held<A>>, to: u64, numbers: &[usize])
+        requires { length self.old.alarms + length numbers.now ≤ self.old.capacity }
+        ensures alarms { (ends : ℕ) (run : List (Held A)) (timers : List Numbered)
+            → length run ≡ length numbers.now
+            → AreKnown O.bytes_of slab.now (with_run O.bytes_of ends numbers.now run timers)
+            → self.old.alarms ≡ map alarm_of timers → self.new.alarms
+            ≡ map alarm_of (with_run O.bytes_of to numbers.now run timers) }
+        ensures capacity { self.new.capacity ≡ self.old.capacity }
+    {
+        for number in numbers {
+            if let Some(held) = slab.get(*number) {
+                let alarm = Alarm {
+                    ends_at: to,
+                    number: *number,
+                };
+                self.put(slab, held.key, alarm);
+            }
+        }
+    }
+
+    /// Gives timers of the records with these numbers, all with one end, another end. It takes as
+    /// many of the first ones as are side by side in a block, and returns their number.
+    pub(crate) fn put_off(
+        &mut self,
+        slab: &Slab<Held<A>>,
+        from: u64,
+        to: u64,
+        numbers: &[usize],
+    ) -> usize
+        requires { length self.old.alarms < self.old.capacity }
+        ensures numbers { result ≤ length numbers.now }
+        ensures alarms { (run : List (Held A)) (timers : List Numbered) → length run ≡ result
+            → AreKnown O.bytes_of slab.now
+            (with_run O.bytes_of from (take result numbers.now) run timers)
+            → self.old.alarms
+            ≡ map alarm_of (with_run O.bytes_of from (take result numbers.now) run timers)
+            → self.new.alarms
+            ≡ map alarm_of (with_run O.bytes_of to (take result numbers.now) run timers) }
+        ensures capacity { self.new.capacity ≡ self.old.capacity }
+    {
+        let count = self.take_run(slab, from, numbers);
+        let (run, _others) = numbers.split_at(count);
+        self.put_run(slab, to, run);
+        count
+    }
+}
