@@ -37,6 +37,7 @@ WORDS = {
     "README.md": 1000,
     "CONTRIBUTING.md": 600,
     "docs/ARCHITECTURE.md": 1500,
+    "docs/CAPTURES.md": 500,
     "docs/CONTRACTS.md": 2600,
     "docs/DEFINITIONS.md": 1500,
     "docs/HEADLINE.md": 1500,
