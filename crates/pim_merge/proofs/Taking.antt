@@ -40,7 +40,7 @@ skipped_by NotPim millis latest by = by
 skipped_by Fragment millis latest by = by
 skipped_by NoTime millis latest by = tt
 skipped_by LinkType millis latest by = by
-skipped_by NotChosen millis latest by = by
+skipped_by NotChosen millis latest by = tt
 
 -- the time of a record is within the bound of its event
 pub by_then : (event : Event) (bytes : List ℕ) (time : Option ℕ) (latest : ℕ) → time ≡ time_told (event_seen bytes event) → IsBy latest event → IfSome time (λ it. it ≤ latest)

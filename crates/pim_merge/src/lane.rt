@@ -55,12 +55,13 @@ impl<R: Feed + Drop> Model for Lane<R> {
         × IfSome lane.head (IsBy latest_moment) };
 }
 
-/// The time of a record that is skipped for this reason.
+/// The time of a record that is skipped for this reason. One that isn't chosen has none, so that a
+/// run over chosen packets begins and ends with these.
 fn time_by(why: Why, millis: u64) -> Option<u64>
     ensures { result ≡ time_by why millis }
 {
     match why {
-        Why::NoTime => None,
+        Why::NoTime | Why::NotChosen => None,
         _ => Some(millis),
     }
 }
