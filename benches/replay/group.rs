@@ -2,7 +2,7 @@
 use crate::address::Address;
 use crate::join_prune::Entry;
 use crate::machine::{on_join, on_prune, on_rpt_prune, on_star_join, Machine, Start};
-use std::collections::btree_map::{self, BTreeMap};
+use crate::sorted::Sorted;
 
 /// Which of a group's machines it is.
 #[derive(Clone, Copy, PartialEq, Eq, PartialOrd, Ord)]
@@ -14,8 +14,8 @@ pub enum What<A> {
 
 pub struct Group<A> {
     pub star: Option<Machine>,
-    pub sources: BTreeMap<A, Machine>,
-    pub rpts: BTreeMap<A, Machine>,
+    pub sources: Sorted<A>,
+    pub rpts: Sorted<A>,
 }
 
 /// A machine before and after something has changed it.
@@ -25,29 +25,13 @@ pub struct Change {
 }
 
 /// Changes one of these machines.
-fn change_in<A: Ord>(
-    machines: &mut BTreeMap<A, Machine>,
+fn change_in<A: Copy + Ord>(
+    machines: &mut Sorted<A>,
     source: A,
     next: impl FnOnce(Option<Machine>) -> Option<Machine>,
 ) -> Change {
-    match machines.entry(source) {
-        btree_map::Entry::Vacant(place) => {
-            let after = next(None);
-            if let Some(machine) = after {
-                place.insert(machine);
-            }
-            Change { before: None, after }
-        }
-        btree_map::Entry::Occupied(mut place) => {
-            let before = Some(*place.get());
-            let after = next(before);
-            match after {
-                Some(machine) => drop(place.insert(machine)),
-                None => drop(place.remove()),
-            }
-            Change { before, after }
-        }
-    }
+    let (before, after) = machines.change(source, next);
+    Change { before, after }
 }
 
 impl<A> What<A> {
@@ -67,7 +51,7 @@ impl<A> What<A> {
 
 impl<A: Address> Group<A> {
     pub fn new() -> Self {
-        Group { star: None, sources: BTreeMap::new(), rpts: BTreeMap::new() }
+        Group { star: None, sources: Sorted::new(), rpts: Sorted::new() }
     }
 
     pub fn is_empty(&self) -> bool {
@@ -77,8 +61,8 @@ impl<A: Address> Group<A> {
     pub fn get(&self, what: What<A>) -> Option<&Machine> {
         match what {
             What::Star => self.star.as_ref(),
-            What::Source(source) => self.sources.get(&source),
-            What::Rpt(source) => self.rpts.get(&source),
+            What::Source(source) => self.sources.get(source),
+            What::Rpt(source) => self.rpts.get(source),
         }
     }
 
@@ -109,7 +93,7 @@ impl<A: Address> Group<A> {
     /// The end of a message that names the group. The answer is how many machines end.
     pub fn end_message(&mut self) -> usize {
         let count = self.rpts.len();
-        self.rpts.retain(|_, machine| !machine.is_temporary());
+        self.rpts.retain(|machine| !machine.is_temporary());
         count - self.rpts.len()
     }
 }

@@ -58,6 +58,11 @@ impl<'a, A: Address + 'a> Set<'a, A> {
     pub fn pruned(&self) -> impl Iterator<Item = Entry<A>> + 'a {
         entries(self.pruned)
     }
+
+    /// How many entries both lists have.
+    pub fn len(&self) -> usize {
+        (self.joined.len() + self.pruned.len()) / masked_length::<A>()
+    }
 }
 
 impl<'a, A: Address + 'a> JoinPrune<'a, A> {

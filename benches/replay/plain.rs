@@ -3,8 +3,9 @@
 //!     plain replay [--rp ADDRESS] [--limit N] [--after MS] ADDRESS@FILE
 //!
 //! It has the steps of the Rattle program: records one by one, each packet judged and heard, each message walked once
-//! to count what it needs and once to be heard. Its machines stand in maps of the standard library, and the ends of
-//! their timers in a heap.
+//! to be heard, and near the limit once more to count what it needs. The machines of a group stand in order, groups in
+//! a map of the standard library, and the ends of their timers in a heap: a timer that is put off stays there until its
+//! first end comes.
 mod address;
 mod fault;
 mod frame;
@@ -17,6 +18,7 @@ mod pcap;
 mod records;
 mod report;
 mod router;
+mod sorted;
 
 use address::Address;
 use report::Replay;

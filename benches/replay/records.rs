@@ -131,16 +131,29 @@ impl<A: Address> Records<A> {
         }
     }
 
-    /// Hears a message. Where there is no room for it, nothing changes, and the answer is how much it needs.
-    pub fn hear<'a>(&mut self, message: &JoinPrune<'a, A>, rp: Option<A>, start: Start) -> Result<(), usize>
+    /// Whether there is room for a message; else how much it needs. What is fresh counts only near the limit.
+    fn judge<'a>(&self, message: &JoinPrune<'a, A>, rp: Option<A>) -> Result<(), usize>
     where
         A: 'a,
     {
+        let entries: usize = message.sets().map(|set| set.len()).sum();
+        if self.tally.machines + entries <= self.limit {
+            return Ok(());
+        }
         let fresh: usize = message.sets().map(|set| self.fresh_in(&set, rp)).sum();
         let needed = self.tally.machines + fresh;
         if needed > self.limit {
             return Err(needed);
         }
+        Ok(())
+    }
+
+    /// Hears a message. Where there is no room for it, nothing changes, and the answer is how much it needs.
+    pub fn hear<'a>(&mut self, message: &JoinPrune<'a, A>, rp: Option<A>, start: Start) -> Result<(), usize>
+    where
+        A: 'a,
+    {
+        self.judge(message, rp)?;
         for set in message.sets() {
             self.hear_set(&set, rp, start);
         }
