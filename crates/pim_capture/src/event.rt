@@ -64,6 +64,8 @@ pub enum Why {
     LinkType,
     /// The reader of the file wants packets of other links. `Capture` never returns it.
     NotChosen,
+    /// Its file ends inside it. Its time counts as 0. `Capture` never returns it.
+    CutShort,
 }
 
 /// What a record of a capture holds.

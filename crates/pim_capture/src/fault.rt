@@ -9,7 +9,7 @@ use std::alloc::AllocError;
 use thiserror::Error;
 
 /// Why a capture can't be read any further. Every later call returns `Failed`. Readers of other
-/// files than classic ones return the last four too; `Capture` never does.
+/// files than classic ones return the last five too; `Capture` never does.
 #[derive(Clone, Copy, Debug, PartialEq, Eq, Error)]
 pub enum CaptureFault {
     /// It doesn't begin with the magic of a classic pcap file.
@@ -55,6 +55,9 @@ pub enum CaptureFault {
         /// That of the first packet of another interface.
         other: u32,
     },
+    /// Its link type has this number, which isn't read.
+    #[error("link-type {0}")]
+    LinkNumber(u16),
 }
 
 impl From<Failed> for CaptureFault {
