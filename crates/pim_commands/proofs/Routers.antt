@@ -77,6 +77,7 @@ capture_is_read before of_capture.Block = refl
 capture_is_read before of_capture.Time = refl
 capture_is_read before (of_capture.Vlans first other) = refl
 capture_is_read before (of_capture.Interfaces first other) = refl
+capture_is_read before (of_capture.LinkNumber number) = refl
 
 -- the device's failures are those that are told
 pub failures_are_told : (before : ℕ) (told : Result ℕ ReplayFault) → failures_of_device before told ≡ write_failures_after before (answer_of told)

@@ -57,6 +57,7 @@ tag_of vlan other = if vlan.outer == other.outer then vlan.inner else vlan.outer
 abbrev pub capture_fault : CaptureFault → Fault
 capture_fault of_capture.Magic = Capture capture.Magic
 capture_fault of_capture.LinkType = Capture capture.LinkType
+capture_fault (of_capture.LinkNumber number) = Capture capture.LinkType
 capture_fault of_capture.Truncated = Capture capture.Truncated
 capture_fault of_capture.TooLong = Capture capture.TooLong
 capture_fault of_capture.Block = Capture capture.Block

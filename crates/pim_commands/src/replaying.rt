@@ -99,7 +99,9 @@ pub(crate) fn capture_fault(fault: CaptureFault) -> Fault<'static>
 {
     match fault {
         CaptureFault::Magic => Fault::Capture(CaptureCause::Magic),
-        CaptureFault::LinkType => Fault::Capture(CaptureCause::LinkType),
+        CaptureFault::LinkType | CaptureFault::LinkNumber(_) => {
+            Fault::Capture(CaptureCause::LinkType)
+        }
         CaptureFault::Truncated => Fault::Capture(CaptureCause::Truncated),
         CaptureFault::TooLong => Fault::Capture(CaptureCause::TooLong),
         CaptureFault::Read | CaptureFault::Failed => Fault::Capture(CaptureCause::Read),

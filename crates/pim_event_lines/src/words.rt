@@ -103,6 +103,7 @@ fn reason_words(why: &Why) -> &[u8]
         Why::NoTime => b"without a time",
         Why::LinkType => b"a link type that is not read",
         Why::NotChosen => b"of another link than the chosen one",
+        Why::CutShort => b"cut short by the end of its file",
     }
 }
 
@@ -129,6 +130,7 @@ fn reason_word(why: &Why) -> &[u8]
         Why::NoTime => b"no-time",
         Why::LinkType => b"link-type",
         Why::NotChosen => b"not-chosen",
+        Why::CutShort => b"cut-short",
     }
 }
 

@@ -2,7 +2,7 @@
 use Rattle.std.specs.Prelude.{ℕ, Bool, true, false, not, ◌&&◌, ◌||◌, ◌==◌, nat_lt, if◌then◌else◌, List, [], ◌∷◌}
 use Rattle.std.specs.Prelude.{length, map, bytes_eq, Option, None, Some}
 use Rattle.std.specs.List.{list_any}
-use Rattle.pim_capture.specs.declared.event.Why.TheVariants.{Fragment, NoTime}
+use Rattle.pim_capture.specs.declared.event.Why.TheVariants.{Fragment, NoTime, CutShort}
 use Rattle.pim_down.specs.declared.machines.key.What.{What}
 use Rattle.pim_down.specs.declared.machines.key.What.TheVariants.{Star, Source, Rpt}
 use Rattle.pim_down.specs.declared.machines.machine.Pending.{Pending}
@@ -76,10 +76,12 @@ abbrev pub is_over : Option Pending → Bool
 is_over None = false
 is_over (Some timer) = timer.ends_in == 0
 
--- A record that may hold a PIM message: a fragment of an IP packet, or one without a time.
+-- A record that may hold a PIM message: a fragment of an IP packet, one without a time, or one that the end
+-- of its file cuts short.
 abbrev pub may_hold_pim : Skip → Bool
 may_hold_pim (NoPacket Fragment) = true
 may_hold_pim (NoPacket NoTime) = true
+may_hold_pim (NoPacket CutShort) = true
 may_hold_pim other = false
 
 -- The event is shown without `--all`.

@@ -93,12 +93,13 @@ fn is_news_of_machine<F: Family>(change: &Transition<F::Addr>) -> bool
     before != after && !over
 }
 
-/// Whether a record that is skipped may hold a PIM message: it is a fragment, or has no time.
+/// Whether a record that is skipped may hold a PIM message: it is a fragment, has no time, or is
+/// cut short by the end of its file.
 fn may_hold_pim(skip: Skip) -> bool
     ensures { result ≡ may_hold_pim skip }
 {
     match skip {
-        Skip::NoPacket(Why::Fragment | Why::NoTime) => true,
+        Skip::NoPacket(Why::Fragment | Why::NoTime | Why::CutShort) => true,
         _ => false,
     }
 }

@@ -11,11 +11,13 @@ use Rattle.pim_merge.specs.declared.end.End.{End}
 use Rattle.pim_merge.specs.declared.merge.MergeFault.{MergeFault}
 use Rattle.pim_merge.specs.declared.merge.Turn.{Turn}
 use Rattle.pim_merge.specs.Ends.{last_of, clock_of, Takes, AreAll}
-use Rattle.pim_merge.specs.Lane.{LaneState, IsComing, lane_at, failures_of}
+use Rattle.pim_merge.specs.Lane.{LaneState, IsComing, lane_at, failures_of, tallies_of}
+use Rattle.pim_merge.specs.Tally.{tallies_with, next_number}
+use Rattle.pim_merge.proofs.Tallies.{tallies_more}
 use Rattle.pim_merge.specs.Merge.{Taken, Outcome, IsMergeBy, turn, turn_by, until, takes, fails, ending, after_turn}
 use Rattle.pim_merge.specs.Merge.{clock_after, moment_of, time_told}
-use Rattle.pim_merge.specs.Next.{MergeState, TellsTurnBy, IsCause, CountsFailures, KeepsTime, with_fault}
-use Rattle.pim_merge.specs.Run.{taken_by, IsBehind, HasTaken, Advances}
+use Rattle.pim_merge.specs.Next.{MergeState, TellsTurnBy, IsCause, CountsFailures, KeepsTime, with_fault, KeepsTallies, IsNumbered}
+use Rattle.pim_merge.specs.Run.{taken_by, IsBehind, HasTaken, Advances, IsTallied}
 
 -- ---- one turn more
 
@@ -85,19 +87,21 @@ module _ (end : End) (start : MergeState) (taken : List Taken) (merge merge' : M
 
   -- no further one
   no_more : Coming (λ captures. TellsTurnBy (last_of end) merge.clock captures (Ok None) merge') →
-      merge'.clock ≡ merge.clock → Advances end start taken merge' (Ok None)
-  no_more tells keeps = (
+      merge'.clock ≡ merge.clock → tallies_of merge'.lanes ≡ tallies_of merge.lanes → Advances end start taken merge' (Ok None)
+  no_more tells keeps tallies = (
     λ captures coming.
         let b = has.turns captures coming in
         takes_all (last_of end) start.clock captures taken merge.clock b.rest None b.takes_them
         (tells b.rest b.coming).0,
     keeps ∙ has.clock,
+    tallies ∙ has.tallies,
   )
 
   -- a fault
   stops : (told : MergeFault) → Coming (λ captures. turn (with_fault told captures) ≡ fails told.capture told.fault) →
-      IsCause merge.lanes merge'.lanes told → Advances end start taken merge' (Err told)
-  stops told fault cause = record {
+      IsCause merge.lanes merge'.lanes told → tallies_of merge'.lanes ≡ tallies_of merge.lanes →
+      IsNumbered (tallies_of merge.lanes) told → Advances end start taken merge' (Err told)
+  stops told fault cause tallies numbered = record {
     are = λ captures coming.
         let b = has.turns captures coming in record {
           clock_then = merge.clock;
@@ -106,6 +110,8 @@ module _ (end : End) (start : MergeState) (taken : List Taken) (merge merge' : M
           is_rest = fault b.rest b.coming;
         };
     cause = by cause;
+    tallies = tallies ∙ has.tallies;
+    numbered = numbered ∙ ap (next_number told.capture) (sym tallies);
   }
     where
       by : IsCause merge.lanes merge'.lanes told →
@@ -126,14 +132,15 @@ module _ (end : End) (start : MergeState) (taken : List Taken) (merge merge' : M
   one_more : (next : Turn) →
       Coming (λ captures. TellsTurnBy (last_of end) merge.clock captures (Ok (Some next)) merge') →
       KeepsTime merge.clock (Ok (Some next)) merge' → failures_of merge'.lanes ≡ failures_of merge.lanes →
-      Advances end start taken merge' (Ok (Some next))
-  one_more next tells keeps reads = record {
+      KeepsTallies (tallies_of merge.lanes) (Ok (Some next)) merge' → Advances end start taken merge' (Ok (Some next))
+  one_more next tells keeps reads tallies = record {
     turns = more;
     first = λ captures coming.
         let b = more captures coming in
         record { clock_then = merge'.clock; rest = b.rest; takes_them = b.takes_them; is_rest = tt };
     clock = keeps.0 ∙ (ap (λ c. clock_after c (time_told this.told)) has.clock ∙ sym (clock_more start.clock taken this));
     reads = reads ∙ has.reads;
+    tallies = tallies ∙ (ap (tallies_with this.capture this.told) has.tallies ∙ sym (tallies_more (tallies_of start.lanes) taken this));
   }
     where
       this : Taken
@@ -156,16 +163,29 @@ module _ (end : End) (start : MergeState) (taken : List Taken) (merge merge' : M
   pub advances : (last : Option Time) (result : Result (Option Turn) MergeFault) → last ≡ last_of end →
       Coming (λ captures. TellsTurnBy last merge.clock captures result merge') →
       IfErr result (IsCause merge.lanes merge'.lanes) → CountsFailures merge.lanes result merge'.lanes →
-      KeepsTime merge.clock result merge' → Advances end start taken merge' result
-  advances last result same tells cause reads keeps =
+      KeepsTime merge.clock result merge' → KeepsTallies (tallies_of merge.lanes) result merge' →
+      IfErr result (IsNumbered (tallies_of merge.lanes)) → Advances end start taken merge' result
+  advances last result same tells cause reads keeps tallies numbered =
       by result
       (subst (λ (l : Option Time). Coming (λ captures. TellsTurnBy l merge.clock captures result merge')) same tells)
-      cause reads keeps
+      cause reads keeps tallies numbered
     where
       by : (result : Result (Option Turn) MergeFault) →
           Coming (λ captures. TellsTurnBy (last_of end) merge.clock captures result merge') →
           IfErr result (IsCause merge.lanes merge'.lanes) → CountsFailures merge.lanes result merge'.lanes →
-          KeepsTime merge.clock result merge' → Advances end start taken merge' result
-      by (Ok None) tells cause reads keeps = no_more tells keeps
-      by (Ok (Some next)) tells cause reads keeps = one_more next tells keeps reads
-      by (Err told) tells cause reads keeps = stops told tells cause
+          KeepsTime merge.clock result merge' → KeepsTallies (tallies_of merge.lanes) result merge' →
+          IfErr result (IsNumbered (tallies_of merge.lanes)) → Advances end start taken merge' result
+      by (Ok None) tells cause reads keeps tallies numbered = no_more tells keeps tallies
+      by (Ok (Some next)) tells cause reads keeps tallies numbered = one_more next tells keeps reads tallies
+      by (Err told) tells cause reads keeps tallies numbered = stops told tells cause tallies numbered
+
+-- the tallies after that turn
+pub tallied : (end : End) (start : MergeState) (taken : List Taken) (merge merge' : MergeState) (result : Result (Option Turn) MergeFault) →
+    HasTaken end start taken merge → Advances end start taken merge' result → KeepsTallies (tallies_of merge.lanes) result merge' →
+    IsTallied end start merge'
+tallied end start taken merge merge' (Ok None) has advances keeps =
+    record { taken = taken; first = has.first; tallies = keeps ∙ has.tallies }
+tallied end start taken merge merge' (Ok (Some next)) has advances keeps =
+    record { taken = taken ++ taken_by merge' next ∷ []; first = advances.first; tallies = advances.tallies }
+tallied end start taken merge merge' (Err told) has advances keeps =
+    record { taken = taken; first = has.first; tallies = keeps ∙ has.tallies }

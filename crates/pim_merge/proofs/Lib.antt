@@ -4,6 +4,7 @@ pub mod OneEnd
 pub mod Sooner
 pub mod Stopped
 pub mod Taking
+pub mod Tallies
 pub mod Turning
 pub mod Until
 pub mod Contents

@@ -4,7 +4,8 @@ use Rattle.std.specs.List.{AllByRecursion}
 use Rattle.std.proofs.lemmas.Bool.{cases_eq}
 use Rattle.std.proofs.lemmas.List.{map-set, set-get_or, get_or-map, take_more_set, drop-set-lt, drop-drop, get_or-drop, get_or_default, get_or-set_same, get_or-set_other}
 use Rattle.pim_capture.specs.Capture.{Answer}
-use Rattle.pim_merge.specs.Lane.{LaneState, coming_on, IsComing, IsLooked, lane_left, records_to_come, failures_of, lane_at, no_lane, KeepsRoom, KeepRooms, HasFailed, FailsAt}
+use Rattle.pim_merge.specs.Lane.{LaneState, coming_on, IsComing, IsLooked, lane_left, records_to_come, failures_of, lane_at, no_lane, KeepsRoom, KeepRooms, HasFailed, FailsAt, tallies_of}
+use Rattle.pim_merge.specs.Tally.{no_tally}
 use Rattle.pim_merge.specs.Looks.{StillComes}
 
 -- ---- lists of captures
@@ -54,6 +55,13 @@ set_keeps old now number lane below rooms kept n = ⊎_elim
     (λ other. subst (KeepsRoom (lane_at n old)) (sym (get_or-set_other now number n lane no_lane other)) (rooms n))
     (cases_eq n number)
 
+-- another capture with the same tally comes in its place
+pub same_tallies : (now : List LaneState) (number : ℕ) (lane d : LaneState) → number < length now → lane.tally ≡ (get_or now number d).tally
+    → tallies_of (set now number lane) ≡ tallies_of now
+same_tallies now number lane d below same =
+    map-set (λ (l : LaneState). l.tally) now number lane ∙ (ap (set (tallies_of now) number) (same ∙ sym (get_or-map (λ (l : LaneState). l.tally) now number d no_tally below))
+        ∙ set-get_or (tallies_of now) number no_tally)
+
 -- ---- all up to one
 
 pub all_push : {A : Type 0} (P : A → Type 0) (xs : List A) (y : A) → AllByRecursion P xs → P y → AllByRecursion P (xs ++ y ∷ [])
@@ -69,14 +77,15 @@ pub record IsLookedUpTo (number : ℕ) (old now : List LaneState) : Type 0 where
   pub reads : failures_of now ≡ failures_of old
   pub rooms : KeepRooms old now
   pub early : (n : ℕ) → FailsAt n old → number ≤ n
+  pub tallies : tallies_of now ≡ tallies_of old
 
 pub begin_looking : (lanes : List LaneState) → IsLookedUpTo 0 lanes lanes
-begin_looking lanes = record { coming = λ captures coming. coming; looked = tt; rest = refl; lighter = omega arith; reads = refl; rooms = λ n. inl refl; early = λ n fails. omega arith }
+begin_looking lanes = record { coming = λ captures coming. coming; looked = tt; rest = refl; lighter = omega arith; reads = refl; rooms = λ n. inl refl; early = λ n fails. omega arith; tallies = refl }
 
 pub look_more : (number : ℕ) (old now : List LaneState) (lane d : LaneState) → number < length now → IsLookedUpTo number old now
     → StillComes (get_or now number d) lane → IsLooked lane → lane_left lane ≤ lane_left (get_or now number d) → lane.failures ≡ (get_or now number d).failures
-    → KeepsRoom (get_or now number d) lane → (HasFailed (get_or now number d) → ⊥) → IsLookedUpTo (number + 1) old (set now number lane)
-look_more number old now lane d below w still looked lighter reads kept fine = record {
+    → KeepsRoom (get_or now number d) lane → (HasFailed (get_or now number d) → ⊥) → lane.tally ≡ (get_or now number d).tally → IsLookedUpTo (number + 1) old (set now number lane)
+look_more number old now lane d below w still looked lighter reads kept fine tally = record {
   coming = λ captures coming. same_comes now captures number lane d below (w.coming captures coming) still;
   looked = rw (take_more_set now number lane below) (all_push IsLooked (take number now) lane w.looked looked);
   rest = rest_more;
@@ -84,6 +93,7 @@ look_more number old now lane d below w still looked lighter reads kept fine = r
   reads = map-set (λ (l : LaneState). l.failures) now number lane ∙ (ap (set (failures_of now) number) reads ∙ (same_failures ∙ w.reads));
   rooms = set_keeps old now number lane below w.rooms (subst (λ (l : LaneState). KeepsRoom l lane) (as_before number old now d below w.rest) kept);
   early = λ n fails. later n fails (cases_eq n number);
+  tallies = same_tallies now number lane d below tally ∙ w.tallies;
 }
   where
     later : (n : ℕ) → FailsAt n old → (n ≡ number) ⊎ (n ≡ number → ⊥) → number + 1 ≤ n

@@ -42,9 +42,9 @@ module _ (number : ℕ) (old now : List LaneState) (d : LaneState) (below : numb
       omega (arith, below, one, length-drop number now, length-drop number old)
 
   -- this head could not be read, so the capture that failed before is this one
-  pub failed_again : (fault : CaptureFault) (n : ℕ) → (get_or now number d).head ≡ None → (HasFailed (get_or now number d) → IsFailedHead {A = ⊤} (Err fault)) → FailsAt n old
-      → IsFailed {A = ⊤} n (Err (record { capture = number; fault = fault }))
-  failed_again fault n none repeated fails = (same, repeated (subst HasFailed (sym (lane_before ∙ ap (λ k. lane_at k old) same)) fails.1))
+  pub failed_again : (fault : CaptureFault) (at n : ℕ) → (get_or now number d).head ≡ None → (HasFailed (get_or now number d) → IsFailedHead {A = ⊤} (Err fault)) → FailsAt n old
+      → IsFailed {A = ⊤} n (Err (record { capture = number; «record» = at; fault = fault }))
+  failed_again fault at n none repeated fails = (same, repeated (subst HasFailed (sym (lane_before ∙ ap (λ k. lane_at k old) same)) fails.1))
     where
       later : number < n → ⊥
       later less = headless (lane_at number old).head (ap (λ (l : LaneState). l.head) (sym lane_before) ∙ none) (looked_at old number n no_lane fails.0 less below_old)

@@ -6,11 +6,13 @@ use Rattle.std.proofs.lemmas.List.{map-set, set-get_or, get_or-map, get_or-set_s
 use Rattle.pim_capture.specs.declared.event.Event.{Event}
 use Rattle.pim_capture.specs.declared.event.Event.TheVariants.{Packet, Skipped, End}
 use Rattle.pim_capture.specs.declared.event.Why.{Why}
-use Rattle.pim_capture.specs.declared.event.Why.TheVariants.{Cut, NotIp, BadHeader, NotPim, Fragment, NoTime, LinkType, NotChosen}
+use Rattle.pim_capture.specs.declared.event.Why.TheVariants.{Cut, NotIp, BadHeader, NotPim, Fragment, NoTime, LinkType, NotChosen, CutShort}
 use Rattle.pim_capture.specs.Capture.{Told, packet, skipped, ended, Answer}
 use Rattle.pim_capture.specs.Next.{in_front, event_seen, IsBy}
 use Rattle.pim_merge.specs.Merge.{behind_head, time_told, time_by, rank_told, earliest_from, taken, turn, takes, ends, after_turn}
-use Rattle.pim_merge.specs.Lane.{LaneState, with_head, IsComing, IsLooked, rank_at, head_rank, time_at, head_time, without_head, counted, records_to_come, no_lane, lane_at, failures_of, KeepRooms}
+use Rattle.pim_merge.specs.Lane.{LaneState, with_head, IsComing, IsLooked, rank_at, head_rank, time_at, head_time, without_head, counted, records_to_come, no_lane, lane_at, failures_of, KeepRooms, tallies_of}
+use Rattle.pim_merge.specs.Tally.{tallies_with}
+use Rattle.pim_merge.proofs.Tallies.{tallies_moved}
 use Rattle.pim_merge.proofs.Looking.{one_comes, set_comes, total_with, set_keeps}
 use Rattle.pim_merge.proofs.Turning.{some_list, told_comes, turns_by_times, Stands, found_stands}
 
@@ -41,6 +43,7 @@ skipped_by Fragment millis latest by = by
 skipped_by NoTime millis latest by = tt
 skipped_by LinkType millis latest by = by
 skipped_by NotChosen millis latest by = tt
+skipped_by CutShort millis latest by = tt
 
 -- the time of a record is within the bound of its event
 pub by_then : (event : Event) (bytes : List ℕ) (time : Option ℕ) (latest : ℕ) → time ≡ time_told (event_seen bytes event) → IsBy latest event → IfSome time (λ it. it ≤ latest)
@@ -98,6 +101,9 @@ module _ (lanes : List LaneState) (capture time : ℕ) (found : Some (capture, t
     pub reads_none : failures_of new ≡ failures_of lanes
     reads_none = ap failures_of is ∙ (map-set (λ (l : LaneState). l.failures) lanes capture (without_head (lane_at capture lanes))
         ∙ (ap (set (failures_of lanes) capture) (sym (get_or-map (λ (l : LaneState). l.failures) lanes capture no_lane 0 found_within)) ∙ set-get_or (failures_of lanes) capture 0))
+
+    pub moves_tally : tallies_of new ≡ tallies_with capture (event_seen (lane_at capture new).bytes event) (tallies_of lanes)
+    moves_tally = ap tallies_of is ∙ tallies_moved lanes capture _ told_head
 
     pub same_length : length new ≡ length lanes
     same_length = ap length is ∙ length-set lanes capture (without_head (lane_at capture lanes))

@@ -1,9 +1,9 @@
 -- The results of a lane that reads any container, as a function of the results of the container
 -- (`pim_container`) and of a choice of packets. They are those of a classic capture in kind.
-use Rattle.std.specs.Prelude.{ℕ, Bool, true, false, List, [], ◌∷◌, Option, None, Some, Result, Ok, Err}
+use Rattle.std.specs.Prelude.{ℕ, Bool, true, false, List, [], ◌∷◌, Option, None, Some, Result, Ok, Err, if◌then◌else◌}
 use Rattle.pim_capture.specs.declared.fault.CaptureFault.{CaptureFault}
 use Rattle.pim_capture.specs.declared.fault.CaptureFault.TheVariants as fault
-use Rattle.pim_capture.specs.declared.event.Why.TheVariants.{NoTime, NotChosen}
+use Rattle.pim_capture.specs.declared.event.Why.TheVariants.{NoTime, NotChosen, CutShort}
 use Rattle.pim_capture.specs.Frame.{Datagram}
 use Rattle.pim_capture.specs.Capture.{packet, skipped, ended, Answer}
 use Rattle.pim_capture.specs.Next.{in_front}
@@ -20,7 +20,7 @@ use Rattle.pim_container.specs.Pieces as pieces
 -- A fault of a container, as one of a capture.
 abbrev pub fault_of : Fault → CaptureFault
 fault_of of_any.Magic = fault.Magic
-fault_of (of_any.LinkType number) = fault.LinkType
+fault_of (of_any.LinkType number) = fault.LinkNumber number
 fault_of of_any.Truncated = fault.Truncated
 fault_of of_any.TooLong = fault.TooLong
 fault_of of_any.Block = fault.Block
@@ -41,18 +41,32 @@ packet_given millis datagram (Ok true) = Ok (packet millis datagram.payload data
 packet_given millis datagram (Ok false) = Ok (skipped millis NotChosen)
 packet_given millis datagram (Err mixed) = Err (mixed_fault mixed)
 
--- What a result of the container gives, after a first packet of that origin. What is no packet gives
--- nothing: a section, an interface, or a block of another type. So each packet gives one result, and
--- the number of a record among the results is that of its packet in the file. One without a time is
--- skipped, with 0 in place of its time.
-abbrev pub given : Choice → Option Origin → pieces.Answer → Option Answer
-given choice first (Err fault) = Some (Err (fault_of fault))
-given choice first (Ok (any.packet millis origin datagram)) =
+-- What a piece gives, after a first packet of that origin. What is no packet gives nothing: a
+-- section, an interface, or a block of another type. So each packet gives one result, and the number
+-- of a record among the results is that of its packet in the file. One without a time is skipped, with
+-- 0 in place of its time.
+abbrev pub told_given : Choice → Option Origin → any.Told → Option Answer
+told_given choice first (any.packet millis origin datagram) =
     Some (packet_given millis datagram (judge_origin choice first origin))
-given choice first (Ok (any.skipped millis why)) = Some (Ok (skipped millis why))
-given choice first (Ok any.untimed) = Some (Ok (skipped 0 NoTime))
-given choice first (Ok any.ended) = Some (Ok ended)
-given choice first (Ok _) = None
+told_given choice first (any.skipped millis why) = Some (Ok (skipped millis why))
+told_given choice first any.untimed = Some (Ok (skipped 0 NoTime))
+told_given choice first any.ended = Some (Ok ended)
+told_given choice first _ = None
+
+-- The file ends inside a piece, and that is not its first one: `begun` says whether one was read.
+abbrev pub is_cut : Bool → Fault → Bool
+is_cut begun of_any.Truncated = begun
+is_cut begun _ = false
+
+-- What a fault gives. A piece inside which the file ends is a record that is skipped, with 0 in place
+-- of its time.
+abbrev pub fault_given : Bool → Fault → Answer
+fault_given begun fault = if is_cut begun fault then Ok (skipped 0 CutShort) else Err (fault_of fault)
+
+-- What a result of the container gives.
+abbrev pub given : Choice → Bool → Option Origin → pieces.Answer → Option Answer
+given choice begun first (Err fault) = Some (fault_given begun fault)
+given choice begun first (Ok told) = told_given choice first told
 
 -- The origin of the first packet that was taken, after this result.
 abbrev pub first_then : Choice → Option Origin → pieces.Answer → Option Origin
@@ -64,12 +78,13 @@ abbrev pub put : Option Answer → List Answer → List Answer
 put None later = later
 put (Some answer) later = in_front answer later
 
--- The results of the lane for these results of the container.
-unfoldable pub chosen : Choice → Option Origin → List pieces.Answer → List Answer
-chosen choice first [] = []
-chosen choice first (answer ∷ later) =
-    put (given choice first answer) (chosen choice (first_then choice first answer) later)
+-- The results of the lane for these results of the container. A lane has its end where no result of
+-- the container is left: after a record inside which the file ends.
+unfoldable pub chosen : Choice → Bool → Option Origin → List pieces.Answer → List Answer
+chosen choice begun first [] = Ok ended ∷ []
+chosen choice begun first (answer ∷ later) =
+    put (given choice begun first answer) (chosen choice true (first_then choice first answer) later)
 
 -- The results of the lane for the bytes of a file.
 abbrev pub answers_by : Choice → List ℕ → List Answer
-answers_by choice bytes = chosen choice None (pieces.answers bytes)
+answers_by choice bytes = chosen choice false None (pieces.answers bytes)

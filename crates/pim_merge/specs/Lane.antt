@@ -12,6 +12,8 @@ use Rattle.pim_merge.specs.declared.source.Source.{Source}
 use Rattle.pim_merge.specs.Source.{coming, failures_in, left_in, passes_over, room_in, size_in}
 use Rattle.pim_merge.specs.Source.{is_over_in, HadAllIf}
 use Rattle.pim_merge.specs.Merge.{time_told, rank_told}
+use Rattle.pim_merge.specs.declared.tally.Tally.{Tally}
+use Rattle.pim_merge.specs.Tally.{no_tally, tally_taken}
 
 -- A capture of a merge.
 pub record LaneState : Type 0 where
@@ -35,11 +37,13 @@ pub record LaneState : Type 0 where
   -- the captured length of the record that is read next, where the bytes of its reader are known;
   -- `Some None` if none is read next, and `None` for any container
   pub size : Option (Option ℕ)
+  -- what was taken of it
+  pub tally : Tally
 
--- What contracts see of a source, its head, and the bytes and the capacity of its buffer.
+-- What contracts see of a source, its head, the bytes and the capacity of its buffer, and its tally.
 abbrev pub lane_seen : {R : Type 0} → (R → Option (List ℕ)) → (R → ℕ) → Source R → Option Event
-    → List ℕ → ℕ → LaneState
-lane_seen remaining failures source head bytes capacity = record {
+    → List ℕ → ℕ → Tally → LaneState
+lane_seen remaining failures source head bytes capacity tally = record {
   head = option_map (event_seen bytes) head;
   behind = coming remaining source;
   failures = failures_in failures source;
@@ -49,6 +53,7 @@ lane_seen remaining failures source head bytes capacity = record {
   room = room_in source capacity;
   is_over = is_over_in source;
   size = size_in remaining source;
+  tally = tally;
 }
 
 -- ---- the results to come, the head first
@@ -68,7 +73,7 @@ coming_on lane = with_head lane.head lane.behind
 abbrev pub IsComing : List LaneState → List (List Answer) → Type 0
 IsComing lanes captures = map coming_on lanes ≡ map Some captures
 
--- The capture after its head was taken.
+-- The capture after its head was taken. The tally counts it.
 abbrev pub without_head : LaneState → LaneState
 without_head lane = record {
   head = None;
@@ -80,6 +85,7 @@ without_head lane = record {
   room = lane.room;
   is_over = lane.is_over;
   size = lane.size;
+  tally = tally_taken lane.tally lane.head;
 }
 
 -- The head of the capture was read.
@@ -158,6 +164,7 @@ no_lane = record {
   room = 0;
   is_over = false;
   size = Some None;
+  tally = no_tally;
 }
 
 -- The capture with this number.
@@ -180,6 +187,10 @@ rooms_of lanes = map (λ (lane : LaneState). lane.room) lanes
 -- The captured length of the record that is read next of each capture.
 abbrev pub sizes_of : List LaneState → List (Option (Option ℕ))
 sizes_of lanes = map (λ (lane : LaneState). lane.size) lanes
+
+-- What was taken of each capture.
+abbrev pub tallies_of : List LaneState → List Tally
+tallies_of lanes = map (λ (lane : LaneState). lane.tally) lanes
 
 -- Each buffer keeps its capacity, or that grows to exactly the bytes in it.
 abbrev pub KeepRooms : List LaneState → List LaneState → Type 0

@@ -1,4 +1,5 @@
 pub mod Merge
+pub mod Tally
 pub mod Chosen
 pub mod Source
 pub mod Lane

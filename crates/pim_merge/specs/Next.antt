@@ -10,7 +10,9 @@ use Rattle.pim_merge.specs.declared.merge.Turn.{Turn}
 use Rattle.pim_merge.specs.declared.merge.MergeFault.{MergeFault}
 use Rattle.pim_merge.specs.Merge.{turn, turn_by, fails, takes, ends, after_turn, clock_after, moment_of, time_told}
 use Rattle.pim_merge.specs.Lane.{LaneState, IsComing, lane_at, failures_of, records_to_come}
-use Rattle.pim_merge.specs.Lane.{LacksHeadRoom, HadAll}
+use Rattle.pim_merge.specs.Lane.{LacksHeadRoom, HadAll, tallies_of}
+use Rattle.pim_merge.specs.declared.tally.Tally.{Tally}
+use Rattle.pim_merge.specs.Tally.{tallies_with, next_number}
 
 -- A merge: its captures, and the clock of the records that were taken.
 pub record MergeState : Type 0 where
@@ -82,6 +84,17 @@ KeepsTime clock (Ok (Some next)) new =
     (new.clock ≡ clock_after clock (time_told (told_by new next))) × (next.moment ≡ moment_of new.clock)
 KeepsTime clock (Ok None) new = new.clock ≡ clock
 KeepsTime clock (Err told) new = new.clock ≡ clock
+
+-- A turn moves on the tally of its capture by its record. Other results leave the tallies.
+abbrev pub KeepsTallies : List Tally → Result (Option Turn) MergeFault → MergeState → Type 0
+KeepsTallies tallies (Ok (Some next)) new =
+    tallies_of new.lanes ≡ tallies_with next.capture (told_by new next) tallies
+KeepsTallies tallies (Ok None) new = tallies_of new.lanes ≡ tallies
+KeepsTallies tallies (Err told) new = tallies_of new.lanes ≡ tallies
+
+-- The fault has the number of the record that its capture gives next.
+abbrev pub IsNumbered : List Tally → MergeFault → Type 0
+IsNumbered tallies told = told.record ≡ next_number told.capture tallies
 
 -- The fact holds of the turn, if one was taken.
 abbrev pub IfTaken : Result (Option Turn) MergeFault → (Turn → Type 0) → Type 0

@@ -9,8 +9,9 @@ use Rattle.pim_merge.specs.declared.merge.MergeFault.{MergeFault}
 use Rattle.pim_merge.specs.declared.merge.Turn.{Turn}
 use Rattle.pim_merge.specs.Ends.{last_of, clock_of, Takes, AreAll, AreFirst, AreBefore}
 use Rattle.pim_merge.specs.Merge.{Taken}
-use Rattle.pim_merge.specs.Lane.{IsComing, failures_of, lane_at}
-use Rattle.pim_merge.specs.Next.{MergeState, bytes_at}
+use Rattle.pim_merge.specs.Lane.{IsComing, failures_of, lane_at, tallies_of}
+use Rattle.pim_merge.specs.Next.{MergeState, bytes_at, IsNumbered}
+use Rattle.pim_merge.specs.Tally.{tallies_after}
 
 -- A turn of the merge as a record, where these are the bytes of its capture.
 abbrev pub turn_seen : List ℕ → Turn → Taken
@@ -37,6 +38,7 @@ pub record HasTaken (end : End) (start : MergeState) (taken : List Taken) (merge
   pub first : AreFirst end start taken
   pub clock : merge.clock ≡ clock_of start.clock taken
   pub reads : failures_of merge.lanes ≡ failures_of start.lanes
+  pub tallies : tallies_of merge.lanes ≡ tallies_after (tallies_of start.lanes) taken
 
 -- A fault of a capture ends a run after exactly these turns. It is the next answer of its capture,
 -- or a read of that capture failed, or memory was refused. `merge` is the merge after it.
@@ -46,10 +48,19 @@ pub record StopsAfter (end : End) (start : MergeState) (taken : List Taken) (mer
   pub cause : IsRefusal {A = ⊤} (lane_at told.capture start.lanes).failures
       (lane_at told.capture merge.lanes).failures (Err told.fault)
       ⊎ AreAll end start (Some (told.capture, told.fault)) taken
+  pub tallies : tallies_of merge.lanes ≡ tallies_after (tallies_of start.lanes) taken
+  pub numbered : IsNumbered (tallies_of merge.lanes) told
 
 -- What a call for the next turn of a run returns and leaves, where these turns were taken before.
 abbrev pub Advances : End → MergeState → List Taken → MergeState → Result (Option Turn) MergeFault → Type 0
 Advances end start taken merge (Ok None) =
     AreAll end start None taken × (merge.clock ≡ clock_of start.clock taken)
+    × (tallies_of merge.lanes ≡ tallies_after (tallies_of start.lanes) taken)
 Advances end start taken merge (Ok (Some next)) = HasTaken end start (taken ++ taken_by merge next ∷ []) merge
 Advances end start taken merge (Err told) = StopsAfter end start taken merge told
+
+-- Some first turns of a run over the merge `start` were taken, and the tallies of `merge` count these.
+pub record IsTallied (end : End) (start merge : MergeState) : Type 0 where
+  pub taken : List Taken
+  pub first : AreFirst end start taken
+  pub tallies : tallies_of merge.lanes ≡ tallies_after (tallies_of start.lanes) taken

@@ -1,5 +1,6 @@
 -- What contracts see of the source of a lane: a classic capture, or any container with a choice.
-use Rattle.std.specs.Prelude.{◌≡◌, ◌⊎◌, ⊤, ℕ, Bool, true, false, List, [], ◌∷◌, Option, None, Some, Result, Ok, Err}
+use Rattle.std.specs.Prelude.{◌≡◌, ◌+◌, ◌⊎◌, ⊤, ℕ, Bool, true, false, List, [], ◌∷◌, Option, None, Some, Result, Ok}
+use Rattle.std.specs.Prelude.{Err}
 use Rattle.std.specs.Option.{option_map, IfSome}
 use Rattle.pim_capture.specs.declared.fault.CaptureFault.{CaptureFault}
 use Rattle.pim_capture.specs.declared.fault.CaptureFault.TheVariants as fault
@@ -7,20 +8,27 @@ use Rattle.pim_capture.specs.declared.event.Event.{Event}
 use Rattle.pim_capture.specs.declared.capture.State.{State}
 use Rattle.pim_capture.specs.declared.capture.State.TheVariants.{Failed}
 use Rattle.pim_capture.specs.declared.event.Event.TheVariants.{Packet, Skipped, End}
-use Rattle.pim_capture.specs.Capture.{Answer}
+use Rattle.pim_capture.specs.declared.event.Why.TheVariants.{CutShort}
+use Rattle.pim_capture.specs.Capture.{Answer, ended}
 use Rattle.pim_capture.specs.Next as classic
 use Rattle.pim_container.specs.Choice.{choice_of, first_of}
 use Rattle.pim_container.specs.Next as any
+use Rattle.pim_container.specs.declared.fault.Fault.{Fault}
 use Rattle.pim_merge.specs.declared.chosen.Chosen.{Chosen}
 use Rattle.pim_merge.specs.declared.source.Source.{Source}
 use Rattle.pim_merge.specs.declared.source.Source.TheVariants.{Classic, Any}
-use Rattle.pim_merge.specs.Chosen.{chosen}
+use Rattle.pim_merge.specs.Chosen.{chosen, fault_of}
+
+-- These results, unless the file ended inside a piece. Then the end is left.
+abbrev pub coming_uncut : Bool → Option (List Answer) → Option (List Answer)
+coming_uncut false all = all
+coming_uncut true all = Some (Ok ended ∷ [])
 
 -- The results that a container has to return for its choice, as long as it returned no fault, if the
 -- bytes of its device are known.
 abbrev pub read_coming : {R : Type 0} → (R → Option (List ℕ)) → Chosen R → Option (List Answer)
-read_coming remaining it =
-    option_map (chosen (choice_of it.chooser) (first_of it.chooser)) (any.coming remaining it.reader)
+read_coming remaining it = coming_uncut it.is_cut
+    (option_map (chosen (choice_of it.chooser) it.is_begun (first_of it.chooser)) (any.coming remaining it.reader))
 
 -- A call returned a fault.
 abbrev pub chosen_is_over : {R : Type 0} → Chosen R → Bool
@@ -39,9 +47,14 @@ chosen_coming remaining it = coming_unless (chosen_is_over it) (read_coming rema
 abbrev pub chosen_failures : {R : Type 0} → (R → ℕ) → Chosen R → ℕ
 chosen_failures failures it = failures (any.device_of it.reader)
 
+-- 1 for the record inside which the file may end, unless it has ended so.
+abbrev pub cut_left : Bool → ℕ
+cut_left false = 1
+cut_left true = 0
+
 -- The number of pieces that may still be read.
 abbrev pub chosen_left : {R : Type 0} → Chosen R → ℕ
-chosen_left it = any.pieces_left (any.state_of it.reader)
+chosen_left it = any.pieces_left (any.state_of it.reader) + cut_left it.is_cut
 
 -- ---- either
 
@@ -132,3 +145,10 @@ step_count (Ok None) = 1
 step_count (Ok (Some End)) = 0
 step_count (Ok (Some event)) = 1
 step_count (Err fault) = 0
+
+-- ---- a fault of a container
+
+-- What a call returns for a fault of the container: a record that is skipped, if the file is cut.
+abbrev pub failed : Bool → Fault → Result (Option Event) CaptureFault
+failed true fault = Ok (Some (Skipped 0 CutShort))
+failed false fault = Err (fault_of fault)

@@ -1,9 +1,9 @@
 //! Reads the records of any container, by a choice of packets.
 //!
 //! Each packet gives one event, so that who counts events has the numbers of packets in the file.
-//! Packets that aren't taken are skipped. Sections, interfaces and blocks of other types give
-//! nothing. Of a packet that is taken the message alone is kept, so that the bytes of a record are
-//! no more than those of a classic one.
+//! Packets that aren't taken are skipped, and so is a record inside which the file ends. Sections,
+//! interfaces and blocks of other types give nothing. Of a packet that is taken the message alone
+//! is kept, so that the bytes of a record are no more than those of a classic one.
 
 ghost use Rattle.std.specs.Prelude.{◌≡◌, ◌+◌, ◌≤◌, ◌⊎◌, ⊤, Some, Ok, Err, IfOk, option_map};
 ghost use Rattle.std.specs.Prelude.{vec_len, is_err, true, false};
@@ -18,11 +18,11 @@ ghost use Rattle.pim_capture.specs.Seen.{ip_seen, LiesIn, IsShort};
 ghost use Rattle.pim_container.specs.declared.event.Event.TheVariants as any_event;
 ghost use Rattle.pim_container.specs.Choice.{choice_of, first_of, judge_origin, first_after};
 ghost use Rattle.pim_container.specs.Told as any;
-ghost use Rattle.pim_merge.specs.Chosen.{fault_of, mixed_fault, given, first_then, answers_by};
-ghost use Rattle.pim_merge.specs.Chosen.{packet_given};
+ghost use Rattle.pim_merge.specs.Chosen.{fault_of, is_cut, mixed_fault, told_given, first_then};
+ghost use Rattle.pim_merge.specs.Chosen.{packet_given, answers_by};
 ghost use Rattle.pim_merge.specs.Source.{chosen_coming, chosen_failures, chosen_left, IsGiven};
 ghost use Rattle.pim_merge.specs.Source.{Steps, step_count, count_of, read_coming};
-ghost use Rattle.pim_merge.specs.Source.{chosen_is_over, IsRepeatedIf};
+ghost use Rattle.pim_merge.specs.Source.{chosen_is_over, IsRepeatedIf, failed};
 
 use pim_addr::Feed;
 use pim_capture::{CaptureFault, Event, Ip, Why};
@@ -36,6 +36,10 @@ pub(crate) struct Chosen<R> {
     chooser: Chooser,
     /// The piece that was read last.
     piece: Vec<u8>,
+    /// A piece was read.
+    is_begun: bool,
+    /// The file ended inside a piece.
+    is_cut: bool,
     /// A call returned a fault.
     is_over: bool,
 }
@@ -46,7 +50,7 @@ fn fault_of(fault: Fault) -> CaptureFault
 {
     match fault {
         Fault::Magic => CaptureFault::Magic,
-        Fault::LinkType(_) => CaptureFault::LinkType,
+        Fault::LinkType(number) => CaptureFault::LinkNumber(number),
         Fault::Truncated => CaptureFault::Truncated,
         Fault::TooLong => CaptureFault::TooLong,
         Fault::Block => CaptureFault::Block,
@@ -54,6 +58,30 @@ fn fault_of(fault: Fault) -> CaptureFault
         Fault::Read => CaptureFault::Read,
         Fault::Memory => CaptureFault::Memory,
         Fault::Failed => CaptureFault::Failed,
+    }
+}
+
+/// Whether a container with this fault ended inside a piece after its first one.
+fn is_cut(is_begun: bool, fault: Fault) -> bool
+    ensures { result ≡ is_cut is_begun fault }
+{
+    match fault {
+        Fault::Truncated => is_begun,
+        _ => false,
+    }
+}
+
+/// What a call returns for a fault of the container: a record that is skipped, if the file is cut.
+fn failed(is_cut: bool, fault: Fault) -> Result<Option<Event>, CaptureFault>
+    ensures { result ≡ failed is_cut fault }
+{
+    if is_cut {
+        Ok(Some(Event::Skipped {
+            millis: 0,
+            why: Why::CutShort,
+        }))
+    } else {
+        Err(fault_of(fault))
     }
 }
 
@@ -162,8 +190,8 @@ fn event_of(
     requires ranges { any.EventLiesIn piece.now piece_event }
     requires moment { any.IsBy latest_moment piece_event }
     requires length { vec_len buffer.old ≤ most_captured }
-    ensures answer { IsGiven (given (choice_of chooser.old) (first_of chooser.old)
-        (Ok (any.event_seen piece.now piece_event))) buffer.new.items result }
+    ensures answer { IsGiven (told_given (choice_of chooser.old) (first_of chooser.old)
+        (any.event_seen piece.now piece_event)) buffer.new.items result }
     ensures choice { choice_of chooser.new ≡ choice_of chooser.old }
     ensures first { first_of chooser.new ≡ first_then (choice_of chooser.old)
         (first_of chooser.old) (Ok (any.event_seen piece.now piece_event)) }
@@ -193,18 +221,21 @@ impl<R: Feed> Chosen<R> {
         ensures coming { chosen_coming R.remaining result
             ≡ option_map (answers_by choice) (R.remaining device) }
         ensures failures { chosen_failures R.failures result ≡ R.failures device }
-        ensures left { chosen_left result ≡ 4294967296 }
+        ensures left { chosen_left result ≡ 4294967297 }
         ensures over { chosen_is_over result ≡ false }
     {
         Chosen {
             reader: Reader::new(alloc, device),
             chooser: Chooser::new(choice),
             piece: Vec::new(alloc),
+            is_begun: false,
+            is_cut: false,
             is_over: false,
         }
     }
 
-    /// Reads one piece. Returns its event, if it is a packet or the end.
+    /// Reads one piece. Returns its event, if it is a packet or the end. A file that ends inside a
+    /// piece after its first one has a last record that is skipped, and then its end.
     fn step(&mut self, buffer: &mut Vec<u8>) -> Result<Option<Event>, CaptureFault>
         requires length { vec_len buffer.old ≤ most_captured }
         ensures answer { Steps (chosen_failures R.failures self.old)
@@ -217,10 +248,18 @@ impl<R: Feed> Chosen<R> {
         ensures moment { IfOk result (λ it. IfSome it (IsBy latest_moment)) }
         ensures length { vec_len buffer.new ≤ most_captured }
     {
+        if self.is_cut {
+            return Ok(Some(Event::End));
+        }
         let event = match self.reader.next(&mut self.piece) {
             Ok(event) => event,
-            Err(fault) => return Err(fault_of(fault)),
+            Err(fault) => {
+                let cut = is_cut(self.is_begun, fault);
+                self.is_cut = cut;
+                return failed(cut, fault);
+            }
         };
+        self.is_begun = true;
         event_of(event, &mut self.chooser, self.piece.as_slice(), buffer)
     }
 

@@ -15,9 +15,11 @@ ghost use Rattle.pim_merge.specs.Lane.{IsFailedHead, head_rank};
 ghost use Rattle.pim_merge.specs.Merge.{time_told, time_by};
 ghost use Rattle.pim_merge.specs.Chosen.{answers_by};
 ghost use Rattle.pim_merge.specs.Looks.{StillComes, IsToldOrRefused};
+ghost use Rattle.pim_merge.specs.Tally.{no_tally, one_more, tally_taken};
 
 use crate::chosen::Chosen;
 use crate::source::Source;
+use crate::tally::{Tally, one_more};
 use pim_addr::Feed;
 use pim_capture::{Capture, CaptureFault, Event, Why};
 use pim_container::Choice;
@@ -33,6 +35,8 @@ pub(crate) struct Lane<R: Feed + Drop> {
     head: Option<Event>,
     /// The bytes of the record that was read last.
     buffer: Vec<u8>,
+    /// What was taken.
+    tally: Tally,
 }
 
 impl<R: Feed + Drop> Model for Lane<R> {
@@ -43,7 +47,7 @@ impl<R: Feed + Drop> Model for Lane<R> {
     ghost use Rattle.std.specs.Prelude.{vec_capacity};
 
     ghost view = { λ lane. lane_seen R.remaining R.failures lane.source lane.head lane.buffer.items
-        (vec_capacity lane.buffer) };
+        (vec_capacity lane.buffer) lane.tally };
 
     ghost use Rattle.std.specs.Prelude.{◌≤◌, vec_len};
     ghost use Rattle.std.specs.Option.{IfSome};
@@ -61,7 +65,7 @@ fn time_by(why: Why, millis: u64) -> Option<u64>
     ensures { result ≡ time_by why millis }
 {
     match why {
-        Why::NoTime | Why::NotChosen => None,
+        Why::NoTime | Why::NotChosen | Why::CutShort => None,
         _ => Some(millis),
     }
 }
@@ -88,11 +92,13 @@ impl<R: Feed + Drop> Lane<R> {
         ensures passes { result.passes ≡ false }
         ensures room { result.room ≡ 0 }
         ensures size { result.size ≡ option_map (named_in Unbegun) (R.remaining reader) }
+        ensures tally { result.tally ≡ no_tally }
     {
         Lane {
             source: Source::Classic(Capture::new(reader)),
             head: None,
             buffer: Vec::new(alloc),
+            tally: Tally::new(),
         }
     }
 
@@ -104,11 +110,13 @@ impl<R: Feed + Drop> Lane<R> {
         ensures passes { result.passes ≡ true }
         ensures room { result.room ≡ 0 }
         ensures size { result.size ≡ None }
+        ensures tally { result.tally ≡ no_tally }
     {
         Lane {
             source: Source::Any(Chosen::new(alloc, reader, choice)),
             head: None,
             buffer: Vec::new(alloc),
+            tally: Tally::new(),
         }
     }
 
@@ -128,6 +136,7 @@ impl<R: Feed + Drop> Lane<R> {
         ensures over { IfErr result (λ _. HasFailed self.new) }
         ensures repeated { HasFailed self.old → IsFailedHead result }
         ensures unlooked { IfErr result (λ _. self.old.head ≡ None) }
+        ensures tally { self.new.tally ≡ self.old.tally }
     {
         if self.head.is_some() {
             return Ok(());
@@ -160,6 +169,30 @@ impl<R: Feed + Drop> Lane<R> {
         }
     }
 
+    /// The tally after the head is taken, if it was read.
+    fn next_tally(&self) -> Tally
+        ensures { result ≡ tally_taken self.now.tally self.now.head }
+    {
+        match &self.head {
+            Some(event) => self.tally.after(event),
+            None => self.tally,
+        }
+    }
+
+    /// What was taken of the capture.
+    pub(crate) fn tally(&self) -> Tally
+        ensures { result ≡ self.now.tally }
+    {
+        self.tally
+    }
+
+    /// The number of the record that is taken next, from 1.
+    pub(crate) fn number(&self) -> u64
+        ensures { result ≡ one_more self.now.tally.records }
+    {
+        one_more(self.tally.records)
+    }
+
     /// Takes the head, if it was read.
     pub(crate) fn take(&mut self) -> Option<Event>
         ensures head { option_map (event_seen self.new.bytes) result ≡ self.old.head }
@@ -167,6 +200,7 @@ impl<R: Feed + Drop> Lane<R> {
         ensures payload { IfSome result (PayloadLiesIn self.new.bytes) }
         ensures moment { IfSome result (IsBy latest_moment) }
     {
+        self.tally = self.next_tally();
         self.head.take()
     }
 

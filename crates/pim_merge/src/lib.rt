@@ -13,7 +13,8 @@
 //! `Turn::content` says what its record holds for a router of one address family.
 //! `Merge::add` appends a capture, or leaves the merge unchanged where memory is refused.
 //! `Merge::add_any` appends one of any container, with a choice of its packets. What the container
-//! gives is then cut down to the records of a capture (`specs/Chosen.antt`).
+//! gives is then cut down to the records of a capture (`specs/Chosen.antt`). `Merge::tally` counts
+//! what was taken of a capture (`specs/Tally.antt`).
 //!
 //! A head is read when the next turn is asked for, not when the one before is taken. So the bytes
 //! of a turn stay until the next call, and a fault comes after all turns before it. A time that
@@ -34,9 +35,11 @@ mod merge;
 mod run;
 mod search;
 mod source;
+mod tally;
 
 pub use clock::Clock;
 pub use content::{Content, Datagram};
 pub use end::End;
 pub use laws::{merge_by_has_one_end, merge_has_one_end};
 pub use merge::{Merge, MergeFault, Turn};
+pub use tally::Tally;

@@ -20,11 +20,15 @@ ghost use Rattle.pim_merge.specs.Next.{TellsTurn, IsCause, CountsFailures, Keeps
 ghost use Rattle.pim_merge.specs.Next.{HoldsRecord, turns_left};
 ghost use Rattle.pim_merge.specs.Next.{TellsTurnBy, IsFailed};
 ghost use Rattle.pim_merge.specs.Next.{bytes_at, with_fault, LacksMemory};
+ghost use Rattle.pim_merge.specs.Next.{KeepsTallies, IsNumbered};
 ghost use Rattle.pim_merge.specs.Chosen.{answers_by};
+ghost use Rattle.pim_merge.specs.Lane.{tallies_of};
+ghost use Rattle.pim_merge.specs.Tally.{no_tally, tally_at};
 
 use crate::clock::{Clock, moment_at, moment_of};
 use crate::lane::{Lane, time_of};
 use crate::search::{earliest, look_at_all};
+use crate::tally::Tally;
 use pim_addr::Feed;
 use pim_capture::{CaptureFault, Event};
 use pim_container::Choice;
@@ -39,6 +43,8 @@ use thiserror::Error;
 pub struct MergeFault {
     /// The number of the capture, counted from 0.
     pub capture: usize,
+    /// The number of the record at which it failed, counted from 1.
+    pub record: u64,
     /// The fault that the capture has in place of its head.
     pub fault: CaptureFault,
 }
@@ -111,6 +117,8 @@ impl<R: Feed + Drop> Merge<R> {
             rooms_of self.old.lanes ++ 0 ∷ []) }
         ensures sizes { IfOk result (λ _. sizes_of self.new.lanes ≡
             sizes_of self.old.lanes ++ option_map (named_in Unbegun) (R.remaining reader) ∷ []) }
+        ensures tallies { IfOk result (λ _. tallies_of self.new.lanes ≡
+            tallies_of self.old.lanes ++ no_tally ∷ []) }
         ensures clock { self.new.clock ≡ self.old.clock }
         ensures unchanged { OnErr result (self.new ≡ self.old) }
     {
@@ -132,6 +140,8 @@ impl<R: Feed + Drop> Merge<R> {
             rooms_of self.old.lanes ++ 0 ∷ []) }
         ensures sizes { IfOk result (λ _. sizes_of self.new.lanes ≡
             sizes_of self.old.lanes ++ None ∷ []) }
+        ensures tallies { IfOk result (λ _. tallies_of self.new.lanes ≡
+            tallies_of self.old.lanes ++ no_tally ∷ []) }
         ensures clock { self.new.clock ≡ self.old.clock }
         ensures unchanged { OnErr result (self.new ≡ self.old) }
     {
@@ -163,6 +173,8 @@ impl<R: Feed + Drop> Merge<R> {
         ensures clock { self.new.clock ≡ self.old.clock }
         ensures over { IfErr result (λ told. FailsAt told.capture self.new.lanes) }
         ensures repeated { (number : ℕ) → FailsAt number self.old.lanes → IsFailed number result }
+        ensures tallies { tallies_of self.new.lanes ≡ tallies_of self.old.lanes }
+        ensures record { IfErr result (IsNumbered (tallies_of self.old.lanes)) }
     {
         look_at_all(&mut self.lanes)
     }
@@ -242,6 +254,9 @@ impl<R: Feed + Drop> Merge<R> {
         // After a fault each call returns `Failed` of the same capture.
         ensures over { IfErr result (λ told. FailsAt told.capture self.new.lanes) }
         ensures repeated { (number : ℕ) → FailsAt number self.old.lanes → IsFailed number result }
+        // A turn moves on the tally of its capture by its record, and all else leaves them.
+        ensures tallies { KeepsTallies (tallies_of self.old.lanes) result self.new }
+        ensures record { IfErr result (IsNumbered (tallies_of self.old.lanes)) }
     {
         self.next_by(None)
     }
@@ -273,6 +288,9 @@ impl<R: Feed + Drop> Merge<R> {
         // After a fault each call returns `Failed` of the same capture.
         ensures over { IfErr result (λ told. FailsAt told.capture self.new.lanes) }
         ensures repeated { (number : ℕ) → FailsAt number self.old.lanes → IsFailed number result }
+        // A turn moves on the tally of its capture by its record, and all else leaves them.
+        ensures tallies { KeepsTallies (tallies_of self.old.lanes) result self.new }
+        ensures record { IfErr result (IsNumbered (tallies_of self.old.lanes)) }
     {
         self.look()?;
         let Some((capture, _rank)) = self.earliest() else {
@@ -299,6 +317,14 @@ impl<R: Feed + Drop> Merge<R> {
         ensures bound { result ≤ millis_of time }
     {
         moment_at(self.clock, time)
+    }
+
+    /// What was taken of this capture.
+    pub fn tally(&self, capture: usize) -> Tally
+        requires { capture < length self.now.lanes }
+        ensures { result ≡ tally_at capture (tallies_of self.now.lanes) }
+    {
+        self.lanes[capture].tally()
     }
 
     /// The bytes of the record of this capture that was read last: those of a turn, until the next

@@ -5,8 +5,9 @@ ghost use Rattle.pim_capture.specs.Next.{latest_moment};
 ghost use Rattle.pim_merge.specs.Ends.{end_moment, IsBoundedEnd};
 ghost use Rattle.pim_merge.specs.Merge.{Taken};
 ghost use Rattle.pim_merge.specs.Next.{MergeState, IfTaken, HoldsRecord, turns_left};
-ghost use Rattle.pim_merge.specs.Next.{CountsFailures, LacksMemory};
-ghost use Rattle.pim_merge.specs.Run.{HasTaken, Advances};
+ghost use Rattle.pim_merge.specs.Next.{CountsFailures, LacksMemory, KeepsTallies, IsNumbered};
+ghost use Rattle.pim_merge.specs.Lane.{tallies_of};
+ghost use Rattle.pim_merge.specs.Run.{HasTaken, Advances, IsTallied};
 
 use crate::end::End;
 use crate::merge::{Merge, MergeFault, Turn};
@@ -29,6 +30,10 @@ impl<R: Feed + Drop> Merge<R> {
         ensures capture { IfTaken result (λ next. next.capture < length self.new.lanes) }
         ensures lanes { length self.new.lanes ≡ length self.old.lanes }
         ensures nearer { IfTaken result (λ _. turns_left self.new < turns_left self.old) }
+        ensures tallied { (start : MergeState) (taken : List Taken) →
+            HasTaken end start taken self.old → IsTallied end start self.new }
+        ensures tallies { KeepsTallies (tallies_of self.old.lanes) result self.new }
+        ensures record { IfErr result (IsNumbered (tallies_of self.old.lanes)) }
     {
         self.next_by(end.last())
     }

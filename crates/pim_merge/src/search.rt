@@ -7,7 +7,9 @@ ghost use Rattle.pim_capture.specs.Capture.{Answer};
 ghost use Rattle.pim_merge.specs.Merge.{turn, fails, sooner, numbered, earliest_from};
 ghost use Rattle.pim_merge.specs.Lane.{IsComing, IsLooked, head_rank, lane_at, records_to_come};
 ghost use Rattle.pim_merge.specs.Lane.{KeepRooms, FailsAt};
+ghost use Rattle.pim_merge.specs.Lane.{tallies_of};
 ghost use Rattle.pim_merge.specs.Next.{with_fault, IsCause, CountsFailures, LacksMemory, IsFailed};
+ghost use Rattle.pim_merge.specs.Next.{IsNumbered};
 
 use crate::lane::Lane;
 use crate::merge::MergeFault;
@@ -31,10 +33,16 @@ pub(crate) fn look_at_all<R: Feed + Drop>(lanes: &mut [Lane<R>]) -> Result<(), M
     ensures rooms { KeepRooms lanes.old lanes.new }
     ensures over { IfErr result (λ told. FailsAt told.capture lanes.new) }
     ensures repeated { (number : ℕ) → FailsAt number lanes.old → IsFailed number result }
+    ensures tallies { tallies_of lanes.new ≡ tallies_of lanes.old }
+    ensures record { IfErr result (IsNumbered (tallies_of lanes.old)) }
 {
     for (capture, lane) in lanes.iter_mut().enumerate() {
         if let Err(fault) = lane.look() {
-            return Err(MergeFault { capture, fault });
+            return Err(MergeFault {
+                capture,
+                record: lane.number(),
+                fault,
+            });
         }
     }
     Ok(())

@@ -4,11 +4,12 @@ use Rattle.std.proofs.KnownBytes.{Appends-nil}
 use Rattle.pim_addr.specs.declared.family.AddressFamily.{AddressFamily}
 use Rattle.pim_capture.specs.declared.fault.CaptureFault.{CaptureFault}
 use Rattle.pim_capture.specs.declared.fault.CaptureFault.TheVariants.{Magic, LinkType, Truncated, TooLong, Read, Memory, Failed}
-use Rattle.pim_capture.specs.declared.fault.CaptureFault.TheVariants.{Block, Time, Vlans, Interfaces}
+use Rattle.pim_capture.specs.declared.fault.CaptureFault.TheVariants.{Block, Time, Vlans, Interfaces, LinkNumber}
 use Rattle.pim_merge.specs.declared.end.End.{End}
 use Rattle.pim_merge.specs.declared.merge.Turn.{Turn}
 use Rattle.pim_merge.specs.declared.merge.MergeFault.{MergeFault}
 use Rattle.pim_merge.specs.Ends.{clock_of, Takes}
+use Rattle.pim_merge.specs.Tally.{tallies_after}
 use Rattle.pim_merge.specs.Merge.{Taken}
 use Rattle.pim_merge.specs.Next.{MergeState, bytes_at}
 use Rattle.pim_merge.specs.Run.{turn_seen, taken_by, HasTaken, StopsAfter, Advances}
@@ -51,7 +52,7 @@ tells_more family (first ∷ others) next state account after told =
 
 module _ (line : Event → List ℕ) (family : AddressFamily) (end : End) (start : MergeState) (state : RouterState) (old : Option (List ℕ)) where
   pub begin : IsUnderway line family end start state old start state old none_yet
-  unfolding Takes TellsTurns clock_of
+  unfolding Takes TellsTurns clock_of tallies_after
   begin = record {
     account = nothing;
     tells = record {
@@ -61,6 +62,7 @@ module _ (line : Event → List ℕ) (family : AddressFamily) (end : End) (start
         first = λ captures coming. record { clock_then = start.clock; rest = captures; takes_them = (refl, refl); is_rest = tt };
         clock = refl;
         reads = refl;
+        tallies = refl;
       };
       tells = (refl, refl);
     };
@@ -93,6 +95,8 @@ module _ (line : Event → List ℕ) (family : AddressFamily) (end : End) (start
           tells = w.tells.tells;
           no_memory = other;
           cause = stops.cause;
+          tallies = stops.tallies;
+          numbered = stops.numbered;
         },
         w.written,
       )
@@ -110,6 +114,7 @@ module _ (line : Event → List ℕ) (family : AddressFamily) (end : End) (start
       by_fault Time is = stopped (λ e. cc)
       by_fault (Vlans one other) is = stopped (λ e. cc)
       by_fault (Interfaces one other) is = stopped (λ e. cc)
+      by_fault (LinkNumber number) is = stopped (λ e. cc)
 
       pub failed : (answer : ReplayFault) → answer ≡ stopped_by told → StopsSo answer
       failed answer is = subst StopsSo (sym is) (by_fault told.fault refl)

@@ -10,8 +10,9 @@ use Rattle.pim_merge.specs.declared.clock.Clock.{Clock}
 use Rattle.pim_merge.specs.declared.end.End.{End}
 use Rattle.pim_merge.specs.declared.merge.MergeFault.{MergeFault}
 use Rattle.pim_merge.specs.Merge.{Taken}
-use Rattle.pim_merge.specs.Lane.{lane_at}
-use Rattle.pim_merge.specs.Next.{MergeState}
+use Rattle.pim_merge.specs.Lane.{lane_at, tallies_of}
+use Rattle.pim_merge.specs.Next.{MergeState, IsNumbered}
+use Rattle.pim_merge.specs.Tally.{tallies_after}
 use Rattle.pim_merge.specs.Ends.{AreAll, AreFirst, AreBefore, end_moment, clock_of}
 use Rattle.pim_report.specs.declared.state_text.Counts.{Counts}
 use Rattle.pim_router.specs.State.{RouterState}
@@ -50,7 +51,8 @@ module _ (family : AddressFamily) (end : End) (merge : MergeState) (state : Rout
 
   -- A fault of a capture ends the replay after these turns. The fault is the next answer of its
   -- capture, or a read of that capture failed in the call, which leaves `merge'`. It is never a lack
-  -- of memory.
+  -- of memory. The tallies of `merge'` count these turns, and the fault has the number of the record
+  -- after those of its capture.
   pub record StopsAt (merge' : MergeState) (told : MergeFault) : Type 0 where
     pub taken : List Taken
     pub account : Account
@@ -61,6 +63,8 @@ module _ (family : AddressFamily) (end : End) (merge : MergeState) (state : Rout
     pub cause : IsRefusal {A = ⊤} (lane_at told.capture merge.lanes).failures
         (lane_at told.capture merge'.lanes).failures (Err told.fault)
         ⊎ AreAll end merge (Some (told.capture, told.fault)) taken
+    pub tallies : tallies_of merge'.lanes ≡ tallies_after (tallies_of merge.lanes) taken
+    pub numbered : IsNumbered (tallies_of merge'.lanes) told
 
 -- ---- what a replay returns and what its listener writes, where `line` is what is written of an event
 

@@ -3,6 +3,7 @@
 ghost use Rattle.std.specs.Prelude.{◌≡◌, ◌≤◌, IfOk, length};
 ghost use Rattle.pim_capture.specs.Next.{latest_moment};
 ghost use Rattle.pim_merge.specs.Ends.{IsBoundedEnd};
+ghost use Rattle.pim_merge.specs.Run.{IsTallied};
 ghost use Rattle.pim_replay.specs.Emit.{Emits, SendsAsked, failures_of_emission};
 
 use crate::quiet::replay_quietly;
@@ -78,6 +79,8 @@ pub fn emit_into<F: Family, R: Feed + Drop, W: Drain>(
     ensures emits { Emits F.family end by.now merge.old merge.new router.old router.new
         F.bytes_of (W.contents writer.old) (W.contents writer.new) result }
     ensures count { W.failures writer.new ≡ failures_of_emission (W.failures writer.old) result }
+    // The tallies of the captures after the run are those of the turns that were taken.
+    ensures tallied { IsTallied end merge.old merge.new }
 {
     match replay_quietly::<F, R>(merge, router, end) {
         Ok(()) => {}

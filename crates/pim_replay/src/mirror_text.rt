@@ -8,6 +8,7 @@
 ghost use Rattle.std.specs.Prelude.{◌≡◌, ◌≤◌, length};
 ghost use Rattle.pim_capture.specs.Next.{latest_moment};
 ghost use Rattle.pim_merge.specs.Ends.{IsBoundedEnd};
+ghost use Rattle.pim_merge.specs.Run.{IsTallied};
 ghost use Rattle.pim_replay.specs.FreshHearing.{AreSent};
 ghost use Rattle.pim_replay.specs.MirrorText.{Judges, TellsMirror, TellsExchange, AsksBy};
 ghost use Rattle.pim_replay.specs.MirrorText.{of_mirror};
@@ -142,6 +143,8 @@ pub fn mirror_into<F: Family, R: Feed + Drop, W: Drain>(
     ensures text { TellsMirror F.family end by.now limit merge.old merge.new router.old router.new
         F.bytes_of (W.contents writer.old) (W.contents writer.new) result }
     ensures count { W.failures writer.new ≡ failures_of_mirror (W.failures writer.old) result }
+    // The tallies of the captures after the run are those of the turns that were taken.
+    ensures tallied { IsTallied end merge.old merge.new }
 {
     match replay_quietly::<F, R>(merge, router, end) {
         Ok(()) => {}

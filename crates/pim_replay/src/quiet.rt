@@ -3,6 +3,7 @@
 ghost use Rattle.std.specs.Prelude.{◌≡◌, ◌≤◌, length};
 ghost use Rattle.pim_capture.specs.Next.{latest_moment};
 ghost use Rattle.pim_merge.specs.Ends.{IsBoundedEnd};
+ghost use Rattle.pim_merge.specs.Run.{IsTallied};
 ghost use Rattle.pim_router.specs.State.{setup_of};
 ghost use Rattle.pim_replay.specs.Quiet.{RunsQuietly};
 
@@ -52,6 +53,8 @@ pub fn replay_quietly<F: Family, R: Feed + Drop>(
     requires end { IsBoundedEnd end }
     ensures runs { RunsQuietly F.family end merge.old merge.new router.old router.new result }
     ensures setup { setup_of router.new ≡ setup_of router.old }
+    // The tallies of the captures after the run are those of the turns that were taken.
+    ensures tallied { IsTallied end merge.old merge.new }
 {
     match replay_for(&Quiet, &mut (), merge, router, end) {
         Ok(_) => Ok(()),

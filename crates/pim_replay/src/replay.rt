@@ -8,6 +8,8 @@ ghost use Rattle.std.specs.Prelude.{◌≡◌, ◌<◌, ◌≤◌, ℕ, List, Op
 ghost use Rattle.pim_capture.specs.Next.{latest_moment};
 ghost use Rattle.pim_merge.specs.Next.{MergeState, turns_left};
 ghost use Rattle.pim_merge.specs.Ends.{IsBoundedEnd};
+ghost use Rattle.pim_merge.specs.Merge.{Taken};
+ghost use Rattle.pim_merge.specs.Run.{HasTaken, IsTallied};
 ghost use Rattle.pim_router.specs.State.{RouterState, setup_of};
 ghost use Rattle.pim_replay.specs.Replay.{Hears, failures_of_device};
 ghost use Rattle.pim_replay.specs.Underway.{stopped_by, of_text, IsUnderway, Steps, RunsTurns};
@@ -75,6 +77,8 @@ fn step<F: Family, R: Feed + Drop, W, L: Listener<F, W>>(
     ensures moment { OnOk result (router.new.machines.moment ≤ latest_moment) }
     ensures setup { setup_of router.new ≡ setup_of router.old }
     ensures nearer { IfMore result (turns_left merge.new < turns_left merge.old) }
+    ensures tallied { (start : MergeState) (taken : List Taken) →
+        HasTaken end start taken merge.old → IsTallied end start merge.new }
 {
     let next = match merge.advance(end) {
         Ok(next) => next,
@@ -106,6 +110,7 @@ fn run_turns<F: Family, R: Feed + Drop, W, L: Listener<F, W>>(
     ensures count { L.failures device.new ≡ failures_of_device (L.failures device.old) result }
     ensures moment { OnOk result (router.new.machines.moment ≤ latest_moment) }
     ensures setup { setup_of router.new ≡ setup_of router.old }
+    ensures tallied { IsTallied end merge.old merge.new }
 {
     let mut counts = Counts {
         skipped: 0,
@@ -141,6 +146,8 @@ pub fn replay_for<F: Family, R: Feed + Drop, W, L: Listener<F, W>>(
         router.old router.new (L.contents device.old) (L.contents device.new) result }
     ensures count { L.failures device.new ≡ failures_of_device (L.failures device.old) result }
     ensures setup { setup_of router.new ≡ setup_of router.old }
+    // The tallies of the captures after the run are those of the turns that were taken.
+    ensures tallied { IsTallied end merge.old merge.new }
 {
     let counts = run_turns(listener, device, merge, router, end)?;
     let moment = merge.end_moment(end, router.now());

@@ -4,6 +4,7 @@ ghost use Rattle.std.specs.Prelude.{◌≡◌, ◌≤◌, length};
 ghost use Rattle.pim_capture.specs.Next.{latest_moment};
 ghost use Rattle.pim_device.specs.Device.{AppendsAll, failures_after};
 ghost use Rattle.pim_merge.specs.Ends.{IsBoundedEnd};
+ghost use Rattle.pim_merge.specs.Run.{IsTallied};
 ghost use Rattle.pim_replay.specs.Events.{event_seen};
 ghost use Rattle.pim_replay.specs.Replay.{failures_of_device};
 ghost use Rattle.pim_replay.specs.Report.{Replays, event_line};
@@ -77,6 +78,8 @@ pub fn replay_into<F: Family, R: Feed + Drop, W: Drain>(
     ensures report { Replays F.family tells_via end merge.old merge.new router.old router.new
         (W.contents writer.old) (W.contents writer.new) result }
     ensures count { W.failures writer.new ≡ failures_of_device (W.failures writer.old) result }
+    // The tallies of the captures after the run are those of the turns that were taken.
+    ensures tallied { IsTallied end merge.old merge.new }
 {
     let counts = replay_for(&ReportPrinter, writer, merge, router, end)?;
     match write_state::<F, W>(alloc, writer, router, tells_via, counts) {

@@ -4,7 +4,7 @@ use Rattle.std.proofs.lemmas.List.{length-replicate}
 use Rattle.pim_addr.specs.declared.family.AddressFamily.{AddressFamily}
 use Rattle.pim_capture.specs.declared.fault.CaptureFault.{CaptureFault}
 use Rattle.pim_capture.specs.declared.fault.CaptureFault.TheVariants.{Magic, LinkType, Truncated, TooLong, Read, Memory, Failed}
-use Rattle.pim_capture.specs.declared.fault.CaptureFault.TheVariants.{Block, Time, Vlans, Interfaces}
+use Rattle.pim_capture.specs.declared.fault.CaptureFault.TheVariants.{Block, Time, Vlans, Interfaces, LinkNumber}
 use Rattle.pim_capture.specs.Next.{latest_moment}
 use Rattle.pim_merge.specs.declared.end.End.{End}
 use Rattle.pim_merge.specs.declared.merge.Turn.{Turn}
@@ -12,7 +12,8 @@ use Rattle.pim_merge.specs.declared.merge.MergeFault.{MergeFault}
 use Rattle.pim_merge.specs.Ends.{clock_of, Takes}
 use Rattle.pim_merge.specs.Merge.{Taken}
 use Rattle.pim_merge.specs.Next.{MergeState, IfTaken, bytes_at}
-use Rattle.pim_merge.specs.Run.{turn_seen, taken_by, HasTaken, StopsAfter, Advances}
+use Rattle.pim_merge.specs.Tally.{tallies_after}
+use Rattle.pim_merge.specs.Run.{turn_seen, taken_by, HasTaken, StopsAfter, Advances, IsTallied}
 use Rattle.pim_router.specs.State.{RouterState, Setup, setup_of}
 use Rattle.pim_events.specs.Events.{Occurrence}
 use Rattle.pim_trace.specs.declared.telling.TellFault.{TellFault}
@@ -74,9 +75,18 @@ alike_new merge ledger state new lanes early = record {
 pub of_turn : (P : Turn → Type 0) (next : Option Turn) (given : Turn) → next ≡ Some given → IfTaken (Ok next) P → P given
 of_turn P next given there holds = subst (λ (n : Option Turn). IfTaken (Ok n) P) there holds
 
+-- no turn was taken
+pub untaken : (end : End) (start : MergeState) → IsTallied end start start
+unfolding Takes tallies_after
+untaken end start = record {
+  taken = [];
+  first = λ captures coming. record { clock_then = start.clock; rest = captures; takes_them = (refl, refl); is_rest = tt };
+  tallies = refl;
+}
+
 module _ (line : Occurrence → List ℕ) (family : AddressFamily) (end : End) (start : MergeState) (state : RouterState) (old : Option (List ℕ)) where
   pub begin : (ledger : Ledger) → ledger ≡ ledger_for state → IsUnderway line family end start state old start ledger state old
-  unfolding Takes TellsTurns clock_of
+  unfolding Takes TellsTurns clock_of tallies_after
   begin ledger new = record {
     taken = [];
     events = [];
@@ -85,6 +95,7 @@ module _ (line : Occurrence → List ℕ) (family : AddressFamily) (end : End) (
       first = λ captures coming. record { clock_then = start.clock; rest = captures; takes_them = (refl, refl); is_rest = tt };
       clock = refl;
       reads = refl;
+      tallies = refl;
     };
     tells = (refl, new, refl);
     written = none_told line old;
@@ -118,6 +129,8 @@ module _ (line : Occurrence → List ℕ) (family : AddressFamily) (end : End) (
         written = w.written;
         no_memory = other;
         cause = stops.cause;
+        tallies = stops.tallies;
+        numbered = stops.numbered;
       }
 
       by_fault : (fault : CaptureFault) → told.fault ≡ fault → Steps line family end start state old merge' ledger now new (Err (stop_by told fault))
@@ -132,6 +145,7 @@ module _ (line : Occurrence → List ℕ) (family : AddressFamily) (end : End) (
       by_fault Time is = stopped (λ e. cc)
       by_fault (Vlans one other) is = stopped (λ e. cc)
       by_fault (Interfaces one other) is = stopped (λ e. cc)
+      by_fault (LinkNumber number) is = stopped (λ e. cc)
 
       pub failed : (answer : TraceFault) → answer ≡ stopped_by told → Steps line family end start state old merge' ledger now new (Err answer)
       failed answer is = subst (λ a. Steps line family end start state old merge' ledger now new (Err a)) (sym is) (by_fault told.fault refl)

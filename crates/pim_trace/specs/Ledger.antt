@@ -6,7 +6,7 @@ use Rattle.std.specs.Option.{option_eq}
 use Rattle.std.specs.Cmp.Lexicographic.{pointwise}
 use Rattle.pim_device.specs.Device.{top_count}
 use Rattle.pim_capture.specs.declared.event.Why.TheVariants.{Cut, NotIp, BadHeader, NotPim, Fragment}
-use Rattle.pim_capture.specs.declared.event.Why.TheVariants.{NoTime, LinkType, NotChosen}
+use Rattle.pim_capture.specs.declared.event.Why.TheVariants.{NoTime, LinkType, NotChosen, CutShort}
 use Rattle.pim_down.specs.declared.machines.key.Key.{Key}
 use Rattle.pim_down.specs.declared.machines.machine.Machine.{Machine}
 use Rattle.pim_down.specs.declared.machines.machine.Pending.{Pending}
@@ -127,8 +127,8 @@ opened capture time ledger = record {
   skipped = ledger.skipped;
 }
 
--- The counts after one more record is skipped. Those without a time and those of other links are not
--- counted.
+-- The counts after one more record is skipped. Those without a time, those of other links and one
+-- that the end of its file cuts short are not counted.
 abbrev pub counted : Skip → SkipCounts → SkipCounts
 counted (NoPacket Cut) counts = record (counts) { cut = one_more counts.cut }
 counted (NoPacket NotIp) counts = record (counts) { not_ip = one_more counts.not_ip }
@@ -138,6 +138,7 @@ counted (NoPacket Fragment) counts = record (counts) { fragment = one_more count
 counted (NoPacket NoTime) counts = counts
 counted (NoPacket LinkType) counts = counts
 counted (NoPacket NotChosen) counts = counts
+counted (NoPacket CutShort) counts = counts
 counted OtherFamily counts = record (counts) { family = one_more counts.family }
 
 -- The ledger after a record is skipped.

@@ -13,8 +13,9 @@ use Rattle.pim_merge.specs.declared.end.End.{End}
 use Rattle.pim_merge.specs.declared.merge.MergeFault.{MergeFault}
 use Rattle.pim_merge.specs.Ends.{end_moment, clock_of, AreAll, AreFirst, AreBefore}
 use Rattle.pim_merge.specs.Merge.{Taken}
-use Rattle.pim_merge.specs.Lane.{lane_at}
-use Rattle.pim_merge.specs.Next.{MergeState}
+use Rattle.pim_merge.specs.Lane.{lane_at, tallies_of}
+use Rattle.pim_merge.specs.Tally.{tallies_after}
+use Rattle.pim_merge.specs.Next.{MergeState, IsNumbered}
 use Rattle.pim_router.specs.State.{RouterState}
 use Rattle.pim_events.specs.Events.{Occurrence, run_ended}
 use Rattle.pim_trace.specs.declared.trace.TraceFault.{TraceFault}
@@ -101,7 +102,8 @@ module _ (line : Occurrence → List ℕ) (family : AddressFamily) (end : End) (
     (state : RouterState) where
   -- A fault of a capture ended the trace, and exactly the events of the turns before it were written.
   -- The fault is the next answer of its capture, or a read of that capture failed in the call. It is
-  -- never a lack of memory.
+  -- never a lack of memory. The tallies of `merge'` count these turns, and the fault has the number
+  -- of the record after those of its capture.
   pub record StopsAt (merge' : MergeState) (told : MergeFault) (old new : Option (List ℕ)) : Type 0 where
     pub taken : List Taken
     pub are : AreBefore end merge told taken
@@ -114,6 +116,8 @@ module _ (line : Occurrence → List ℕ) (family : AddressFamily) (end : End) (
     pub cause : IsRefusal {A = ⊤} (lane_at told.capture merge.lanes).failures
         (lane_at told.capture merge'.lanes).failures (Err told.fault)
         ⊎ AreAll end merge (Some (told.capture, told.fault)) taken
+    pub tallies : tallies_of merge'.lanes ≡ tallies_after (tallies_of merge.lanes) taken
+    pub numbered : IsNumbered (tallies_of merge'.lanes) told
 
   -- A front of the events of some first turns was written.
   pub record HasSome (old new : Option (List ℕ)) : Type 0 where

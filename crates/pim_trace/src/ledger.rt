@@ -148,7 +148,7 @@ fn without_packet(why: Why, counts: SkipCounts) -> SkipCounts
         Why::BadHeader => counts.bad_header = one_more(counts.bad_header),
         Why::NotPim => counts.not_pim = one_more(counts.not_pim),
         Why::Fragment => counts.fragment = one_more(counts.fragment),
-        Why::NoTime | Why::LinkType | Why::NotChosen => {}
+        Why::NoTime | Why::LinkType | Why::NotChosen | Why::CutShort => {}
     }
     counts
 }

@@ -5,6 +5,8 @@ ghost use Rattle.std.specs.Prelude.{◌≡◌, ◌<◌, ◌≤◌, ℕ, List, Op
 ghost use Rattle.pim_capture.specs.Next.{latest_moment};
 ghost use Rattle.pim_device.specs.Device.{AppendsAll, failures_after};
 ghost use Rattle.pim_merge.specs.Ends.{IsBoundedEnd};
+ghost use Rattle.pim_merge.specs.Merge.{Taken};
+ghost use Rattle.pim_merge.specs.Run.{HasTaken, IsTallied};
 ghost use Rattle.pim_merge.specs.Next.{MergeState, turns_left};
 ghost use Rattle.pim_router.specs.State.{RouterState};
 ghost use Rattle.pim_trace.specs.Kept.{ledger_seen};
@@ -75,6 +77,8 @@ fn step<F: Family, R: Feed + Drop, W, T: Teller<F, W>>(
     ensures alike { OnOk result
         (AreAlike merge.new (ledger_seen F.bytes_of ledger.new) router.new) }
     ensures nearer { IfMore result (turns_left merge.new < turns_left merge.old) }
+    ensures tallied { (start : MergeState) (taken : List Taken) →
+        HasTaken end start taken merge.old → IsTallied end start merge.new }
 {
     let next = match merge.advance(end) {
         Ok(next) => next,
@@ -106,6 +110,7 @@ fn run_turns<F: Family, R: Feed + Drop, W, T: Teller<F, W>>(
         merge.new (ledger_seen F.bytes_of ledger.new) router.new (T.contents device.new) result }
     ensures count { T.failures device.new ≡ failures_of_device (T.failures device.old) result }
     ensures moment { OnOk result (router.new.machines.moment ≤ latest_moment) }
+    ensures tallied { IsTallied end merge.old merge.new }
 {
     while step(teller, device, merge, router, ledger, end)? {}
     Ok(())
@@ -177,6 +182,7 @@ fn trace_with<F: Family, R: Feed + Drop, W, T: Teller<F, W>>(
         merge.old merge.new router.old router.new
         (T.contents device.old) (T.contents device.new) result }
     ensures count { T.failures device.new ≡ failures_of_device (T.failures device.old) result }
+    ensures tallied { IsTallied end merge.old merge.new }
 {
     run_turns(teller, device, merge, router, ledger, end)?;
     let moment = merge.end_moment(end, router.now());
@@ -215,6 +221,8 @@ pub fn trace_into<F: Family, R: Feed + Drop, W, T: Teller<F, W>>(
         merge.old merge.new router.old router.new
         (T.contents device.old) (T.contents device.new) result }
     ensures count { T.failures device.new ≡ failures_of_device (T.failures device.old) result }
+    // The tallies of the captures after the run are those of the turns that were taken.
+    ensures tallied { IsTallied end merge.old merge.new }
 {
     let Ok(mut ledger) = Ledger::<F>::new(alloc, router.port_count()) else {
         return Err(TraceFault::Memory);

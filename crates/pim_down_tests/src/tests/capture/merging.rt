@@ -3,7 +3,7 @@
 use super::{CAPTURE, NEVER};
 use pim_addr::ScriptedFeed;
 use pim_capture::CaptureFault;
-use pim_merge::{Merge, MergeFault, Turn};
+use pim_merge::{Merge, MergeFault, Tally, Turn};
 use std::alloc::Global;
 
 /// The capture and the moment of a turn, or why there is none.
@@ -17,10 +17,23 @@ fn place(told: Result<Option<Turn>, MergeFault>) -> Told {
     }
 }
 
-/// The end of a merge whose first capture has this fault, or none.
-fn end_of(fault: Option<CaptureFault>) -> Told {
+/// The number of the record at which the first capture fails after this number of turns.
+fn record_after(turns: usize) -> u64 {
+    match turns {
+        0 => 1,
+        1 => 2,
+        _ => 3,
+    }
+}
+
+/// The end of a merge whose first capture has this fault at this record, or none.
+fn end_of(record: u64, fault: Option<CaptureFault>) -> Told {
     match fault {
-        Some(fault) => Err(MergeFault { capture: 0, fault }),
+        Some(fault) => Err(MergeFault {
+            capture: 0,
+            record,
+            fault,
+        }),
         None => Ok(None),
     }
 }
@@ -37,7 +50,8 @@ fn goes(
         }
     }
     let later = fault.map(|_| CaptureFault::Failed);
-    place(merge.next()) == end_of(fault) && place(merge.next()) == end_of(later)
+    let record = record_after(turns.len());
+    place(merge.next()) == end_of(record, fault) && place(merge.next()) == end_of(record, later)
 }
 
 /// Whether the merge of this first capture and of a whole one goes so.
@@ -99,4 +113,30 @@ fn wrong_length(alloc: Global) -> Option<usize> {
 #[test]
 fn cut_anywhere_or_unread(rt: HostRuntime) {
     assert_eq!(rt; wrong_length(rt.alloc()), None);
+}
+
+/// What a merge of one whole capture counts, if it takes both records.
+fn tally_of(alloc: Global) -> Option<Tally> {
+    let mut merge = Merge::new(alloc);
+    let Ok(()) = merge.add(alloc, ScriptedFeed::new(&CAPTURE, 64, NEVER)) else {
+        return None;
+    };
+    if !goes(&mut merge, &[(0, 0), (0, 5)], None) || merge.count() == 0 {
+        return None;
+    }
+    Some(merge.tally(0))
+}
+
+#[test]
+fn tally_of_two_records(rt: HostRuntime) {
+    let tally = Tally {
+        records: 2,
+        fragments: 0,
+        cut_frames: 0,
+        cut_short: false,
+        last: Some(100_005),
+        ran_back: None,
+        jumped: None,
+    };
+    assert_eq!(rt; tally_of(rt.alloc()), Some(tally));
 }

@@ -23,3 +23,9 @@ returns-clause-told g c =
     no_more (g.L.Listener.line c.args.listener.now) g.F.Family.family c.args.end c.args.merge.now c.args.router.now (g.L.Listener.contents c.args.device.now)
     c.loop-more.counts c.step.new.merge c.step.new.router (g.L.Listener.contents c.step.new.device)
     c.in_ok-more.field-0 c.in_default.is (c.in_ok-more.ensures.told c.args.merge.now c.args.router.now (g.L.Listener.contents c.args.device.now) c.loop-more.invariant.underway)
+
+pub returns-in_err-more-clause-tallied : goal.returns-in_err-more-clause-tallied
+returns-in_err-more-clause-tallied g c = c.step.ensures.tallied c.args.merge.now c.loop-more.invariant.underway.tells.taken c.loop-more.invariant.underway.tells.run
+
+pub returns-clause-tallied : goal.returns-clause-tallied
+returns-clause-tallied g c = c.step.ensures.tallied c.args.merge.now c.loop-more.invariant.underway.tells.taken c.loop-more.invariant.underway.tells.run

@@ -22,3 +22,15 @@ returns-in-Err-take_turn-clause-told g c start state old w =
     turn_stopped (g.L.Listener.line c.args.listener.now) g.F.Family.family c.args.end start state old c.args.merge.now c.args.router.now (g.L.Listener.contents c.args.device.now) c.args.counts w
     c.advance.new.self c.in-Ok.next c.in-Some.turn c.bytes-bytes.result.now c.in-Some.is c.bytes-bytes.ensures.bytes (c.in-Ok.ensures.run start w.tells.taken w.tells.run)
     c.in-Err-take_turn.fault c.of_text.result (g.L.Listener.contents c.take_turn.new.device) c.of_text.ensures c.in-Err-take_turn.ensures.told
+
+pub returns-in-Err-clause-tallied : goal.returns-in-Err-clause-tallied
+returns-in-Err-clause-tallied g c start taken has = c.advance.ensures.tallied start taken has
+
+pub returns-in_default-clause-tallied : goal.returns-in_default-clause-tallied
+returns-in_default-clause-tallied g c start taken has = c.advance.ensures.tallied start taken has
+
+pub returns-in-Ok-take_turn-clause-tallied : goal.returns-in-Ok-take_turn-clause-tallied
+returns-in-Ok-take_turn-clause-tallied g c start taken has = c.advance.ensures.tallied start taken has
+
+pub returns-in-Err-take_turn-clause-tallied : goal.returns-in-Err-take_turn-clause-tallied
+returns-in-Err-take_turn-clause-tallied g c start taken has = c.advance.ensures.tallied start taken has

@@ -38,3 +38,9 @@ returns-clause-told g c =
     no_more (g.T.Teller.line c.args.teller.now) g.F.Family.family c.args.end c.args.merge.now c.args.router.now (g.T.Teller.contents c.args.device.now)
     c.step.new.merge (ledger_seen g.F.Family.bytes_of c.step.new.ledger) c.step.new.router (g.T.Teller.contents c.step.new.device) c.in_ok-step.field-0 c.if-branch.false
     (c.in_ok-step.ensures.told c.args.merge.now c.args.router.now (g.T.Teller.contents c.args.device.now) c.loop.invariant.underway)
+
+pub returns-in_err-step-clause-tallied : goal.returns-in_err-step-clause-tallied
+returns-in_err-step-clause-tallied g c = c.step.ensures.tallied c.args.merge.now c.loop.invariant.underway.taken c.loop.invariant.underway.run
+
+pub returns-clause-tallied : goal.returns-clause-tallied
+returns-clause-tallied g c = c.step.ensures.tallied c.args.merge.now c.loop.invariant.underway.taken c.loop.invariant.underway.run

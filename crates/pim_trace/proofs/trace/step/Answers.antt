@@ -33,3 +33,15 @@ returns-in-Err-take_turn-clause-told g c start state old w =
     turn_stopped (g.T.Teller.line c.args.teller.now) g.F.Family.family c.args.end start state old c.args.merge.now (ledger_seen g.F.Family.bytes_of c.args.ledger.now) c.args.router.now (g.T.Teller.contents c.args.device.now) w
     c.advance.new.self c.in-Ok.next c.in-Some.turn c.bytes-bytes.result.now c.in-Some.is c.bytes-bytes.ensures.bytes (c.in-Ok.ensures.run start w.taken w.run)
     c.in-Err-take_turn.fault c.of_telling.result (ledger_seen g.F.Family.bytes_of c.take_turn.new.ledger) c.take_turn.new.router (g.T.Teller.contents c.take_turn.new.device) c.of_telling.ensures c.in-Err-take_turn.ensures.told
+
+pub returns-in-Err-clause-tallied : goal.returns-in-Err-clause-tallied
+returns-in-Err-clause-tallied g c start taken has = c.advance.ensures.tallied start taken has
+
+pub returns-in_default-clause-tallied : goal.returns-in_default-clause-tallied
+returns-in_default-clause-tallied g c start taken has = c.advance.ensures.tallied start taken has
+
+pub returns-in-Ok-take_turn-clause-tallied : goal.returns-in-Ok-take_turn-clause-tallied
+returns-in-Ok-take_turn-clause-tallied g c start taken has = c.advance.ensures.tallied start taken has
+
+pub returns-in-Err-take_turn-clause-tallied : goal.returns-in-Err-take_turn-clause-tallied
+returns-in-Err-take_turn-clause-tallied g c start taken has = c.advance.ensures.tallied start taken has

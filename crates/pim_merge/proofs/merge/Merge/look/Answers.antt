@@ -2,8 +2,8 @@ use Rattle.std.proofs.Common.{◌≡◌, ◌∙◌, ℕ, List, length, ap, arith
 use Rattle.std.specs.List.{AllByRecursion}
 use Rattle.pim_capture.specs.Capture.{Answer}
 use Rattle.pim_merge.specs.Merge.{turn, fails}
-use Rattle.pim_merge.specs.Lane.{LaneState, IsComing, IsLooked, KeepRooms, FailsAt}
-use Rattle.pim_merge.specs.Next.{MergeState, with_fault, CountsFailures, IsFailed}
+use Rattle.pim_merge.specs.Lane.{LaneState, IsComing, IsLooked, KeepRooms, FailsAt, tallies_of}
+use Rattle.pim_merge.specs.Next.{MergeState, with_fault, CountsFailures, IsFailed, IsNumbered}
 use Rattle.pim_merge.proofs.Repeating.{put_back}
 use Rattle.pim_merge.proofs.merge.Merge.look.Goals as goal
 
@@ -48,3 +48,15 @@ returns-clause-repeated g c =
     put_back (λ old new. (number : ℕ) → FailsAt number old → IsFailed number c.look_at_all.result)
     c.deref_mut.result.now c.args.self.now.lanes c.look_at_all.new.lanes c.self.inside.lanes.items c.self.inside.lanes.len
     (c.deref_mut.ensures.value ∙ ap (λ (m : MergeState). m.lanes) c.self.view_is) (omega (arith, c.deref_mut.ensures.len, c.look_at_all.auto.lanes)) c.look_at_all.ensures.repeated
+
+pub returns-clause-tallies : goal.returns-clause-tallies
+returns-clause-tallies g c =
+    put_back (λ old new. tallies_of new ≡ tallies_of old)
+    c.deref_mut.result.now c.args.self.now.lanes c.look_at_all.new.lanes c.self.inside.lanes.items c.self.inside.lanes.len
+    (c.deref_mut.ensures.value ∙ ap (λ (m : MergeState). m.lanes) c.self.view_is) (omega (arith, c.deref_mut.ensures.len, c.look_at_all.auto.lanes)) c.look_at_all.ensures.tallies
+
+pub returns-clause-record : goal.returns-clause-record
+returns-clause-record g c =
+    put_back (λ old new. IfErr c.look_at_all.result (IsNumbered (tallies_of old)))
+    c.deref_mut.result.now c.args.self.now.lanes c.look_at_all.new.lanes c.self.inside.lanes.items c.self.inside.lanes.len
+    (c.deref_mut.ensures.value ∙ ap (λ (m : MergeState). m.lanes) c.self.view_is) (omega (arith, c.deref_mut.ensures.len, c.look_at_all.auto.lanes)) c.look_at_all.ensures.record

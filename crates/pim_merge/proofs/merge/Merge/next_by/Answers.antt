@@ -1,9 +1,10 @@
 use Rattle.std.proofs.Common.{◌≤◌, ◌∙◌, sym, ap, subst, arith, Some, [], length}
 use Rattle.pim_capture.specs.Capture.{most_captured}
-use Rattle.pim_capture.specs.Next.{latest_moment, PayloadLiesIn}
+use Rattle.pim_capture.specs.Next.{latest_moment, PayloadLiesIn, event_seen}
+use Rattle.pim_merge.specs.Tally.{tallies_with}
 use Rattle.pim_merge.specs.Merge.{clock_after, moment_of, is_past, turn}
 use Rattle.pim_merge.specs.Lane.{head_time, lane_at}
-use Rattle.pim_merge.proofs.Taking.{no_turn, by_then, found_within, found_head, same_bytes, stamped, takes_turn, takes_one, reads_none, same_length, keeps_rooms}
+use Rattle.pim_merge.proofs.Taking.{no_turn, by_then, found_within, found_head, same_bytes, stamped, takes_turn, takes_one, reads_none, same_length, keeps_rooms, moves_tally}
 use Rattle.pim_merge.proofs.Until.{ends_by, takes_by, passes_turn}
 use Rattle.pim_merge.proofs.merge.Merge.next_by.Goals as goal
 
@@ -80,3 +81,8 @@ pub returns-clause-rooms : goal.returns-clause-rooms
 returns-clause-rooms g c =
     keeps_rooms c.look.new.self.lanes c.in-Some.capture c.in-Some._rank (sym c.in-Some.is ∙ c.earliest.ensures) c.tick-moment.new.self.lanes c.in-Some-take.event c.in-Some-take.ensures.head (c.tick-moment.ensures.lanes ∙ c.take.ensures.lanes)
     _ c.look.ensures.rooms
+
+pub returns-clause-tallies : goal.returns-clause-tallies
+returns-clause-tallies g c =
+    moves_tally c.look.new.self.lanes c.in-Some.capture c.in-Some._rank (sym c.in-Some.is ∙ c.earliest.ensures) c.tick-moment.new.self.lanes c.in-Some-take.event c.in-Some-take.ensures.head (c.tick-moment.ensures.lanes ∙ c.take.ensures.lanes)
+    ∙ ap (tallies_with c.in-Some.capture (event_seen (lane_at c.in-Some.capture c.tick-moment.new.self.lanes).bytes c.in-Some-take.event)) c.look.ensures.tallies

@@ -1,0 +1,107 @@
+-- What was taken of a capture, counted record by record.
+use Rattle.std.specs.Prelude.{ℕ, ◌+◌, ◌-◌, min, nat_lt, Bool, true, false, List, [], ◌∷◌, slice_set, slice_index_or}
+use Rattle.std.specs.Prelude.{Option, None, Some}
+use Rattle.pim_capture.specs.declared.event.Why.{Why}
+use Rattle.pim_capture.specs.declared.event.Why.TheVariants.{Fragment, Cut, CutShort}
+use Rattle.pim_capture.specs.Capture.{Told, packet, skipped, ended}
+use Rattle.pim_merge.specs.declared.tally.Tally.{Tally}
+use Rattle.pim_merge.specs.Merge.{Taken, time_told}
+
+-- That of a capture of which nothing was taken.
+abbrev pub no_tally : Tally
+no_tally = record {
+  records = 0;
+  fragments = 0;
+  cut_frames = 0;
+  cut_short = false;
+  last = None;
+  ran_back = None;
+  jumped = None;
+}
+
+-- One more. The count stops at 2^64 - 1.
+abbrev pub one_more : ℕ → ℕ
+one_more count = min (count + 1) 18446744073709551615
+
+-- The count after a record that it counts, or doesn't.
+abbrev pub counted_if : Bool → ℕ → ℕ
+counted_if true count = one_more count
+counted_if false count = count
+
+-- The number of the first record of which something holds, after one more record with this number.
+abbrev pub first_number : Option ℕ → Bool → ℕ → Option ℕ
+first_number (Some first) holds number = Some first
+first_number None true number = Some number
+first_number None false number = None
+
+-- The time is more than a second before the time before it.
+abbrev pub runs_back : Option ℕ → Option ℕ → Bool
+runs_back None time = false
+runs_back (Some last) None = false
+runs_back (Some last) (Some time) = nat_lt 1000 (last - time)
+
+-- The time is more than a day after the time before it.
+abbrev pub jumps : Option ℕ → Option ℕ → Bool
+jumps None time = false
+jumps (Some last) None = false
+jumps (Some last) (Some time) = nat_lt 86400000 (time - last)
+
+-- The time of the last record with a time, after a record of this time.
+abbrev pub last_time : Option ℕ → Option ℕ → Option ℕ
+last_time last None = last
+last_time last (Some time) = Some time
+
+
+abbrev pub is_fragment : Option Why → Bool
+is_fragment (Some Fragment) = true
+is_fragment why = false
+
+abbrev pub is_cut_frame : Option Why → Bool
+is_cut_frame (Some Cut) = true
+is_cut_frame why = false
+
+abbrev pub is_cut_short : Option Why → Bool
+is_cut_short (Some CutShort) = true
+is_cut_short why = false
+
+-- The tally after one more record of this time that is skipped for this reason, if there is one.
+abbrev pub tally_by : Tally → Option Why → Option ℕ → Tally
+tally_by tally why time = record {
+  records = one_more tally.records;
+  fragments = counted_if (is_fragment why) tally.fragments;
+  cut_frames = counted_if (is_cut_frame why) tally.cut_frames;
+  cut_short = is_cut_short why;
+  last = last_time tally.last time;
+  ran_back = first_number tally.ran_back (runs_back tally.last time) (one_more tally.records);
+  jumped = first_number tally.jumped (jumps tally.last time) (one_more tally.records);
+}
+
+-- The tally after one more result of the capture. The end leaves it.
+abbrev pub tally_after : Tally → Told → Tally
+tally_after tally (packet millis frame datagram) = tally_by tally None (Some millis)
+tally_after tally (skipped millis why) = tally_by tally (Some why) (time_told (skipped millis why))
+tally_after tally ended = tally
+
+-- The tally after a head is taken, if there is one.
+abbrev pub tally_taken : Tally → Option Told → Tally
+tally_taken tally None = tally
+tally_taken tally (Some told) = tally_after tally told
+
+-- ---- the tallies of all captures
+
+-- That of the capture with this number.
+abbrev pub tally_at : ℕ → List Tally → Tally
+tally_at number tallies = slice_index_or tallies number no_tally
+
+-- The number of the record that this capture gives next, from 1.
+abbrev pub next_number : ℕ → List Tally → ℕ
+next_number capture tallies = one_more (tally_at capture tallies).records
+
+-- The tallies after this record of this capture.
+abbrev pub tallies_with : ℕ → Told → List Tally → List Tally
+tallies_with capture told tallies = slice_set tallies capture (tally_after (tally_at capture tallies) told)
+
+-- The tallies after these records.
+unfoldable pub tallies_after : List Tally → List Taken → List Tally
+tallies_after tallies [] = tallies
+tallies_after tallies (first ∷ others) = tallies_after (tallies_with first.capture first.told tallies) others
