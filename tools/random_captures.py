@@ -4,6 +4,7 @@ pcapng draft and the pcap format alone.
 
     tools/random_captures.py PROGRAM [COUNT [SEED]]
     tools/random_captures.py PROGRAM --cut FOLDER     each file of FOLDER, whole and cut at every byte
+    tools/random_captures.py PROGRAM --cases          PROGRAM is crates/pimtree_cases: traces of files cut at every byte
 
 tools/captures_of_tools.py makes a folder of captures as tools write them, and says which events PROGRAM
 prints. Of others it prints the first word: `skipped`, `untimed`, `section`, `interface`, `passed`, `end`,
@@ -217,8 +218,47 @@ def cut_files(folder):
         yield from (data[:size] for size in range(len(data) + 1))
 
 
+def traced(data):
+    """What a trace of a file prints whose packets are ARP requests of one time, and the cause of its fault, if it has one. A file
+    that ends inside a piece after its first one has one more record, which is skipped."""
+    *events, last = expected(data)
+    records = [it for it in events if it in ("skipped", "untimed")]
+    lines = [f"0 0 #{at} skipped: without a time" for at, it in enumerate(records, 1) if it == "untimed"]
+    if last == "fault truncated" and events:
+        lines.append(f"0 0 #{len(records) + 1} skipped: cut short by the end of its file")
+    elif last != "end":
+        return lines, last.split()[1]
+    counts = f"cut 0 not-ip {records.count('skipped')} bad-header 0 not-pim 0 fragment 0 family 0"
+    return [*lines, f"0 end: records 0 neighbours 0 skipped {counts}"], None
+
+
+def case(data):
+    lines, fault = traced(data)
+    output = "".join(f"= {it}\n" for it in lines)
+    text = f"words trace 10.0.0.1@file\nfile file\nx {data.hex()}\n" + (f"output\n{output}" if lines else "")
+    return text + (f"errors\n= pimtree: capture {fault}\nstatus 2\n" if fault else "")
+
+
+def cut_cases(program):
+    frame, stamp = made.MACS + b"\x08\x06" + bytes(28), 1700000000000000
+    whole = []
+    for order in "<>":
+        records = struct.pack(order + "IIII", stamp // 10**6, 0, len(frame), len(frame)) + frame
+        whole.append(struct.pack(order + "IHHIIII", 0xA1B2C3D4, 2, 4, 0, 0, 65535, 1) + 3 * records)
+        section = made.section(order, [(1, [])], [(0, stamp, frame)])
+        whole.append(section + made.block(order, 3, struct.pack(order + "I", len(frame)) + frame)
+                     + made.block(order, 0x99, b"abc") + section)
+    files = [data[:size] for data in whole for size in range(len(data) + 1)]
+    with tempfile.NamedTemporaryFile(suffix=".case") as file:
+        file.write("\n".join(case(it) for it in files).encode())
+        file.flush()
+        return subprocess.run([program, file.name]).returncode
+
+
 def main():
     program, *words = sys.argv[1:]
+    if words[:1] == ["--cases"]:
+        return cut_cases(program)
     if words[:1] == ["--cut"]:
         files = cut_files(words[1])
     else:
