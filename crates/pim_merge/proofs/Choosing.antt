@@ -1,6 +1,7 @@
 -- The records of any container: what one piece gives, and what pieces give one after the other.
-use Rattle.std.proofs.Common.{◌≡◌, ◌∙◌, ◌⊎◌, ◌≤◌, ◌+◌, ℕ, Bool, true, false, if◌then◌else◌, false≢true, IfOk, IfSome, List, [], ◌∷◌, Option, None, Some, Result, Ok, Err, refl, sym, ap, subst, arith, inl, inr}
+use Rattle.std.proofs.Common.{◌≡◌, ◌∙◌, ◌⊎◌, ◌≤◌, ◌+◌, ℕ, Bool, true, false, if◌then◌else◌, IfOk, IfSome, List, [], ◌∷◌, Option, None, Some, Result, Ok, Err, refl, sym, ap, subst, arith, inl, inr}
 use Rattle.std.specs.Bool.{⊤}
+use Rattle.std.proofs.lemmas.Bool.{false≢true}
 use Rattle.std.specs.Option.{option_map}
 use Rattle.pim_capture.specs.declared.fault.CaptureFault.{CaptureFault}
 use Rattle.pim_capture.specs.declared.fault.CaptureFault.TheVariants as fault
@@ -63,14 +64,14 @@ one_step : (n n' : ℕ) (choice : Choice) (begun : Bool) (first first' : Option 
     next.IsNext old (Ok told) new → first' ≡ first_then choice first (Ok told) →
     IsGiven (told_given choice first told) bytes result →
     Steps n n' (option_map (chosen choice begun first) old) (option_map (chosen choice true first') new) bytes result
-one_step n n' choice begun first first' None new told bytes (Ok None) is then gives = tt
-one_step n n' choice begun first first' None new told bytes (Ok (Some event)) is then gives = tt
-one_step n n' choice begun first first' None new told bytes (Err f) is then gives = inr tt
-one_step n n' choice begun first first' (Some xs) None told bytes result is then gives = absurd is
-one_step n n' choice begun first first' (Some xs) (Some ys) told bytes result is then gives =
+one_step n n' choice begun first first' None new told bytes (Ok None) is after gives = tt
+one_step n n' choice begun first first' None new told bytes (Ok (Some event)) is after gives = tt
+one_step n n' choice begun first first' None new told bytes (Err f) is after gives = inr tt
+one_step n n' choice begun first first' (Some xs) None told bytes result is after gives = absurd is
+one_step n n' choice begun first first' (Some xs) (Some ys) told bytes result is after gives =
     by result gives
     (ap (chosen choice begun first) is ∙ put_is choice begun first told ys
-    ∙ ap (λ f. put (told_given choice first told) (chosen choice true f ys)) (sym then))
+    ∙ ap (λ f. put (told_given choice first told) (chosen choice true f ys)) (sym after))
   where
     by : (result : Result (Option Event) CaptureFault) → IsGiven (told_given choice first told) bytes result →
         chosen choice begun first xs ≡ put (told_given choice first told) (chosen choice true first' ys) →
@@ -88,13 +89,13 @@ pub stepped : (n n' : ℕ) (cut begun : Bool) (choice choice' : Choice) (first f
     IsGiven (told_given choice first told) bytes result →
     Steps n n' (coming_uncut cut (option_map (chosen choice begun first) old))
     (coming_uncut cut (option_map (chosen choice' true first') new)) bytes result
-stepped n n' cut begun choice choice' first first' old new told bytes result uncut (inl never) same then gives =
+stepped n n' cut begun choice choice' first first' old new told bytes result uncut (inl never) same after gives =
     absurd never
-stepped n n' cut begun choice choice' first first' old new told bytes result uncut (inr is) same then gives =
+stepped n n' cut begun choice choice' first first' old new told bytes result uncut (inr is) same after gives =
     subst (λ c. Steps n n' (coming_uncut c (option_map (chosen choice begun first) old))
     (coming_uncut c (option_map (chosen choice' true first') new)) bytes result) (sym uncut)
     (subst (λ it. Steps n n' (option_map (chosen choice begun first) old) (option_map (chosen it true first') new) bytes result)
-    (sym same) (one_step n n' choice begun first first' old new told bytes result is then gives))
+    (sym same) (one_step n n' choice begun first first' old new told bytes result is after gives))
 
 -- the file was cut before
 pub at_end : (n : ℕ) (cut : Bool) (all later : Option (List Answer)) (bytes : List ℕ) → cut ≡ true →

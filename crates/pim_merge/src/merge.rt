@@ -319,6 +319,7 @@ impl<R: Feed + Drop> Merge<R> {
         moment_at(self.clock, time)
     }
 
+    #[tactic(auto, using(crate::proofs::Tallies::tally_there))]
     /// What was taken of this capture.
     pub fn tally(&self, capture: usize) -> Tally
         requires { capture < length self.now.lanes }
