@@ -60,7 +60,7 @@ pub same_tallies : (now : List LaneState) (number : ℕ) (lane d : LaneState) �
     → tallies_of (set now number lane) ≡ tallies_of now
 same_tallies now number lane d below same =
     map-set (λ (l : LaneState). l.tally) now number lane ∙ (ap (set (tallies_of now) number) (same ∙ sym (get_or-map (λ (l : LaneState). l.tally) now number d no_tally below))
-        ∙ set-get_or (tallies_of now) number no_tally)
+    ∙ set-get_or (tallies_of now) number no_tally)
 
 -- ---- all up to one
 

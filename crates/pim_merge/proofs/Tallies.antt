@@ -1,5 +1,5 @@
 -- The tallies of captures.
-use Rattle.std.proofs.Common.{◌≡◌, ◌∙◌, ℕ, zero, suc, List, [], ◌∷◌, ◌++◌, set, Some, refl, sym, ap}
+use Rattle.std.proofs.Common.{◌≡◌, ◌∙◌, ℕ, zero, suc, List, [], ◌∷◌, ◌++◌, set, Some, refl, ap}
 use Rattle.std.proofs.lemmas.List.{map-set}
 use Rattle.pim_capture.specs.Capture.{Told}
 use Rattle.pim_merge.specs.declared.tally.Tally.{Tally}

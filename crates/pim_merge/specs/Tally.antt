@@ -51,7 +51,6 @@ abbrev pub last_time : Option ℕ → Option ℕ → Option ℕ
 last_time last None = last
 last_time last (Some time) = Some time
 
-
 abbrev pub is_fragment : Option Why → Bool
 is_fragment (Some Fragment) = true
 is_fragment why = false

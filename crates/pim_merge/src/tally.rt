@@ -49,13 +49,7 @@ fn first_number(first: Option<u64>, holds: bool, number: u64) -> Option<u64>
 {
     match first {
         Some(first) => Some(first),
-        None => {
-            if holds {
-                Some(number)
-            } else {
-                None
-            }
-        }
+        None => { if holds { Some(number) } else { None } }
     }
 }
 
