@@ -21,7 +21,7 @@ use Rattle.pim_text.specs.Laws.{MessageTextStates}
 use Rattle.pim_text.specs.Read.{States}
 use Rattle.pim_text.specs.Value.{message_in}
 use Rattle.pim_check.specs.declared.fault.Fault.{Fault}
-use Rattle.pim_check.specs.declared.fault.Fault.TheVariants.{Words, File, RoutesTooLong, RoutesRead, RoutesLine, Capture, Vlans, Interfaces, TooBig, Full}
+use Rattle.pim_check.specs.declared.fault.Fault.TheVariants.{Words, File, Unopened, RoutesTooLong, RoutesRead, RoutesLine, Capture, InFile, TooBig, Full}
 use Rattle.pim_check.specs.declared.fault.Fault.TheVariants.{Frame, Hello, JoinPrune, InputTooLong, InputRead, Output, Memory}
 use Rattle.pim_check.specs.declared.fault.Fault.TheVariants.{TextTooLong, TextLine, TextFamily}
 use Rattle.pim_check.specs.Report.{content_faults, content_text, body_report, hello_report, message_report, input_report, Explains, IsMessageFault, IsStated, Reports}
@@ -54,12 +54,12 @@ unreported report old new (TextLine number) kept cause = absurd cause
 unreported report old new TextFamily kept cause = absurd cause
 unreported report old new Output kept cause = absurd cause
 unreported report old new (File word) kept cause = absurd cause
+unreported report old new (Unopened file why) kept cause = absurd cause
 unreported report old new RoutesTooLong kept cause = absurd cause
 unreported report old new RoutesRead kept cause = absurd cause
 unreported report old new (RoutesLine number) kept cause = absurd cause
 unreported report old new (Capture why) kept cause = absurd cause
-unreported report old new (Vlans first other) kept cause = absurd cause
-unreported report old new (Interfaces first other) kept cause = absurd cause
+unreported report old new (InFile why file number) kept cause = absurd cause
 unreported report old new (TooBig group) kept cause = absurd cause
 unreported report old new (Full needed) kept cause = absurd cause
 

@@ -5,7 +5,7 @@ use Rattle.pim_words.specs.declared.fault.ConfigCause.{ConfigCause}
 use Rattle.pim_words.specs.declared.fault.ConfigCause.TheVariants as cause
 use Rattle.pim_words.specs.declared.fault.Fault.TheVariants as of_words
 use Rattle.pim_check.specs.declared.fault.Fault.{Fault}
-use Rattle.pim_check.specs.declared.fault.Fault.TheVariants.{Words, File, Memory}
+use Rattle.pim_check.specs.declared.fault.Fault.TheVariants.{Words, File, Unopened, Memory}
 use Rattle.pim_check.specs.Words.{routes_fault}
 
 -- The program's fault for this fault of the words.
@@ -21,5 +21,6 @@ abbrev pub open_fault : OpenFault → Fault
 open_fault opening.Upstream = writer_told
 open_fault opening.Rp = config_told cause.Rp
 open_fault (opening.File word) = File word
+open_fault (opening.Port file cause) = Unopened file cause
 open_fault (opening.Routes fault) = routes_fault fault
 open_fault opening.Memory = Memory

@@ -1,10 +1,12 @@
 -- The line of a fault.
-use Rattle.std.specs.Prelude.{ℕ, List, ◌++◌, codes, decimal, unwrap_or}
+use Rattle.std.specs.Prelude.{ℕ, Bool, true, false, List, ◌++◌, codes, decimal, unwrap_or}
 use Rattle.clap.specs.declared.error.kind.ErrorKind.{ErrorKind}
 use Rattle.clap.specs.Values.{kind_text}
 use Rattle.pim_report.specs.Malformed.{frame_words, hello_words, join_prune_words}
 use Rattle.pim_addr.specs.declared.family.AddressFamily.TheVariants.{Ipv4, Ipv6}
 use Rattle.pim_addr.specs.Text.{address_text}
+use Rattle.pim_files.specs.declared.opener.FileCause.{FileCause}
+use Rattle.pim_files.specs.declared.opener.FileCause.TheVariants as opening
 use Rattle.pim_routes_file.specs.declared.fault.RoutesFault.{RoutesFault}
 use Rattle.pim_routes_file.specs.declared.fault.RoutesFault.TheVariants as routes
 use Rattle.pim_words.specs.declared.addresses.Address.{Address as Either}
@@ -18,9 +20,11 @@ use Rattle.pim_words.specs.declared.fault.Fault.TheVariants as words
 use Rattle.pim_check.specs.declared.causes.CaptureCause.{CaptureCause}
 use Rattle.pim_check.specs.declared.causes.CaptureCause.TheVariants as capture
 use Rattle.pim_check.specs.declared.fault.Fault.{Fault}
-use Rattle.pim_check.specs.declared.fault.Fault.TheVariants.{Words, File, RoutesTooLong, RoutesRead, RoutesLine, Capture, Vlans, Interfaces}
+use Rattle.pim_check.specs.declared.fault.Fault.TheVariants.{Words, File, Unopened, RoutesTooLong, RoutesRead, RoutesLine, Capture, InFile}
 use Rattle.pim_check.specs.declared.fault.Fault.TheVariants.{Frame, Hello, JoinPrune, TooBig, Full, InputTooLong}
 use Rattle.pim_check.specs.declared.fault.Fault.TheVariants.{TextTooLong, TextLine, TextFamily, InputRead, Output, Memory}
+use Rattle.pim_check.specs.declared.warning.Warning.{Warning}
+use Rattle.pim_check.specs.declared.warning.Warning.TheVariants.{CutShort, Fragments, CutFrames, RunsBack, Jumps}
 use Rattle.pim_text.specs.Text.{line}
 
 -- The short text that `clap` has for a kind of error. It has none for a request for help.
@@ -42,11 +46,34 @@ config_words config.Rp = codes "config rp"
 abbrev pub capture_words : CaptureCause → List ℕ
 capture_words capture.Magic = codes "capture magic"
 capture_words capture.LinkType = codes "capture link-type"
+capture_words (capture.LinkNumber number) = codes "capture link-type " ++ decimal number
 capture_words capture.Truncated = codes "capture truncated"
 capture_words capture.TooLong = codes "capture too-long"
 capture_words capture.Read = codes "capture read"
 capture_words capture.Block = codes "capture block"
 capture_words capture.Time = codes "capture time"
+capture_words (capture.Vlans first other) = codes "capture vlans " ++ decimal first ++ codes "," ++ decimal other
+capture_words (capture.Interfaces first other) =
+    codes "capture interfaces " ++ decimal first ++ codes "," ++ decimal other
+
+-- Whether a fault of this cause is one of a single record.
+abbrev pub is_of_record : CaptureCause → Bool
+is_of_record capture.TooLong = true
+is_of_record capture.Block = true
+is_of_record capture.Time = true
+is_of_record other = false
+
+-- The words that say in which file a fault is, and at which record if it is one of a single record.
+abbrev pub place_words : Bool → List ℕ → ℕ → List ℕ
+place_words true file number = codes " in " ++ file ++ codes " at record " ++ decimal number
+place_words false file number = codes " in " ++ file
+
+-- The words that say why a file can't be opened.
+abbrev pub file_words : FileCause → List ℕ
+file_words opening.Missing = codes ": no such file"
+file_words opening.Denied = codes ": permission denied"
+file_words opening.Directory = codes ": is a directory"
+file_words opening.Other = codes ""
 
 -- The text of an address of either family.
 abbrev pub address_words : Either → List ℕ
@@ -76,12 +103,12 @@ plan_words words.Memory = codes "memory"
 abbrev pub fault_words : Fault → List ℕ
 fault_words (Words fault) = plan_words fault
 fault_words (File word) = codes "file " ++ word.now
+fault_words (Unopened file cause) = codes "file " ++ file.now ++ file_words cause
 fault_words RoutesTooLong = codes "routes too-long"
 fault_words RoutesRead = codes "routes read"
 fault_words (RoutesLine number) = codes "routes line " ++ decimal number
 fault_words (Capture cause) = capture_words cause
-fault_words (Vlans first other) = codes "capture vlans " ++ (decimal first ++ (codes "," ++ decimal other))
-fault_words (Interfaces first other) = codes "capture interfaces " ++ (decimal first ++ (codes "," ++ decimal other))
+fault_words (InFile cause file number) = capture_words cause ++ place_words (is_of_record cause) file.now number
 fault_words (Frame fault) = frame_words fault
 fault_words (Hello fault) = hello_words fault
 fault_words (JoinPrune fault) = join_prune_words fault
@@ -98,3 +125,17 @@ fault_words Memory = codes "memory"
 -- The line of a fault, as the program writes it.
 abbrev pub fault_text : Fault → List ℕ
 fault_text fault = line (codes "pimtree: " ++ fault_words fault)
+
+-- The words of a warning on the capture in this file, with its number.
+abbrev pub warning_words : Warning → List ℕ → ℕ → List ℕ
+warning_words CutShort file number = file ++ codes " ends inside record " ++ decimal number
+warning_words Fragments file number =
+    file ++ codes " has " ++ decimal number ++ codes " fragments, which are skipped"
+warning_words CutFrames file number =
+    file ++ codes " has " ++ decimal number ++ codes " frames that are cut by the snapshot length"
+warning_words RunsBack file number = codes "time runs back in " ++ file ++ codes " at record " ++ decimal number
+warning_words Jumps file number = codes "time jumps in " ++ file ++ codes " at record " ++ decimal number
+
+-- The line of a warning, as the program writes it.
+abbrev pub warning_text : Warning → List ℕ → ℕ → List ℕ
+warning_text warning file number = line (codes "pimtree: warning: " ++ warning_words warning file number)

@@ -1,8 +1,9 @@
 //! The causes of a fault of a capture, and the words of causes.
 
 ghost use Rattle.std.specs.Prelude.{◌≡◌};
-ghost use Rattle.pim_check.specs.Words.{capture_words, config_words, no_port_words};
+ghost use Rattle.pim_check.specs.Words.{config_words, file_words, is_of_record, no_port_words};
 
+use pim_files::FileCause;
 use pim_words::{ConfigCause, Side};
 
 /// Why a capture isn't read to its end.
@@ -12,6 +13,8 @@ pub enum CaptureCause {
     Magic,
     /// Its link type is neither Ethernet nor raw IP.
     LinkType,
+    /// The link of this number isn't read.
+    LinkNumber(u16),
     /// It ends inside its header or a record.
     Truncated,
     /// A record's captured length is above 262,144 bytes, or a block has too many bytes.
@@ -22,6 +25,20 @@ pub enum CaptureCause {
     Block,
     /// A time of it is out of range.
     Time,
+    /// Its packets have these VLANs, by the tag in which they differ.
+    Vlans {
+        /// That of the first packet.
+        first: u16,
+        /// Another one.
+        other: u16,
+    },
+    /// Its packets are of the interfaces with these numbers.
+    Interfaces {
+        /// That of the first packet.
+        first: u32,
+        /// Another one.
+        other: u32,
+    },
 }
 
 /// The words of a router of two without a port.
@@ -34,18 +51,25 @@ pub fn no_port_words(side: Side) -> &'static [u8]
     }
 }
 
-/// The words of a capture's fault.
-pub fn capture_words(cause: CaptureCause) -> &'static [u8]
-    ensures { result.now ≡ capture_words cause }
+/// Whether a fault of this cause is one of a single record.
+pub fn is_of_record(cause: CaptureCause) -> bool
+    ensures { result ≡ is_of_record cause }
+{
+    matches!(
+        cause,
+        CaptureCause::TooLong | CaptureCause::Block | CaptureCause::Time
+    )
+}
+
+/// The words that say why a file can't be opened.
+pub fn file_words(cause: FileCause) -> &'static [u8]
+    ensures { result.now ≡ file_words cause }
 {
     match cause {
-        CaptureCause::Magic => b"capture magic",
-        CaptureCause::LinkType => b"capture link-type",
-        CaptureCause::Truncated => b"capture truncated",
-        CaptureCause::TooLong => b"capture too-long",
-        CaptureCause::Read => b"capture read",
-        CaptureCause::Block => b"capture block",
-        CaptureCause::Time => b"capture time",
+        FileCause::Missing => b": no such file",
+        FileCause::Denied => b": permission denied",
+        FileCause::Directory => b": is a directory",
+        FileCause::Other => b"",
     }
 }
 

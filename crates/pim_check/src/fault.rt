@@ -1,17 +1,19 @@
 //! The faults of the program, and the line of each.
 
-ghost use Rattle.std.specs.Prelude.{◌≡◌, ◌≤◌, ◌++◌, take, decimal};
+ghost use Rattle.std.specs.Prelude.{◌≡◌, ◌≤◌, ◌++◌, take, codes, decimal};
 ghost use Rattle.pim_device.specs.Device.{AppendsAll, failures_after};
 ghost use Rattle.pim_report.specs.Malformed.{malformed_words};
 ghost use Rattle.pim_check.specs.declared.fault.Fault.TheVariants.{Words};
 ghost use Rattle.pim_text.specs.Text.{line};
 ghost use Rattle.pim_check.specs.Words.{refusal_words, address_words, plan_words, fault_words};
-ghost use Rattle.pim_check.specs.Words.{fault_text, routes_fault};
+ghost use Rattle.pim_check.specs.Words.{fault_text, routes_fault, capture_words, place_words};
+ghost use Rattle.pim_check.specs.Words.{file_words, is_of_record};
 
-use crate::causes::{CaptureCause, capture_words, config_words, no_port_words};
+use crate::causes::{CaptureCause, config_words, file_words, is_of_record, no_port_words};
 use clap::error::ErrorKind;
 use itoa::Buffer;
 use pim_addr::{Drain, Failed, V4, V6, write_all, write_text};
+use pim_files::FileCause;
 use pim_frame::FrameFault;
 use pim_hello::HelloFault;
 use pim_jp::JpFault;
@@ -25,30 +27,32 @@ use pim_words::Address;
 pub enum Fault<'a> {
     /// The words give no plan.
     Words(pim_words::Fault<'a>),
-    /// The file of a port or of the routes can't be opened. This is the word of the port, or the
-    /// name of the file of routes.
+    /// The file of a port without a link, or of the routes, can't be opened. This is the word of
+    /// the port, or the name of the file of routes.
     File(&'a str),
+    /// The file of a port with a link can't be opened.
+    Unopened {
+        /// The name of the file.
+        file: &'a str,
+        /// Why it can't be opened.
+        cause: FileCause,
+    },
     /// The file of routes has more than 1,048,576 bytes.
     RoutesTooLong,
     /// The file of routes can't be read.
     RoutesRead,
     /// This line of the file of routes, counted from 1, has another form, or its row is refused.
     RoutesLine(usize),
-    /// A capture has a fault.
+    /// The capture of a port without a link has a fault.
     Capture(CaptureCause),
-    /// The packets of a capture have these VLANs, by the tag in which they differ.
-    Vlans {
-        /// That of the first packet.
-        first: u16,
-        /// Another one.
-        other: u16,
-    },
-    /// The packets of a capture are of the interfaces with these numbers.
-    Interfaces {
-        /// That of the first packet.
-        first: u32,
-        /// Another one.
-        other: u32,
+    /// The capture of a port with a link has a fault.
+    InFile {
+        /// The fault.
+        cause: CaptureCause,
+        /// The name of the file.
+        file: &'a str,
+        /// The number of the record that has the fault, counted from 1.
+        record: u64,
     },
     /// The message has a fault in its header, its checksum or its destination.
     Frame(FrameFault),
@@ -99,7 +103,7 @@ impl From<RoutesFault> for Fault<'static> {
 }
 
 /// Writes the words and ends the line.
-fn write_plain<W: Drain>(writer: &mut W, words: &[u8]) -> Result<(), Failed>
+pub(crate) fn write_plain<W: Drain>(writer: &mut W, words: &[u8]) -> Result<(), Failed>
     ensures bytes { AppendsAll (W.contents writer.old) (W.contents writer.new) result
         (line words.now) }
     ensures count { W.failures writer.new ≡ failures_after (W.failures writer.old) result }
@@ -119,30 +123,126 @@ fn write_numbered<W: Drain>(writer: &mut W, words: &[u8], number: usize) -> Resu
     write_all(writer, b"\n")
 }
 
-/// Writes two numbers with words between them, and ends the line.
-fn write_two<W: Drain>(writer: &mut W, first: u32, between: &[u8], other: u32) -> Result<(), Failed>
+/// Writes the words and a number.
+fn put_number<W: Drain>(writer: &mut W, words: &[u8], number: u64) -> Result<(), Failed>
     ensures bytes { AppendsAll (W.contents writer.old) (W.contents writer.new) result
-        (line (decimal first ++ (between.now ++ decimal other))) }
-    ensures count { W.failures writer.new ≡ failures_after (W.failures writer.old) result }
-{
-    write_all(writer, Buffer::new().format(first).as_bytes())?;
-    write_numbered(writer, between, other as usize)
-}
-
-/// Writes the words and two numbers with other words between them, and ends the line.
-fn write_numbers<W: Drain>(
-    writer: &mut W,
-    words: &[u8],
-    first: u32,
-    between: &[u8],
-    other: u32,
-) -> Result<(), Failed>
-    ensures bytes { AppendsAll (W.contents writer.old) (W.contents writer.new) result
-        (line (words.now ++ (decimal first ++ (between.now ++ decimal other)))) }
+        (words.now ++ decimal number) }
     ensures count { W.failures writer.new ≡ failures_after (W.failures writer.old) result }
 {
     write_all(writer, words)?;
-    write_two(writer, first, between, other)
+    write_all(writer, Buffer::new().format(number).as_bytes())
+}
+
+/// Writes the words and two numbers, with a comma between them.
+fn put_two<W: Drain>(writer: &mut W, words: &[u8], first: u64, other: u64) -> Result<(), Failed>
+    ensures bytes { AppendsAll (W.contents writer.old) (W.contents writer.new) result
+        (words.now ++ decimal first ++ codes "," ++ decimal other) }
+    ensures count { W.failures writer.new ≡ failures_after (W.failures writer.old) result }
+{
+    put_number(writer, words, first)?;
+    put_number(writer, b",", other)
+}
+
+/// Writes the words of a capture's fault.
+fn put_capture<W: Drain>(writer: &mut W, cause: CaptureCause) -> Result<(), Failed>
+    ensures bytes { AppendsAll (W.contents writer.old) (W.contents writer.new) result
+        (capture_words cause) }
+    ensures count { W.failures writer.new ≡ failures_after (W.failures writer.old) result }
+{
+    match cause {
+        CaptureCause::Magic => write_all(writer, b"capture magic"),
+        CaptureCause::LinkType => write_all(writer, b"capture link-type"),
+        CaptureCause::LinkNumber(number) => {
+            put_number(writer, b"capture link-type ", u64::from(number))
+        }
+        CaptureCause::Truncated => write_all(writer, b"capture truncated"),
+        CaptureCause::TooLong => write_all(writer, b"capture too-long"),
+        CaptureCause::Read => write_all(writer, b"capture read"),
+        CaptureCause::Block => write_all(writer, b"capture block"),
+        CaptureCause::Time => write_all(writer, b"capture time"),
+        CaptureCause::Vlans { first, other } => {
+            put_two(writer, b"capture vlans ", u64::from(first), u64::from(other))
+        }
+        CaptureCause::Interfaces { first, other } => {
+            put_two(writer, b"capture interfaces ", u64::from(first), u64::from(other))
+        }
+    }
+}
+
+/// Writes the words of a capture's fault, and ends the line.
+fn write_capture<W: Drain>(writer: &mut W, cause: CaptureCause) -> Result<(), Failed>
+    ensures bytes { AppendsAll (W.contents writer.old) (W.contents writer.new) result
+        (line (capture_words cause)) }
+    ensures count { W.failures writer.new ≡ failures_after (W.failures writer.old) result }
+{
+    put_capture(writer, cause)?;
+    write_all(writer, b"\n")
+}
+
+/// Writes words, the name of a file, more words and a number.
+pub(crate) fn put_about<W: Drain>(
+    writer: &mut W,
+    words: &[u8],
+    file: &str,
+    more: &[u8],
+    number: u64,
+) -> Result<(), Failed>
+    ensures bytes { AppendsAll (W.contents writer.old) (W.contents writer.new) result
+        (words.now ++ file.now ++ more.now ++ decimal number) }
+    ensures count { W.failures writer.new ≡ failures_after (W.failures writer.old) result }
+{
+    write_all(writer, words)?;
+    write_all(writer, file.as_bytes())?;
+    put_number(writer, more, number)
+}
+
+/// Writes words, the name of a file, more words and a number, and ends the line.
+pub(crate) fn write_about<W: Drain>(
+    writer: &mut W,
+    words: &[u8],
+    file: &str,
+    more: &[u8],
+    number: u64,
+) -> Result<(), Failed>
+    ensures bytes { AppendsAll (W.contents writer.old) (W.contents writer.new) result
+        (line (words.now ++ file.now ++ more.now ++ decimal number)) }
+    ensures count { W.failures writer.new ≡ failures_after (W.failures writer.old) result }
+{
+    put_about(writer, words, file, more, number)?;
+    write_all(writer, b"\n")
+}
+
+/// Writes in which file a fault is, and at which record if it is one of a single record, and ends
+/// the line.
+fn write_place<W: Drain>(
+    writer: &mut W,
+    is_of_record: bool,
+    file: &str,
+    number: u64,
+) -> Result<(), Failed>
+    ensures bytes { AppendsAll (W.contents writer.old) (W.contents writer.new) result
+        (line (place_words is_of_record file.now number)) }
+    ensures count { W.failures writer.new ≡ failures_after (W.failures writer.old) result }
+{
+    if !is_of_record {
+        return write_word(writer, b" in ", file);
+    }
+    write_about(writer, b" in ", file, b" at record ", number)
+}
+
+/// Writes the words of a capture's fault and its place, and ends the line.
+fn write_in_file<W: Drain>(
+    writer: &mut W,
+    cause: CaptureCause,
+    file: &str,
+    number: u64,
+) -> Result<(), Failed>
+    ensures bytes { AppendsAll (W.contents writer.old) (W.contents writer.new) result
+        (line (capture_words cause ++ place_words (is_of_record cause) file.now number)) }
+    ensures count { W.failures writer.new ≡ failures_after (W.failures writer.old) result }
+{
+    put_capture(writer, cause)?;
+    write_place(writer, is_of_record(cause), file, number)
 }
 
 /// Writes the words of a message's fault and ends the line.
@@ -164,6 +264,22 @@ fn write_word<W: Drain>(writer: &mut W, words: &[u8], word: &str) -> Result<(), 
     write_all(writer, words)?;
     write_all(writer, word.as_bytes())?;
     write_all(writer, b"\n")
+}
+
+/// Writes words, the name of a file and more words, and ends the line.
+fn write_named<W: Drain>(
+    writer: &mut W,
+    words: &[u8],
+    file: &str,
+    more: &[u8],
+) -> Result<(), Failed>
+    ensures bytes { AppendsAll (W.contents writer.old) (W.contents writer.new) result
+        (line (words.now ++ file.now ++ more.now)) }
+    ensures count { W.failures writer.new ≡ failures_after (W.failures writer.old) result }
+{
+    write_all(writer, words)?;
+    write_all(writer, file.as_bytes())?;
+    write_plain(writer, more)
 }
 
 /// Writes the text of an address at the start of a buffer, and returns its length.
@@ -228,20 +344,18 @@ fn write_words<W: Drain>(fault: &Fault<'_>, writer: &mut W) -> Result<(), Failed
     match fault {
         Fault::Words(fault) => write_plan_words(fault, writer),
         Fault::File(word) => write_word(writer, b"file ", word),
+        Fault::Unopened { file, cause } => {
+            write_named(writer, b"file ", file, file_words(*cause))
+        }
         Fault::RoutesTooLong => write_plain(writer, b"routes too-long"),
         Fault::RoutesRead => write_plain(writer, b"routes read"),
         Fault::RoutesLine(number) => write_numbered(writer, b"routes line ", *number),
-        Fault::Capture(cause) => write_plain(writer, capture_words(*cause)),
-        Fault::Vlans { first, other } => write_numbers(
-            writer,
-            b"capture vlans ",
-            u32::from(*first),
-            b",",
-            u32::from(*other),
-        ),
-        Fault::Interfaces { first, other } => {
-            write_numbers(writer, b"capture interfaces ", *first, b",", *other)
-        }
+        Fault::Capture(cause) => write_capture(writer, *cause),
+        Fault::InFile {
+            cause,
+            file,
+            record,
+        } => write_in_file(writer, *cause, file, *record),
         Fault::Frame(fault) => write_malformed(Malformed::Frame(*fault), writer),
         Fault::Hello(fault) => write_malformed(Malformed::Hello(*fault), writer),
         Fault::JoinPrune(fault) => write_malformed(Malformed::JoinPrune(*fault), writer),

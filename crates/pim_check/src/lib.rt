@@ -6,6 +6,7 @@
 //!   write, `check_into` prints as the text of that message.
 //! - `Fault` is why a command wasn't done. `fault_line` writes its line, and `tell_into` writes it
 //!   on one of two devices and returns the status.
+//! - `Warning` is what is told of a capture beside a result. `warning_line` writes its line.
 //!
 //! A device's count of failures rises exactly where its failure is the result.
 //!
@@ -18,9 +19,11 @@ mod check;
 mod fault;
 mod telling;
 mod unopened;
+mod warning;
 
 pub use build::{build_into, build_task};
 pub use causes::CaptureCause;
 pub use check::{check_into, check_task};
 pub use fault::{Fault, fault_line};
 pub use telling::{FAULTY, tell_into};
+pub use warning::{Warning, warning_line};

@@ -15,6 +15,7 @@ impl<'a> From<OpenFault<'a>> for Fault<'a> {
             OpenFault::Upstream => Fault::Words(pim_words::Fault::WriterAddress),
             OpenFault::Rp => Fault::Words(pim_words::Fault::Config(ConfigCause::Rp)),
             OpenFault::File(word) => Fault::File(word),
+            OpenFault::Port { file, cause } => Fault::Unopened { file, cause },
             OpenFault::Routes(fault) => Fault::from(fault),
             OpenFault::Memory => Fault::Memory,
         }

@@ -9,6 +9,7 @@ use Rattle.pim_replay.specs.declared.mirror_text.MirrorTextFault.TheVariants as 
 use Rattle.pim_replay.specs.declared.replay.ReplayFault.TheVariants as of_replay
 use Rattle.pim_replay.specs.ChangeText.{TellsChange}
 use Rattle.pim_router.specs.State.{RouterState, Setup, new_router}
+use Rattle.pim_words.specs.declared.task.Port.{Port}
 use Rattle.pim_check.specs.declared.fault.Fault.{Fault}
 use Rattle.pim_commands.specs.Changing.{IsChanged, ChangesNew}
 use Rattle.pim_commands.specs.Mirroring.{mirrored, MirrorAnswer}
@@ -23,12 +24,13 @@ made_so family bytes_of end limit merge merge' other other' old new by writing a
     (subst (λ (s : RouterState). TellsChange family end by limit merge merge' s after other other' (new_router b) after_of bytes_of old new told) made
     (subst (λ (s : RouterState). TellsChange family end by limit merge merge' router after other other' s after_of bytes_of old new told) made_of is))
 
-module _ {F A N : Type 0} (family : AddressFamily) (bytes_of : A → List ℕ) (end : End) (limit : ℕ) (merge merge' other other' : MergeState) (old new : Option (List ℕ)) where
+module _ {F A N : Type 0} (family : AddressFamily) (bytes_of : A → List ℕ) (end : End) (limit : ℕ) (merge merge' other other' : MergeState) (old new : Option (List ℕ)) (ports others : List (Port A)) where
   changes_retold : (writing : Writing) (router after router_of after_of : RouterState) (told : Result ℕ (MirrorTextFault F A N))
       → TellsChange family end writing limit merge merge' router after other other' router_of after_of bytes_of old new told
       → TellsChange family end writing limit merge merge' router after other other' router_of after_of bytes_of old new (retold told)
   changes_retold writing router after router_of after_of (Ok status) is = is
   changes_retold writing router after router_of after_of (Err (of_mirror.TooBig group)) is = is
+  changes_retold writing router after router_of after_of (Err (of_mirror.Second told)) is = is
   changes_retold writing router after router_of after_of (Err (of_mirror.Full needed)) is = is
   changes_retold writing router after router_of after_of (Err (of_mirror.Replay (of_replay.Capture told))) is = is
   changes_retold writing router after router_of after_of (Err (of_mirror.Replay of_replay.Output)) is = is
@@ -37,7 +39,7 @@ module _ {F A N : Type 0} (family : AddressFamily) (bytes_of : A → List ℕ) (
   is_changed : (by writing : Writing) (a b : Setup) (router after router_of after_of : RouterState) (told : Result ℕ (MirrorTextFault F A N)) → by ≡ writing
       → router ≡ new_router a → router_of ≡ new_router b
       → TellsChange family end by limit merge merge' router after other other' router_of after_of bytes_of old new told
-      → IsChanged family bytes_of end limit writing merge merge' other other' a b old new (mirrored family bytes_of told)
+      → IsChanged ports others family bytes_of end limit writing merge merge' other other' a b old new (mirrored ports others family bytes_of told)
   is_changed by writing a b router after router_of after_of told same made made_of is = record {
     after = after;
     after_of = after_of;
@@ -45,13 +47,13 @@ module _ {F A N : Type 0} (family : AddressFamily) (bytes_of : A → List ℕ) (
     tells =
         made_so family bytes_of end limit merge merge' other other' old new by writing a b router after router_of after_of (retold told) same made made_of
         (changes_retold by router after router_of after_of told is);
-    answer = same_told family bytes_of end limit merge merge' old new told;
+    answer = same_told ports others family bytes_of told;
   }
 
   pub changed_new : (by writing : Writing) (a wanted_a b wanted_b : Setup) (router after router_of after_of : RouterState) (told : Result ℕ (MirrorTextFault F A N)) (result : Result ℕ Fault)
       → by ≡ writing → a ≡ wanted_a → b ≡ wanted_b → router ≡ new_router a → router_of ≡ new_router b
-      → TellsChange family end by limit merge merge' router after other other' router_of after_of bytes_of old new told → result ≡ mirrored family bytes_of told
-      → ChangesNew family bytes_of end limit writing merge merge' other other' wanted_a wanted_b old new result
+      → TellsChange family end by limit merge merge' router after other other' router_of after_of bytes_of old new told → result ≡ mirrored ports others family bytes_of told
+      → ChangesNew ports others family bytes_of end limit writing merge merge' other other' wanted_a wanted_b old new result
   changed_new by writing a wanted_a b wanted_b router after router_of after_of (Ok status) result same_by same_a same_b made made_of is answer =
       rw (answer)
       (is_changed by writing wanted_a wanted_b router after router_of after_of (Ok status) same_by (made ∙ ap new_router same_a) (made_of ∙ ap new_router same_b) is)

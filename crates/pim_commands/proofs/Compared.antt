@@ -12,6 +12,7 @@ use Rattle.pim_replay.specs.Same.{Compares, failures_of_answer}
 use Rattle.pim_router.specs.declared.config.ConfigFault.{ConfigFault}
 use Rattle.pim_router.specs.Config.{config_faults}
 use Rattle.pim_router.specs.State.{RouterState, Setup, new_router}
+use Rattle.pim_words.specs.declared.task.Port.{Port}
 use Rattle.pim_check.specs.declared.fault.Fault.{Fault}
 use Rattle.pim_check.specs.declared.fault.Fault.TheVariants as of_run
 use Rattle.pim_commands.specs.Replaying.{config_fault, IsUnmade, IsFirstCause}
@@ -48,6 +49,7 @@ b_unmade family writing a b fault fine none is = rw (fine, none) (first_cause (c
 abbrev retold : {F A N : Type 0} → Result ℕ (SameFault F A N) → ComparisonAnswer A
 retold (Ok status) = Ok status
 retold (Err (of_same.Replay told)) = Err (of_same.Replay told)
+retold (Err (of_same.Second told)) = Err (of_same.Second told)
 retold (Err (of_same.TooBig group)) = Err (of_same.TooBig group)
 
 made_so : {A : Type 0} (family : AddressFamily) (bytes_of : A → List ℕ) (end : End) (writing : Writing) (merge merge' other other' : MergeState) (old new : Option (List ℕ))
@@ -59,10 +61,11 @@ made_so family bytes_of end writing merge merge' other other' old new a b router
     (subst (λ (s : RouterState). Compares family end writing merge merge' router after other other' s after_of bytes_of old new told) made_of is)
 
 module _ {F A N : Type 0} (family : AddressFamily) (bytes_of : A → List ℕ) (end : End) (writing : Writing) (merge merge' other other' : MergeState)
-    (old new : Option (List ℕ)) where
-  same_told : (told : Result ℕ (SameFault F A N)) → compared family bytes_of told ≡ compared family bytes_of (retold told)
+    (old new : Option (List ℕ)) (ports others : List (Port A)) where
+  same_told : (told : Result ℕ (SameFault F A N)) → compared ports others family bytes_of told ≡ compared ports others family bytes_of (retold told)
   same_told (Ok status) = refl
   same_told (Err (of_same.Replay told)) = refl
+  same_told (Err (of_same.Second told)) = refl
   same_told (Err (of_same.TooBig group)) = refl
 
   compares_retold : (router after router_of after_of : RouterState) (told : Result ℕ (SameFault F A N))
@@ -70,6 +73,7 @@ module _ {F A N : Type 0} (family : AddressFamily) (bytes_of : A → List ℕ) (
       → Compares family end writing merge merge' router after other other' router_of after_of bytes_of old new (retold told)
   compares_retold router after router_of after_of (Ok status) is = is
   compares_retold router after router_of after_of (Err (of_same.TooBig group)) is = is
+  compares_retold router after router_of after_of (Err (of_same.Second told)) is = is
   compares_retold router after router_of after_of (Err (of_same.Replay (of_replay.Capture told))) is = is
   compares_retold router after router_of after_of (Err (of_same.Replay of_replay.Output)) is = is
   compares_retold router after router_of after_of (Err (of_same.Replay of_replay.Memory)) is = is
@@ -82,7 +86,7 @@ module _ {F A N : Type 0} (family : AddressFamily) (bytes_of : A → List ℕ) (
 
   is_compared : (a b : Setup) (router after router_of after_of : RouterState) (told : Result ℕ (SameFault F A N)) → router ≡ new_router a → router_of ≡ new_router b
       → Compares family end writing merge merge' router after other other' router_of after_of bytes_of old new told
-      → IsCompared family bytes_of end writing merge merge' other other' a b old new (compared family bytes_of told)
+      → IsCompared ports others family bytes_of end writing merge merge' other other' a b old new (compared ports others family bytes_of told)
   is_compared a b router after router_of after_of told made made_of is = record {
     after = after;
     after_of = after_of;
@@ -93,8 +97,8 @@ module _ {F A N : Type 0} (family : AddressFamily) (bytes_of : A → List ℕ) (
 
   pub compared_new : (by : Writing) (a wanted_a b wanted_b : Setup) (router after router_of after_of : RouterState) (told : Result ℕ (SameFault F A N)) (result : Result ℕ Fault) → by ≡ writing
       → a ≡ wanted_a → b ≡ wanted_b → router ≡ new_router a → router_of ≡ new_router b
-      → Compares family end by merge merge' router after other other' router_of after_of bytes_of old new told → result ≡ compared family bytes_of told
-      → ComparesNew family bytes_of end writing merge merge' other other' wanted_a wanted_b old new result
+      → Compares family end by merge merge' router after other other' router_of after_of bytes_of old new told → result ≡ compared ports others family bytes_of told
+      → ComparesNew ports others family bytes_of end writing merge merge' other other' wanted_a wanted_b old new result
   compared_new by a wanted_a b wanted_b router after router_of after_of (Ok status) result same_by same_a same_b made made_of is answer =
       rw (answer)
       (is_compared wanted_a wanted_b router after router_of after_of (Ok status) (made ∙ ap new_router same_a) (made_of ∙ ap new_router same_b)
@@ -106,10 +110,11 @@ module _ {F A N : Type 0} (family : AddressFamily) (bytes_of : A → List ℕ) (
       (by_writer by router after router_of after_of (Err fault) same_by is)))
 
 -- the device's failures are those that are told
-pub failures_compared : {A F N : Type 0} (family : AddressFamily) (bytes_of : A → List ℕ) (before : ℕ) (told : Result ℕ (SameFault F A N))
-    → failures_of_answer before told ≡ write_failures_after before (compared family bytes_of told)
-failures_compared family bytes_of before (Ok status) = refl
-failures_compared family bytes_of before (Err (of_same.TooBig group)) = refl
-failures_compared family bytes_of before (Err (of_same.Replay (of_replay.Capture told))) = sym (capture_is_read before told.fault)
-failures_compared family bytes_of before (Err (of_same.Replay of_replay.Output)) = refl
-failures_compared family bytes_of before (Err (of_same.Replay of_replay.Memory)) = refl
+pub failures_compared : {A F N P : Type 0} (ports others : List (Port P)) (family : AddressFamily) (bytes_of : A → List ℕ) (before : ℕ) (told : Result ℕ (SameFault F A N))
+    → failures_of_answer before told ≡ write_failures_after before (compared ports others family bytes_of told)
+failures_compared ports others family bytes_of before (Ok status) = refl
+failures_compared ports others family bytes_of before (Err (of_same.TooBig group)) = refl
+failures_compared ports others family bytes_of before (Err (of_same.Second told)) = sym (capture_is_read before others told)
+failures_compared ports others family bytes_of before (Err (of_same.Replay (of_replay.Capture told))) = sym (capture_is_read before ports told)
+failures_compared ports others family bytes_of before (Err (of_same.Replay of_replay.Output)) = refl
+failures_compared ports others family bytes_of before (Err (of_same.Replay of_replay.Memory)) = refl

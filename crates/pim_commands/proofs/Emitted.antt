@@ -9,6 +9,7 @@ use Rattle.pim_replay.specs.declared.emit.EmitFault.TheVariants as of_emission
 use Rattle.pim_replay.specs.declared.replay.ReplayFault.TheVariants as of_replay
 use Rattle.pim_replay.specs.Emit.{Emits, failures_of_emission}
 use Rattle.pim_router.specs.State.{RouterState, Setup, new_router}
+use Rattle.pim_words.specs.declared.task.Port.{Port}
 use Rattle.pim_check.specs.declared.fault.Fault.{Fault}
 use Rattle.pim_commands.specs.Emitting.{emitted, EmissionAnswer, IsEmitted, EmitsNew}
 use Rattle.pim_check.specs.Report.{write_failures_after}
@@ -28,8 +29,8 @@ made_so family bytes_of end merge merge' old new by writing setup router after t
     subst (λ (w : Writing). Emits family end w merge merge' (new_router setup) after bytes_of old new told) same
     (subst (λ (s : RouterState). Emits family end by merge merge' s after bytes_of old new told) made is)
 
-module _ {F A N : Type 0} (family : AddressFamily) (bytes_of : A → List ℕ) (end : End) (merge merge' : MergeState) (old new : Option (List ℕ)) where
-  pub same_told : (told : Result ℕ (EmitFault F A N)) → emitted family bytes_of told ≡ emitted family bytes_of (retold told)
+module _ {F A N : Type 0} (family : AddressFamily) (bytes_of : A → List ℕ) (end : End) (merge merge' : MergeState) (old new : Option (List ℕ)) (ports : List (Port A)) where
+  pub same_told : (told : Result ℕ (EmitFault F A N)) → emitted ports family bytes_of told ≡ emitted ports family bytes_of (retold told)
   same_told (Ok status) = refl
   same_told (Err (of_emission.Replay told)) = refl
   same_told (Err (of_emission.TooBig group)) = refl
@@ -45,7 +46,7 @@ module _ {F A N : Type 0} (family : AddressFamily) (bytes_of : A → List ℕ) (
 
   is_emitted : (by writing : Writing) (setup : Setup) (router after : RouterState) (told : Result ℕ (EmitFault F A N)) → by ≡ writing → router ≡ new_router setup
       → Emits family end by merge merge' router after bytes_of old new told
-      → IsEmitted family bytes_of end writing merge merge' setup old new (emitted family bytes_of told)
+      → IsEmitted ports family bytes_of end writing merge merge' setup old new (emitted ports family bytes_of told)
   is_emitted by writing setup router after told same made is = record {
     after = after;
     told = retold told;
@@ -55,17 +56,17 @@ module _ {F A N : Type 0} (family : AddressFamily) (bytes_of : A → List ℕ) (
 
   pub emitted_new : (by writing : Writing) (setup wanted : Setup) (router after : RouterState) (told : Result ℕ (EmitFault F A N)) (result : Result ℕ Fault) → by ≡ writing
       → setup ≡ wanted → router ≡ new_router setup → Emits family end by merge merge' router after bytes_of old new told
-      → result ≡ emitted family bytes_of told → EmitsNew family bytes_of end writing merge merge' wanted old new result
+      → result ≡ emitted ports family bytes_of told → EmitsNew ports family bytes_of end writing merge merge' wanted old new result
   emitted_new by writing setup wanted router after (Ok status) result same_by same made is answer =
       rw (answer) (is_emitted by writing wanted router after (Ok status) same_by (made ∙ ap new_router same) is)
   emitted_new by writing setup wanted router after (Err fault) result same_by same made is answer =
       rw (answer) (inr (is_emitted by writing wanted router after (Err fault) same_by (made ∙ ap new_router same) is))
 
 -- the device's failures are those that are told
-pub failures_emitted : {F A N : Type 0} (family : AddressFamily) (bytes_of : A → List ℕ) (before : ℕ) (told : Result ℕ (EmitFault F A N))
-    → failures_of_emission before told ≡ write_failures_after before (emitted family bytes_of told)
-failures_emitted family bytes_of before (Ok status) = refl
-failures_emitted family bytes_of before (Err (of_emission.TooBig group)) = refl
-failures_emitted family bytes_of before (Err (of_emission.Replay (of_replay.Capture told))) = sym (capture_is_read before told.fault)
-failures_emitted family bytes_of before (Err (of_emission.Replay of_replay.Output)) = refl
-failures_emitted family bytes_of before (Err (of_emission.Replay of_replay.Memory)) = refl
+pub failures_emitted : {F A N P : Type 0} (ports : List (Port P)) (family : AddressFamily) (bytes_of : A → List ℕ) (before : ℕ) (told : Result ℕ (EmitFault F A N))
+    → failures_of_emission before told ≡ write_failures_after before (emitted ports family bytes_of told)
+failures_emitted ports family bytes_of before (Ok status) = refl
+failures_emitted ports family bytes_of before (Err (of_emission.TooBig group)) = refl
+failures_emitted ports family bytes_of before (Err (of_emission.Replay (of_replay.Capture told))) = sym (capture_is_read before ports told)
+failures_emitted ports family bytes_of before (Err (of_emission.Replay of_replay.Output)) = refl
+failures_emitted ports family bytes_of before (Err (of_emission.Replay of_replay.Memory)) = refl

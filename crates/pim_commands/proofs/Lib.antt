@@ -3,6 +3,7 @@ pub mod Mirrored
 pub mod Emitted
 pub mod Changed
 pub mod Routers
+pub mod Named
 pub mod Opened
 pub mod Traced
 pub mod TraceAndReplay

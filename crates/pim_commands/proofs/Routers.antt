@@ -1,12 +1,12 @@
 -- Routers that are made, and what is told of their replays.
-use Rattle.std.proofs.Common.{◌≡◌, ◌≤◌, inl, inr, refl, sym, ap, subst, ◌∙◌, ℕ, Bool, List, [], ◌∷◌, length, map, Option, Result, Ok, Err, arith}
+use Rattle.std.proofs.Common.{◌≡◌, ◌≤◌, inl, inr, refl, sym, ap, subst, ◌∙◌, ℕ, Bool, List, [], ◌∷◌, length, map, Option, None, Some, Result, Ok, Err, arith}
+use Rattle.std.specs.Borrow.{Bor}
 use Rattle.std.proofs.lemmas.List.{length-map}
 use Rattle.pim_addr.specs.declared.family.AddressFamily.{AddressFamily}
 use Rattle.pim_addr.specs.Routes.{RouteTable}
-use Rattle.pim_capture.specs.declared.fault.CaptureFault.{CaptureFault}
-use Rattle.pim_capture.specs.declared.fault.CaptureFault.TheVariants as of_capture
 use Rattle.pim_capture.specs.Next.{latest_moment}
 use Rattle.pim_merge.specs.declared.end.End.{End}
+use Rattle.pim_merge.specs.declared.merge.MergeFault.{MergeFault}
 use Rattle.pim_merge.specs.Next.{MergeState}
 use Rattle.pim_replay.specs.declared.replay.ReplayFault.{ReplayFault}
 use Rattle.pim_replay.specs.declared.replay.ReplayFault.TheVariants as of_replay
@@ -19,8 +19,10 @@ use Rattle.pim_router.specs.Config.{IsMadeUnless, config_faults}
 use Rattle.pim_router.specs.Seen.{port_seen, setup_seen}
 use Rattle.pim_router.specs.State.{RouterState, Setup, new_router}
 use Rattle.pim_words.specs.declared.task.Port.{Port}
+use Rattle.pim_check.specs.declared.causes.CaptureCause.{CaptureCause}
 use Rattle.pim_check.specs.declared.fault.Fault.{Fault}
-use Rattle.pim_commands.specs.Replaying.{config_of, config_fault, capture_fault, answer_of, IsUnmade, ReplaysNew}
+use Rattle.pim_commands.specs.Naming.{in_file, file_at, by_cause, cause_of, port_fault}
+use Rattle.pim_commands.specs.Replaying.{config_of, config_fault, answer_of, IsUnmade, ReplaysNew}
 use Rattle.pim_check.specs.Report.{write_failures_after}
 
 -- a value that was made
@@ -43,21 +45,21 @@ unmade_is (first ∷ others) value told is = let same : told ≡ first = cc in r
 -- ---- what is answered of a new router's replay
 
 -- there is none
-pub unmade : (family : AddressFamily) (via : Bool) (end : End) (merge : MergeState) (setup wanted : Setup) (written : Option (List ℕ)) (fault : Fault) → setup ≡ wanted
-    → IsUnmade (config_faults family setup) fault → ReplaysNew family via end merge merge wanted written written (Err fault)
-unmade family via end merge setup wanted written fault same is = inl (subst (λ (s : Setup). IsUnmade (config_faults family s) fault) same is, refl, refl)
+pub unmade : {A : Type 0} (ports : List (Port A)) (family : AddressFamily) (via : Bool) (end : End) (merge : MergeState) (setup wanted : Setup) (written : Option (List ℕ)) (fault : Fault) → setup ≡ wanted
+    → IsUnmade (config_faults family setup) fault → ReplaysNew ports family via end merge merge wanted written written (Err fault)
+unmade ports family via end merge setup wanted written fault same is = inl (subst (λ (s : Setup). IsUnmade (config_faults family s) fault) same is, refl, refl)
 
-pub replayed : (family : AddressFamily) (via : Bool) (end : End) (merge merge' : MergeState) (setup wanted : Setup) (router after : RouterState) (old new : Option (List ℕ))
+pub replayed : {A : Type 0} (ports : List (Port A)) (family : AddressFamily) (via : Bool) (end : End) (merge merge' : MergeState) (setup wanted : Setup) (router after : RouterState) (old new : Option (List ℕ))
     (told : Result ℕ ReplayFault) (result : Result ℕ Fault) → setup ≡ wanted → router ≡ new_router setup → Replays family via end merge merge' router after old new told
-    → result ≡ answer_of told → ReplaysNew family via end merge merge' wanted old new result
-replayed family via end merge merge' setup wanted router after old new (Ok status) result same made is answer =
+    → result ≡ answer_of ports told → ReplaysNew ports family via end merge merge' wanted old new result
+replayed ports family via end merge merge' setup wanted router after old new (Ok status) result same made is answer =
     rw (answer) (record {
       after = after;
       told = Ok status;
       replays = subst (λ (s : RouterState). Replays family via end merge merge' s after old new (Ok status)) (made ∙ ap new_router same) is;
       answer = refl;
     })
-replayed family via end merge merge' setup wanted router after old new (Err fault) result same made is answer =
+replayed ports family via end merge merge' setup wanted router after old new (Err fault) result same made is answer =
     rw (answer) (inr (record {
       after = after;
       told = Err fault;
@@ -65,26 +67,24 @@ replayed family via end merge merge' setup wanted router after old new (Err faul
       answer = refl;
     }))
 
-pub capture_is_read : (before : ℕ) (fault : CaptureFault) → write_failures_after {A = ℕ} before (Err (capture_fault fault)) ≡ before
-capture_is_read before of_capture.Magic = refl
-capture_is_read before of_capture.LinkType = refl
-capture_is_read before of_capture.Truncated = refl
-capture_is_read before of_capture.TooLong = refl
-capture_is_read before of_capture.Read = refl
-capture_is_read before of_capture.Failed = refl
-capture_is_read before of_capture.Memory = refl
-capture_is_read before of_capture.Block = refl
-capture_is_read before of_capture.Time = refl
-capture_is_read before (of_capture.Vlans first other) = refl
-capture_is_read before (of_capture.Interfaces first other) = refl
-capture_is_read before (of_capture.LinkNumber number) = refl
+-- a fault of a capture isn't one of writing
+cause_is_read : (before : ℕ) (file : Option (Bor (List ℕ))) (number : ℕ) (cause : CaptureCause) → write_failures_after {A = ℕ} before (Err (in_file file number cause)) ≡ before
+cause_is_read before None number cause = refl
+cause_is_read before (Some file) number cause = refl
+
+told_is_read : (before : ℕ) (file : Option (Bor (List ℕ))) (number : ℕ) (cause : Option CaptureCause) → write_failures_after {A = ℕ} before (Err (by_cause (in_file file number) cause)) ≡ before
+told_is_read before file number None = refl
+told_is_read before file number (Some cause) = cause_is_read before file number cause
+
+pub capture_is_read : {A : Type 0} (before : ℕ) (ports : List (Port A)) (told : MergeFault) → write_failures_after {A = ℕ} before (Err (port_fault ports told)) ≡ before
+capture_is_read before ports told = told_is_read before (file_at ports told.capture) told.«record» (cause_of told.fault)
 
 -- the device's failures are those that are told
-pub failures_are_told : (before : ℕ) (told : Result ℕ ReplayFault) → failures_of_device before told ≡ write_failures_after before (answer_of told)
-failures_are_told before (Ok status) = refl
-failures_are_told before (Err (of_replay.Capture told)) = sym (capture_is_read before told.fault)
-failures_are_told before (Err of_replay.Output) = refl
-failures_are_told before (Err of_replay.Memory) = refl
+pub failures_are_told : {A : Type 0} (before : ℕ) (ports : List (Port A)) (told : Result ℕ ReplayFault) → failures_of_device before told ≡ write_failures_after before (answer_of ports told)
+failures_are_told before ports (Ok status) = refl
+failures_are_told before ports (Err (of_replay.Capture told)) = sym (capture_is_read before ports told)
+failures_are_told before ports (Err of_replay.Output) = refl
+failures_are_told before ports (Err of_replay.Memory) = refl
 
 -- ---- the conditions of a replay
 

@@ -19,6 +19,7 @@ use Rattle.pim_words.specs.declared.task.Port.{Port}
 use Rattle.pim_words.specs.Typed.{address_in}
 use Rattle.pim_check.specs.declared.fault.Fault.{Fault}
 use Rattle.pim_check.specs.declared.fault.Fault.TheVariants.{TooBig}
+use Rattle.pim_commands.specs.Naming.{port_fault}
 use Rattle.pim_commands.specs.Replaying.{config_of, config_fault, replay_fault, IsFirstCause}
 use Rattle.pim_commands.specs.Writing.{writer_causes}
 
@@ -29,10 +30,12 @@ side_setup bytes_of side ports routes limit =
 
 -- ---- faults of the program
 
-module _ {F A N : Type 0} (family : AddressFamily) (bytes_of : A → List ℕ) where
+-- The two routers have these ports.
+module _ {F A N P : Type 0} (ports others : List (Port P)) (family : AddressFamily) (bytes_of : A → List ℕ) where
   -- The program's fault for a fault of the comparison.
   abbrev pub same_fault : SameFault F A N → Fault
-  same_fault (of_same.Replay told) = replay_fault told
+  same_fault (of_same.Replay told) = replay_fault ports told
+  same_fault (of_same.Second told) = port_fault others told
   same_fault (of_same.TooBig group) = TooBig (address_in family (bytes_of group))
 
   -- The program's result for a result of the comparison.
@@ -54,21 +57,21 @@ ComparisonAnswer A = Result ℕ (SameFault (Unit {0}) A (Unit {0}))
 
 -- New routers of these set-ups are compared, and this is the program's result for that of the
 -- engine.
-pub record IsCompared {A : Type 0} (family : AddressFamily) (bytes_of : A → List ℕ) (end : End) (writing : Writing)
-    (merge merge' other other' : MergeState) (a b : Setup) (old new : Option (List ℕ)) (result : Result ℕ Fault)
-    : Type 0 where
+pub record IsCompared {A : Type 0} (ports others : List (Port A)) (family : AddressFamily) (bytes_of : A → List ℕ)
+    (end : End) (writing : Writing) (merge merge' other other' : MergeState) (a b : Setup)
+    (old new : Option (List ℕ)) (result : Result ℕ Fault) : Type 0 where
   pub after : RouterState
   pub after_of : RouterState
   pub told : ComparisonAnswer A
   pub compares : Compares family end writing merge merge' (new_router a) after other other' (new_router b) after_of
       bytes_of old new told
-  pub answer : result ≡ compared family bytes_of told
+  pub answer : result ≡ compared ports others family bytes_of told
 
 -- New routers are compared, or there is no writer or no router and nothing is written.
-abbrev pub ComparesNew : {A : Type 0} → AddressFamily → (A → List ℕ) → End → Writing → MergeState → MergeState →
-    MergeState → MergeState → Setup → Setup → Option (List ℕ) → Option (List ℕ) → Result ℕ Fault → Type 0
-ComparesNew family bytes_of end writing merge merge' other other' a b old new (Ok status) =
-    IsCompared family bytes_of end writing merge merge' other other' a b old new (Ok status)
-ComparesNew family bytes_of end writing merge merge' other other' a b old new (Err fault) =
+abbrev pub ComparesNew : {A : Type 0} → List (Port A) → List (Port A) → AddressFamily → (A → List ℕ) → End → Writing →
+    MergeState → MergeState → MergeState → MergeState → Setup → Setup → Option (List ℕ) → Option (List ℕ) → Result ℕ Fault → Type 0
+ComparesNew ports others family bytes_of end writing merge merge' other other' a b old new (Ok status) =
+    IsCompared ports others family bytes_of end writing merge merge' other other' a b old new (Ok status)
+ComparesNew ports others family bytes_of end writing merge merge' other other' a b old new (Err fault) =
     (IsFirstCause (causes family writing a b) fault × (new ≡ old) × (merge' ≡ merge) × (other' ≡ other))
-    ⊎ IsCompared family bytes_of end writing merge merge' other other' a b old new (Err fault)
+    ⊎ IsCompared ports others family bytes_of end writing merge merge' other other' a b old new (Err fault)

@@ -9,6 +9,7 @@ use Rattle.pim_replay.specs.declared.emit.EmitFault.{EmitFault}
 use Rattle.pim_replay.specs.declared.emit.EmitFault.TheVariants as of_emission
 use Rattle.pim_replay.specs.Emit.{Emits}
 use Rattle.pim_router.specs.State.{Setup, RouterState, new_router}
+use Rattle.pim_words.specs.declared.task.Port.{Port}
 use Rattle.pim_words.specs.Typed.{address_in}
 use Rattle.pim_check.specs.declared.fault.Fault.{Fault}
 use Rattle.pim_check.specs.declared.fault.Fault.TheVariants.{TooBig}
@@ -17,10 +18,11 @@ use Rattle.pim_commands.specs.Replaying.{replay_fault, IsFirstCause}
 
 -- ---- faults of the program
 
-module _ {F A N : Type 0} (family : AddressFamily) (bytes_of : A → List ℕ) where
+-- The router has these ports.
+module _ {F A N P : Type 0} (ports : List (Port P)) (family : AddressFamily) (bytes_of : A → List ℕ) where
   -- The program's fault for a fault of the messages.
   abbrev pub emit_fault : EmitFault F A N → Fault
-  emit_fault (of_emission.Replay told) = replay_fault told
+  emit_fault (of_emission.Replay told) = replay_fault ports told
   emit_fault (of_emission.TooBig group) = TooBig (address_in family (bytes_of group))
 
   -- The program's result for a result of the messages.
@@ -36,18 +38,19 @@ EmissionAnswer A = Result ℕ (EmitFault (Unit {0}) A (Unit {0}))
 
 -- A new router of this set-up is replayed and its messages are written. This is the program's
 -- result for that of the engine.
-pub record IsEmitted {A : Type 0} (family : AddressFamily) (bytes_of : A → List ℕ) (end : End) (writing : Writing)
-    (merge merge' : MergeState) (setup : Setup) (old new : Option (List ℕ)) (result : Result ℕ Fault) : Type 0 where
+pub record IsEmitted {A : Type 0} (ports : List (Port A)) (family : AddressFamily) (bytes_of : A → List ℕ)
+    (end : End) (writing : Writing) (merge merge' : MergeState) (setup : Setup) (old new : Option (List ℕ)) (result : Result ℕ Fault) : Type 0 where
   pub after : RouterState
   pub told : EmissionAnswer A
   pub emits : Emits family end writing merge merge' (new_router setup) after bytes_of old new told
-  pub answer : result ≡ emitted family bytes_of told
+  pub answer : result ≡ emitted ports family bytes_of told
 
 -- Its messages are written, or there is no writer or no router and nothing is written.
-abbrev pub EmitsNew : {A : Type 0} → AddressFamily → (A → List ℕ) → End → Writing → MergeState → MergeState → Setup →
+abbrev pub EmitsNew : {A : Type 0} → List (Port A) → AddressFamily → (A → List ℕ) → End → Writing → MergeState →
+    MergeState → Setup →
     Option (List ℕ) → Option (List ℕ) → Result ℕ Fault → Type 0
-EmitsNew family bytes_of end writing merge merge' setup old new (Ok status) =
-    IsEmitted family bytes_of end writing merge merge' setup old new (Ok status)
-EmitsNew family bytes_of end writing merge merge' setup old new (Err fault) =
+EmitsNew ports family bytes_of end writing merge merge' setup old new (Ok status) =
+    IsEmitted ports family bytes_of end writing merge merge' setup old new (Ok status)
+EmitsNew ports family bytes_of end writing merge merge' setup old new (Err fault) =
     (IsFirstCause (mirror_causes family writing setup) fault × (new ≡ old) × (merge' ≡ merge))
-    ⊎ IsEmitted family bytes_of end writing merge merge' setup old new (Err fault)
+    ⊎ IsEmitted ports family bytes_of end writing merge merge' setup old new (Err fault)

@@ -1,4 +1,5 @@
 -- The definitions of `pim_commands`.
+pub mod Naming
 pub mod Replaying
 pub mod Tracing
 pub mod Laws

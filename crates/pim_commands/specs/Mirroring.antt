@@ -10,22 +10,26 @@ use Rattle.pim_replay.specs.declared.mirror_text.MirrorTextFault.TheVariants as 
 use Rattle.pim_replay.specs.MirrorText.{TellsMirror}
 use Rattle.pim_router.specs.Config.{config_faults}
 use Rattle.pim_router.specs.State.{Setup, RouterState, new_router}
+use Rattle.pim_words.specs.declared.task.Port.{Port}
 use Rattle.pim_words.specs.Typed.{address_in}
 use Rattle.pim_check.specs.declared.fault.Fault.{Fault}
 use Rattle.pim_check.specs.declared.fault.Fault.TheVariants.{TooBig, Full}
+use Rattle.pim_commands.specs.Naming.{port_fault}
 use Rattle.pim_commands.specs.Replaying.{config_fault, replay_fault, IsFirstCause}
 use Rattle.pim_commands.specs.Writing.{writer_causes}
 
 -- ---- faults of the program
 
-module _ {F A N : Type 0} (family : AddressFamily) (bytes_of : A → List ℕ) where
-  -- The program's fault for a fault of the mirror.
+-- The router has the ports `ports`. In a change, the second one has the ports `others`.
+module _ {F A N P : Type 0} (ports others : List (Port P)) (family : AddressFamily) (bytes_of : A → List ℕ) where
+  -- The program's fault for a fault of the mirror or the change.
   abbrev pub mirror_fault : MirrorTextFault F A N → Fault
-  mirror_fault (of_mirror.Replay told) = replay_fault told
+  mirror_fault (of_mirror.Replay told) = replay_fault ports told
+  mirror_fault (of_mirror.Second told) = port_fault others told
   mirror_fault (of_mirror.TooBig group) = TooBig (address_in family (bytes_of group))
   mirror_fault (of_mirror.Full needed) = Full needed
 
-  -- The program's result for a result of the mirror.
+  -- The program's result for a result of the mirror or the change.
   abbrev pub mirrored : Result ℕ (MirrorTextFault F A N) → Result ℕ Fault
   mirrored (Ok status) = Ok status
   mirrored (Err fault) = Err (mirror_fault fault)
@@ -43,19 +47,19 @@ MirrorAnswer A = Result ℕ (MirrorTextFault (Unit {0}) A (Unit {0}))
 
 -- A new router of this set-up is replayed and mirrored, and this is the program's result for that
 -- of the engine.
-pub record IsMirrored {A : Type 0} (family : AddressFamily) (bytes_of : A → List ℕ) (end : End) (limit : ℕ)
-    (writing : Writing) (merge merge' : MergeState) (setup : Setup) (old new : Option (List ℕ))
-    (result : Result ℕ Fault) : Type 0 where
+pub record IsMirrored {A : Type 0} (ports : List (Port A)) (family : AddressFamily) (bytes_of : A → List ℕ)
+    (end : End) (limit : ℕ) (writing : Writing) (merge merge' : MergeState) (setup : Setup)
+    (old new : Option (List ℕ)) (result : Result ℕ Fault) : Type 0 where
   pub after : RouterState
   pub told : MirrorAnswer A
   pub mirrors : TellsMirror family end writing limit merge merge' (new_router setup) after bytes_of old new told
-  pub answer : result ≡ mirrored family bytes_of told
+  pub answer : result ≡ mirrored ports ports family bytes_of told
 
 -- A new router is mirrored, or there is no writer or no router and nothing is written.
-abbrev pub MirrorsNew : {A : Type 0} → AddressFamily → (A → List ℕ) → End → ℕ → Writing → MergeState → MergeState →
-    Setup → Option (List ℕ) → Option (List ℕ) → Result ℕ Fault → Type 0
-MirrorsNew family bytes_of end limit writing merge merge' setup old new (Ok status) =
-    IsMirrored family bytes_of end limit writing merge merge' setup old new (Ok status)
-MirrorsNew family bytes_of end limit writing merge merge' setup old new (Err fault) =
+abbrev pub MirrorsNew : {A : Type 0} → List (Port A) → AddressFamily → (A → List ℕ) → End → ℕ → Writing →
+    MergeState → MergeState → Setup → Option (List ℕ) → Option (List ℕ) → Result ℕ Fault → Type 0
+MirrorsNew ports family bytes_of end limit writing merge merge' setup old new (Ok status) =
+    IsMirrored ports family bytes_of end limit writing merge merge' setup old new (Ok status)
+MirrorsNew ports family bytes_of end limit writing merge merge' setup old new (Err fault) =
     (IsFirstCause (mirror_causes family writing setup) fault × (new ≡ old) × (merge' ≡ merge))
-    ⊎ IsMirrored family bytes_of end limit writing merge merge' setup old new (Err fault)
+    ⊎ IsMirrored ports family bytes_of end limit writing merge merge' setup old new (Err fault)

@@ -17,6 +17,7 @@ use Rattle.pim_router.specs.State.{Setup}
 use Rattle.pim_words.specs.declared.fault.Side.{Side}
 use Rattle.pim_words.specs.declared.fault.Side.TheVariants as side
 use Rattle.pim_words.specs.declared.task.Captures.{Captures}
+use Rattle.pim_words.specs.declared.task.Port.{Port}
 use Rattle.pim_words.specs.declared.task.Tracing.{Tracing}
 use Rattle.pim_words.specs.declared.task.Writing.{Writing}
 use Rattle.pim_check.specs.declared.fault.Fault.{Fault}
@@ -97,6 +98,10 @@ module _ {A R : Type 0} (family : AddressFamily) (bytes_of : A → List ℕ) (re
   abbrev pub setup_under : RouteTable → Setup
   setup_under table = setup_seen bytes_of (map config_of captures.ports.items) table captures.limit
 
+  -- The ports of one of two routers.
+  abbrev pub ports_of_side : Side → List (Port A)
+  ports_of_side side = filter (is_of side) captures.ports.items
+
   -- The set-up of one of two routers under this table.
   abbrev pub side_setup_under : Side → RouteTable → Setup
   side_setup_under side table = side_setup bytes_of side captures.ports.items table captures.limit
@@ -120,35 +125,35 @@ module _ {A R : Type 0} (family : AddressFamily) (bytes_of : A → List ℕ) (re
   -- What `replay` returns and writes. It writes upstream neighbours if a file of routes is named.
   abbrev pub ReplaysFiles : Option (List ℕ) → Option (List ℕ) → Result ℕ Fault → Type 0
   ReplaysFiles old new result = OpensOne None old new result (λ table merge merge'.
-      ReplaysNew family (is_some captures.routes) (end_of captures) merge merge' (setup_under table) old new result)
+      ReplaysNew captures.ports.items family (is_some captures.routes) (end_of captures) merge merge' (setup_under table) old new result)
 
   -- What `trace` returns and writes.
   abbrev pub TracesFiles : Tracing A → Option (List ℕ) → Option (List ℕ) → Result ℕ Fault → Type 0
   TracesFiles tracing old new result = OpensOne None old new result (λ table merge merge'.
-      TracesNew family (line_of family bytes_of (names_of 0 tracing.names.items) tracing) (end_of captures) merge merge'
+      TracesNew captures.ports.items family (line_of family bytes_of (names_of 0 tracing.names.items) tracing) (end_of captures) merge merge'
       (setup_under table) old new result)
 
   -- What `mirror` returns and writes.
   abbrev pub MirrorsFiles : Writing A → Option (List ℕ) → Option (List ℕ) → Result ℕ Fault → Type 0
   MirrorsFiles writing old new result = OpensOne (Some writing.upstream) old new result (λ table merge merge'.
-      MirrorsNew family bytes_of (end_of captures) captures.limit (writing_of writing) merge merge' (setup_under table)
+      MirrorsNew captures.ports.items family bytes_of (end_of captures) captures.limit (writing_of writing) merge merge' (setup_under table)
       old new result)
 
   -- What `emit` returns and writes.
   abbrev pub EmitsFiles : Writing A → Option (List ℕ) → Option (List ℕ) → Result ℕ Fault → Type 0
   EmitsFiles writing old new result = OpensOne (Some writing.upstream) old new result (λ table merge merge'.
-      EmitsNew family bytes_of (end_of captures) (writing_of writing) merge merge' (setup_under table) old new result)
+      EmitsNew captures.ports.items family bytes_of (end_of captures) (writing_of writing) merge merge' (setup_under table) old new result)
 
   -- What `same` returns and writes.
   abbrev pub ComparesFiles : Writing A → Option (List ℕ) → Option (List ℕ) → Result ℕ Fault → Type 0
   ComparesFiles writing old new result = OpensBoth (Some writing.upstream) old new result
       (λ table merge merge' other other'.
-      ComparesNew family bytes_of (end_of captures) (writing_of writing) merge merge' other other'
+      ComparesNew (ports_of_side side.A) (ports_of_side side.B) family bytes_of (end_of captures) (writing_of writing) merge merge' other other'
       (side_setup_under side.A table) (side_setup_under side.B table) old new result)
 
   -- What `change` returns and writes.
   abbrev pub ChangesFiles : Writing A → Option (List ℕ) → Option (List ℕ) → Result ℕ Fault → Type 0
   ChangesFiles writing old new result = OpensBoth (Some writing.upstream) old new result
       (λ table merge merge' other other'.
-      ChangesNew family bytes_of (end_of captures) captures.limit (writing_of writing) merge merge' other other'
+      ChangesNew (ports_of_side side.A) (ports_of_side side.B) family bytes_of (end_of captures) captures.limit (writing_of writing) merge merge' other other'
       (side_setup_under side.A table) (side_setup_under side.B table) old new result)

@@ -1,10 +1,7 @@
 -- The replay that a task asks for: its router, and what is returned and written of its captures.
-use Rattle.std.specs.Prelude.{◌≡◌, ◌⊎◌, ◌==◌, ⊤, ℕ, Bool, List, [], ◌∷◌, if◌then◌else◌}
+use Rattle.std.specs.Prelude.{◌≡◌, ◌⊎◌, ⊤, ℕ, Bool, List, [], ◌∷◌}
 use Rattle.std.specs.Prelude.{Option, None, Some, Result, Ok, Err}
 use Rattle.pim_addr.specs.declared.family.AddressFamily.{AddressFamily}
-use Rattle.pim_capture.specs.declared.vlan.Vlan.{Vlan}
-use Rattle.pim_capture.specs.declared.fault.CaptureFault.{CaptureFault}
-use Rattle.pim_capture.specs.declared.fault.CaptureFault.TheVariants as of_capture
 use Rattle.pim_merge.specs.declared.end.End.{End}
 use Rattle.pim_merge.specs.declared.end.End.TheVariants.{After, At}
 use Rattle.pim_merge.specs.Next.{MergeState}
@@ -20,10 +17,10 @@ use Rattle.pim_time.specs.declared.reading.Time.{Time}
 use Rattle.pim_words.specs.declared.fault.ConfigCause.TheVariants as cause
 use Rattle.pim_words.specs.declared.task.Captures.{Captures}
 use Rattle.pim_words.specs.declared.task.Port.{Port}
-use Rattle.pim_check.specs.declared.causes.CaptureCause.TheVariants as capture
 use Rattle.pim_check.specs.declared.fault.Fault.{Fault}
-use Rattle.pim_check.specs.declared.fault.Fault.TheVariants.{Capture, Vlans, Interfaces, Output, Memory}
+use Rattle.pim_check.specs.declared.fault.Fault.TheVariants.{Output, Memory}
 use Rattle.pim_check.specs.Unopened.{config_told}
+use Rattle.pim_commands.specs.Naming.{port_fault}
 
 -- The configuration of a port that a word names. Its delays are the defaults of RFC 7761, 4.11, in
 -- milliseconds: Propagation_delay_default and t_override_default.
@@ -49,34 +46,16 @@ config_fault (of_config.Address port) = config_told cause.Address
 config_fault of_config.Memory = Memory
 config_fault other = config_told cause.Ports
 
--- The number of the tag in which a VLAN differs from another one.
-abbrev pub tag_of : Vlan → Vlan → ℕ
-tag_of vlan other = if vlan.outer == other.outer then vlan.inner else vlan.outer
+-- The program's fault for a fault of the replay of a router with these ports.
+abbrev pub replay_fault : {A : Type 0} → List (Port A) → ReplayFault → Fault
+replay_fault ports (of_replay.Capture told) = port_fault ports told
+replay_fault ports of_replay.Output = Output
+replay_fault ports of_replay.Memory = Memory
 
--- The program's fault for a fault of a capture.
-abbrev pub capture_fault : CaptureFault → Fault
-capture_fault of_capture.Magic = Capture capture.Magic
-capture_fault of_capture.LinkType = Capture capture.LinkType
-capture_fault (of_capture.LinkNumber number) = Capture capture.LinkType
-capture_fault of_capture.Truncated = Capture capture.Truncated
-capture_fault of_capture.TooLong = Capture capture.TooLong
-capture_fault of_capture.Block = Capture capture.Block
-capture_fault of_capture.Time = Capture capture.Time
-capture_fault (of_capture.Vlans first other) = Vlans (tag_of first other) (tag_of other first)
-capture_fault (of_capture.Interfaces first other) = Interfaces first other
-capture_fault of_capture.Memory = Memory
-capture_fault other = Capture capture.Read
-
--- The program's fault for a fault of a replay.
-abbrev pub replay_fault : ReplayFault → Fault
-replay_fault (of_replay.Capture told) = capture_fault told.fault
-replay_fault of_replay.Output = Output
-replay_fault of_replay.Memory = Memory
-
--- The program's result for a result of a replay.
-abbrev pub answer_of : Result ℕ ReplayFault → Result ℕ Fault
-answer_of (Ok status) = Ok status
-answer_of (Err fault) = Err (replay_fault fault)
+-- The program's result for a result of that replay.
+abbrev pub answer_of : {A : Type 0} → List (Port A) → Result ℕ ReplayFault → Result ℕ Fault
+answer_of ports (Ok status) = Ok status
+answer_of ports (Err fault) = Err (replay_fault ports fault)
 
 -- The fault is the first of these causes, or memory is refused.
 abbrev pub IsFirstCause : List Fault → Fault → Type 0
@@ -93,18 +72,18 @@ IsUnmade [] fault = ⊥
 IsUnmade (first ∷ others) fault = fault ≡ config_fault first
 
 -- A new router of this set-up is replayed, and this is the program's result for that of the engine.
-pub record IsReplayed (family : AddressFamily) (tells_via : Bool) (end : End) (merge merge' : MergeState)
+pub record IsReplayed {A : Type 0} (ports : List (Port A)) (family : AddressFamily) (tells_via : Bool) (end : End) (merge merge' : MergeState)
     (setup : Setup) (old new : Option (List ℕ)) (result : Result ℕ Fault) : Type 0 where
   pub after : RouterState
   pub told : Result ℕ ReplayFault
   pub replays : Replays family tells_via end merge merge' (new_router setup) after old new told
-  pub answer : result ≡ answer_of told
+  pub answer : result ≡ answer_of ports told
 
 -- A new router is replayed, or there is none and nothing is written.
-abbrev pub ReplaysNew : AddressFamily → Bool → End → MergeState → MergeState → Setup → Option (List ℕ) → Option (List ℕ) →
+abbrev pub ReplaysNew : {A : Type 0} → List (Port A) → AddressFamily → Bool → End → MergeState → MergeState → Setup → Option (List ℕ) → Option (List ℕ) →
     Result ℕ Fault → Type 0
-ReplaysNew family tells_via end merge merge' setup old new (Ok status) =
-    IsReplayed family tells_via end merge merge' setup old new (Ok status)
-ReplaysNew family tells_via end merge merge' setup old new (Err fault) =
+ReplaysNew ports family tells_via end merge merge' setup old new (Ok status) =
+    IsReplayed ports family tells_via end merge merge' setup old new (Ok status)
+ReplaysNew ports family tells_via end merge merge' setup old new (Err fault) =
     (IsUnmade (config_faults family setup) fault × (new ≡ old) × (merge' ≡ merge))
-    ⊎ IsReplayed family tells_via end merge merge' setup old new (Err fault)
+    ⊎ IsReplayed ports family tells_via end merge merge' setup old new (Err fault)

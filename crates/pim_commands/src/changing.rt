@@ -30,20 +30,22 @@ use std::alloc::Global;
 /// The faults of `pim_replay::change_into`. If the writer or a router can't be made, the result is
 /// the first fault of the writer, then of router a, then of b, or it is `Memory`. Then nothing was
 /// written, and no capture was read.
-pub fn change_opened<F: Family, R: Feed + Drop, W: Drain>(
+pub fn change_opened<'a, F: Family, R: Feed + Drop, W: Drain>(
     alloc: Global,
-    captures: &Captures<'_, F::Addr>,
+    captures: &Captures<'a, F::Addr>,
     writing: &Writing<F::Addr>,
     routes: &Routes<F>,
     pair: &mut Pair<R>,
     writer: &mut W,
-) -> Result<u8, Fault<'static>>
+) -> Result<u8, Fault<'a>>
     requires after { IsBounded captures.now }
     requires limit { IsLimited captures.now }
     requires writing { IsWritable writing.now }
     requires a { length pair.old.a.lanes ≡ length (filter (is_of Side.A) captures.now.ports.items) }
     requires b { length pair.old.b.lanes ≡ length (filter (is_of Side.B) captures.now.ports.items) }
-    ensures text { ChangesNew F.family F.bytes_of (end_of captures.now) captures.now.limit
+    ensures text { ChangesNew (filter (is_of Side.A) captures.now.ports.items)
+        (filter (is_of Side.B) captures.now.ports.items)
+        F.family F.bytes_of (end_of captures.now) captures.now.limit
         (writing_seen F.bytes_of writing.now.upstream writing.now.own writing.now.holdtime
         writing.now.budget)
         pair.old.a pair.new.a pair.old.b pair.new.b
@@ -65,17 +67,22 @@ pub fn change_opened<F: Family, R: Feed + Drop, W: Drain>(
         Ok(router) => router,
         Err(fault) => return Err(fault),
     };
-    mirrored::<F>(change_into::<F, R, W>(
-        alloc,
-        &mut pair.a,
-        &mut a,
-        &mut pair.b,
-        &mut b,
-        end,
-        &made.by,
-        captures.limit,
-        writer,
-    ))
+    mirrored::<F>(
+        captures,
+        Some(Side::A),
+        Some(Side::B),
+        change_into::<F, R, W>(
+            alloc,
+            &mut pair.a,
+            &mut a,
+            &mut pair.b,
+            &mut b,
+            end,
+            &made.by,
+            captures.limit,
+            writer,
+        ),
+    )
 }
 
 /// `change_opened` of the captures that the words name. It reads the file of routes first, then

@@ -12,6 +12,7 @@ ghost use Rattle.pim_commands.specs.Opened.{IsUnwritten};
 ghost use Rattle.pim_commands.specs.Opening.{ComparesFiles};
 ghost use Rattle.pim_check.specs.Report.{write_failures_after};
 
+use crate::naming::{is_of, port_fault};
 use crate::opening::open_two;
 use crate::replaying::{config, end_of, replay_fault, router_of};
 use crate::writing::{address_of, writer_of};
@@ -25,32 +26,31 @@ use pim_words::{Captures, Port, Side, Writing};
 use std::alloc::{AllocError, Global};
 
 /// The program's fault for a fault of the comparison.
-fn same_fault<F: Family>(fault: SameFault<F>) -> Fault<'static>
-    ensures { result ≡ same_fault F.family F.bytes_of fault }
+fn same_fault<'a, F: Family>(
+    captures: &Captures<'a, F::Addr>,
+    fault: SameFault<F>,
+) -> Fault<'a>
+    ensures { result ≡ same_fault (filter (is_of Side.A) captures.now.ports.items)
+        (filter (is_of Side.B) captures.now.ports.items) F.family F.bytes_of fault }
 {
     match fault {
-        SameFault::Replay(fault) => replay_fault(fault),
+        SameFault::Replay(fault) => replay_fault(captures, Some(Side::A), fault),
+        SameFault::Second(told) => port_fault(captures, Some(Side::B), told),
         SameFault::TooBig(group) => Fault::TooBig(address_of::<F>(group)),
     }
 }
 
 /// The program's result for a result of the comparison.
-fn compared<F: Family>(told: Result<u8, SameFault<F>>) -> Result<u8, Fault<'static>>
-    ensures { result ≡ compared F.family F.bytes_of told }
+fn compared<'a, F: Family>(
+    captures: &Captures<'a, F::Addr>,
+    told: Result<u8, SameFault<F>>,
+) -> Result<u8, Fault<'a>>
+    ensures { result ≡ compared (filter (is_of Side.A) captures.now.ports.items)
+        (filter (is_of Side.B) captures.now.ports.items) F.family F.bytes_of told }
 {
     match told {
         Ok(status) => Ok(status),
-        Err(fault) => Err(same_fault::<F>(fault)),
-    }
-}
-
-/// Whether the port belongs to this router.
-fn is_of<A: Copy>(side: Side, port: &Port<'_, A>) -> bool
-    ensures { result ≡ is_of side port.now }
-{
-    match (side, port.side) {
-        (Side::A, Side::A) | (Side::B, Side::B) => true,
-        _ => false,
+        Err(fault) => Err(same_fault::<F>(captures, fault)),
     }
 }
 
@@ -122,20 +122,22 @@ pub(crate) fn prepare_both<F: Family>(
 /// The faults of `pim_replay::same_into`. If the writer or a router can't be made, the result is
 /// the first fault of the writer, then of router a, then of b, or it is `Memory`. Then nothing was
 /// written, and no capture was read.
-pub fn same_opened<F: Family, R: Feed + Drop, W: Drain>(
+pub fn same_opened<'a, F: Family, R: Feed + Drop, W: Drain>(
     alloc: Global,
-    captures: &Captures<'_, F::Addr>,
+    captures: &Captures<'a, F::Addr>,
     writing: &Writing<F::Addr>,
     routes: &Routes<F>,
     pair: &mut Pair<R>,
     writer: &mut W,
-) -> Result<u8, Fault<'static>>
+) -> Result<u8, Fault<'a>>
     requires after { IsBounded captures.now }
     requires limit { IsLimited captures.now }
     requires writing { IsWritable writing.now }
     requires a { length pair.old.a.lanes ≡ length (filter (is_of Side.A) captures.now.ports.items) }
     requires b { length pair.old.b.lanes ≡ length (filter (is_of Side.B) captures.now.ports.items) }
-    ensures report { ComparesNew F.family F.bytes_of (end_of captures.now)
+    ensures report { ComparesNew (filter (is_of Side.A) captures.now.ports.items)
+        (filter (is_of Side.B) captures.now.ports.items)
+        F.family F.bytes_of (end_of captures.now)
         (writing_seen F.bytes_of writing.now.upstream writing.now.own writing.now.holdtime
         writing.now.budget)
         pair.old.a pair.new.a pair.old.b pair.new.b
@@ -157,16 +159,19 @@ pub fn same_opened<F: Family, R: Feed + Drop, W: Drain>(
         Ok(router) => router,
         Err(fault) => return Err(fault),
     };
-    compared::<F>(same_into::<F, R, W>(
-        alloc,
-        &mut pair.a,
-        &mut a,
-        &mut pair.b,
-        &mut b,
-        end,
-        &made.by,
-        writer,
-    ))
+    compared::<F>(
+        captures,
+        same_into::<F, R, W>(
+            alloc,
+            &mut pair.a,
+            &mut a,
+            &mut pair.b,
+            &mut b,
+            end,
+            &made.by,
+            writer,
+        ),
+    )
 }
 
 /// `same_opened` of the captures that the words name. It reads the file of routes first, then opens

@@ -22,22 +22,28 @@ use pim_words::{Captures, Writing};
 use std::alloc::Global;
 
 /// The program's fault for a fault of the messages.
-fn emit_fault<F: Family>(fault: EmitFault<F>) -> Fault<'static>
-    ensures { result ≡ emit_fault F.family F.bytes_of fault }
+fn emit_fault<'a, F: Family>(
+    captures: &Captures<'a, F::Addr>,
+    fault: EmitFault<F>,
+) -> Fault<'a>
+    ensures { result ≡ emit_fault captures.now.ports.items F.family F.bytes_of fault }
 {
     match fault {
-        EmitFault::Replay(fault) => replay_fault(fault),
+        EmitFault::Replay(fault) => replay_fault(captures, None, fault),
         EmitFault::TooBig(group) => Fault::TooBig(address_of::<F>(group)),
     }
 }
 
 /// The program's result for a result of the messages.
-pub fn emitted<F: Family>(told: Result<u8, EmitFault<F>>) -> Result<u8, Fault<'static>>
-    ensures { result ≡ emitted F.family F.bytes_of told }
+pub fn emitted<'a, F: Family>(
+    captures: &Captures<'a, F::Addr>,
+    told: Result<u8, EmitFault<F>>,
+) -> Result<u8, Fault<'a>>
+    ensures { result ≡ emitted captures.now.ports.items F.family F.bytes_of told }
 {
     match told {
         Ok(status) => Ok(status),
-        Err(fault) => Err(emit_fault::<F>(fault)),
+        Err(fault) => Err(emit_fault::<F>(captures, fault)),
     }
 }
 
@@ -49,19 +55,19 @@ pub fn emitted<F: Family>(told: Result<u8, EmitFault<F>>) -> Result<u8, Fault<'s
 /// The faults of `pim_replay::emit_into`. If the writer or the router can't be made, the result is
 /// the first fault of the writer, then of the router, or it is `Memory`. Then nothing was written,
 /// and no capture was read.
-pub fn emit_opened<F: Family, R: Feed + Drop, W: Drain>(
+pub fn emit_opened<'a, F: Family, R: Feed + Drop, W: Drain>(
     alloc: Global,
-    captures: &Captures<'_, F::Addr>,
+    captures: &Captures<'a, F::Addr>,
     writing: &Writing<F::Addr>,
     routes: &Routes<F>,
     merge: &mut Merge<R>,
     writer: &mut W,
-) -> Result<u8, Fault<'static>>
+) -> Result<u8, Fault<'a>>
     requires after { IsBounded captures.now }
     requires limit { IsLimited captures.now }
     requires writing { IsWritable writing.now }
     requires ports { length merge.old.lanes ≡ length captures.now.ports.items }
-    ensures bytes { EmitsNew F.family F.bytes_of (end_of captures.now)
+    ensures bytes { EmitsNew captures.now.ports.items F.family F.bytes_of (end_of captures.now)
         (writing_seen F.bytes_of writing.now.upstream writing.now.own writing.now.holdtime
         writing.now.budget)
         merge.old merge.new
@@ -79,7 +85,10 @@ pub fn emit_opened<F: Family, R: Feed + Drop, W: Drain>(
         Ok(router) => router,
         Err(fault) => return Err(fault),
     };
-    emitted::<F>(emit_into::<F, R, W>(alloc, merge, &mut router, end, &made.by, writer))
+    emitted::<F>(
+        captures,
+        emit_into::<F, R, W>(alloc, merge, &mut router, end, &made.by, writer),
+    )
 }
 
 /// `emit_opened` of the captures that the words name. It reads the file of routes first, then opens

@@ -19,7 +19,8 @@
 //! files that are named, where the opener tells what files hold. The file of routes is opened
 //! first, then the files of the ports in the order of the words. Or they write nothing and return
 //! the fault of the first file that isn't open. A word or file name in it is one that they were
-//! given. A fault that names a word borrows it from the command line. The caller gives numbers in
+//! given. A fault that names a word borrows it from the command line. A fault of the capture of a
+//! port with a link names the file of that port. The caller gives numbers in
 //! the ranges of a plan of `pim_words`. `run_task` does what a task of such a plan asks for.
 //!
 //! This library is apart from the program, so that tests can call it.
@@ -30,6 +31,7 @@ mod comparing;
 mod emitting;
 mod laws;
 mod mirroring;
+mod naming;
 mod opening;
 mod replaying;
 mod running;

@@ -8,10 +8,12 @@ ghost use Rattle.pim_router.specs.State.{Setup};
 ghost use Rattle.pim_words.specs.Plan.{IsBounded, IsLimited, IsWritable};
 ghost use Rattle.pim_commands.specs.Replaying.{end_of, config_of, IsFirstCause};
 ghost use Rattle.pim_commands.specs.Mirroring.{mirror_fault, mirrored, mirror_causes, MirrorsNew};
+ghost use Rattle.pim_commands.specs.Naming.{ports_of};
 ghost use Rattle.pim_commands.specs.Opened.{IsUnwritten};
 ghost use Rattle.pim_commands.specs.Opening.{MirrorsFiles};
 ghost use Rattle.pim_check.specs.Report.{write_failures_after};
 
+use crate::naming::port_fault;
 use crate::opening::open_one;
 use crate::replaying::{configs, end_of, replay_fault, router_of};
 use crate::writing::{address_of, writer_of};
@@ -22,27 +24,41 @@ use pim_form::Writer;
 use pim_merge::Merge;
 use pim_replay::{MirrorTextFault, mirror_into};
 use pim_router::PortConfig;
-use pim_words::{Captures, Port, Writing};
+use pim_words::{Captures, Port, Side, Writing};
 use std::alloc::Global;
 
-/// The program's fault for a fault of the mirror.
-fn mirror_fault<F: Family>(fault: MirrorTextFault<F>) -> Fault<'static>
-    ensures { result ≡ mirror_fault F.family F.bytes_of fault }
+/// The program's fault for a fault of the mirror or the change. Each of the routers is one of two,
+/// or the one of all ports.
+fn mirror_fault<'a, F: Family>(
+    captures: &Captures<'a, F::Addr>,
+    first: Option<Side>,
+    second: Option<Side>,
+    fault: MirrorTextFault<F>,
+) -> Fault<'a>
+    ensures { result ≡ mirror_fault (ports_of first captures.now.ports.items)
+        (ports_of second captures.now.ports.items) F.family F.bytes_of fault }
 {
     match fault {
-        MirrorTextFault::Replay(fault) => replay_fault(fault),
+        MirrorTextFault::Replay(fault) => replay_fault(captures, first, fault),
+        MirrorTextFault::Second(told) => port_fault(captures, second, told),
         MirrorTextFault::TooBig(group) => Fault::TooBig(address_of::<F>(group)),
         MirrorTextFault::Full { needed } => Fault::Full(needed),
     }
 }
 
-/// The program's result for a result of the mirror.
-pub fn mirrored<F: Family>(told: Result<u8, MirrorTextFault<F>>) -> Result<u8, Fault<'static>>
-    ensures { result ≡ mirrored F.family F.bytes_of told }
+/// The program's result for a result of the mirror or the change.
+pub fn mirrored<'a, F: Family>(
+    captures: &Captures<'a, F::Addr>,
+    first: Option<Side>,
+    second: Option<Side>,
+    told: Result<u8, MirrorTextFault<F>>,
+) -> Result<u8, Fault<'a>>
+    ensures { result ≡ mirrored (ports_of first captures.now.ports.items)
+        (ports_of second captures.now.ports.items) F.family F.bytes_of told }
 {
     match told {
         Ok(status) => Ok(status),
-        Err(fault) => Err(mirror_fault::<F>(fault)),
+        Err(fault) => Err(mirror_fault::<F>(captures, first, second, fault)),
     }
 }
 
@@ -88,19 +104,20 @@ pub(crate) fn prepare_one<F: Family>(
 /// The faults of `pim_replay::mirror_into`. If the writer or the router can't be made, the result
 /// is the first fault of the writer, then of the router, or it is `Memory`. Then nothing was
 /// written, and no capture was read.
-pub fn mirror_opened<F: Family, R: Feed + Drop, W: Drain>(
+pub fn mirror_opened<'a, F: Family, R: Feed + Drop, W: Drain>(
     alloc: Global,
-    captures: &Captures<'_, F::Addr>,
+    captures: &Captures<'a, F::Addr>,
     writing: &Writing<F::Addr>,
     routes: &Routes<F>,
     merge: &mut Merge<R>,
     writer: &mut W,
-) -> Result<u8, Fault<'static>>
+) -> Result<u8, Fault<'a>>
     requires after { IsBounded captures.now }
     requires limit { IsLimited captures.now }
     requires writing { IsWritable writing.now }
     requires ports { length merge.old.lanes ≡ length captures.now.ports.items }
-    ensures text { MirrorsNew F.family F.bytes_of (end_of captures.now) captures.now.limit
+    ensures text { MirrorsNew captures.now.ports.items F.family F.bytes_of
+        (end_of captures.now) captures.now.limit
         (writing_seen F.bytes_of writing.now.upstream writing.now.own writing.now.holdtime
         writing.now.budget)
         merge.old merge.new
@@ -118,15 +135,20 @@ pub fn mirror_opened<F: Family, R: Feed + Drop, W: Drain>(
         Ok(router) => router,
         Err(fault) => return Err(fault),
     };
-    mirrored::<F>(mirror_into::<F, R, W>(
-        alloc,
-        merge,
-        &mut router,
-        end,
-        &made.by,
-        captures.limit,
-        writer,
-    ))
+    mirrored::<F>(
+        captures,
+        None,
+        None,
+        mirror_into::<F, R, W>(
+            alloc,
+            merge,
+            &mut router,
+            end,
+            &made.by,
+            captures.limit,
+            writer,
+        ),
+    )
 }
 
 /// `mirror_opened` of the captures that the words name. It reads the file of routes first, then

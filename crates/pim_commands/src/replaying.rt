@@ -8,21 +8,22 @@ ghost use Rattle.pim_router.specs.Config.{config_faults};
 ghost use Rattle.pim_router.specs.Seen.{setup_seen};
 ghost use Rattle.pim_router.specs.State.{new_router};
 ghost use Rattle.pim_words.specs.Plan.{IsBounded, IsLimited};
-ghost use Rattle.pim_commands.specs.Replaying.{end_of, config_of, config_fault, capture_fault};
-ghost use Rattle.pim_commands.specs.Replaying.{replay_fault, answer_of, tag_of};
+ghost use Rattle.pim_commands.specs.Naming.{ports_of};
+ghost use Rattle.pim_commands.specs.Replaying.{end_of, config_of, config_fault};
+ghost use Rattle.pim_commands.specs.Replaying.{replay_fault, answer_of};
 ghost use Rattle.pim_commands.specs.Replaying.{IsUnmade, ReplaysNew};
 ghost use Rattle.pim_commands.specs.Opening.{ReplaysFiles};
 ghost use Rattle.pim_check.specs.Report.{write_failures_after};
 
+use crate::naming::port_fault;
 use crate::opening::open_one;
 use pim_addr::{Drain, Family, Feed, Routes};
-use pim_capture::{CaptureFault, Vlan};
-use pim_check::{CaptureCause, Fault};
+use pim_check::Fault;
 use pim_files::Opener;
 use pim_merge::{End, Merge};
 use pim_replay::{ReplayFault, replay_into};
 use pim_router::{Config, ConfigFault, PortConfig, Router};
-use pim_words::{Captures, ConfigCause, Port};
+use pim_words::{Captures, ConfigCause, Port, Side};
 use std::alloc::{AllocError, Global};
 
 /// The propagation delay of each port, in milliseconds (RFC 7761, 4.11: Propagation_delay_default).
@@ -82,58 +83,31 @@ fn config_fault(fault: ConfigFault) -> Fault<'static>
     Fault::Words(pim_words::Fault::Config(cause))
 }
 
-/// The number of the tag in which a VLAN differs from another one.
-fn tag_of(vlan: Vlan, other: Vlan) -> u16
-    ensures { result ≡ tag_of vlan other }
-{
-    if vlan.outer == other.outer {
-        vlan.inner
-    } else {
-        vlan.outer
-    }
-}
-
-/// The program's fault for a fault of a capture.
-pub(crate) fn capture_fault(fault: CaptureFault) -> Fault<'static>
-    ensures { result ≡ capture_fault fault }
+/// The program's fault for a fault of the replay of a router: one of two, or the one of all ports.
+pub fn replay_fault<'a, A: Copy>(
+    captures: &Captures<'a, A>,
+    side: Option<Side>,
+    fault: ReplayFault,
+) -> Fault<'a>
+    ensures { result ≡ replay_fault (ports_of side captures.now.ports.items) fault }
 {
     match fault {
-        CaptureFault::Magic => Fault::Capture(CaptureCause::Magic),
-        CaptureFault::LinkType | CaptureFault::LinkNumber(_) => {
-            Fault::Capture(CaptureCause::LinkType)
-        }
-        CaptureFault::Truncated => Fault::Capture(CaptureCause::Truncated),
-        CaptureFault::TooLong => Fault::Capture(CaptureCause::TooLong),
-        CaptureFault::Read | CaptureFault::Failed => Fault::Capture(CaptureCause::Read),
-        CaptureFault::Memory => Fault::Memory,
-        CaptureFault::Block => Fault::Capture(CaptureCause::Block),
-        CaptureFault::Time => Fault::Capture(CaptureCause::Time),
-        CaptureFault::Vlans { first, other } => Fault::Vlans {
-            first: tag_of(first, other),
-            other: tag_of(other, first),
-        },
-        CaptureFault::Interfaces { first, other } => Fault::Interfaces { first, other },
-    }
-}
-
-/// The program's fault for a fault of a replay.
-pub fn replay_fault(fault: ReplayFault) -> Fault<'static>
-    ensures { result ≡ replay_fault fault }
-{
-    match fault {
-        ReplayFault::Capture(told) => capture_fault(told.fault),
+        ReplayFault::Capture(told) => port_fault(captures, side, told),
         ReplayFault::Output => Fault::Output,
         ReplayFault::Memory => Fault::Memory,
     }
 }
 
 /// The program's result for a result of a replay.
-fn answer_of(told: Result<u8, ReplayFault>) -> Result<u8, Fault<'static>>
-    ensures { result ≡ answer_of told }
+fn answer_of<'a, A: Copy>(
+    captures: &Captures<'a, A>,
+    told: Result<u8, ReplayFault>,
+) -> Result<u8, Fault<'a>>
+    ensures { result ≡ answer_of captures.now.ports.items told }
 {
     match told {
         Ok(status) => Ok(status),
-        Err(fault) => Err(replay_fault(fault)),
+        Err(fault) => Err(replay_fault(captures, None, fault)),
     }
 }
 
@@ -166,18 +140,18 @@ pub fn router_of<'r, F: Family>(
 /// # Errors
 /// The faults of `pim_replay::replay_into`. If the router can't be made, the result is its first
 /// fault or `Memory`. Then nothing was written, and no capture was read.
-pub fn replay_opened<F: Family, R: Feed + Drop, W: Drain>(
+pub fn replay_opened<'a, F: Family, R: Feed + Drop, W: Drain>(
     alloc: Global,
-    captures: &Captures<'_, F::Addr>,
+    captures: &Captures<'a, F::Addr>,
     routes: &Routes<F>,
     merge: &mut Merge<R>,
     writer: &mut W,
-) -> Result<u8, Fault<'static>>
+) -> Result<u8, Fault<'a>>
     requires after { IsBounded captures.now }
     requires limit { IsLimited captures.now }
     requires ports { length merge.old.lanes ≡ length captures.now.ports.items }
-    ensures report { ReplaysNew F.family (is_some captures.now.routes) (end_of captures.now)
-        merge.old merge.new
+    ensures report { ReplaysNew captures.now.ports.items F.family (is_some captures.now.routes)
+        (end_of captures.now) merge.old merge.new
         (setup_seen F.bytes_of (map config_of captures.now.ports.items) routes.now
         captures.now.limit)
         (W.contents writer.old) (W.contents writer.new) result }
@@ -191,14 +165,17 @@ pub fn replay_opened<F: Family, R: Feed + Drop, W: Drain>(
         Ok(router) => router,
         Err(fault) => return Err(fault),
     };
-    answer_of(replay_into::<F, R, W>(
-        alloc,
-        merge,
-        &mut router,
-        end,
-        captures.routes.is_some(),
-        writer,
-    ))
+    answer_of(
+        captures,
+        replay_into::<F, R, W>(
+            alloc,
+            merge,
+            &mut router,
+            end,
+            captures.routes.is_some(),
+            writer,
+        ),
+    )
 }
 
 /// `replay_opened` of the captures that the words name. It reads the file of routes first, then

@@ -15,8 +15,9 @@ ghost use Rattle.pim_commands.specs.Tracing.{trace_fault, tracing_answer, Traces
 ghost use Rattle.pim_commands.specs.Opening.{TracesFiles};
 ghost use Rattle.pim_check.specs.Report.{write_failures_after};
 
+use crate::naming::port_fault;
 use crate::opening::open_one;
-use crate::replaying::{capture_fault, configs, end_of, router_of};
+use crate::replaying::{configs, end_of, router_of};
 use pim_addr::{Drain, Family, Feed, Routes};
 use pim_check::Fault;
 use pim_event_lines::{JsonPrinter, TextPrinter};
@@ -81,23 +82,26 @@ fn filter_of<'t, A>(tracing: &'t Tracing<'_, A>) -> Filter<'t, A>
 }
 
 /// The program's fault for a fault of a trace.
-fn trace_fault(fault: TraceFault) -> Fault<'static>
-    ensures { result ≡ trace_fault fault }
+fn trace_fault<'a, A: Copy>(captures: &Captures<'a, A>, fault: TraceFault) -> Fault<'a>
+    ensures { result ≡ trace_fault captures.now.ports.items fault }
 {
     match fault {
-        TraceFault::Capture(told) => capture_fault(told.fault),
+        TraceFault::Capture(told) => port_fault(captures, None, told),
         TraceFault::Output => Fault::Output,
         TraceFault::Memory => Fault::Memory,
     }
 }
 
 /// The program's result for a result of a trace.
-fn tracing_answer(told: Result<(), TraceFault>) -> Result<u8, Fault<'static>>
-    ensures { result ≡ tracing_answer told }
+fn tracing_answer<'a, A: Copy>(
+    captures: &Captures<'a, A>,
+    told: Result<(), TraceFault>,
+) -> Result<u8, Fault<'a>>
+    ensures { result ≡ tracing_answer captures.now.ports.items told }
 {
     match told {
         Ok(()) => Ok(0),
-        Err(fault) => Err(trace_fault(fault)),
+        Err(fault) => Err(trace_fault(captures, fault)),
     }
 }
 
@@ -118,7 +122,8 @@ fn trace_by<F: Family, R: Feed + Drop, W: Drain>(
         merge.old merge.new router.old router.new
         (W.contents writer.old) (W.contents writer.new) result }
     ensures count { W.failures writer.new
-        ≡ write_failures_after (W.failures writer.old) (tracing_answer result) }
+        ≡ write_failures_after (W.failures writer.old)
+        (tracing_answer asked.entry.0.now.ports.items result) }
 {
     let (captures, tracing) = asked;
     let end = end_of(captures);
@@ -141,18 +146,18 @@ fn trace_by<F: Family, R: Feed + Drop, W: Drain>(
 /// # Errors
 /// The faults of `pim_trace::trace_into`. If the router can't be made, the result is its first
 /// fault or `Memory`. Then nothing was written, and no capture was read.
-pub fn trace_opened<F: Family, R: Feed + Drop, W: Drain>(
+pub fn trace_opened<'a, F: Family, R: Feed + Drop, W: Drain>(
     alloc: Global,
-    asked: (&Captures<'_, F::Addr>, &Tracing<'_, F::Addr>),
+    asked: (&Captures<'a, F::Addr>, &Tracing<'_, F::Addr>),
     routes: &Routes<F>,
     merge: &mut Merge<R>,
     writer: &mut W,
-) -> Result<u8, Fault<'static>>
+) -> Result<u8, Fault<'a>>
     requires after { IsBounded asked.0.now }
     requires limit { IsLimited asked.0.now }
     requires names { AreNames asked.0.now asked.1.now }
     requires ports { length merge.old.lanes ≡ length asked.0.now.ports.items }
-    ensures events { TracesNew F.family (line_of F.family F.bytes_of
+    ensures events { TracesNew asked.entry.0.now.ports.items F.family (line_of F.family F.bytes_of
         (names_of 0 asked.entry.1.now.names.items) asked.entry.1.now)
         (end_of asked.entry.0.now) merge.old merge.new
         (setup_seen F.bytes_of (map config_of asked.entry.0.now.ports.items) routes.now
@@ -171,7 +176,10 @@ pub fn trace_opened<F: Family, R: Feed + Drop, W: Drain>(
         Ok(router) => router,
         Err(fault) => return Err(fault),
     };
-    tracing_answer(trace_by::<F, R, W>(alloc, asked, &names, merge, &mut router, writer))
+    tracing_answer(
+        captures,
+        trace_by::<F, R, W>(alloc, asked, &names, merge, &mut router, writer),
+    )
 }
 
 /// `trace_opened` of the captures that the words name. It reads the file of routes first, then

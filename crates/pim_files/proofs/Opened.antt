@@ -60,7 +60,7 @@ module _ {A : Type 0} where
   -- ---- captures
 
   one_more_result : (files : Files) (ports : List (Port A)) (port : Port A) (held remaining : Option (List ℕ)) (lanes lanes' : List LaneState)
-      → files (file_name port) ≡ held → AreFiles files ports lanes → IsSome held × (remaining ≡ held)
+      → files.contents (file_name port) ≡ held → AreFiles files ports lanes → IsSome held × (remaining ≡ held)
       → map coming_on lanes' ≡ map coming_on lanes ++ option_map (results_by port.link) remaining ∷ [] → AreFiles files (ports ++ port ∷ []) lanes'
   one_more_result files ports port None remaining lanes lanes' is are opened more = absurd (false≢true opened.0)
   one_more_result files ports port (Some content) remaining lanes lanes' is are opened more = record {
@@ -77,21 +77,21 @@ module _ {A : Type 0} where
 
   -- one more capture
   one_more_held : (known : Option Files) (ports : List (Port A)) (port : Port A) (remaining : Option (List ℕ)) (lanes lanes' : List LaneState)
-      → HoldFiles known ports lanes → IfSome known (λ files. IsSome (files (file_name port)) × (remaining ≡ files (file_name port)))
+      → HoldFiles known ports lanes → IfSome known (λ files. IsSome (files.contents (file_name port)) × (remaining ≡ files.contents (file_name port)))
       → map coming_on lanes' ≡ map coming_on lanes ++ option_map (results_by port.link) remaining ∷ [] → HoldFiles known (ports ++ port ∷ []) lanes'
   one_more_held None ports port remaining lanes lanes' are opened more = tt
   one_more_held (Some files) ports port remaining lanes lanes' are opened more =
-      one_more_result files ports port (files (file_name port)) remaining lanes lanes' refl are opened more
+      one_more_result files ports port (files.contents (file_name port)) remaining lanes lanes' refl are opened more
 
   -- the capture of the port at this place
   pub one_more_lane : (known known' : Option Files) (ports : List (Port A)) (place next : ℕ) (port : Port A) (remaining : Option (List ℕ)) (lanes lanes' : List LaneState)
       → known' ≡ known → next ≡ suc place → place < length ports → port ≡ get_or ports place port
-      → HoldFiles known (take place ports) lanes → IfSome known' (λ files. IsSome (files (file_name port)) × (remaining ≡ files (file_name port)))
+      → HoldFiles known (take place ports) lanes → IfSome known' (λ files. IsSome (files.contents (file_name port)) × (remaining ≡ files.contents (file_name port)))
       → map coming_on lanes' ≡ map coming_on lanes ++ option_map (results_by port.link) remaining ∷ [] → HoldFiles known (take next ports) lanes'
   one_more_lane known known' ports place next port remaining lanes lanes' same is below here are opened more =
       subst (λ l. HoldFiles known l lanes') (sym (one_more_port ports place next port is below here))
       (one_more_held known (take place ports) port remaining lanes lanes' are
-      (subst (λ (k : Option Files). IfSome k (λ files. IsSome (files (file_name port)) × (remaining ≡ files (file_name port)))) same opened) more)
+      (subst (λ (k : Option Files). IfSome k (λ files. IsSome (files.contents (file_name port)) × (remaining ≡ files.contents (file_name port)))) same opened) more)
 
   -- ---- a port whose file isn't open
 
@@ -113,7 +113,7 @@ module _ {A : Type 0} where
   coming_same (Some files) ports lanes lanes' same are = record { results = are.results; are = are.are; coming = same ∙ are.coming }
 
   one_more_if : (known : Option Files) (ports : List (Port A)) (port : Port A) (remaining : Option (List ℕ)) (lanes lanes' : List LaneState) (b : Bool)
-      → HoldFiles known ports lanes → IfSome known (λ files. IsSome (files (file_name port)) × (remaining ≡ files (file_name port)))
+      → HoldFiles known ports lanes → IfSome known (λ files. IsSome (files.contents (file_name port)) × (remaining ≡ files.contents (file_name port)))
       → map coming_on lanes' ≡ map coming_on lanes ++ cond b (option_map (results_by port.link) remaining ∷ []) [] → HoldFiles known (ports ++ cond b (port ∷ []) []) lanes'
   one_more_if known ports port remaining lanes lanes' true are opened more = one_more_held known ports port remaining lanes lanes' are opened more
   one_more_if known ports port remaining lanes lanes' false are opened more =
@@ -122,34 +122,34 @@ module _ {A : Type 0} where
   -- the capture of the port at this place, if it is one of this router
   pub one_more_of : (side : Side) (known known' : Option Files) (ports : List (Port A)) (place next : ℕ) (port : Port A) (remaining : Option (List ℕ)) (lanes lanes' : List LaneState)
       → known' ≡ known → next ≡ suc place → place < length ports → port ≡ get_or ports place port
-      → HoldFiles known (filter (is_of side) (take place ports)) lanes → IfSome known' (λ files. IsSome (files (file_name port)) × (remaining ≡ files (file_name port)))
+      → HoldFiles known (filter (is_of side) (take place ports)) lanes → IfSome known' (λ files. IsSome (files.contents (file_name port)) × (remaining ≡ files.contents (file_name port)))
       → AddsLane side port.side port.link remaining lanes lanes' → HoldFiles known (filter (is_of side) (take next ports)) lanes'
   one_more_of side known known' ports place next port remaining lanes lanes' same is below here are opened more =
       subst (λ l. HoldFiles known l lanes') (sym (ap (filter (is_of side)) (one_more_port ports place next port is below here) ∙ filter-append (is_of side) (take place ports) (port ∷ [])))
       (one_more_if known (filter (is_of side) (take place ports)) port remaining lanes lanes' (is_side side port.side) are
-      (subst (λ (k : Option Files). IfSome k (λ files. IsSome (files (file_name port)) × (remaining ≡ files (file_name port)))) same opened) more)
+      (subst (λ (k : Option Files). IfSome k (λ files. IsSome (files.contents (file_name port)) × (remaining ≡ files.contents (file_name port)))) same opened) more)
 
-  one_more_there : (files : Files) (ports : List (Port A)) (port : Port A) (held : Option (List ℕ)) → files (file_name port) ≡ held → IsSome held
+  one_more_there : (files : Files) (ports : List (Port A)) (port : Port A) (held : Option (List ℕ)) → files.contents (file_name port) ≡ held → IsSome held
       → (contents : List (List ℕ)) × AreContents files ports contents → (contents : List (List ℕ)) × AreContents files (ports ++ port ∷ []) contents
   one_more_there files ports port None is some are = absurd (false≢true some)
   one_more_there files ports port (Some content) is some (contents, are) = (
     contents ++ content ∷ [],
-    map-append (λ p. files (file_name p)) ports (port ∷ [])
-        ∙ ap (λ l. l ++ files (file_name port) ∷ []) are
+    map-append (λ p. files.contents (file_name p)) ports (port ∷ [])
+        ∙ ap (λ l. l ++ files.contents (file_name port) ∷ []) are
         ∙ ap (λ o. map Some contents ++ o ∷ []) is
         ∙ sym (map-append Some contents (content ∷ [])),
   )
 
   one_more_can : (known : Option Files) (ports : List (Port A)) (port : Port A) (remaining : Option (List ℕ)) → CanOpen known ports
-      → IfSome known (λ files. IsSome (files (file_name port)) × (remaining ≡ files (file_name port))) → CanOpen known (ports ++ port ∷ [])
+      → IfSome known (λ files. IsSome (files.contents (file_name port)) × (remaining ≡ files.contents (file_name port))) → CanOpen known (ports ++ port ∷ [])
   one_more_can None ports port remaining are opened = tt
-  one_more_can (Some files) ports port remaining are opened = one_more_there files ports port (files (file_name port)) refl opened.0 are
+  one_more_can (Some files) ports port remaining are opened = one_more_there files ports port (files.contents (file_name port)) refl opened.0 are
 
   -- the file of the port at this place can be opened
   pub one_more_present : (known known' : Option Files) (ports : List (Port A)) (place next : ℕ) (port : Port A) (remaining : Option (List ℕ))
       → known' ≡ known → next ≡ suc place → place < length ports → port ≡ get_or ports place port
-      → CanOpen known (take place ports) → IfSome known' (λ files. IsSome (files (file_name port)) × (remaining ≡ files (file_name port))) → CanOpen known (take next ports)
+      → CanOpen known (take place ports) → IfSome known' (λ files. IsSome (files.contents (file_name port)) × (remaining ≡ files.contents (file_name port))) → CanOpen known (take next ports)
   one_more_present known known' ports place next port remaining same is below here are opened =
       subst (CanOpen known) (sym (one_more_port ports place next port is below here))
       (one_more_can known (take place ports) port remaining are
-      (subst (λ (k : Option Files). IfSome k (λ files. IsSome (files (file_name port)) × (remaining ≡ files (file_name port)))) same opened))
+      (subst (λ (k : Option Files). IfSome k (λ files. IsSome (files.contents (file_name port)) × (remaining ≡ files.contents (file_name port)))) same opened))

@@ -1,6 +1,6 @@
 -- The captures of ports that are opened one by one. `known` is what files hold, where it is known.
 use Rattle.std.specs.Prelude.{◌≡◌, ⊤, ℕ, Bool, cond, true, List, [], ◌∷◌, ◌++◌, map}
-use Rattle.std.specs.Prelude.{Option, None, Some, IsSome, IfSome, option_map}
+use Rattle.std.specs.Prelude.{Option, None, Some, IsSome, IfSome, is_some, option_map}
 use Rattle.pim_capture.specs.Capture.{Answer, answers}
 use Rattle.pim_container.specs.declared.choice.Choice.{Choice}
 use Rattle.pim_merge.specs.Lane.{LaneState, IsComing, coming_on}
@@ -10,7 +10,8 @@ use Rattle.pim_words.specs.declared.task.Link.{Link}
 use Rattle.pim_words.specs.declared.task.Port.{Port}
 use Rattle.pim_words.specs.Faults.{is_side}
 use Rattle.pim_files.specs.declared.fault.OpenFault.{OpenFault}
-use Rattle.pim_files.specs.declared.fault.OpenFault.TheVariants.{File, Memory}
+use Rattle.pim_files.specs.declared.fault.OpenFault.TheVariants as opening
+use Rattle.pim_files.specs.declared.opener.FileCause.{FileCause}
 use Rattle.pim_files.specs.Files.{Files}
 
 -- The name of a port's file.
@@ -22,21 +23,30 @@ file_name port = port.file.now
 -- The reader has all of the port's file to give.
 abbrev pub IsReaderOf : {A R : Type 0} → (R → Option (List ℕ)) → Option Files → Port A → R → Type 0
 IsReaderOf remaining known port reader = IfSome known (λ files.
-    IsSome (files (file_name port)) × (remaining reader ≡ files (file_name port)))
+    IsSome (files.contents (file_name port)) × (remaining reader ≡ files.contents (file_name port)))
 
--- Why the port's file isn't open: it can't be opened, and the fault has the port's whole word. Or
--- memory is refused.
+-- The fault of a port whose file can't be opened for this cause. It names the file if the port has
+-- a link, otherwise it has the port's whole word.
+abbrev pub port_fault : {A : Type 0} → Port A → FileCause → OpenFault
+port_fault port cause = cond (is_some port.link) (opening.Port port.file cause) (opening.File port.word)
+
+-- The port's file can't be opened, and this is why.
+pub record IsClosed {A : Type 0} (known : Option Files) (port : Port A) (fault : OpenFault) : Type 0 where
+  pub cause : FileCause
+  pub is : fault ≡ port_fault port cause
+  pub closed : IfSome known (λ files.
+      (files.contents (file_name port) ≡ None) × (cause ≡ files.causes (file_name port)))
+
+-- Why the port's file isn't open: it can't be opened, or memory is refused.
 abbrev pub IsPortFault : {A : Type 0} → Option Files → Port A → OpenFault → Type 0
-IsPortFault known port (File word) =
-    (word.now ≡ port.word.now) × IfSome known (λ files. files (file_name port) ≡ None)
-IsPortFault known port Memory = ⊤
-IsPortFault known port fault = ⊥
+IsPortFault known port opening.Memory = ⊤
+IsPortFault known port fault = IsClosed known port fault
 
 -- ---- the captures of ports
 
 -- The files of these ports, each with what it holds.
 abbrev pub AreContents : {A : Type 0} → Files → List (Port A) → List (List ℕ) → Type 0
-AreContents files ports contents = map (λ port. files (file_name port)) ports ≡ map Some contents
+AreContents files ports contents = map (λ port. files.contents (file_name port)) ports ≡ map Some contents
 
 -- The files of these ports can be opened, where it is known what files hold.
 abbrev pub CanOpen : {A : Type 0} → Option Files → List (Port A) → Type 0
@@ -54,7 +64,7 @@ results_by (Some link) = answers_by (choice_of link)
 
 -- The results of a port's file by the port's link, if it can be opened.
 abbrev pub results_of : {A : Type 0} → Files → Port A → Option (List Answer)
-results_of files port = option_map (results_by port.link) (files (file_name port))
+results_of files port = option_map (results_by port.link) (files.contents (file_name port))
 
 -- These captures are those of the ports' files, in their order. Nothing of them is read: each has
 -- all results of its file to return, by the link of its port.

@@ -1,11 +1,15 @@
 -- What is known of the files that an opener opens, and of the names that it was asked for.
 use Rattle.std.specs.Prelude.{◌≡◌, ⊤, ℕ, List, ◌++◌, Option, None, Some, IsSome, Result, Ok, Err, MatchResult}
+use Rattle.pim_files.specs.declared.opener.FileCause.{FileCause}
 use Rattle.pim_files.specs.declared.opener.Unopened.{Unopened}
 use Rattle.pim_files.specs.declared.opener.Unopened.TheVariants.{File, Memory}
 
--- What the file of each name holds; `None` for a name without a file that can be opened.
-abbrev pub Files : Type 0
-Files = List ℕ → Option (List ℕ)
+-- The files that an opener opens.
+pub record Files : Type 0 where
+  -- what the file of each name holds; `None` for a name without a file that can be opened
+  pub contents : List ℕ → Option (List ℕ)
+  -- why the file of a name can't be opened
+  pub causes : List ℕ → FileCause
 
 -- What is known of an opener. `None` says that nothing is known.
 pub record Known : Type 0 where
@@ -39,9 +43,10 @@ pub record AsksFront (old new : Known) (names : List (List ℕ)) : Type 0 where
 abbrev pub AsksAll : {A E : Type 0} → Known → Known → List (List ℕ) → Result A E → Type 0
 AsksAll old new names result = MatchResult result (λ _. AsksFor old new names) (λ _. AsksFront old new names)
 
--- What opening gives, by what the file holds: a reader that has all of it to give. Otherwise there
--- is no such file, or memory is refused.
-abbrev pub Opens : {R : Type 0} → (R → Option (List ℕ)) → Option (List ℕ) → Result R Unopened → Type 0
-Opens remaining content (Ok reader) = IsSome content × (remaining reader ≡ content)
-Opens remaining content (Err File) = content ≡ None
-Opens remaining content (Err Memory) = ⊤
+-- What opening the file of this name gives: a reader that has all of it to give. Otherwise it can't
+-- be opened for its cause, or memory is refused.
+abbrev pub Opens : {R : Type 0} → (R → Option (List ℕ)) → Files → List ℕ → Result R Unopened → Type 0
+Opens remaining files name (Ok reader) =
+    IsSome (files.contents name) × (remaining reader ≡ files.contents name)
+Opens remaining files name (Err (File cause)) = (files.contents name ≡ None) × (cause ≡ files.causes name)
+Opens remaining files name (Err Memory) = ⊤

@@ -2,10 +2,11 @@
 use Rattle.std.specs.Prelude.{ℕ, List, [], ◌∷◌, map, cond, bytes_eq, string_bytes, Option, None, Some}
 use Rattle.pim_files.specs.declared.held.HeldFile.{HeldFile}
 use Rattle.pim_files.specs.declared.held.HeldFiles.{HeldFiles}
-use Rattle.pim_files.specs.Files.{Files, Known}
+use Rattle.pim_files.specs.declared.opener.FileCause.TheVariants.{Missing}
+use Rattle.pim_files.specs.Files.{Known}
 
 -- The bytes of the first file of this name.
-abbrev pub held_content : List HeldFile → Files
+abbrev pub held_content : List HeldFile → List ℕ → Option (List ℕ)
 held_content [] name = None
 held_content (file ∷ files) name = cond (bytes_eq file.name.now name) (Some file.bytes.now) (held_content files name)
 
@@ -17,6 +18,9 @@ held_files opener = opener.files.now
 abbrev pub held_asked : HeldFiles → Option (List (List ℕ))
 held_asked opener = cond opener.is_whole (Some (map string_bytes opener.asked.items)) None
 
--- What is known of it.
+-- What is known of it: a name without a file is the one cause that it has.
 abbrev pub held_known : HeldFiles → Known
-held_known opener = record { files = Some (held_content (held_files opener)); asked = held_asked opener }
+held_known opener = record {
+  files = Some (record { contents = held_content (held_files opener); causes = λ name. Missing });
+  asked = held_asked opener;
+}

@@ -42,7 +42,7 @@ module _ {R : Type 0} (family : AddressFamily) (remaining : R → Option (List �
   pub record ReadsFile (old new : RouteTable) (result : Result (Unit {0}) RoutesFault) : Type 0 where
     pub before : R
     pub after : R
-    pub opened : IfSome known (λ files. IsSome (files name) × (remaining before ≡ files name))
+    pub opened : IfSome known (λ files. IsSome (files.contents name) × (remaining before ≡ files.contents name))
     pub reads : IfSome (remaining before) (λ file. Reads family file old new result)
     pub failed : failures after ≡ failures_after_reading (failures before) result
 
@@ -52,7 +52,7 @@ module _ {R : Type 0} (family : AddressFamily) (remaining : R → Option (List �
 
   -- Why not all rows were added: the file can't be opened, it has a fault, or memory is refused.
   abbrev pub IsFileFault : RouteTable → OpenFault → Type 0
-  IsFileFault old (File word) = (word.now ≡ name) × IfSome known (λ files. files name ≡ None)
+  IsFileFault old (File word) = (word.now ≡ name) × IfSome known (λ files. files.contents name ≡ None)
   IsFileFault old (Routes fault) = (new : RouteTable) × ReadsFile old new (Err fault)
   IsFileFault old Memory = ⊤
   IsFileFault old fault = ⊥

@@ -6,19 +6,34 @@ ghost use Rattle.pim_merge.specs.Lane.{coming_on};
 ghost use Rattle.pim_files.specs.Files.{AsksFor, AsksAll};
 ghost use Rattle.pim_files.specs.Captures.{file_name, IsReaderOf, IsPortFault};
 ghost use Rattle.pim_files.specs.Captures.{HoldFiles, StopsAtPort, choice_of, results_by};
+ghost use Rattle.pim_files.specs.Captures.{port_fault};
 
 use crate::fault::OpenFault;
-use crate::opener::{Opener, Unopened};
+use crate::opener::{FileCause, Opener, Unopened};
 use pim_addr::Feed;
 use pim_container::Choice;
 use pim_merge::Merge;
 use pim_words::{Link, Port};
 use std::alloc::{AllocError, Global};
 
+/// The fault of a port whose file can't be opened.
+fn port_fault<'a, A>(port: &Port<'a, A>, cause: FileCause) -> OpenFault<'a>
+    ensures { result ≡ port_fault port.now cause }
+{
+    if port.link.is_some() {
+        return OpenFault::Port {
+            file: port.file,
+            cause,
+        };
+    }
+    OpenFault::File(port.word)
+}
+
 /// Opens the capture of a port.
 ///
 /// # Errors
-/// `File` with the whole word of the port, or `Memory`.
+/// `Port` with the name of the file if the port has a link, otherwise `File` with the whole word of
+/// the port; or `Memory`.
 pub fn open_port<'a, A, O: Opener>(
     alloc: Global,
     opener: &mut O,
@@ -31,7 +46,7 @@ pub fn open_port<'a, A, O: Opener>(
 {
     match opener.open(alloc, port.file) {
         Ok(reader) => Ok(reader),
-        Err(Unopened::File) => Err(OpenFault::File(port.word)),
+        Err(Unopened::File(cause)) => Err(port_fault(port, cause)),
         Err(Unopened::Memory) => Err(OpenFault::Memory),
     }
 }

@@ -1,5 +1,6 @@
 //! Why the files of a command aren't open.
 
+use crate::opener::FileCause;
 use pim_routes_file::RoutesFault;
 
 /// Why there is no route table, or a file isn't open.
@@ -9,9 +10,16 @@ pub enum OpenFault<'a> {
     Upstream,
     /// The RP isn't a valid source.
     Rp,
-    /// The file of a port or of the routes can't be opened. This is the word of the port, or the
-    /// name of the file of routes.
+    /// The file of a port without a link, or of the routes, can't be opened. This is the word of
+    /// the port, or the name of the file of routes.
     File(&'a str),
+    /// The file of a port with a link can't be opened.
+    Port {
+        /// The name of the file.
+        file: &'a str,
+        /// Why it can't be opened.
+        cause: FileCause,
+    },
     /// The file of routes has a fault.
     Routes(RoutesFault),
     /// An allocation was refused.

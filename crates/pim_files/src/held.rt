@@ -4,7 +4,7 @@ ghost use Rattle.std.specs.Prelude.{◌≡◌, [], ◌∷◌, Some, option_map};
 ghost use Rattle.pim_files.specs.Files.{AsksFor, Opens, Grows};
 ghost use Rattle.pim_files.specs.Held.{held_content, held_files, held_asked, held_known};
 
-use crate::opener::{Opener, Unopened};
+use crate::opener::{FileCause, Opener, Unopened};
 use pim_addr::ScriptedFeed;
 use std::alloc::Global;
 
@@ -84,7 +84,7 @@ impl<'a> Opener for HeldFiles<'a> {
         self.note(alloc, name);
         match file_named(self.files, name) {
             Some(file) => Ok(ScriptedFeed::new(file.bytes, self.most, file.fails_from)),
-            None => Err(Unopened::File),
+            None => Err(Unopened::File(FileCause::Missing)),
         }
     }
 }

@@ -12,7 +12,7 @@
 //! Where the opener tells what files hold, the contracts say that each port has the capture of its
 //! own file, of which nothing is read. They also say which rows the table has, and the first file
 //! that can't be opened is the fault. Elsewhere they say how many captures there are, and which
-//! words a fault may have.
+//! words a fault may have. The fault of a port with a link has the name of the file and the cause.
 //!
 //! The crate is apart from `pim_commands`, so that each is checked alone.
 #![tactic(auto)]
@@ -27,6 +27,6 @@ mod route_table;
 pub use captures::{open_all, open_port};
 pub use fault::OpenFault;
 pub use held::{HeldFile, HeldFiles};
-pub use opener::{Opener, Unopened};
+pub use opener::{FileCause, Opener, Unopened};
 pub use pair::{Pair, add_to, open_both};
 pub use route_table::{first_rows, table};

@@ -6,11 +6,24 @@ ghost use Rattle.pim_files.specs.Files.{Known, AsksFor, Opens};
 use pim_addr::Feed;
 use std::alloc::Global;
 
+/// Why a file can't be opened.
+#[derive(Clone, Copy, Debug, PartialEq, Eq)]
+pub enum FileCause {
+    /// There is no file of this name.
+    Missing,
+    /// It may not be read.
+    Denied,
+    /// It is a directory.
+    Directory,
+    /// Another cause.
+    Other,
+}
+
 /// Why a file isn't open.
 #[derive(Clone, Copy, Debug, PartialEq, Eq)]
 pub enum Unopened {
-    /// There is no file of this name, or it can't be opened.
-    File,
+    /// The file can't be opened.
+    File(FileCause),
     /// An allocation was refused.
     Memory,
 }
@@ -30,5 +43,5 @@ pub trait Opener {
     fn open(&mut self, alloc: Global, name: &str) -> Result<Self::Reader, Unopened>
         ensures asked { AsksFor (known self.old) (known self.new) (name.now ∷ []) }
         ensures opened { IfSome (known self.old).files (λ files.
-            Opens Self.Reader.remaining (files name.now) result) };
+            Opens Self.Reader.remaining files name.now result) };
 }

@@ -70,7 +70,7 @@ fn add_file<'a, F: Family, O: Opener>(
 {
     let mut reader = match opener.open(alloc, name) {
         Ok(reader) => reader,
-        Err(Unopened::File) => return Err(OpenFault::File(name)),
+        Err(Unopened::File(_)) => return Err(OpenFault::File(name)),
         Err(Unopened::Memory) => return Err(OpenFault::Memory),
     };
     match read_routes::<F, _>(alloc, &mut reader, routes) {

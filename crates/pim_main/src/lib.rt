@@ -11,7 +11,7 @@ mod output;
 ghost use Rattle.pim_words.specs.Plan.{IsInRange};
 
 use crate::files::SystemFiles;
-use crate::output::{Output, Replies, is_live, names_input};
+use crate::output::{Output, Replies, is_live, reads_any, routes_of};
 use pim_addr::{Counted, Family, V4, V6};
 use pim_commands::{FAULTY, Fault, run_task, tell_into};
 use pim_items::{Answers, Items, Stopped};
@@ -60,7 +60,7 @@ fn run_on_system<'a, F: Family>(rt: &HostRuntime, task: &Task<'a, F::Addr>) -> R
         return Err(Fault::Memory);
     };
     let mut output = Counted::new(output);
-    let mut files = SystemFiles::new(rt, names_input(task));
+    let mut files = SystemFiles::new(rt, reads_any(task), routes_of(task));
     let mut input = Counted::new(rt.stdin());
     let alloc = rt.alloc();
     let status = run_task::<F, _, _, _>(alloc, &mut files, task, &mut input, &mut output);

@@ -53,8 +53,14 @@ fn captures_of<'t, 'a, A>(task: &'t Task<'a, A>) -> Option<&'t Captures<'a, A>> 
     }
 }
 
-/// Whether `-` names standard input among the captures of this task: they are of any container.
-pub fn names_input<A>(task: &Task<'_, A>) -> bool {
+/// The name of the file of routes of this task.
+pub fn routes_of<'a, A>(task: &Task<'a, A>) -> Option<&'a str> {
+    let captures = captures_of(task)?;
+    captures.routes
+}
+
+/// Whether the captures of this task are of any container.
+pub fn reads_any<A>(task: &Task<'_, A>) -> bool {
     captures_of(task).is_some_and(|it| it.ports.iter().any(|port| port.link.is_some()))
 }
 

@@ -7,7 +7,7 @@ use Rattle.pim_merge.specs.Next.{MergeState}
 use Rattle.pim_router.specs.State.{RouterState}
 use Rattle.pim_replay.specs.declared.replay.ReplayFault.TheVariants.{Capture, Output, Memory}
 use Rattle.pim_replay.specs.declared.same.SameFault.{SameFault}
-use Rattle.pim_replay.specs.declared.same.SameFault.TheVariants.{Replay, TooBig}
+use Rattle.pim_replay.specs.declared.same.SameFault.TheVariants.{Replay, Second, TooBig}
 use Rattle.pim_replay.specs.Quiet.{RunsAll}
 use Rattle.pim_replay.specs.Same.{Compares, Says, WantTheSame}
 
@@ -19,6 +19,7 @@ module _ {F A N : Type 0} (bytes_of : A → List ℕ) (family : AddressFamily) (
         → Compares family end writing merge merge' state after other other' state_of after_of bytes_of old new answer
     said same (Ok status) old new is says = (first, second, record { same = same; is_so = is; written = says })
     said same (Err (TooBig group)) old new is says = absurd says
+    said same (Err (Second told)) old new is says = absurd says
     said same (Err (Replay (Capture told))) old new is says = absurd says
     said same (Err (Replay Output)) old new is says = (first, second, record { same = same; is_so = is; written = says })
     said same (Err (Replay Memory)) old new is says = absurd says

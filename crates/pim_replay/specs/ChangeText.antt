@@ -14,7 +14,8 @@ use Rattle.pim_router.specs.Canonical.{asked, IsAskedBy, IsFirstTooBig}
 use Rattle.pim_router.specs.Change.{IsToldOf}
 use Rattle.pim_router.specs.State.{RouterState}
 use Rattle.pim_replay.specs.declared.mirror_text.MirrorTextFault.{MirrorTextFault}
-use Rattle.pim_replay.specs.declared.mirror_text.MirrorTextFault.TheVariants.{Replay, TooBig, Full}
+use Rattle.pim_replay.specs.declared.mirror_text.MirrorTextFault.TheVariants.{Replay, Second, TooBig, Full}
+use Rattle.pim_replay.specs.declared.replay.ReplayFault.{ReplayFault}
 use Rattle.pim_replay.specs.declared.replay.ReplayFault.TheVariants.{Capture, Output, Memory}
 use Rattle.pim_replay.specs.ChangeHearing.{HasRoom, HasNoRoom}
 use Rattle.pim_report.specs.MessageText.{messages_text}
@@ -45,8 +46,8 @@ module _ (family : AddressFamily) (end : End) (writing : Writing) (limit : ℕ) 
     pub between : IsChangeBetween family writing after after_of change
     pub written : IsWritten before change
 
-  -- What `change_into` returns and writes. A fault of a capture is one of the first router, or of
-  -- the second if the first replay ended without a fault. A star that is too big is one of the
+  -- What `change_into` returns and writes. A fault of a capture is one of the first router. Or it is
+  -- one of the second, and named so, if the first replay ended without a fault. A star that is too big is one of the
   -- first router, or else of the second. `Full` means that the fresh router has no room for the
   -- first router's messages or for the change. It comes after the messages of the change were
   -- written. When memory is refused, the text ends before these messages or after them.
@@ -61,9 +62,9 @@ module _ (family : AddressFamily) (end : End) (writing : Writing) (limit : ℕ) 
       Both (Changes (λ before change. HasNoRoom family after.routes writing limit before change needed
       × Appends old new (messages_text change)))
   TellsChange bytes_of old new (Err (Replay (Capture told))) =
-      (StopsAt family end merge state merge' told
-      ⊎ RunsAll family end merge state after × StopsAt family end other state_of other' told)
-      × Keeps old new
+      StopsAt family end merge state merge' told × Keeps old new
+  TellsChange bytes_of old new (Err (Second told)) =
+      RunsAll family end merge state after × StopsAt family end other state_of other' told × Keeps old new
   TellsChange bytes_of old new (Err (Replay Output)) =
       Both (Changes (λ before change. AppendsFront old new (agreed_text change)))
   TellsChange bytes_of old new (Err (Replay Memory)) =
@@ -71,12 +72,19 @@ module _ (family : AddressFamily) (end : End) (writing : Writing) (limit : ℕ) 
 
 -- ---- used by private functions only
 
+-- Why the call fails when the second router's replay stops.
+abbrev pub of_second : {F A N : Type 0} → ReplayFault → MirrorTextFault F A N
+of_second (Capture told) = Second told
+of_second Output = Replay Output
+of_second Memory = Replay Memory
+
 -- What the step returns that makes the messages of the change. It fails only if memory is refused.
 abbrev pub TellsBetween : {F A N : Type 0} → AddressFamily → Writing → RouterState → RouterState →
     Result (List (List ℕ)) (MirrorTextFault F A N) → Type 0
 TellsBetween family writing one other (Ok change) = IsChangeBetween family writing one other change
 TellsBetween family writing one other (Err (TooBig group)) = ⊥
 TellsBetween family writing one other (Err (Full needed)) = ⊥
+TellsBetween family writing one other (Err (Second told)) = ⊥
 TellsBetween family writing one other (Err (Replay (Capture told))) = ⊥
 TellsBetween family writing one other (Err (Replay Output)) = ⊥
 TellsBetween family writing one other (Err (Replay Memory)) = Unit {0}
@@ -91,6 +99,7 @@ module _ (family : AddressFamily) (table : RouteTable) (writing : Writing) (limi
   TellsMove old new (Err (TooBig group)) = ⊥
   TellsMove old new (Err (Full needed)) =
       HasNoRoom family table writing limit before change needed × Appends old new (messages_text change)
+  TellsMove old new (Err (Second told)) = ⊥
   TellsMove old new (Err (Replay (Capture told))) = ⊥
   TellsMove old new (Err (Replay Output)) = AppendsFront old new (agreed_text change)
   TellsMove old new (Err (Replay Memory)) = Appends old new (messages_text change)

@@ -13,7 +13,7 @@ use Rattle.pim_mirror.specs.declared.mirroring.MirrorFault.TheVariants as mirror
 use Rattle.pim_router.specs.Canonical.{IsAskedBy, IsTooBig}
 use Rattle.pim_router.specs.State.{RouterState}
 use Rattle.pim_replay.specs.declared.mirror_text.MirrorTextFault.{MirrorTextFault}
-use Rattle.pim_replay.specs.declared.mirror_text.MirrorTextFault.TheVariants.{Replay, TooBig, Full}
+use Rattle.pim_replay.specs.declared.mirror_text.MirrorTextFault.TheVariants.{Replay, Second, TooBig, Full}
 use Rattle.pim_replay.specs.declared.replay.ReplayFault.TheVariants.{Capture, Output, Memory}
 use Rattle.pim_replay.specs.FreshHearing.{HaveRoom, IsFull}
 use Rattle.pim_report.specs.MessageText.{messages_text}
@@ -60,6 +60,7 @@ module _ (family : AddressFamily) (end : End) (writing : Writing) (limit : ℕ) 
   TellsMirror bytes_of old new (Err (Full needed)) =
       Asks (λ messages. IsFull family after.routes writing limit messages needed
       × Appends old new (messages_text messages))
+  TellsMirror bytes_of old new (Err (Second told)) = ⊥
   TellsMirror bytes_of old new (Err (Replay (Capture told))) =
       StopsAt family end merge state merge' told × Keeps old new
   TellsMirror bytes_of old new (Err (Replay Output)) = Asks (λ messages. AppendsFront old new (agreed_text messages))
@@ -72,6 +73,7 @@ abbrev pub failures_of_mirror : {T F A N : Type 0} → ℕ → Result T (MirrorT
 failures_of_mirror before (Ok done) = before
 failures_of_mirror before (Err (TooBig group)) = before
 failures_of_mirror before (Err (Full needed)) = before
+failures_of_mirror before (Err (Second told)) = before
 failures_of_mirror before (Err (Replay (Capture told))) = before
 failures_of_mirror before (Err (Replay Output)) = min (before + 1) top_count
 failures_of_mirror before (Err (Replay Memory)) = before
@@ -90,6 +92,7 @@ AsksBy bytes_of family writing router (Ok messages) =
     IsAskedBy family writing router messages × IsTooBig family writing router None
 AsksBy bytes_of family writing router (Err (TooBig group)) = IsTooBig family writing router (Some (bytes_of group))
 AsksBy bytes_of family writing router (Err (Full needed)) = ⊥
+AsksBy bytes_of family writing router (Err (Second told)) = ⊥
 AsksBy bytes_of family writing router (Err (Replay (Capture told))) = ⊥
 AsksBy bytes_of family writing router (Err (Replay Output)) = ⊥
 AsksBy bytes_of family writing router (Err (Replay Memory)) = Unit {0}
@@ -103,6 +106,7 @@ module _ (family : AddressFamily) (table : RouteTable) (writing : Writing) (limi
   TellsExchange old new (Err (TooBig group)) = ⊥
   TellsExchange old new (Err (Full needed)) =
       IsFull family table writing limit messages needed × Appends old new (messages_text messages)
+  TellsExchange old new (Err (Second told)) = ⊥
   TellsExchange old new (Err (Replay (Capture told))) = ⊥
   TellsExchange old new (Err (Replay Output)) = AppendsFront old new (agreed_text messages)
   TellsExchange old new (Err (Replay Memory)) = Appends old new (messages_text messages)

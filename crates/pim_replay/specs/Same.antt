@@ -12,9 +12,10 @@ use Rattle.pim_merge.specs.declared.end.End.{End}
 use Rattle.pim_merge.specs.Next.{MergeState}
 use Rattle.pim_router.specs.Canonical.{asked, IsFirstTooBig}
 use Rattle.pim_router.specs.State.{RouterState}
+use Rattle.pim_replay.specs.declared.replay.ReplayFault.{ReplayFault}
 use Rattle.pim_replay.specs.declared.replay.ReplayFault.TheVariants.{Capture, Output, Memory}
 use Rattle.pim_replay.specs.declared.same.SameFault.{SameFault}
-use Rattle.pim_replay.specs.declared.same.SameFault.TheVariants.{Replay, TooBig}
+use Rattle.pim_replay.specs.declared.same.SameFault.TheVariants.{Replay, Second, TooBig}
 use Rattle.pim_report.specs.Pieces.{line}
 use Rattle.pim_replay.specs.Quiet.{RunsAll}
 use Rattle.pim_replay.specs.Replay.{StopsAt}
@@ -48,8 +49,8 @@ module _ (family : AddressFamily) (end : End) (writing : Writing) (merge merge' 
   abbrev pub Both : Type 0 → Type 0
   Both fact = RunsAll family end merge state after × RunsAll family end other state_of after_of × fact
 
-  -- What `same_into` returns and writes. A fault of a capture is one of the first router, or of the
-  -- second if the first replay ended without a fault. A star that is too big is one of the first
+  -- What `same_into` returns and writes. A fault of a capture is one of the first router. Or it is
+  -- one of the second, and named so, if the first replay ended without a fault. A star that is too big is one of the first
   -- router, or else of the second.
   abbrev pub Compares : {F A N : Type 0} → (A → List ℕ) → Option (List ℕ) → Option (List ℕ) →
       Result ℕ (SameFault F A N) → Type 0
@@ -59,9 +60,9 @@ module _ (family : AddressFamily) (end : End) (writing : Writing) (merge merge' 
   Compares bytes_of old new (Err (TooBig group)) =
       Both (IsFirstTooBig family writing after after_of (Some (bytes_of group))) × Keeps old new
   Compares bytes_of old new (Err (Replay (Capture told))) =
-      (StopsAt family end merge state merge' told
-      ⊎ RunsAll family end merge state after × StopsAt family end other state_of other' told)
-      × Keeps old new
+      StopsAt family end merge state merge' told × Keeps old new
+  Compares bytes_of old new (Err (Second told)) =
+      RunsAll family end merge state after × StopsAt family end other state_of other' told × Keeps old new
   Compares bytes_of old new (Err (Replay Output)) =
       Both (Answers family writing after after_of (λ same. AppendsFront old new (answer_line same)))
   Compares bytes_of old new (Err (Replay Memory)) = Keeps old new
@@ -71,11 +72,18 @@ module _ (family : AddressFamily) (end : End) (writing : Writing) (merge merge' 
 abbrev pub failures_of_answer : {T F A N : Type 0} → ℕ → Result T (SameFault F A N) → ℕ
 failures_of_answer before (Ok status) = before
 failures_of_answer before (Err (TooBig group)) = before
+failures_of_answer before (Err (Second told)) = before
 failures_of_answer before (Err (Replay (Capture told))) = before
 failures_of_answer before (Err (Replay Output)) = min (before + 1) top_count
 failures_of_answer before (Err (Replay Memory)) = before
 
 -- ---- used by private functions only
+
+-- Why the call fails when the second router's replay stops.
+abbrev pub of_second : {F A N : Type 0} → ReplayFault → SameFault F A N
+of_second (Capture told) = Second told
+of_second Output = Replay Output
+of_second Memory = Replay Memory
 
 -- Why the call fails when the demands can't be compared.
 abbrev pub of_form : {F A N : Type 0} → FormFault F A N → SameFault F A N
@@ -89,6 +97,7 @@ abbrev pub Judges : {F A N : Type 0} → (A → List ℕ) → AddressFamily → 
 Judges bytes_of family writing one other (Ok same) = IsTrue same ↔ WantTheSame family writing one other
 Judges bytes_of family writing one other (Err (TooBig group)) =
     IsFirstTooBig family writing one other (Some (bytes_of group))
+Judges bytes_of family writing one other (Err (Second told)) = ⊥
 Judges bytes_of family writing one other (Err (Replay (Capture told))) = ⊥
 Judges bytes_of family writing one other (Err (Replay Output)) = ⊥
 Judges bytes_of family writing one other (Err (Replay Memory)) = Unit {0}
@@ -97,6 +106,7 @@ Judges bytes_of family writing one other (Err (Replay Memory)) = Unit {0}
 abbrev pub Says : {F A N : Type 0} → Bool → Option (List ℕ) → Option (List ℕ) → Result ℕ (SameFault F A N) → Type 0
 Says same old new (Ok status) = (status ≡ answer_status same) × Appends old new (answer_line same)
 Says same old new (Err (TooBig group)) = ⊥
+Says same old new (Err (Second told)) = ⊥
 Says same old new (Err (Replay (Capture told))) = ⊥
 Says same old new (Err (Replay Output)) = AppendsFront old new (answer_line same)
 Says same old new (Err (Replay Memory)) = ⊥

@@ -11,7 +11,7 @@ ghost use Rattle.pim_capture.specs.Next.{latest_moment};
 ghost use Rattle.pim_merge.specs.Ends.{IsBoundedEnd};
 ghost use Rattle.pim_router.specs.Canonical.{IsTooBig};
 ghost use Rattle.pim_replay.specs.ChangeHearing.{AreTold};
-ghost use Rattle.pim_replay.specs.ChangeText.{TellsBetween, TellsChange, TellsMove};
+ghost use Rattle.pim_replay.specs.ChangeText.{TellsBetween, TellsChange, TellsMove, of_second};
 ghost use Rattle.pim_replay.specs.MirrorText.{failures_of_mirror};
 
 use crate::change_hearing::move_again;
@@ -25,6 +25,16 @@ use pim_moving::change_fits;
 use pim_report::write_messages;
 use pim_router::Router;
 use std::alloc::Global;
+
+/// Why the call fails when the second router's replay stops.
+fn of_second<F: Family>(fault: ReplayFault) -> MirrorTextFault<F>
+    ensures { result ≡ of_second fault }
+{
+    match fault {
+        ReplayFault::Capture(told) => MirrorTextFault::Second(told),
+        _ => MirrorTextFault::Replay(fault),
+    }
+}
 
 /// The messages that report the change from the demand of one router to that of another. They go to
 /// the writer's upstream neighbour, and each star of the demand of `other` must fit a message.
@@ -100,8 +110,8 @@ fn move_on<F: Family, W: Drain>(
 /// and those of the change.
 ///
 /// # Errors
-/// - A capture's fault of `a`, or else of `b`; then `TooBig` of `a`, or else of `b`: nothing was
-///   written.
+/// - `Replay` with a fault of a capture of `a`, or else `Second` with one of `b`; then `TooBig` of
+///   `a`, or else of `b`: nothing was written.
 /// - `Full`: the fresh router has no room for the messages of `a` or for one of the change.
 ///   `needed` is what the first message without room needed. The lines of the change's messages and
 ///   their number were written.
@@ -138,7 +148,7 @@ pub fn change_into<F: Family, R: Feed + Drop, W: Drain>(
     }
     match replay_quietly::<F, R>(merge_b, router_b, end) {
         Ok(()) => {}
-        Err(fault) => return Err(MirrorTextFault::Replay(fault)),
+        Err(fault) => return Err(of_second(fault)),
     }
     one_normal_form();
     let before = ask::<F>(alloc, router_a, by)?;

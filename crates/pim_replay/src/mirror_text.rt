@@ -19,7 +19,7 @@ use crate::quiet::replay_quietly;
 use crate::replay::ReplayFault;
 use pim_addr::{Drain, Family, Feed, Routes, write_all};
 use pim_form::{FormFault, Messages, Writer, one_normal_form};
-use pim_merge::{End, Merge};
+use pim_merge::{End, Merge, MergeFault};
 use pim_mirror::MirrorFault;
 use pim_report::write_messages;
 use pim_router::Router;
@@ -28,8 +28,12 @@ use std::alloc::Global;
 /// Why the messages aren't written, or why the fresh router can't hear them.
 #[derive(Debug, Drop, PartialEq, Eq)]
 pub enum MirrorTextFault<F: Family> {
-    /// A replay stopped, memory was refused, or the device failed.
+    /// A replay stopped, memory was refused, or the device failed. In `change_into` it is the first
+    /// router's replay.
     Replay(ReplayFault),
+    /// The second router's replay stopped at this fault of one of its captures. `mirror_into` never
+    /// returns it.
+    Second(MergeFault),
     /// The star of this group, with all its exceptions, doesn't fit a message of the writer's
     /// budget.
     TooBig(F::Addr),

@@ -8,22 +8,25 @@ ghost use Rattle.std.specs.Prelude.{◌≡◌, ◌≤◌, length};
 ghost use Rattle.pim_capture.specs.Next.{latest_moment};
 ghost use Rattle.pim_merge.specs.Ends.{IsBoundedEnd};
 ghost use Rattle.pim_form.specs.declared.fault.FormFault.TheVariants as form;
-ghost use Rattle.pim_replay.specs.Same.{Compares, Judges, Says, of_form, failures_of_answer};
+ghost use Rattle.pim_replay.specs.Same.{Compares, Judges, Says, of_form, of_second};
+ghost use Rattle.pim_replay.specs.Same.{failures_of_answer};
 ghost use Rattle.pim_replay.specs.Same.{answer_line, answer_status};
 
 use crate::quiet::replay_quietly;
 use crate::replay::ReplayFault;
 use pim_addr::{Drain, Family, Feed, write_all};
 use pim_form::{FormFault, Writer};
-use pim_merge::{End, Merge};
+use pim_merge::{End, Merge, MergeFault};
 use pim_router::{Router, same_wants};
 use std::alloc::Global;
 
 /// Why two replays aren't compared.
 #[derive(Debug, Drop, PartialEq, Eq)]
 pub enum SameFault<F: Family> {
-    /// A replay stopped, memory was refused, or the device failed.
+    /// The first router's replay stopped, memory was refused, or the device failed.
     Replay(ReplayFault),
+    /// The second router's replay stopped at this fault of one of its captures.
+    Second(MergeFault),
     /// The star of this group, with all its exceptions, doesn't fit a message of the writer's
     /// budget.
     TooBig(F::Addr),
@@ -36,6 +39,16 @@ impl<F: Family> From<ReplayFault> for SameFault<F> {
 
     fn from(told: ReplayFault) -> Self {
         SameFault::Replay(told)
+    }
+}
+
+/// Why the call fails when the second router's replay stops.
+fn of_second<F: Family>(fault: ReplayFault) -> SameFault<F>
+    ensures { result ≡ of_second fault }
+{
+    match fault {
+        ReplayFault::Capture(told) => SameFault::Second(told),
+        _ => SameFault::Replay(fault),
     }
 }
 
@@ -100,8 +113,8 @@ fn say<F: Family, W: Drain>(same: bool, writer: &mut W) -> Result<u8, SameFault<
 /// `same_wants`.
 ///
 /// # Errors
-/// - A capture's fault of `a`, or else of `b`; then `TooBig` of `a`, or else of `b`: nothing was
-///   written.
+/// - `Replay` with a fault of a capture of `a`, or else `Second` with one of `b`; then `TooBig` of
+///   `a`, or else of `b`: nothing was written.
 /// - `Memory` if memory is refused: nothing was written.
 /// - `Output` if the device fails: a prefix of the line was written.
 pub fn same_into<F: Family, R: Feed + Drop, W: Drain>(
@@ -127,7 +140,10 @@ pub fn same_into<F: Family, R: Feed + Drop, W: Drain>(
     ensures count { W.failures writer.new ≡ failures_of_answer (W.failures writer.old) result }
 {
     replay_quietly::<F, R>(merge_a, router_a, end)?;
-    replay_quietly::<F, R>(merge_b, router_b, end)?;
+    match replay_quietly::<F, R>(merge_b, router_b, end) {
+        Ok(()) => {}
+        Err(fault) => return Err(of_second(fault)),
+    }
     let same = judge::<F>(alloc, router_a, router_b, by)?;
     say::<F, W>(same, writer)
 }

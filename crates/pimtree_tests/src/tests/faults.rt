@@ -2,7 +2,8 @@
 
 use clap::error::ErrorKind;
 use pim_addr::ScriptedDrain;
-use pim_commands::{Fault, tell_into};
+use pim_commands::{CaptureCause, Fault, tell_into};
+use pim_files::FileCause;
 use pim_words::{Address, ConfigCause, Fault as Unplanned, Refusal, Side};
 use std::alloc::{AllocError, Global};
 use std::test::Fail;
@@ -84,6 +85,60 @@ fn lines_of_faults_stop_at_a_failure(rt: HostRuntime) {
         (Fault::Full(100_001), "pimtree: full 100001\n"),
         (Fault::InputTooLong, "pimtree: input too-long\n"),
         (Fault::Memory, "pimtree: memory\n"),
+    ];
+    for (fault, text) in rows {
+        assert!(rt; is_told(rt.alloc(), &fault, false, text));
+    }
+}
+
+/// A fault of this cause at the third record of a file.
+fn in_file(cause: CaptureCause) -> Fault<'static> {
+    Fault::InFile {
+        cause,
+        file: "a.pcap",
+        record: 3,
+    }
+}
+
+/// A file that can't be opened for this cause.
+fn unopened(cause: FileCause) -> Fault<'static> {
+    Fault::Unopened {
+        file: "a.pcap",
+        cause,
+    }
+}
+
+#[test]
+fn lines_with_names_of_files_stop_at_a_failure(rt: HostRuntime) {
+    let vlans = CaptureCause::Vlans { first: 5, other: 7 };
+    let interfaces = CaptureCause::Interfaces { first: 0, other: 1 };
+    let rows = [
+        (
+            unopened(FileCause::Missing),
+            "pimtree: file a.pcap: no such file\n",
+        ),
+        (
+            unopened(FileCause::Denied),
+            "pimtree: file a.pcap: permission denied\n",
+        ),
+        (
+            unopened(FileCause::Directory),
+            "pimtree: file a.pcap: is a directory\n",
+        ),
+        (unopened(FileCause::Other), "pimtree: file a.pcap\n"),
+        (
+            in_file(CaptureCause::LinkNumber(147)),
+            "pimtree: capture link-type 147 in a.pcap\n",
+        ),
+        (
+            in_file(CaptureCause::TooLong),
+            "pimtree: capture too-long in a.pcap at record 3\n",
+        ),
+        (in_file(vlans), "pimtree: capture vlans 5,7 in a.pcap\n"),
+        (
+            in_file(interfaces),
+            "pimtree: capture interfaces 0,1 in a.pcap\n",
+        ),
     ];
     for (fault, text) in rows {
         assert!(rt; is_told(rt.alloc(), &fault, false, text));

@@ -48,11 +48,11 @@ returns-clause-bytes g c =
     let same : c.deref-2.result.now ≡ map config_of ports = c.deref-2.ensures.value ∙ c.in-Ok.ensures.ports ∙ ap (map config_of) c.deref.ensures.value in
     rw (← c.end_of-end.ensures.end)
     (emitted_new g.F.Family.family bytes_of c.end_of-end.result c.args.merge.now c.emit_into.new.merge
-    (g.W.Drain.contents c.args.writer.now) (g.W.Drain.contents c.emit_into.new.writer) c.in-Ok.made.by writing (setup c.deref-2.result.now) (setup (map config_of ports))
+    (g.W.Drain.contents c.args.writer.now) (g.W.Drain.contents c.emit_into.new.writer) ports c.in-Ok.made.by writing (setup c.deref-2.result.now) (setup (map config_of ports))
     c.in-Ok-router_of.router c.emit_into.new.router c.emit_into.result c.emitted.result c.in-Ok.ensures.by (ap setup same) c.in-Ok-router_of.ensures.1
     c.emit_into.ensures.emits c.emitted.ensures)
 
 pub returns-clause-count : goal.returns-clause-count
 returns-clause-count g c =
     rw (c.emitted.ensures)
-    (c.emit_into.ensures.count ∙ failures_emitted g.F.Family.family g.F.Family.bytes_of (g.W.Drain.failures c.args.writer.now) c.emit_into.result)
+    (c.emit_into.ensures.count ∙ failures_emitted c.args.captures.now.ports.items g.F.Family.family g.F.Family.bytes_of (g.W.Drain.failures c.args.writer.now) c.emit_into.result)

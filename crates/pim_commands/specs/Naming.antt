@@ -1,0 +1,69 @@
+-- The program's fault for a fault of a capture: it names the file of a port with a link.
+use Rattle.std.specs.Prelude.{◌==◌, ℕ, zero, suc, Bool, true, List, [], ◌∷◌, filter, cond, is_some, if◌then◌else◌, Option, None, Some}
+use Rattle.std.specs.Borrow.{Bor}
+use Rattle.pim_capture.specs.declared.vlan.Vlan.{Vlan}
+use Rattle.pim_capture.specs.declared.fault.CaptureFault.{CaptureFault}
+use Rattle.pim_capture.specs.declared.fault.CaptureFault.TheVariants as of_capture
+use Rattle.pim_files.specs.Captures.{is_of}
+use Rattle.pim_merge.specs.declared.merge.MergeFault.{MergeFault}
+use Rattle.pim_words.specs.declared.fault.Side.{Side}
+use Rattle.pim_words.specs.declared.task.Port.{Port}
+use Rattle.pim_check.specs.declared.causes.CaptureCause.{CaptureCause}
+use Rattle.pim_check.specs.declared.causes.CaptureCause.TheVariants as capture
+use Rattle.pim_check.specs.declared.fault.Fault.{Fault}
+use Rattle.pim_check.specs.declared.fault.Fault.TheVariants.{Capture, InFile, Memory}
+
+-- The number of the tag in which a VLAN differs from another one.
+abbrev pub tag_of : Vlan → Vlan → ℕ
+tag_of vlan other = if vlan.outer == other.outer then vlan.inner else vlan.outer
+
+-- The cause of a capture's fault. Where memory is refused, the capture has none.
+abbrev pub cause_of : CaptureFault → Option CaptureCause
+cause_of of_capture.Magic = Some capture.Magic
+cause_of of_capture.LinkType = Some capture.LinkType
+cause_of (of_capture.LinkNumber number) = Some (capture.LinkNumber number)
+cause_of of_capture.Truncated = Some capture.Truncated
+cause_of of_capture.TooLong = Some capture.TooLong
+cause_of of_capture.Block = Some capture.Block
+cause_of of_capture.Time = Some capture.Time
+cause_of (of_capture.Vlans first other) = Some (capture.Vlans (tag_of first other) (tag_of other first))
+cause_of (of_capture.Interfaces first other) = Some (capture.Interfaces first other)
+cause_of of_capture.Memory = None
+cause_of other = Some capture.Read
+
+-- The name of the file that faults of a port's capture have: that of a port with a link.
+abbrev pub file_of : {A : Type 0} → Port A → Option (Bor (List ℕ))
+file_of port = cond (is_some port.link) (Some port.file) None
+
+-- That of the port of this number.
+abbrev pub file_at : {A : Type 0} → List (Port A) → ℕ → Option (Bor (List ℕ))
+file_at [] number = None
+file_at (port ∷ ports) zero = file_of port
+file_at (port ∷ ports) (suc number) = file_at ports number
+
+-- The fault for this cause at a record of this number in a file, if it is named.
+abbrev pub in_file : Option (Bor (List ℕ)) → ℕ → CaptureCause → Fault
+in_file None number cause = Capture cause
+in_file (Some file) number cause = InFile cause file number
+
+-- The fault for a cause, or `Memory` if there is none.
+abbrev pub by_cause : (CaptureCause → Fault) → Option CaptureCause → Fault
+by_cause tell None = Memory
+by_cause tell (Some cause) = tell cause
+
+-- The program's fault for a fault of a capture of a router with these ports. The captures are
+-- numbered as the ports.
+abbrev pub port_fault : {A : Type 0} → List (Port A) → MergeFault → Fault
+port_fault ports told = by_cause (in_file (file_at ports told.capture) told.«record») (cause_of told.fault)
+
+-- The ports of a router: of one of two routers, or all.
+abbrev pub ports_of : {A : Type 0} → Option Side → List (Port A) → List (Port A)
+ports_of None ports = ports
+ports_of (Some side) ports = filter (is_of side) ports
+
+-- ---- used by private functions only
+
+-- Whether the port is one of the router: of one of two, or of the one of all ports.
+abbrev pub is_in : {A : Type 0} → Option Side → Port A → Bool
+is_in None port = true
+is_in (Some side) port = is_of side port

@@ -1,0 +1,124 @@
+//! The program's fault for a fault of a capture. It names the file of a port with a link.
+
+ghost use Rattle.std.specs.Prelude.{◌≡◌, filter};
+ghost use Rattle.pim_files.specs.Captures.{is_of};
+ghost use Rattle.pim_commands.specs.Naming.{tag_of, cause_of, file_of, file_at, in_file};
+ghost use Rattle.pim_commands.specs.Naming.{port_fault, ports_of, is_in};
+
+use pim_capture::{CaptureFault, Vlan};
+use pim_check::{CaptureCause, Fault};
+use pim_merge::MergeFault;
+use pim_words::{Captures, Port, Side};
+
+/// Whether the port belongs to this router.
+pub(crate) fn is_of<A: Copy>(side: Side, port: &Port<'_, A>) -> bool
+    ensures { result ≡ is_of side port.now }
+{
+    match (side, port.side) {
+        (Side::A, Side::A) | (Side::B, Side::B) => true,
+        _ => false,
+    }
+}
+
+/// The number of the tag in which a VLAN differs from another one.
+fn tag_of(vlan: Vlan, other: Vlan) -> u16
+    ensures { result ≡ tag_of vlan other }
+{
+    if vlan.outer == other.outer {
+        vlan.inner
+    } else {
+        vlan.outer
+    }
+}
+
+/// The cause of a capture's fault. Where memory is refused, the capture has none.
+fn cause_of(fault: CaptureFault) -> Option<CaptureCause>
+    ensures { result ≡ cause_of fault }
+{
+    match fault {
+        CaptureFault::Magic => Some(CaptureCause::Magic),
+        CaptureFault::LinkType => Some(CaptureCause::LinkType),
+        CaptureFault::LinkNumber(number) => Some(CaptureCause::LinkNumber(number)),
+        CaptureFault::Truncated => Some(CaptureCause::Truncated),
+        CaptureFault::TooLong => Some(CaptureCause::TooLong),
+        CaptureFault::Read | CaptureFault::Failed => Some(CaptureCause::Read),
+        CaptureFault::Memory => None,
+        CaptureFault::Block => Some(CaptureCause::Block),
+        CaptureFault::Time => Some(CaptureCause::Time),
+        CaptureFault::Vlans { first, other } => Some(CaptureCause::Vlans {
+            first: tag_of(first, other),
+            other: tag_of(other, first),
+        }),
+        CaptureFault::Interfaces { first, other } => {
+            Some(CaptureCause::Interfaces { first, other })
+        }
+    }
+}
+
+/// Whether the port is one of the router: of one of two, or of the one of all ports.
+pub(crate) fn is_in<A: Copy>(side: Option<Side>, port: &Port<'_, A>) -> bool
+    ensures { result ≡ is_in side port.now }
+{
+    match side {
+        None => true,
+        Some(side) => is_of(side, port),
+    }
+}
+
+/// The name of the file that faults of a port's capture have: that of a port with a link.
+fn file_of<'a, A: Copy>(port: &Port<'a, A>) -> Option<&'a str>
+    ensures { result ≡ file_of port.now }
+{
+    if port.link.is_some() {
+        return Some(port.file);
+    }
+    None
+}
+
+/// That of the port of this number among those of a router.
+fn file_at<'a, A: Copy>(
+    ports: &[Port<'a, A>],
+    side: Option<Side>,
+    number: usize,
+) -> Option<&'a str>
+    ensures { result ≡ file_at (filter (is_in side) ports.now) number }
+{
+    let mut left = number;
+    for port in ports {
+        if is_in(side, port) {
+            if left == 0 {
+                return file_of(port);
+            }
+            left -= 1;
+        }
+    }
+    None
+}
+
+/// The fault for this cause at a record of this number in a file, if it is named.
+fn in_file<'a>(file: Option<&'a str>, number: u64, cause: CaptureCause) -> Fault<'a>
+    ensures { result ≡ in_file file.entry number cause }
+{
+    match file {
+        Some(file) => Fault::InFile {
+            cause,
+            file,
+            record: number,
+        },
+        None => Fault::Capture(cause),
+    }
+}
+
+/// The program's fault for a fault of a capture of a router: one of two, or the one of all ports.
+pub(crate) fn port_fault<'a, A: Copy>(
+    captures: &Captures<'a, A>,
+    side: Option<Side>,
+    told: MergeFault,
+) -> Fault<'a>
+    ensures { result ≡ port_fault (ports_of side captures.now.ports.items) told }
+{
+    let Some(cause) = cause_of(told.fault) else {
+        return Fault::Memory;
+    };
+    in_file(file_at(&captures.ports, side, told.capture), told.record, cause)
+}
