@@ -4,6 +4,7 @@ pub mod Emitted
 pub mod Changed
 pub mod Routers
 pub mod Named
+pub mod Warned
 pub mod Opened
 pub mod Traced
 pub mod TraceAndReplay

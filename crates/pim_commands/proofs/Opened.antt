@@ -175,6 +175,7 @@ module _ {A R : Type 0} (family : AddressFamily) (bytes_of : A → List ℕ) (re
   }
 
   -- what is returned and written over it
-  pub answered : (old new : Option (List ℕ)) (result : Result ℕ Fault) (Answered : Type 0) → Answered → Opens family bytes_of remaining failures known last captures upstream old new result Answered
-  answered old new (Ok status) Answered is = is
-  answered old new (Err fault) Answered is = inr is
+  pub answered : (Warns : List ℕ → Type 0) (old new : Option (List ℕ)) (result : Result ℕ Fault) (Answered : Type 0) → Answered
+      → Opens family bytes_of remaining failures known last captures upstream Warns old new result Answered
+  answered Warns old new (Ok status) Answered is = is
+  answered Warns old new (Err fault) Answered is = inr is

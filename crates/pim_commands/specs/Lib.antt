@@ -1,5 +1,6 @@
 -- The definitions of `pim_commands`.
 pub mod Naming
+pub mod Warnings
 pub mod Replaying
 pub mod Tracing
 pub mod Laws

@@ -1,7 +1,7 @@
 -- What a command returns and writes whose words name files. It promises its result over a table and
 -- over the captures of its ports: those of the files that are named, where it is known what files
 -- hold. Or it returns a fault of opening, and writes nothing.
-use Rattle.std.specs.Prelude.{◌≡◌, ◌⊎◌, ℕ, true, List, ◌++◌, length, map, filter, is_some}
+use Rattle.std.specs.Prelude.{◌≡◌, ◌⊎◌, ℕ, true, List, [], ◌++◌, length, map, filter, is_some}
 use Rattle.std.specs.Prelude.{Option, None, Some, Result, Ok, Err}
 use Rattle.pim_addr.specs.declared.family.AddressFamily.{AddressFamily}
 use Rattle.pim_addr.specs.Routes.{RouteTable}
@@ -27,6 +27,7 @@ use Rattle.pim_commands.specs.Emitting.{EmitsNew}
 use Rattle.pim_commands.specs.Mirroring.{MirrorsNew}
 use Rattle.pim_commands.specs.Replaying.{config_of, end_of, ReplaysNew}
 use Rattle.pim_commands.specs.Tracing.{line_of, names_of, TracesNew}
+use Rattle.pim_commands.specs.Warnings.{warnings_text}
 use Rattle.pim_check.specs.Unopened.{open_fault}
 
 -- ---- what is opened for these captures, with this upstream neighbour; `known` and `known'` say
@@ -53,10 +54,11 @@ module _ {A R : Type 0} (family : AddressFamily) (bytes_of : A → List ℕ) (re
     pub unopened : IsUnopened told
     pub asked : AsksFront known known' names
 
-  -- The result has the property `Answered`, or it is a fault of opening and nothing is written.
-  abbrev pub Opens : Option (List ℕ) → Option (List ℕ) → Result ℕ Fault → Type 0 → Type 0
-  Opens old new (Ok status) Answered = Answered
-  Opens old new (Err fault) Answered = (OpensNot fault × (new ≡ old)) ⊎ Answered
+  -- The result has the property `Answered`, or it is a fault of opening and nothing is written. `Warns`
+  -- says of a text that it was written to the device for errors.
+  abbrev pub Opens : (List ℕ → Type 0) → Option (List ℕ) → Option (List ℕ) → Result ℕ Fault → Type 0 → Type 0
+  Opens Warns old new (Ok status) Answered = Answered
+  Opens Warns old new (Err fault) Answered = (OpensNot fault × (new ≡ old) × Warns []) ⊎ Answered
 
   -- The result is so over a table and the captures of one router. They are those of its ports'
   -- files, in their order, each by the link of its port, and nothing of them was read before all
@@ -90,7 +92,8 @@ module _ {A R : Type 0} (family : AddressFamily) (bytes_of : A → List ℕ) (re
       pub asked : AsksFor known known' names
       pub answers : Answers table merge merge' other other'
 
--- ---- what each command returns and writes
+-- ---- what each command returns and writes. `Warns` says of a text that it was written to the device
+-- for errors: the warnings on all captures, after the run.
 
 module _ {A R : Type 0} (family : AddressFamily) (bytes_of : A → List ℕ) (remaining : R → Option (List ℕ))
     (failures : R → ℕ) (known known' : Known) (captures : Captures A) where
@@ -111,49 +114,53 @@ module _ {A R : Type 0} (family : AddressFamily) (bytes_of : A → List ℕ) (re
   writing_of writing = writing_seen bytes_of writing.upstream writing.own writing.holdtime writing.budget
 
   -- The result has the property, over what is opened for one router.
-  abbrev pub OpensOne : Option A → Option (List ℕ) → Option (List ℕ) → Result ℕ Fault →
+  abbrev pub OpensOne : Option A → (List ℕ → Type 0) → Option (List ℕ) → Option (List ℕ) → Result ℕ Fault →
       (RouteTable → MergeState → MergeState → Type 0) → Type 0
-  OpensOne upstream old new result Answers = Opens family bytes_of remaining failures known known' captures upstream
-      old new result (OverOne family bytes_of remaining failures known known' captures upstream Answers)
+  OpensOne upstream Warns old new result Answers = Opens family bytes_of remaining failures known known' captures
+      upstream Warns old new result (OverOne family bytes_of remaining failures known known' captures upstream Answers)
 
   -- The result has the property, over what is opened for two routers.
-  abbrev pub OpensBoth : Option A → Option (List ℕ) → Option (List ℕ) → Result ℕ Fault →
+  abbrev pub OpensBoth : Option A → (List ℕ → Type 0) → Option (List ℕ) → Option (List ℕ) → Result ℕ Fault →
       (RouteTable → MergeState → MergeState → MergeState → MergeState → Type 0) → Type 0
-  OpensBoth upstream old new result Answers = Opens family bytes_of remaining failures known known' captures upstream
-      old new result (OverBoth family bytes_of remaining failures known known' captures upstream Answers)
+  OpensBoth upstream Warns old new result Answers = Opens family bytes_of remaining failures known known' captures
+      upstream Warns old new result (OverBoth family bytes_of remaining failures known known' captures upstream Answers)
 
   -- What `replay` returns and writes. It writes upstream neighbours if a file of routes is named.
-  abbrev pub ReplaysFiles : Option (List ℕ) → Option (List ℕ) → Result ℕ Fault → Type 0
-  ReplaysFiles old new result = OpensOne None old new result (λ table merge merge'.
-      ReplaysNew captures.ports.items family (is_some captures.routes) (end_of captures) merge merge' (setup_under table) old new result)
+  abbrev pub ReplaysFiles : (List ℕ → Type 0) → Option (List ℕ) → Option (List ℕ) → Result ℕ Fault → Type 0
+  ReplaysFiles Warns old new result = OpensOne None Warns old new result (λ table merge merge'.
+      ReplaysNew captures.ports.items family (is_some captures.routes) (end_of captures) merge merge' (setup_under table) old new result
+      × Warns (warnings_text captures.ports.items merge'))
 
   -- What `trace` returns and writes.
-  abbrev pub TracesFiles : Tracing A → Option (List ℕ) → Option (List ℕ) → Result ℕ Fault → Type 0
-  TracesFiles tracing old new result = OpensOne None old new result (λ table merge merge'.
+  abbrev pub TracesFiles : Tracing A → (List ℕ → Type 0) → Option (List ℕ) → Option (List ℕ) → Result ℕ Fault → Type 0
+  TracesFiles tracing Warns old new result = OpensOne None Warns old new result (λ table merge merge'.
       TracesNew captures.ports.items family (line_of family bytes_of (names_of 0 tracing.names.items) tracing) (end_of captures) merge merge'
-      (setup_under table) old new result)
+      (setup_under table) old new result × Warns (warnings_text captures.ports.items merge'))
 
   -- What `mirror` returns and writes.
-  abbrev pub MirrorsFiles : Writing A → Option (List ℕ) → Option (List ℕ) → Result ℕ Fault → Type 0
-  MirrorsFiles writing old new result = OpensOne (Some writing.upstream) old new result (λ table merge merge'.
+  abbrev pub MirrorsFiles : Writing A → (List ℕ → Type 0) → Option (List ℕ) → Option (List ℕ) → Result ℕ Fault → Type 0
+  MirrorsFiles writing Warns old new result = OpensOne (Some writing.upstream) Warns old new result (λ table merge merge'.
       MirrorsNew captures.ports.items family bytes_of (end_of captures) captures.limit (writing_of writing) merge merge' (setup_under table)
-      old new result)
+      old new result × Warns (warnings_text captures.ports.items merge'))
 
   -- What `emit` returns and writes.
-  abbrev pub EmitsFiles : Writing A → Option (List ℕ) → Option (List ℕ) → Result ℕ Fault → Type 0
-  EmitsFiles writing old new result = OpensOne (Some writing.upstream) old new result (λ table merge merge'.
-      EmitsNew captures.ports.items family bytes_of (end_of captures) (writing_of writing) merge merge' (setup_under table) old new result)
+  abbrev pub EmitsFiles : Writing A → (List ℕ → Type 0) → Option (List ℕ) → Option (List ℕ) → Result ℕ Fault → Type 0
+  EmitsFiles writing Warns old new result = OpensOne (Some writing.upstream) Warns old new result (λ table merge merge'.
+      EmitsNew captures.ports.items family bytes_of (end_of captures) (writing_of writing) merge merge' (setup_under table) old new result
+      × Warns (warnings_text captures.ports.items merge'))
 
   -- What `same` returns and writes.
-  abbrev pub ComparesFiles : Writing A → Option (List ℕ) → Option (List ℕ) → Result ℕ Fault → Type 0
-  ComparesFiles writing old new result = OpensBoth (Some writing.upstream) old new result
+  abbrev pub ComparesFiles : Writing A → (List ℕ → Type 0) → Option (List ℕ) → Option (List ℕ) → Result ℕ Fault → Type 0
+  ComparesFiles writing Warns old new result = OpensBoth (Some writing.upstream) Warns old new result
       (λ table merge merge' other other'.
       ComparesNew (ports_of_side side.A) (ports_of_side side.B) family bytes_of (end_of captures) (writing_of writing) merge merge' other other'
-      (side_setup_under side.A table) (side_setup_under side.B table) old new result)
+      (side_setup_under side.A table) (side_setup_under side.B table) old new result
+      × Warns (warnings_text (ports_of_side side.A) merge' ++ warnings_text (ports_of_side side.B) other'))
 
   -- What `change` returns and writes.
-  abbrev pub ChangesFiles : Writing A → Option (List ℕ) → Option (List ℕ) → Result ℕ Fault → Type 0
-  ChangesFiles writing old new result = OpensBoth (Some writing.upstream) old new result
+  abbrev pub ChangesFiles : Writing A → (List ℕ → Type 0) → Option (List ℕ) → Option (List ℕ) → Result ℕ Fault → Type 0
+  ChangesFiles writing Warns old new result = OpensBoth (Some writing.upstream) Warns old new result
       (λ table merge merge' other other'.
       ChangesNew (ports_of_side side.A) (ports_of_side side.B) family bytes_of (end_of captures) captures.limit (writing_of writing) merge merge' other other'
-      (side_setup_under side.A table) (side_setup_under side.B table) old new result)
+      (side_setup_under side.A table) (side_setup_under side.B table) old new result
+      × Warns (warnings_text (ports_of_side side.A) merge' ++ warnings_text (ports_of_side side.B) other'))

@@ -9,11 +9,13 @@ ghost use Rattle.pim_commands.specs.Comparing.{side_setup};
 ghost use Rattle.pim_commands.specs.Changing.{ChangesNew};
 ghost use Rattle.pim_commands.specs.Opening.{ChangesFiles};
 ghost use Rattle.pim_check.specs.Report.{write_failures_after};
+ghost use Rattle.pim_check.specs.Telling.{IsTold};
 
 use crate::comparing::prepare_both;
 use crate::mirroring::mirrored;
 use crate::opening::open_two;
 use crate::replaying::{end_of, router_of};
+use crate::warnings::warn_of_both;
 use pim_addr::{Drain, Family, Feed, Routes};
 use pim_check::Fault;
 use pim_files::{Opener, Pair};
@@ -93,18 +95,21 @@ pub fn change_opened<'a, F: Family, R: Feed + Drop, W: Drain>(
 /// `File` of a file that can't be opened, or a fault of the file of routes: nothing was written.
 /// Otherwise those of `change_opened`: of a capture, `TooBig` of a star of router a or else of b,
 /// `Full`, `Output` and `Memory`.
-pub fn change<'a, F: Family, O: Opener, W: Drain>(
+pub fn change<'a, F: Family, O: Opener, W: Drain, E: Drain>(
     alloc: Global,
     opener: &mut O,
     captures: &Captures<'a, F::Addr>,
     writing: &Writing<F::Addr>,
     writer: &mut W,
+    errors: &mut E,
 ) -> Result<u8, Fault<'a>>
     requires after { IsBounded captures.now }
     requires limit { IsLimited captures.now }
     requires writing { IsWritable writing.now }
     ensures text { ChangesFiles F.family F.bytes_of O.Reader.remaining O.Reader.failures
         (O.known opener.old) (O.known opener.new) captures.now writing.now
+        (λ text. IsTold text (E.contents errors.old) (E.contents errors.new)
+        (E.failures errors.old) (E.failures errors.new))
         (W.contents writer.old) (W.contents writer.new) result }
     ensures count { W.failures writer.new ≡ write_failures_after (W.failures writer.old) result }
 {
@@ -112,12 +117,14 @@ pub fn change<'a, F: Family, O: Opener, W: Drain>(
         Ok(files) => files,
         Err(fault) => return Err(fault),
     };
-    change_opened::<F, _, W>(
+    let answer = change_opened::<F, _, W>(
         alloc,
         captures,
         writing,
         &files.routes,
         &mut files.pair,
         writer,
-    )
+    );
+    warn_of_both(errors, captures, &files.pair);
+    answer
 }

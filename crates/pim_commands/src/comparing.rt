@@ -11,10 +11,12 @@ ghost use Rattle.pim_commands.specs.Comparing.{same_fault, compared, causes, sid
 ghost use Rattle.pim_commands.specs.Opened.{IsUnwritten};
 ghost use Rattle.pim_commands.specs.Opening.{ComparesFiles};
 ghost use Rattle.pim_check.specs.Report.{write_failures_after};
+ghost use Rattle.pim_check.specs.Telling.{IsTold};
 
 use crate::naming::{is_of, port_fault};
 use crate::opening::open_two;
 use crate::replaying::{config, end_of, replay_fault, router_of};
+use crate::warnings::warn_of_both;
 use crate::writing::{address_of, writer_of};
 use pim_addr::{Drain, Family, Feed, Routes};
 use pim_check::Fault;
@@ -181,18 +183,21 @@ pub fn same_opened<'a, F: Family, R: Feed + Drop, W: Drain>(
 /// # Errors
 /// `File` of a file that can't be opened, or a fault of the file of routes: nothing was written.
 /// Otherwise those of `same_opened`: of a capture, `TooBig`, `Output` and `Memory`.
-pub fn same<'a, F: Family, O: Opener, W: Drain>(
+pub fn same<'a, F: Family, O: Opener, W: Drain, E: Drain>(
     alloc: Global,
     opener: &mut O,
     captures: &Captures<'a, F::Addr>,
     writing: &Writing<F::Addr>,
     writer: &mut W,
+    errors: &mut E,
 ) -> Result<u8, Fault<'a>>
     requires after { IsBounded captures.now }
     requires limit { IsLimited captures.now }
     requires writing { IsWritable writing.now }
     ensures report { ComparesFiles F.family F.bytes_of O.Reader.remaining O.Reader.failures
         (O.known opener.old) (O.known opener.new) captures.now writing.now
+        (λ text. IsTold text (E.contents errors.old) (E.contents errors.new)
+        (E.failures errors.old) (E.failures errors.new))
         (W.contents writer.old) (W.contents writer.new) result }
     ensures count { W.failures writer.new ≡ write_failures_after (W.failures writer.old) result }
 {
@@ -200,12 +205,14 @@ pub fn same<'a, F: Family, O: Opener, W: Drain>(
         Ok(files) => files,
         Err(fault) => return Err(fault),
     };
-    same_opened::<F, _, W>(
+    let answer = same_opened::<F, _, W>(
         alloc,
         captures,
         writing,
         &files.routes,
         &mut files.pair,
         writer,
-    )
+    );
+    warn_of_both(errors, captures, &files.pair);
+    answer
 }

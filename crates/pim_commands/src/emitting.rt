@@ -8,10 +8,12 @@ ghost use Rattle.pim_commands.specs.Replaying.{end_of, config_of};
 ghost use Rattle.pim_commands.specs.Emitting.{emit_fault, emitted, EmitsNew};
 ghost use Rattle.pim_commands.specs.Opening.{EmitsFiles};
 ghost use Rattle.pim_check.specs.Report.{write_failures_after};
+ghost use Rattle.pim_check.specs.Telling.{IsTold};
 
 use crate::mirroring::prepare_one;
 use crate::opening::open_one;
 use crate::replaying::{end_of, replay_fault, router_of};
+use crate::warnings::warn_of_one;
 use crate::writing::address_of;
 use pim_addr::{Drain, Family, Feed, Routes};
 use pim_check::Fault;
@@ -98,18 +100,21 @@ pub fn emit_opened<'a, F: Family, R: Feed + Drop, W: Drain>(
 /// # Errors
 /// `File` of a file that can't be opened, or a fault of the file of routes: nothing was written.
 /// Otherwise those of `emit_opened`: of a capture, `TooBig`, `Output` and `Memory`.
-pub fn emit<'a, F: Family, O: Opener, W: Drain>(
+pub fn emit<'a, F: Family, O: Opener, W: Drain, E: Drain>(
     alloc: Global,
     opener: &mut O,
     captures: &Captures<'a, F::Addr>,
     writing: &Writing<F::Addr>,
     writer: &mut W,
+    errors: &mut E,
 ) -> Result<u8, Fault<'a>>
     requires after { IsBounded captures.now }
     requires limit { IsLimited captures.now }
     requires writing { IsWritable writing.now }
     ensures bytes { EmitsFiles F.family F.bytes_of O.Reader.remaining O.Reader.failures
         (O.known opener.old) (O.known opener.new) captures.now writing.now
+        (λ text. IsTold text (E.contents errors.old) (E.contents errors.new)
+        (E.failures errors.old) (E.failures errors.new))
         (W.contents writer.old) (W.contents writer.new) result }
     ensures count { W.failures writer.new ≡ write_failures_after (W.failures writer.old) result }
 {
@@ -118,12 +123,14 @@ pub fn emit<'a, F: Family, O: Opener, W: Drain>(
         Ok(files) => files,
         Err(fault) => return Err(fault),
     };
-    emit_opened::<F, _, W>(
+    let answer = emit_opened::<F, _, W>(
         alloc,
         captures,
         writing,
         &files.routes,
         &mut files.merge,
         writer,
-    )
+    );
+    warn_of_one(errors, captures, &files.merge);
+    answer
 }

@@ -20,7 +20,8 @@
 //! first, then the files of the ports in the order of the words. Or they write nothing and return
 //! the fault of the first file that isn't open. A word or file name in it is one that they were
 //! given. A fault that names a word borrows it from the command line. A fault of the capture of a
-//! port with a link names the file of that port. The caller gives numbers in
+//! port with a link names the file of that port. After the run, warnings on the captures of such
+//! ports are written to a device for errors, and its failures are ignored. The caller gives numbers in
 //! the ranges of a plan of `pim_words`. `run_task` does what a task of such a plan asks for.
 //!
 //! This library is apart from the program, so that tests can call it.
@@ -36,6 +37,7 @@ mod opening;
 mod replaying;
 mod running;
 mod tracing;
+mod warnings;
 mod writing;
 
 pub use changing::{change, change_opened};
@@ -44,8 +46,8 @@ pub use emitting::{emit, emit_opened};
 pub use laws::trace_ends_as_replay;
 pub use mirroring::{mirror, mirror_opened};
 pub use pim_check::{
-    CaptureCause, FAULTY, Fault, build_into, build_task, check_into, check_task, fault_line,
-    tell_into,
+    CaptureCause, FAULTY, Fault, Warning, build_into, build_task, check_into, check_task,
+    fault_line, tell_into, warning_line,
 };
 pub use replaying::{replay, replay_opened};
 pub use running::run_task;

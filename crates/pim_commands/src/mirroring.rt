@@ -12,10 +12,12 @@ ghost use Rattle.pim_commands.specs.Naming.{ports_of};
 ghost use Rattle.pim_commands.specs.Opened.{IsUnwritten};
 ghost use Rattle.pim_commands.specs.Opening.{MirrorsFiles};
 ghost use Rattle.pim_check.specs.Report.{write_failures_after};
+ghost use Rattle.pim_check.specs.Telling.{IsTold};
 
 use crate::naming::port_fault;
 use crate::opening::open_one;
 use crate::replaying::{configs, end_of, replay_fault, router_of};
+use crate::warnings::warn_of_one;
 use crate::writing::{address_of, writer_of};
 use pim_addr::{Drain, Family, Feed, Routes};
 use pim_check::Fault;
@@ -158,18 +160,21 @@ pub fn mirror_opened<'a, F: Family, R: Feed + Drop, W: Drain>(
 /// # Errors
 /// `File` of a file that can't be opened, or a fault of the file of routes: nothing was written.
 /// Otherwise those of `mirror_opened`: of a capture, `TooBig`, `Full`, `Output` and `Memory`.
-pub fn mirror<'a, F: Family, O: Opener, W: Drain>(
+pub fn mirror<'a, F: Family, O: Opener, W: Drain, E: Drain>(
     alloc: Global,
     opener: &mut O,
     captures: &Captures<'a, F::Addr>,
     writing: &Writing<F::Addr>,
     writer: &mut W,
+    errors: &mut E,
 ) -> Result<u8, Fault<'a>>
     requires after { IsBounded captures.now }
     requires limit { IsLimited captures.now }
     requires writing { IsWritable writing.now }
     ensures text { MirrorsFiles F.family F.bytes_of O.Reader.remaining O.Reader.failures
         (O.known opener.old) (O.known opener.new) captures.now writing.now
+        (λ text. IsTold text (E.contents errors.old) (E.contents errors.new)
+        (E.failures errors.old) (E.failures errors.new))
         (W.contents writer.old) (W.contents writer.new) result }
     ensures count { W.failures writer.new ≡ write_failures_after (W.failures writer.old) result }
 {
@@ -178,12 +183,14 @@ pub fn mirror<'a, F: Family, O: Opener, W: Drain>(
         Ok(files) => files,
         Err(fault) => return Err(fault),
     };
-    mirror_opened::<F, _, W>(
+    let answer = mirror_opened::<F, _, W>(
         alloc,
         captures,
         writing,
         &files.routes,
         &mut files.merge,
         writer,
-    )
+    );
+    warn_of_one(errors, captures, &files.merge);
+    answer
 }

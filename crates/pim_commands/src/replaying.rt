@@ -14,9 +14,11 @@ ghost use Rattle.pim_commands.specs.Replaying.{replay_fault, answer_of};
 ghost use Rattle.pim_commands.specs.Replaying.{IsUnmade, ReplaysNew};
 ghost use Rattle.pim_commands.specs.Opening.{ReplaysFiles};
 ghost use Rattle.pim_check.specs.Report.{write_failures_after};
+ghost use Rattle.pim_check.specs.Telling.{IsTold};
 
 use crate::naming::port_fault;
 use crate::opening::open_one;
+use crate::warnings::warn_of_one;
 use pim_addr::{Drain, Family, Feed, Routes};
 use pim_check::Fault;
 use pim_files::Opener;
@@ -185,16 +187,19 @@ pub fn replay_opened<'a, F: Family, R: Feed + Drop, W: Drain>(
 /// # Errors
 /// `File` of a file that can't be opened, or a fault of the file of routes: nothing was written.
 /// Otherwise those of `replay_opened`: of a capture, `Output` and `Memory`.
-pub fn replay<'a, F: Family, O: Opener, W: Drain>(
+pub fn replay<'a, F: Family, O: Opener, W: Drain, E: Drain>(
     alloc: Global,
     opener: &mut O,
     captures: &Captures<'a, F::Addr>,
     writer: &mut W,
+    errors: &mut E,
 ) -> Result<u8, Fault<'a>>
     requires after { IsBounded captures.now }
     requires limit { IsLimited captures.now }
     ensures report { ReplaysFiles F.family F.bytes_of O.Reader.remaining O.Reader.failures
         (O.known opener.old) (O.known opener.new) captures.now
+        (λ text. IsTold text (E.contents errors.old) (E.contents errors.new)
+        (E.failures errors.old) (E.failures errors.new))
         (W.contents writer.old) (W.contents writer.new) result }
     ensures count { W.failures writer.new ≡ write_failures_after (W.failures writer.old) result }
 {
@@ -202,5 +207,7 @@ pub fn replay<'a, F: Family, O: Opener, W: Drain>(
         Ok(files) => files,
         Err(fault) => return Err(fault),
     };
-    replay_opened::<F, _, W>(alloc, captures, &files.routes, &mut files.merge, writer)
+    let answer = replay_opened::<F, _, W>(alloc, captures, &files.routes, &mut files.merge, writer);
+    warn_of_one(errors, captures, &files.merge);
+    answer
 }

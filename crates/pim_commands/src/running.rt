@@ -3,6 +3,7 @@
 ghost use Rattle.std.specs.Prelude.{◌≡◌};
 ghost use Rattle.pim_words.specs.Plan.{IsInRange};
 ghost use Rattle.pim_check.specs.Report.{write_failures_after};
+ghost use Rattle.pim_check.specs.Telling.{IsTold};
 ghost use Rattle.pim_commands.specs.Running.{DoesTask};
 
 use crate::changing::change;
@@ -18,41 +19,44 @@ use pim_words::Task;
 use std::alloc::Global;
 
 /// Does what a task asks for, with this standard input and output and the files that this opener
-/// opens. Returns the status.
+/// opens. Warnings on captures go to `errors`, of which a failure is ignored. Returns the status.
 ///
 /// # Errors
 /// Those of the command.
-pub fn run_task<'a, F: Family, O: Opener, R: Feed, W: Drain>(
+pub fn run_task<'a, F: Family, O: Opener, R: Feed, W: Drain, E: Drain>(
     alloc: Global,
     opener: &mut O,
     task: &Task<'a, F::Addr>,
     input: &mut R,
     output: &mut W,
+    errors: &mut E,
 ) -> Result<u8, Fault<'a>>
     requires { IsInRange task.now }
     ensures done { DoesTask F.family F.bytes_of O.Reader.remaining O.Reader.failures
         (O.known opener.old) (O.known opener.new) (R.remaining input.old)
+        (λ text. IsTold text (E.contents errors.old) (E.contents errors.new)
+        (E.failures errors.old) (E.failures errors.new))
         (W.contents output.old) (W.contents output.new) result task.now }
     ensures output { W.failures output.new ≡ write_failures_after (W.failures output.old) result }
 {
     match task {
         Task::Check { .. } => check_task::<F, _, _>(alloc, input, output, task),
         Task::Build { .. } => build_task::<F, _, _>(alloc, input, output, task),
-        Task::Replay(captures) => replay::<F, O, W>(alloc, opener, captures, output),
+        Task::Replay(captures) => replay::<F, O, W, E>(alloc, opener, captures, output, errors),
         Task::Trace(captures, tracing) => {
-            trace::<F, O, W>(alloc, opener, captures, tracing, output)
+            trace::<F, O, W, E>(alloc, opener, captures, tracing, output, errors)
         }
         Task::Same(captures, writing) => {
-            same::<F, O, W>(alloc, opener, captures, writing, output)
+            same::<F, O, W, E>(alloc, opener, captures, writing, output, errors)
         }
         Task::Mirror(captures, writing) => {
-            mirror::<F, O, W>(alloc, opener, captures, writing, output)
+            mirror::<F, O, W, E>(alloc, opener, captures, writing, output, errors)
         }
         Task::Emit(captures, writing) => {
-            emit::<F, O, W>(alloc, opener, captures, writing, output)
+            emit::<F, O, W, E>(alloc, opener, captures, writing, output, errors)
         }
         Task::Change(captures, writing) => {
-            change::<F, O, W>(alloc, opener, captures, writing, output)
+            change::<F, O, W, E>(alloc, opener, captures, writing, output, errors)
         }
     }
 }

@@ -14,10 +14,12 @@ ghost use Rattle.pim_commands.specs.Tracing.{form_of, name_of, names_of, line_of
 ghost use Rattle.pim_commands.specs.Tracing.{trace_fault, tracing_answer, TracesNew, TracesBy};
 ghost use Rattle.pim_commands.specs.Opening.{TracesFiles};
 ghost use Rattle.pim_check.specs.Report.{write_failures_after};
+ghost use Rattle.pim_check.specs.Telling.{IsTold};
 
 use crate::naming::port_fault;
 use crate::opening::open_one;
 use crate::replaying::{configs, end_of, router_of};
+use crate::warnings::warn_of_one;
 use pim_addr::{Drain, Family, Feed, Routes};
 use pim_check::Fault;
 use pim_event_lines::{JsonPrinter, TextPrinter};
@@ -188,18 +190,21 @@ pub fn trace_opened<'a, F: Family, R: Feed + Drop, W: Drain>(
 /// # Errors
 /// `File` of a file that can't be opened, or a fault of the file of routes: nothing was written.
 /// Otherwise those of `trace_opened`: of a capture, `Output` and `Memory`.
-pub fn trace<'a, F: Family, O: Opener, W: Drain>(
+pub fn trace<'a, F: Family, O: Opener, W: Drain, E: Drain>(
     alloc: Global,
     opener: &mut O,
     captures: &Captures<'a, F::Addr>,
     tracing: &Tracing<'a, F::Addr>,
     writer: &mut W,
+    errors: &mut E,
 ) -> Result<u8, Fault<'a>>
     requires after { IsBounded captures.now }
     requires limit { IsLimited captures.now }
     requires names { AreNames captures.now tracing.now }
     ensures events { TracesFiles F.family F.bytes_of O.Reader.remaining O.Reader.failures
         (O.known opener.old) (O.known opener.new) captures.now tracing.now
+        (λ text. IsTold text (E.contents errors.old) (E.contents errors.new)
+        (E.failures errors.old) (E.failures errors.new))
         (W.contents writer.old) (W.contents writer.new) result }
     ensures count { W.failures writer.new ≡ write_failures_after (W.failures writer.old) result }
 {
@@ -208,5 +213,7 @@ pub fn trace<'a, F: Family, O: Opener, W: Drain>(
         Err(fault) => return Err(fault),
     };
     let asked = (captures, tracing);
-    trace_opened::<F, _, W>(alloc, asked, &files.routes, &mut files.merge, writer)
+    let answer = trace_opened::<F, _, W>(alloc, asked, &files.routes, &mut files.merge, writer);
+    warn_of_one(errors, captures, &files.merge);
+    answer
 }

@@ -62,8 +62,10 @@ fn run_on_system<'a, F: Family>(rt: &HostRuntime, task: &Task<'a, F::Addr>) -> R
     let mut output = Counted::new(output);
     let mut files = SystemFiles::new(rt, reads_any(task), routes_of(task));
     let mut input = Counted::new(rt.stdin());
+    let mut errors = Counted::new(rt.stderr());
     let alloc = rt.alloc();
-    let status = run_task::<F, _, _, _>(alloc, &mut files, task, &mut input, &mut output);
+    let status =
+        run_task::<F, _, _, _, _>(alloc, &mut files, task, &mut input, &mut output, &mut errors);
     match output.into_inner().flush() {
         Err(_) if status.is_ok() => Err(Fault::Output),
         _ => status,

@@ -30,6 +30,7 @@ fn answer<'c>(
     alloc: Global,
     case: &'c Case<'_>,
     output: &mut ScriptedDrain,
+    errors: &mut ScriptedDrain,
 ) -> Result<u8, Fault<'c>> {
     let plan = plan(alloc, case.words.as_slice())?;
     let Ok(files) = files_of(alloc, &case.files) else {
@@ -38,8 +39,12 @@ fn answer<'c>(
     let mut opener = HeldFiles::new(alloc, &files, MOST_READ);
     let mut input = case.input.reader();
     match &plan {
-        Plan::V4(task) => run_task::<V4, _, _, _>(alloc, &mut opener, task, &mut input, output),
-        Plan::V6(task) => run_task::<V6, _, _, _>(alloc, &mut opener, task, &mut input, output),
+        Plan::V4(task) => {
+            run_task::<V4, _, _, _, _>(alloc, &mut opener, task, &mut input, output, errors)
+        }
+        Plan::V6(task) => {
+            run_task::<V6, _, _, _, _>(alloc, &mut opener, task, &mut input, output, errors)
+        }
         Plan::Session => answer_session(alloc, input, output),
     }
 }
@@ -56,7 +61,7 @@ impl Runner for Commands {
         output: &mut ScriptedDrain,
         errors: &mut ScriptedDrain,
     ) -> u8 {
-        match answer(alloc, case, output) {
+        match answer(alloc, case, output, errors) {
             Ok(status) => status,
             Err(fault) => tell_into(&fault, output, errors),
         }

@@ -22,9 +22,14 @@ pub fn run<'a>(
 {
     let mut files = HeldFiles::new(alloc, files, 7);
     let mut input = ScriptedFeed::new(b"", 1, NEVER);
+    let mut errors = ScriptedDrain::new(alloc, 1, 0);
     match plan {
-        Plan::V4(task) => run_task::<V4, _, _, _>(alloc, &mut files, task, &mut input, output),
-        Plan::V6(task) => run_task::<V6, _, _, _>(alloc, &mut files, task, &mut input, output),
+        Plan::V4(task) => {
+            run_task::<V4, _, _, _, _>(alloc, &mut files, task, &mut input, output, &mut errors)
+        }
+        Plan::V6(task) => {
+            run_task::<V6, _, _, _, _>(alloc, &mut files, task, &mut input, output, &mut errors)
+        }
         Plan::Session => Ok(0),
     }
 }

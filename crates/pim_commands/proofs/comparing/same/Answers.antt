@@ -1,9 +1,11 @@
 use Rattle.std.proofs.Common.{inl, refl, Some}
+use Rattle.pim_check.specs.Telling.{IsTold}
+use Rattle.pim_commands.proofs.Warned.{nothing_told}
 use Rattle.pim_commands.proofs.Opened.{over_both, not_failed, answered}
 use Rattle.pim_commands.proofs.comparing.same.Goals as goal
 
 pub returns-in-Err-clause-report : goal.returns-in-Err-clause-report
-returns-in-Err-clause-report g c = inl (c.in-Err.ensures.unopened, refl {a = g.W.Drain.contents c.args.writer.now})
+returns-in-Err-clause-report g c = inl (c.in-Err.ensures.unopened, refl {a = g.W.Drain.contents c.args.writer.now}, nothing_told (g.E.Drain.contents c.args.errors.now) (g.E.Drain.failures c.args.errors.now))
 
 pub returns-in-Err-clause-count : goal.returns-in-Err-clause-count
 returns-in-Err-clause-count g c =
@@ -13,7 +15,9 @@ returns-in-Err-clause-count g c =
 pub returns-clause-report : goal.returns-clause-report
 returns-clause-report g c =
     answered g.F.Family.family g.F.Family.bytes_of g.O.Reader.Feed.remaining g.O.Reader.Feed.failures (g.O.Opener.known c.args.opener.now) (g.O.Opener.known c.args.opener.now) (g.O.Opener.known c.open_two.new.opener)
-    c.args.captures.now (Some c.args.writing.now.upstream) (g.W.Drain.contents c.args.writer.now) (g.W.Drain.contents c.same_opened.new.writer) c.same_opened.result _
+    c.args.captures.now (Some c.args.writing.now.upstream)
+    (λ text. IsTold text (g.E.Drain.contents c.args.errors.now) (g.E.Drain.contents c.warn_of_both.new.errors) (g.E.Drain.failures c.args.errors.now) (g.E.Drain.failures c.warn_of_both.new.errors))
+    (g.W.Drain.contents c.args.writer.now) (g.W.Drain.contents c.same_opened-answer.new.writer) c.same_opened-answer.result _
     (over_both g.F.Family.family g.F.Family.bytes_of g.O.Reader.Feed.remaining g.O.Reader.Feed.failures (g.O.Opener.known c.args.opener.now) (g.O.Opener.known c.open_two.new.opener)
-    c.args.captures.now (Some c.args.writing.now.upstream) _ c.in-Ok.files.routes c.in-Ok.files.pair.a c.same_opened.new.pair.a c.in-Ok.files.pair.b c.same_opened.new.pair.b
-    c.in-Ok.ensures.opened c.same_opened.ensures.report)
+    c.args.captures.now (Some c.args.writing.now.upstream) _ c.in-Ok.files.routes c.in-Ok.files.pair.a c.same_opened-answer.new.pair.a c.in-Ok.files.pair.b c.same_opened-answer.new.pair.b
+    c.in-Ok.ensures.opened (c.same_opened-answer.ensures.report, c.warn_of_both.ensures))

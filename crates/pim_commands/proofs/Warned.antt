@@ -1,0 +1,100 @@
+-- Warnings that are written one after another.
+use Rattle.std.proofs.Common.{◌≡◌, inl, inr, refl, sym, ap, subst, ◌∙◌, ℕ, suc, ◌+◌, ◌≤◌, ◌<◌, Bool, true, false, cond, List, [], ◌∷◌, ◌++◌, length, map, take, drop, get_or, min, Option, None, Some, Result, Ok, Err, IsErr, arith, append_assoc, append-nil, length-append}
+use Rattle.std.specs.Prelude.{filter}
+use Rattle.std.proofs.lemmas.List.{take-append-le, length-take, drop_more, drop_all, length-map}
+use Rattle.std.proofs.KnownBytes.{Appends-nil, Appends-trans}
+use Rattle.std.specs.Io.KnownBytes.{Appends}
+use Rattle.pim_device.specs.Device.{AppendsFront, AppendsAll, failures_after}
+use Rattle.pim_merge.specs.declared.tally.Tally.{Tally}
+use Rattle.pim_merge.specs.Tally.{tally_at}
+use Rattle.pim_words.specs.declared.fault.Side.{Side}
+use Rattle.pim_words.specs.declared.task.Port.{Port}
+use Rattle.pim_check.specs.Telling.{IsTold}
+use Rattle.pim_commands.specs.Naming.{is_in}
+use Rattle.pim_commands.specs.Warnings.{port_warnings, warnings_from}
+use Rattle.pim_commands.proofs.Named.{one_port}
+
+-- nothing was written
+pub nothing_told : (old : Option (List ℕ)) (failures : ℕ) → IsTold [] old old failures failures
+nothing_told old failures = inl (Appends-nil old, refl)
+
+-- all was written, or a front
+pub is_told : {A E : Type 0} (old new : Option (List ℕ)) (before after : ℕ) (r : Result A E) (text : List ℕ) → AppendsAll old new r text → after ≡ failures_after before r → IsTold text old new before after
+is_told old new before after (Ok done) text wrote count = inl (wrote, count)
+is_told old new before after (Err failed) text wrote count = inr (wrote, count)
+
+-- ---- a text that is written piece by piece
+
+front-longer : (a b : Option (List ℕ)) (bs cs : List ℕ) → AppendsFront a b bs → AppendsFront a b (bs ++ cs)
+front-longer None b bs cs p = tt
+front-longer (Some xs) None bs cs p = absurd p
+front-longer (Some xs) (Some ys) bs cs p =
+    let short : length ys ≤ length (xs ++ bs) = omega (arith, ap length p.1 ∙ length-take (length ys) (xs ++ bs)) in
+    (p.0, p.1 ∙ sym (take-append-le (length ys) (xs ++ bs) cs short) ∙ ap (take (length ys)) (append_assoc xs bs cs))
+
+front-more : (a b c : Option (List ℕ)) (bs cs : List ℕ) → Appends a b bs → AppendsFront b c cs → AppendsFront a c (bs ++ cs)
+front-more None b c bs cs p q = tt
+front-more (Some xs) None c bs cs p q = absurd p
+front-more (Some xs) (Some ys) None bs cs p q = absurd q
+front-more (Some xs) (Some ys) (Some zs) bs cs p q =
+    let long : length ys ≡ length xs + length bs = ap length p ∙ length-append xs bs in
+    (omega (arith, q.0), q.1 ∙ ap (λ l. take (length zs) (l ++ cs)) p ∙ ap (take (length zs)) (append_assoc xs bs cs))
+
+-- Of `all`, this much is still to be written.
+pub record IsLeft (old now : Option (List ℕ)) (left all : List ℕ) : Type 0 where
+  pub done : List ℕ
+  pub wrote : Appends old now done
+  pub is_all : all ≡ done ++ left
+
+pub left_all : (old : Option (List ℕ)) (all : List ℕ) → IsLeft old old all all
+left_all old all = record { done = []; wrote = Appends-nil old; is_all = refl }
+
+left_less : (old now new : Option (List ℕ)) (piece left all : List ℕ) → IsLeft old now (piece ++ left) all → Appends now new piece → IsLeft old new left all
+left_less old now new piece left all w p = record {
+  done = w.done ++ piece;
+  wrote = Appends-trans old now new w.done piece w.wrote p;
+  is_all = w.is_all ∙ sym (append_assoc w.done piece left);
+}
+
+left_none : (old now : Option (List ℕ)) (all : List ℕ) → IsLeft old now [] all → Appends old now all
+left_none old now all w = subst (λ l. Appends old now l) (sym (w.is_all ∙ append-nil w.done)) w.wrote
+
+left_stopped : (old now new : Option (List ℕ)) (piece left all : List ℕ) → IsLeft old now (piece ++ left) all → AppendsFront now new piece → AppendsFront old new all
+left_stopped old now new piece left all w p =
+    subst (λ l. AppendsFront old new l) (sym w.is_all) (front-more old now new w.done (piece ++ left) w.wrote (front-longer now new piece left p))
+
+pub stopped : {A E : Type 0} (old new : Option (List ℕ)) (r : Result A E) (text : List ℕ) → IsErr r → AppendsFront old new text → AppendsAll old new r text
+stopped old new (Ok x) text e p = absurd cc
+stopped old new (Err x) text e p = p
+
+-- ---- the ports of a router
+
+module _ {A : Type 0} (side : Option Side) (tallies : List Tally) (ports : List (Port A)) (place number : ℕ) (port : Port A) (below : place < length ports) (here : port ≡ get_or ports place port) where
+  -- what is left before this port and after it
+  left_at : (b : Bool) → is_in side port ≡ b → warnings_from number (filter (is_in side) (drop place ports)) tallies
+      ≡ warnings_from number (cond b (port ∷ filter (is_in side) (drop (place + 1) ports)) (filter (is_in side) (drop (place + 1) ports))) tallies
+  left_at b is = ap (λ l. warnings_from number l tallies) (one_port side ports place port b below is here)
+
+  pub port_passed : (old now : Option (List ℕ)) (all : List ℕ) → is_in side port ≡ false → IsLeft old now (warnings_from number (filter (is_in side) (drop place ports)) tallies) all
+      → IsLeft old now (warnings_from number (filter (is_in side) (drop (place + 1) ports)) tallies) all
+  port_passed old now all is w = subst (λ l. IsLeft old now l all) (left_at false is) w
+
+  pub port_warned : (old now new : Option (List ℕ)) (all : List ℕ) (next : ℕ) → next ≡ suc number → is_in side port ≡ true
+      → IsLeft old now (warnings_from number (filter (is_in side) (drop place ports)) tallies) all → Appends now new (port_warnings port (tally_at number tallies))
+      → IsLeft old new (warnings_from next (filter (is_in side) (drop (place + 1) ports)) tallies) all
+  port_warned old now new all next more is w p =
+      subst (λ n. IsLeft old new (warnings_from n (filter (is_in side) (drop (place + 1) ports)) tallies) all) (sym more)
+      (left_less old now new (port_warnings port (tally_at number tallies)) (warnings_from (suc number) (filter (is_in side) (drop (place + 1) ports)) tallies) all
+      (subst (λ l. IsLeft old now l all) (left_at true is) w) p)
+
+  pub port_stopped : (old now new : Option (List ℕ)) (all : List ℕ) → is_in side port ≡ true
+      → IsLeft old now (warnings_from number (filter (is_in side) (drop place ports)) tallies) all → AppendsFront now new (port_warnings port (tally_at number tallies))
+      → AppendsFront old new all
+  port_stopped old now new all is w p =
+      left_stopped old now new (port_warnings port (tally_at number tallies)) (warnings_from (suc number) (filter (is_in side) (drop (place + 1) ports)) tallies) all
+      (subst (λ l. IsLeft old now l all) (left_at true is) w) p
+
+pub ports_warned : {A : Type 0} (side : Option Side) (tallies : List Tally) (ports : List (Port A)) (place number : ℕ) (old now : Option (List ℕ)) (all : List ℕ) → length ports ≤ place
+    → IsLeft old now (warnings_from number (filter (is_in side) (drop place ports)) tallies) all → Appends old now all
+ports_warned side tallies ports place number old now all over w =
+    left_none old now all (subst (λ l. IsLeft old now l all) (ap (λ l. warnings_from number (filter (is_in side) l) tallies) (drop_all place ports over)) w)
