@@ -1,14 +1,15 @@
 -- What a command returns and writes whose words name files. It promises its result over a table and
 -- over the captures of its ports: those of the files that are named, where it is known what files
 -- hold. Or it returns a fault of opening, and writes nothing.
-use Rattle.std.specs.Prelude.{◌≡◌, ◌⊎◌, ℕ, true, List, [], ◌++◌, length, map, filter, is_some}
+use Rattle.std.specs.Prelude.{◌≡◌, ◌⊎◌, ℕ, List, [], ◌++◌, length, map, filter, is_some}
 use Rattle.std.specs.Prelude.{Option, None, Some, Result, Ok, Err}
 use Rattle.pim_addr.specs.declared.family.AddressFamily.{AddressFamily}
 use Rattle.pim_addr.specs.Routes.{RouteTable}
 use Rattle.pim_files.specs.declared.fault.OpenFault.{OpenFault}
-use Rattle.pim_files.specs.Captures.{file_name, is_of, HoldFiles, StopsAtPort}
+use Rattle.pim_files.specs.Captures.{is_of, HoldFiles}
 use Rattle.pim_files.specs.Files.{Known, AsksFor, AsksFront}
-use Rattle.pim_files.specs.Table.{IsTable, IsTableFault, table_names}
+use Rattle.pim_files.specs.Opening.{file_names, IsUnopened}
+use Rattle.pim_files.specs.Table.{IsTable}
 use Rattle.pim_form.specs.Messages.{Writing as MessageWriting}
 use Rattle.pim_form.specs.Seen.{writing_seen}
 use Rattle.pim_merge.specs.Next.{MergeState}
@@ -35,24 +36,13 @@ use Rattle.pim_check.specs.Unopened.{open_fault}
 
 module _ {A R : Type 0} (family : AddressFamily) (bytes_of : A → List ℕ) (remaining : R → Option (List ℕ))
     (failures : R → ℕ) (known known' : Known) (captures : Captures A) (upstream : Option A) where
-  -- The names of the files, in the order in which they are opened: the file of routes is first.
-  abbrev pub names : List (List ℕ)
-  names = table_names captures ++ map file_name captures.ports.items
-
-  -- Why not all files are open: there is no table. Or there is one, and a port's file isn't open.
-  abbrev pub IsUnopened : OpenFault → Type 0
-  IsUnopened fault =
-      IsTableFault family bytes_of remaining failures known.files captures upstream fault
-      ⊎ ((table : RouteTable) × IsTable family bytes_of remaining failures known.files captures upstream table
-      × StopsAtPort known.files captures.ports.items fault)
-
   -- Not all files are open, and this is the program's fault. Some first ones of the names were asked
   -- for.
   pub record OpensNot (fault : Fault) : Type 0 where
     pub told : OpenFault
     pub is : fault ≡ open_fault told
-    pub unopened : IsUnopened told
-    pub asked : AsksFront known known' names
+    pub unopened : IsUnopened family bytes_of remaining failures known.files captures upstream told
+    pub asked : AsksFront known known' (file_names captures)
 
   -- The result has the property `Answered`, or it is a fault of opening and nothing is written. `Warns`
   -- says of a text that it was written to the device for errors.
@@ -71,7 +61,7 @@ module _ {A R : Type 0} (family : AddressFamily) (bytes_of : A → List ℕ) (re
     pub each : length merge.lanes ≡ length captures.ports.items
     pub untaken : merge.clock ≡ None
     pub held : HoldFiles known.files captures.ports.items merge.lanes
-    pub asked : AsksFor known known' names
+    pub asked : AsksFor known known' (file_names captures)
     pub answers : Answers table merge merge'
 
   -- The same for two routers, each with the captures of its own ports.
@@ -89,7 +79,7 @@ module _ {A R : Type 0} (family : AddressFamily) (bytes_of : A → List ℕ) (re
       pub untaken_of_b : other.clock ≡ None
       pub held_of_a : HoldFiles known.files (filter (is_of side.A) captures.ports.items) merge.lanes
       pub held_of_b : HoldFiles known.files (filter (is_of side.B) captures.ports.items) other.lanes
-      pub asked : AsksFor known known' names
+      pub asked : AsksFor known known' (file_names captures)
       pub answers : Answers table merge merge' other other'
 
 -- ---- what each command returns and writes. `Warns` says of a text that it was written to the device

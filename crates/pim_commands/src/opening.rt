@@ -1,29 +1,14 @@
-//! The files that words name, opened: the table of routes, and the captures of one router or two.
+//! The files that words name, opened (`pim_files`), with the program's fault.
 
 ghost use Rattle.std.specs.Prelude.{IfOk, IfErr};
-ghost use Rattle.pim_commands.specs.Opened.{IsOpen, AreOpen};
+ghost use Rattle.pim_files.specs.Opening.{IsOpen, AreOpen};
 ghost use Rattle.pim_commands.specs.Opening.{OpensNot};
 
-use pim_addr::{Family, Feed, Routes};
+use pim_addr::Family;
 use pim_check::Fault;
-use pim_files::{Opener, Pair, open_all, open_both, table};
-use pim_merge::Merge;
+use pim_files::{OpenOne, OpenTwo, Opener};
 use pim_words::Captures;
 use std::alloc::Global;
-
-/// A table, and the captures of one router.
-#[derive(Drop)]
-pub(crate) struct OpenOne<F: Family, R: Feed + Drop> {
-    pub(crate) routes: Routes<F>,
-    pub(crate) merge: Merge<R>,
-}
-
-/// A table, and the captures of two routers.
-#[derive(Drop)]
-pub(crate) struct OpenTwo<F: Family, R: Feed + Drop> {
-    pub(crate) routes: Routes<F>,
-    pub(crate) pair: Pair<R>,
-}
 
 /// Reads the file of routes, then opens the captures of one router, each by the link of its port.
 ///
@@ -41,9 +26,10 @@ pub(crate) fn open_one<'a, F: Family, O: Opener>(
     ensures unopened { IfErr result (OpensNot F.family F.bytes_of O.Reader.remaining
         O.Reader.failures (O.known opener.old) (O.known opener.new) captures.now upstream) }
 {
-    let routes = table::<F, O>(alloc, opener, captures, upstream)?;
-    let merge = open_all(alloc, opener, &captures.ports)?;
-    Ok(OpenOne { routes, merge })
+    match pim_files::open_one::<F, O>(alloc, opener, captures, upstream) {
+        Ok(files) => Ok(files),
+        Err(told) => Err(Fault::from(told)),
+    }
 }
 
 /// Reads the file of routes, then opens the captures of two routers, each by the link of its port.
@@ -62,7 +48,8 @@ pub(crate) fn open_two<'a, F: Family, O: Opener>(
     ensures unopened { IfErr result (OpensNot F.family F.bytes_of O.Reader.remaining
         O.Reader.failures (O.known opener.old) (O.known opener.new) captures.now upstream) }
 {
-    let routes = table::<F, _>(alloc, opener, captures, upstream)?;
-    let pair = open_both(alloc, opener, &captures.ports)?;
-    Ok(OpenTwo { routes, pair })
+    match pim_files::open_two::<F, O>(alloc, opener, captures, upstream) {
+        Ok(files) => Ok(files),
+        Err(told) => Err(Fault::from(told)),
+    }
 }

@@ -1,3 +1,4 @@
 pub mod Asked
 pub mod Opened
 pub mod InMemory
+pub mod AllOpen

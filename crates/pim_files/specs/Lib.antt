@@ -3,3 +3,4 @@ pub mod Files
 pub mod Table
 pub mod Captures
 pub mod Held
+pub mod Opening

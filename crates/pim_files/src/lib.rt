@@ -7,6 +7,7 @@
 //! - `open_all` opens the captures of one router, `open_both` those of two, in the order of the
 //!   words. A port's link says whether its capture is a classic one or any container, and which of
 //!   its packets are taken.
+//! - `open_one` and `open_two` do both: they make the table, then open the captures.
 //! - `HeldFiles` is an opener of files in memory, for tests.
 //!
 //! Where the opener tells what files hold, the contracts say that each port has the capture of its
@@ -21,6 +22,7 @@ mod captures;
 mod fault;
 mod held;
 mod opener;
+mod opening;
 mod pair;
 mod route_table;
 
@@ -28,5 +30,6 @@ pub use captures::{open_all, open_port};
 pub use fault::OpenFault;
 pub use held::{HeldFile, HeldFiles};
 pub use opener::{FileCause, Opener, Unopened};
+pub use opening::{OpenOne, OpenTwo, open_one, open_two};
 pub use pair::{Pair, add_to, open_both};
 pub use route_table::{first_rows, table};

@@ -14,7 +14,7 @@ returns-in-Err-clause-count g c =
 
 pub returns-clause-bytes : goal.returns-clause-bytes
 returns-clause-bytes g c =
-    answered g.F.Family.family g.F.Family.bytes_of g.O.Reader.Feed.remaining g.O.Reader.Feed.failures (g.O.Opener.known c.args.opener.now) (g.O.Opener.known c.args.opener.now) (g.O.Opener.known c.open_one.new.opener)
+    answered g.F.Family.family g.F.Family.bytes_of g.O.Reader.Feed.remaining g.O.Reader.Feed.failures (g.O.Opener.known c.args.opener.now) (g.O.Opener.known c.open_one.new.opener)
     c.args.captures.now (Some c.args.writing.now.upstream)
     (λ text. IsTold text (g.E.Drain.contents c.args.errors.now) (g.E.Drain.contents c.warn_of_one.new.errors) (g.E.Drain.failures c.args.errors.now) (g.E.Drain.failures c.warn_of_one.new.errors))
     (g.W.Drain.contents c.args.writer.now) (g.W.Drain.contents c.emit_opened-answer.new.writer) c.emit_opened-answer.result _

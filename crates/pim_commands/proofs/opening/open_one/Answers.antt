@@ -1,24 +1,9 @@
-use Rattle.std.proofs.lemmas.Result.{err_from_is_err_and}
-use Rattle.pim_commands.proofs.Opened.{no_table, no_port, is_open}
 use Rattle.pim_commands.proofs.opening.open_one.Goals as goal
 
-pub returns-in_err-routes-clause-unopened : goal.returns-in_err-routes-clause-unopened
-returns-in_err-routes-clause-unopened g c =
-    let p = err_from_is_err_and c.from_residual.result c.from_residual.ensures.1 in
-    rw (p.1)
-    (no_table g.F.Family.family g.F.Family.bytes_of g.O.Reader.Feed.remaining g.O.Reader.Feed.failures (g.O.Opener.known c.args.opener.now) (g.O.Opener.known c.table.new.opener)
-    (g.O.Opener.known c.table.new.opener) c.args.captures.now c.args.upstream c.in_err-routes.field-0.0 p.0 p.2 c.in_err-routes.ensures.table c.in_err-routes.ensures.asked)
-
-pub returns-in_err-merge-clause-unopened : goal.returns-in_err-merge-clause-unopened
-returns-in_err-merge-clause-unopened g c =
-    let p = err_from_is_err_and c.from_residual-in_err-merge.result c.from_residual-in_err-merge.ensures.1 in
-    rw (p.1)
-    (no_port g.F.Family.family g.F.Family.bytes_of g.O.Reader.Feed.remaining g.O.Reader.Feed.failures (g.O.Opener.known c.args.opener.now) (g.O.Opener.known c.table.new.opener)
-    (g.O.Opener.known c.open_all.new.opener) c.args.captures.now c.args.upstream c.in_ok-routes.routes c.deref.result.now c.in_err-merge.field-0.0 p.0 c.deref.ensures.value p.2
-    c.in_ok-routes.ensures.table c.in_ok-routes.ensures.asked c.in_err-merge.ensures.fault c.in_err-merge.ensures.asked)
-
-pub returns-clause-opened : goal.returns-clause-opened
-returns-clause-opened g c =
-    is_open g.F.Family.family g.F.Family.bytes_of g.O.Reader.Feed.remaining g.O.Reader.Feed.failures (g.O.Opener.known c.args.opener.now) (g.O.Opener.known c.table.new.opener) (g.O.Opener.known c.open_all.new.opener)
-    c.args.captures.now c.args.upstream c.in_ok-routes.routes c.in_ok-merge.merge c.deref.result.now c.deref.ensures.value c.in_ok-routes.ensures.table c.in_ok-routes.ensures.asked
-    c.in_ok-merge.ensures.each c.in_ok-merge.ensures.untaken c.in_ok-merge.ensures.opened c.in_ok-merge.ensures.asked
+pub returns-in-Err-clause-unopened : goal.returns-in-Err-clause-unopened
+returns-in-Err-clause-unopened g c = record {
+  told = c.in-Err.told;
+  is = c.from.ensures;
+  unopened = c.in-Err.ensures.unopened;
+  asked = c.in-Err.ensures.asked;
+}

@@ -1,0 +1,46 @@
+-- All files that the words of a command name. `known` and `known'` say what is known of the opener
+-- before and after.
+use Rattle.std.specs.Prelude.{◌≡◌, ◌⊎◌, ℕ, List, ◌++◌, length, map, filter, Option, None}
+use Rattle.pim_addr.specs.declared.family.AddressFamily.{AddressFamily}
+use Rattle.pim_addr.specs.Routes.{RouteTable}
+use Rattle.pim_merge.specs.Next.{MergeState}
+use Rattle.pim_words.specs.declared.fault.Side.TheVariants as side
+use Rattle.pim_words.specs.declared.task.Captures.{Captures}
+use Rattle.pim_files.specs.declared.fault.OpenFault.{OpenFault}
+use Rattle.pim_files.specs.Captures.{file_name, is_of, HoldFiles, StopsAtPort}
+use Rattle.pim_files.specs.Files.{Files, Known, AsksFor}
+use Rattle.pim_files.specs.Table.{IsTable, IsTableFault, table_names}
+
+-- The names of the files, in the order in which they are opened: the file of routes is first.
+abbrev pub file_names : {A : Type 0} → Captures A → List (List ℕ)
+file_names captures = table_names captures ++ map file_name captures.ports.items
+
+module _ {A R : Type 0} (family : AddressFamily) (bytes_of : A → List ℕ) (remaining : R → Option (List ℕ))
+    (failures : R → ℕ) (known : Option Files) (captures : Captures A) (upstream : Option A) where
+  -- Why not all files are open: there is no table. Or there is one, and a port's file isn't open.
+  abbrev pub IsUnopened : OpenFault → Type 0
+  IsUnopened fault =
+      IsTableFault family bytes_of remaining failures known captures upstream fault
+      ⊎ ((table : RouteTable) × IsTable family bytes_of remaining failures known captures upstream table
+      × StopsAtPort known captures.ports.items fault)
+
+module _ {A R : Type 0} (family : AddressFamily) (bytes_of : A → List ℕ) (remaining : R → Option (List ℕ))
+    (failures : R → ℕ) (known known' : Known) (captures : Captures A) (upstream : Option A) (table : RouteTable) where
+  -- There are a table and the captures of one router, of which nothing was read.
+  pub record IsOpen (merge : MergeState) : Type 0 where
+    pub is_table : IsTable family bytes_of remaining failures known.files captures upstream table
+    pub each : length merge.lanes ≡ length captures.ports.items
+    pub untaken : merge.clock ≡ None
+    pub held : HoldFiles known.files captures.ports.items merge.lanes
+    pub asked : AsksFor known known' (file_names captures)
+
+  -- The same for two routers.
+  pub record AreOpen (merge other : MergeState) : Type 0 where
+    pub is_table : IsTable family bytes_of remaining failures known.files captures upstream table
+    pub each_of_a : length merge.lanes ≡ length (filter (is_of side.A) captures.ports.items)
+    pub each_of_b : length other.lanes ≡ length (filter (is_of side.B) captures.ports.items)
+    pub untaken_of_a : merge.clock ≡ None
+    pub untaken_of_b : other.clock ≡ None
+    pub held_of_a : HoldFiles known.files (filter (is_of side.A) captures.ports.items) merge.lanes
+    pub held_of_b : HoldFiles known.files (filter (is_of side.B) captures.ports.items) other.lanes
+    pub asked : AsksFor known known' (file_names captures)
