@@ -1,5 +1,5 @@
 -- An answer in a block is one in the list.
-use Rattle.std.proofs.Common.{◌≡◌, ℕ, suc, ◌+◌, ◌-◌, ◌<◌, ◌≤◌, List, [], length, get_or, sym, ap, subst, ◌∙◌, arith, Ok, Err, inl, inr, add-one}
+use Rattle.std.proofs.Common.{◌≡◌, ℕ, suc, ◌+◌, ◌-◌, ◌<◌, ◌≤◌, List, [], length, get_or, sym, ap, subst, ◌∙◌, arith, Ok, Err, inl, inr}
 use Rattle.std.specs.List.{All}
 use Rattle.std.specs.declared.cmp.Ordering.{Ordering}
 use Rattle.std.specs.declared.cmp.Ordering.TheVariants.{Less, Equal, Greater}
@@ -7,11 +7,11 @@ use Rattle.std.proofs.lemmas.Bool.{cases_lt}
 use Rattle.std.proofs.lemmas.List.{get_or_read}
 use Rattle.sorted_blocks.specs.declared.place.Place.{Place}
 use Rattle.sorted_blocks.specs.Shape.{Shape, items}
-use Rattle.sorted_blocks.specs.Places.{before}
+use Rattle.sorted_blocks.specs.Places.{before, IsPlace, IsItem}
 use Rattle.sorted_blocks.specs.Found.{IsGap, IsFound}
-use Rattle.sorted_blocks.specs.Sought.{IsLead, IsBlockGap, IsRowLeft}
+use Rattle.sorted_blocks.specs.Sought.{IsLessAt, IsLead, IsBlockGap, IsRowLeft}
 use Rattle.sorted_blocks.proofs.Joined.{start, item_at, start-suc, start-all, start-within}
-use Rattle.sorted_blocks.proofs.Moves.{before_is, is_item, is_place, is_start}
+use Rattle.sorted_blocks.proofs.Moves.{before_is, is_item, is_place, is_start, item_block, item_within}
 
 module _ {A : Type 0} where
   -- the item of a block at an index of the list
@@ -20,6 +20,9 @@ module _ {A : Type 0} where
 
   pub index_within : (s : Shape A) (block at : ℕ) → block < length s.blocks → at < length (get_or s.blocks block []) → start s.blocks block + at < length (items s)
   index_within s block at h l = omega (arith, l, start-suc s.blocks block h, start-within s.blocks (suc block))
+
+  before_within : (s : Shape A) (p : Place) → IsItem s p → before s p < length (items s)
+  before_within s p item = omega (arith, before_is s p, index_within s p.block p.at (item_block s p item) (item_within s p item))
 
   -- what holds of all items holds of each in a block
   pub each_row : (P : A → Type 0) (s : Shape A) (block : ℕ) → All P (items s) → block < length s.blocks → All P (get_or s.blocks block [])
@@ -84,33 +87,23 @@ module _ {A : Type 0} where
         some_behind = λ l. subst (λ (k : ℕ). k < length blocks → 0 < length (get_or blocks k [])) e gap.some_behind l;
       }
 
-  -- what was read at a place of a block
-  pub can_row : (P : A → Type 0) (s : Shape A) (block at : ℕ) (r : A) → All P (items s) → block < length s.blocks → at < length (get_or s.blocks block []) → r ≡ get_or (get_or s.blocks block []) at r → P r
-  can_row P s block at r all h l e = subst P (sym e) (each_row P s block all h at r l)
+  -- what was read at a place
+  pub can_item : (P : A → Type 0) (s : Shape A) (p : Place) (r : A) → All P (items s) → IsItem s p → r ≡ get_or (items s) (before s p) r → P r
+  can_item P s p r all item e = subst P (sym e) (all (before s p) r (before_within s p item))
 
-  pub reads : (order : A → Ordering) (row : List A) (at : ℕ) (r : A) (o : Ordering) → at < length row → r ≡ get_or row at r → o ≡ order r → (d : A) → order (get_or row at d) ≡ o
-  reads order row at r o l e is d = ap order (sym (get_or_read row at r l e d)) ∙ sym is
+  pub reads : (order : A → Ordering) (s : Shape A) (p : Place) (r : A) (o : Ordering) → IsItem s p → r ≡ get_or (items s) (before s p) r → o ≡ order r → (d : A) → order (get_or (items s) (before s p) d) ≡ o
+  reads order s p r o item e is d = ap order (sym (get_or_read (items s) (before s p) r (before_within s p item) e d)) ∙ sym is
 
-  -- a gap between two items of a block
-  pub found_between : (order : A → Ordering) (s : Shape A) (block at : ℕ) → block < length s.blocks → at + 1 < length (get_or s.blocks block []) → ((d : A) → order (get_or (get_or s.blocks block []) at d) ≡ Less) → ((d : A) → order (get_or (get_or s.blocks block []) (at + 1) d) ≡ Greater) → IsFound order s (Err (record { block = block; at = at + 1 }))
-  found_between order s block at h l less greater =
-      let b = before_is s (record { block = block; at = at + 1 }) in (
-        is_place s (record { block = block; at = at + 1 }) h (omega (arith, l)),
+  pub found_item : (order : A → Ordering) (s : Shape A) (p : Place) (r : A) → IsItem s p → r ≡ get_or (items s) (before s p) r → Equal ≡ order r → IsFound order s (Ok p)
+  found_item order s p r item e is = (item, record { within = before_within s p item; equal = reads order s p r Equal item e is; })
+
+  -- the gap behind an item that is less
+  pub found_behind : (order : A → Ordering) (s : Shape A) (near behind : Place) → IsLessAt order (items s) (before s near) → IsPlace s behind → before s behind ≡ before s near + 1 → ((d : A) → before s behind < length (items s) → order (get_or (items s) (before s behind) d) ≡ Greater) → IsFound order s (Err behind)
+  found_behind order s near behind less place b greater =
+      let e : before s near ≡ before s behind - 1 = omega (arith, b) in (
+        place,
         record {
-          less = λ d k. ap order (item_is s block at (before s (record { block = block; at = at + 1 }) - 1) d h (omega (arith, l)) (omega (arith, b))) ∙ less d;
-          greater = λ d k. ap order (item_is s block (at + 1) (before s (record { block = block; at = at + 1 })) d h l b) ∙ greater d;
+          less = λ d h. subst (λ (k : ℕ). order (get_or (items s) k d) ≡ Less) e (less d);
+          greater = greater;
         },
       )
-
-  -- the rest of a block behind an item that is less
-  pub rest_left : (order : A → Ordering) (blocks : List (List A)) (block at : ℕ) → block < length blocks → at < length (get_or blocks block []) → ((d : A) → order (get_or (get_or blocks block []) at d) ≡ Less) → ((d : A) → block + 1 < length blocks → order (get_or (get_or blocks (block + 1) []) 0 d) ≡ Greater) → (block + 1 < length blocks → 0 < length (get_or blocks (block + 1) [])) → IsRowLeft order blocks block (at + 1)
-  rest_left order blocks block at h l less greater some =
-      let e : at ≡ at + 1 - 1 = omega arith in
-      record {
-        within = h;
-        from_low = omega (arith, l);
-        some = omega arith;
-        less = λ d. subst (λ (k : ℕ). order (get_or (get_or blocks block []) k d) ≡ Less) e (less d);
-        greater = λ d m. subst (λ (k : ℕ). k < length blocks → order (get_or (get_or blocks k []) 0 d) ≡ Greater) (add-one block) (greater d) m;
-        some_behind = λ m. subst (λ (k : ℕ). k < length blocks → 0 < length (get_or blocks k [])) (add-one block) some m;
-      }

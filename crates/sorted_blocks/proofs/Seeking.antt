@@ -11,12 +11,6 @@ pub record IsLeft {A : Type 0} (order : A → Ordering) (row : List A) (from low
   pub less : (d : A) → 0 < low → order (get_or row (low - 1) d) ≡ Less
   pub not_less : (d : A) → low + left < length row → order (get_or row (low + left) d) ≢ Less
 
--- what stands before `low` is less
-pub record IsBehind {A : Type 0} (order : A → Ordering) (row : List A) (from low : ℕ) : Type 0 where
-  pub from_low : from ≤ low
-  pub within : low ≤ length row
-  pub less : (d : A) → 0 < low → order (get_or row (low - 1) d) ≡ Less
-
 module _ {A : Type 0} (order : A → Ordering) (row : List A) where
   -- the half that is left
   pub halved : (from low left half less : ℕ) → IsLeft order row from low left → 0 < left → half ≡ left / 2 → less ≤ 1

@@ -1,14 +1,13 @@
 //! Lookup of an item by the comparison of the caller. No search requires an order of the items.
 //!
 //! No branch of a search by halves depends on an item, so that branch prediction cannot fail. A
-//! lookup near a place doubles its steps from there, over the first items of the blocks and then in
-//! a block. So it reads few items, which are near one another in memory.
+//! lookup near a place compares the items beside it, and else searches by halves in the whole list.
 
 ghost use Rattle.std.specs.Prelude.{◌≡◌, ◌≢◌, ℕ, ◌+◌, ◌-◌, ◌<◌, ◌≤◌, List, [], length};
 ghost use Rattle.std.specs.Prelude.{slice_index_or};
 ghost use Rattle.std.specs.List.{All};
 ghost use Rattle.sorted_blocks.specs.Shape.{items, block_at};
-ghost use Rattle.sorted_blocks.specs.Places.{IsItem};
+ghost use Rattle.sorted_blocks.specs.Places.{before, IsItem};
 ghost use Rattle.sorted_blocks.specs.Found.{IsFound};
 ghost use Rattle.sorted_blocks.specs.Sought.{IsSought, IsBlockSought, IsBlockGap, IsRowLeft};
 ghost use Rattle.sorted_blocks.specs.Sought.{IsLessAt};
@@ -60,29 +59,6 @@ fn seek<T: Copy, P: Probe<T>>(probe: &P, row: &[T], low: usize, high: usize) -> 
     }
 }
 
-/// Returns the same, up to the end of the row, for an item that is mostly soon after `low`. The
-/// steps are doubled each time.
-fn seek_soon<T: Copy, P: Probe<T>>(probe: &P, row: &[T], low: usize) -> Result<usize, usize>
-    requires can { All (P.can_compare probe.now) row.now }
-    requires low { low ≤ length row.now }
-    requires less { (d : T) → 0 < low → P.order probe.now (slice_index_or row.now (low - 1) d)
-        ≡ Ordering.Less }
-    ensures { IsSought (P.order probe.now) row.now low result }
-{
-    let mut low = low;
-    let mut step = 1usize;
-    while step < row.len() - low {
-        let at = low + step;
-        match probe.compare(&row[at]) {
-            Ordering::Less => low = at + 1,
-            Ordering::Equal => return Ok(at),
-            Ordering::Greater => return seek(probe, row, low, at),
-        }
-        step = step.saturating_mul(2);
-    }
-    seek(probe, row, low, row.len())
-}
-
 impl<T: Copy, const HALF: usize> Store<T, HALF> {
     /// Returns the place of an item that compares equal, or else a gap. The item before a gap is
     /// less than what is sought, and the item at it is greater. In a list in the order of the
@@ -105,7 +81,7 @@ impl<T: Copy, const HALF: usize> Store<T, HALF> {
         if !self.is_item(near) {
             return self.find_before(near, probe);
         }
-        match probe.compare(self.item_of(near.block, near.at)) {
+        match probe.compare(self.get(near)) {
             Ordering::Less => self.find_behind(near, probe),
             Ordering::Equal => Ok(near),
             Ordering::Greater => self.find_before(near, probe),
@@ -128,7 +104,7 @@ impl<T: Copy, const HALF: usize> Store<T, HALF> {
         if !self.is_item(place) {
             return self.find(probe);
         }
-        match probe.compare(self.item_of(place.block, place.at)) {
+        match probe.compare(self.get(place)) {
             Ordering::Less => self.find_behind(place, probe),
             Ordering::Equal => Ok(place),
             Ordering::Greater => self.find(probe),
@@ -143,18 +119,6 @@ impl<T: Copy, const HALF: usize> Store<T, HALF> {
     {
         let firsts = self.firsts();
         seek(probe, firsts, 0, firsts.len())
-    }
-
-    /// Returns the same, for an item that is mostly soon after the first item of the block before
-    /// `low`, which is less.
-    fn seek_block_soon<P: Probe<T>>(&self, probe: &P, low: usize) -> Result<usize, usize>
-        requires can { All (P.can_compare probe.now) (items self.now) }
-        requires some { 0 < low }
-        requires low { low ≤ length self.now.blocks }
-        requires less { IsLessAt (P.order probe.now) (block_at self.now.blocks (low - 1)) 0 }
-        ensures { IsBlockSought (P.order probe.now) self.now.blocks result }
-    {
-        seek_soon(probe, self.firsts(), low)
     }
 
     /// Returns the result after a search over the blocks.
@@ -198,65 +162,23 @@ impl<T: Copy, const HALF: usize> Store<T, HALF> {
         }
     }
 
-    /// Returns the same, for an item that is mostly soon after `low`.
-    fn find_soon<P: Probe<T>>(&self, probe: &P, block: usize, low: usize) -> Result<Place, Place>
-        requires can { All (P.can_compare probe.now) (items self.now) }
-        requires row { IsRowLeft (P.order probe.now) self.now.blocks block low }
-        ensures { IsFound (P.order probe.now) self.now result }
-    {
-        match seek_soon(probe, self.row(block), low) {
-            Ok(at) => Ok(Place { block, at }),
-            Err(at) => Err(Place { block, at }),
-        }
-    }
-
     /// Returns the result after an item that is less than what is sought. It is mostly the next
     /// item, or the gap before that.
     fn find_behind<P: Probe<T>>(&self, near: Place, probe: &P) -> Result<Place, Place>
         requires can { All (P.can_compare probe.now) (items self.now) }
         requires item { IsItem self.now near }
-        requires less { IsLessAt (P.order probe.now) (block_at self.now.blocks near.block) near.at }
+        requires less { IsLessAt (P.order probe.now) (items self.now) (before self.now near) }
         ensures { IsFound (P.order probe.now) self.now result }
     {
-        let len = self.block_len(near.block);
-        let low = near.at + 1;
-        if low < len {
-            let place = Place {
-                block: near.block,
-                at: low,
-            };
-            match probe.compare(self.item_of(near.block, low)) {
-                Ordering::Less => {}
-                Ordering::Equal => return Ok(place),
-                Ordering::Greater => return Err(place),
-            }
+        let behind = self.behind(near);
+        let next = self.settled(behind);
+        if !self.is_item(next) {
+            return Err(behind);
         }
-        self.find_rest(near, probe)
-    }
-
-    /// Returns the result after an item that is less. What is sought is mostly in the same block,
-    /// or in one that comes soon after it.
-    fn find_rest<P: Probe<T>>(&self, near: Place, probe: &P) -> Result<Place, Place>
-        requires can { All (P.can_compare probe.now) (items self.now) }
-        requires item { IsItem self.now near }
-        requires less { IsLessAt (P.order probe.now) (block_at self.now.blocks near.block) near.at }
-        ensures { IsFound (P.order probe.now) self.now result }
-    {
-        let _len = self.block_len(near.block);
-        let behind = near.block + 1;
-        if behind >= self.block_count() {
-            return self.find_soon(probe, near.block, near.at + 1);
-        }
-        match probe.compare(self.first_of(behind)) {
-            Ordering::Less => {
-                let sought = self.seek_block_soon(probe, behind + 1);
-                self.find_sought(probe, sought)
-            }
-            Ordering::Equal => Ok(Place {
-                block: behind,
-                at: 0,
-            }),
-            Ordering::Greater => self.find_soon(probe, near.block, near.at + 1),
+        match probe.compare(self.get(next)) {
+            Ordering::Less => self.find(probe),
+            Ordering::Equal => Ok(next),
+            Ordering::Greater => Err(behind),
         }
     }
 }

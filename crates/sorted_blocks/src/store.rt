@@ -134,16 +134,6 @@ impl<T: Copy, const HALF: usize> Store<T, HALF> {
         self.firsts.as_slice()
     }
 
-    /// Returns the first item of this block.
-    pub(crate) fn first_of(&self, block: usize) -> &T
-        requires { block < length self.now.blocks }
-        ensures item { result.now ≡ slice_index_or (block_at self.now.blocks block) 0 result.now }
-        ensures some { 0 < length (block_at self.now.blocks block) }
-        ensures few { block < 4294967296 }
-    {
-        &self.firsts[block]
-    }
-
     /// Inserts an item in a block that is not full.
     pub(crate) fn put(&mut self, block: usize, at: usize, item: T)
         requires block { block < length self.old.blocks }

@@ -37,8 +37,21 @@ impl<T: Copy, const HALF: usize> Store<T, HALF> {
         self.settled(Place::START)
     }
 
-    /// Returns the place after this item: that of the next item, if there is one.
+    /// Returns the place after this item in its block.
     #[tactic(auto, unfolding(crate::specs::Places::IsItem))]
+    pub(crate) fn behind(&self, place: Place) -> Place
+        requires { IsItem self.now place }
+        ensures place { IsPlace self.now result }
+        ensures before { before self.now result ≡ before self.now place + 1 }
+    {
+        let _len = self.block_len(place.block);
+        Place {
+            block: place.block,
+            at: place.at + 1,
+        }
+    }
+
+    /// Returns the place after this item: that of the next item, if there is one.
     pub(crate) fn next(&self, place: Place) -> Place
         requires { IsItem self.now place }
         ensures place { IsPlace self.now result }
@@ -46,11 +59,7 @@ impl<T: Copy, const HALF: usize> Store<T, HALF> {
         ensures item { before self.now place + 1 < length (items self.now)
             → IsItem self.now result }
     {
-        let _len = self.block_len(place.block);
-        self.settled(Place {
-            block: place.block,
-            at: place.at + 1,
-        })
+        self.settled(self.behind(place))
     }
 
     /// Returns the same place. For the end of a block that is not the last, it returns the place of

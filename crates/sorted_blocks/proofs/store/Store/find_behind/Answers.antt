@@ -1,30 +1,22 @@
-use Rattle.std.proofs.Common.{◌+◌, ◌<◌, [], length, get_or, arith, lit<}
-use Rattle.std.specs.declared.cmp.Ordering.TheVariants.{Equal, Greater}
-use Rattle.sorted_blocks.proofs.Moves.{item_block, item_within}
-use Rattle.sorted_blocks.proofs.Finding.{found_equal, found_between, can_row, reads}
+use Rattle.std.proofs.Common.{ℕ, get_or, refl, sym, ap, ◌∙◌, arith}
+use Rattle.std.proofs.lemmas.Bool.{false≢true}
+use Rattle.std.specs.declared.cmp.Ordering.TheVariants.{Greater}
+use Rattle.sorted_blocks.specs.Shape.{items}
+use Rattle.sorted_blocks.proofs.Finding.{can_item, reads, found_item, found_behind}
 use Rattle.sorted_blocks.proofs.store.Store.find_behind.Goals as goal
 
-pub block_len-len-requires : goal.block_len-len-requires
-block_len-len-requires g c = (lit< tt, item_block c.args.self.now c.args.near c.requires.item)
-
-pub overflow_add-low : goal.overflow_add-low
-overflow_add-low g c =
-    let l = item_within c.args.self.now c.args.near c.requires.item in
-    omega (arith, l, c.block_len-len.ensures.len, c.block_len-len.ensures.most, c.block_len-len.ensures.small)
-
-pub item_of-requires : goal.item_of-requires
-item_of-requires g c = (lit< tt, (item_block c.args.self.now c.args.near c.requires.item, omega (arith, c.if-low-len.true, c.block_len-len.ensures.len)))
-
 pub compare-requires : goal.compare-requires
-compare-requires g c =
-    can_row (g.P.Probe.can_compare c.args.probe.now) c.args.self.now c.args.near.block (c.args.near.at + 1) c.item_of.result.now c.requires.can (item_block c.args.self.now c.args.near c.requires.item) (omega (arith, c.if-low-len.true, c.block_len-len.ensures.len)) c.item_of.ensures
+compare-requires g c = can_item (g.P.Probe.can_compare c.args.probe.now) c.args.self.now c.settled-next.result c.get.result.now c.requires.can ((c.if-not-is_item.ensures {u = tt}).0 refl) c.get.ensures
 
 pub returns-in-Equal : goal.returns-in-Equal
-returns-in-Equal g c =
-    let l : c.args.near.at + 1 < length (get_or c.args.self.now.blocks c.args.near.block []) = omega (arith, c.if-low-len.true, c.block_len-len.ensures.len) in
-    found_equal (g.P.Probe.order c.args.probe.now) c.args.self.now (record { block = c.args.near.block; at = c.args.near.at + 1 }) (item_block c.args.self.now c.args.near c.requires.item) l (reads (g.P.Probe.order c.args.probe.now) (get_or c.args.self.now.blocks c.args.near.block []) (c.args.near.at + 1) c.item_of.result.now Equal l c.item_of.ensures c.in-Equal.ensures)
+returns-in-Equal g c = found_item (g.P.Probe.order c.args.probe.now) c.args.self.now c.settled-next.result c.get.result.now ((c.if-not-is_item.ensures {u = tt}).0 refl) c.get.ensures c.in-Equal.ensures
+
+pub returns-then-not-is_item : goal.returns-then-not-is_item
+returns-then-not-is_item g c =
+    found_behind (g.P.Probe.order c.args.probe.now) c.args.self.now c.args.near c.behind-behind.result c.requires.less c.behind-behind.ensures.place c.behind-behind.ensures.before (λ d h. absurd (false≢true ((c.if-not-is_item.ensures {u = tt}).1 (c.settled-next.ensures.item (omega (arith, h, c.settled-next.ensures.before))))))
 
 pub returns-in-Greater : goal.returns-in-Greater
 returns-in-Greater g c =
-    let l : c.args.near.at + 1 < length (get_or c.args.self.now.blocks c.args.near.block []) = omega (arith, c.if-low-len.true, c.block_len-len.ensures.len) in
-    found_between (g.P.Probe.order c.args.probe.now) c.args.self.now c.args.near.block c.args.near.at (item_block c.args.self.now c.args.near c.requires.item) l c.requires.less (reads (g.P.Probe.order c.args.probe.now) (get_or c.args.self.now.blocks c.args.near.block []) (c.args.near.at + 1) c.item_of.result.now Greater l c.item_of.ensures c.in-Greater.ensures)
+    let item = (c.if-not-is_item.ensures {u = tt}).0 refl in
+    let greater = reads (g.P.Probe.order c.args.probe.now) c.args.self.now c.settled-next.result c.get.result.now Greater item c.get.ensures c.in-Greater.ensures in
+    found_behind (g.P.Probe.order c.args.probe.now) c.args.self.now c.args.near c.behind-behind.result c.requires.less c.behind-behind.ensures.place c.behind-behind.ensures.before (λ d h. ap (λ (i : ℕ). g.P.Probe.order c.args.probe.now (get_or (items c.args.self.now) i d)) (sym c.settled-next.ensures.before) ∙ greater d)
