@@ -1,8 +1,5 @@
 -- Within the capacity a spare block is there, whatever the blocks look like.
-use Rattle.std.proofs.Common.{◌≡◌, ℕ, zero, suc, ◌+◌, ◌-◌, ◌*◌, ◌/◌, ◌<◌, ◌≤◌, length, refl, ap, arith, lit<}
-use Rattle.std.proofs.Math.Nat.{div-mul-le_self, le-div_iff_mul-le, mul-le-mul_right}
-use Rattle.sorted_blocks.specs.Shape.{Shape, items, block_total, capacity}
-use Rattle.sorted_blocks.specs.Sound.{IsDense}
+use Rattle.sorted_blocks.proofs.Words.{◌≡◌, ℕ, zero, suc, ◌+◌, ◌-◌, ◌*◌, ◌/◌, ◌<◌, ◌≤◌, length, refl, ap, arith, lit<, div-mul-le_self, le-div_iff_mul-le, mul-le-mul_right, Shape, items, block_total, capacity, IsDense}
 use Rattle.sorted_blocks.proofs.Dense.{dense-few}
 
 module _ {A : Type 0} where

@@ -1,8 +1,5 @@
 -- What one edit of a list of blocks leaves: how many items, and that each block is filled.
-use Rattle.std.proofs.Common.{◌≡◌, ℕ, zero, suc, ◌+◌, ◌*◌, ◌<◌, ◌≤◌, List, [], ◌∷◌, length, get_or, set, arith, length-append}
-use Rattle.std.specs.List.{insert, remove}
-use Rattle.sorted_blocks.specs.Shape.{joined}
-use Rattle.sorted_blocks.specs.Sound.{AllFilled}
+use Rattle.sorted_blocks.proofs.Words.{◌≡◌, ℕ, zero, suc, ◌+◌, ◌*◌, ◌<◌, ◌≤◌, List, [], ◌∷◌, length, get_or, set, arith, length-append, insert, remove, joined, AllFilled}
 
 module _ {A : Type 0} where
   pub count-set : (bs : List (List A)) (i : ℕ) (c : List A) → i < length bs → length (joined (set bs i c)) + length (get_or bs i []) ≡ length (joined bs) + length c

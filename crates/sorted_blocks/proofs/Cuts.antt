@@ -1,9 +1,5 @@
 -- Lists without some items.
-use Rattle.std.proofs.Common.{◌≡◌, ℕ, ◌+◌, ◌-◌, ◌≤◌, List, ◌++◌, length, take, drop, sym, ap, ap₂, ◌∙◌, arith, length-append, length-drop, append_assoc, add-one}
-use Rattle.std.proofs.Math.Seq.{paste, take-append-add, drop-append-add}
-use Rattle.std.specs.List.{remove}
-use Rattle.std.proofs.lemmas.List.{drop-drop, drop-take, drop_at, take_at, take_all, length-take-le, take-append-le, drop-append-le}
-use Rattle.sorted_blocks.specs.Shape.{cut}
+use Rattle.sorted_blocks.proofs.Words.{◌≡◌, ℕ, ◌+◌, ◌-◌, ◌≤◌, List, ◌++◌, length, take, drop, sym, ap, ap₂, ◌∙◌, arith, length-append, length-drop, append_assoc, add-one, paste, take-append-add, drop-append-add, remove, drop-drop, drop-take, drop_at, take_at, take_all, length-take-le, take-append-le, drop-append-le, cut}
 
 module _ {A : Type 0} where
   pub cut_first : (xs : List A) (n : ℕ) → cut xs 0 n ≡ drop n xs

@@ -1,12 +1,5 @@
 -- After every edit neighbouring blocks have more than half a block's items together, so that there are few.
-use Rattle.std.proofs.Common.{◌≡◌, ℕ, zero, suc, ◌+◌, ◌-◌, ◌*◌, ◌<◌, ◌≤◌, List, [], ◌∷◌, ◌++◌, length, get_or, set, take, drop, ap, subst, ◌∙◌, arith, length-append, length-drop, add-one, inl, inr, false, IsTrue}
-use Rattle.std.specs.List.{insert, remove}
-use Rattle.std.proofs.Math.Nat.{suc-mul, zero-mul}
-use Rattle.std.proofs.lemmas.Bool.{cases_lt, false≢true}
-use Rattle.std.proofs.lemmas.List.{length-set, length-take-le, get_or-set_other, get_or-set_same}
-use Rattle.std.proofs.lemmas.List.Edits.{length-insert, length-remove, get_or-remove_below, get_or-remove_above, get_or-insert_below, get_or-insert_at, get_or-insert_above}
-use Rattle.sorted_blocks.specs.Shape.{Shape, joined}
-use Rattle.sorted_blocks.specs.Sound.{AllFilled, IsDense, IsDenseIn}
+use Rattle.sorted_blocks.proofs.Words.{◌≡◌, ℕ, zero, suc, ◌+◌, ◌-◌, ◌*◌, ◌<◌, ◌≤◌, List, [], ◌∷◌, ◌++◌, length, get_or, set, take, drop, ap, subst, ◌∙◌, arith, length-append, length-drop, add-one, inl, inr, false, IsTrue, insert, remove, suc-mul, zero-mul, cases_lt, false≢true, length-set, length-take-le, get_or-set_other, get_or-set_same, length-insert, length-remove, get_or-remove_below, get_or-remove_above, get_or-insert_below, get_or-insert_at, get_or-insert_above, Shape, joined, AllFilled, IsDense, IsDenseIn}
 use Rattle.sorted_blocks.proofs.Counted.{filled-get}
 
 pub not_short : (n half : ℕ) → (n ≤ half → IsTrue false) → half < n

@@ -1,15 +1,5 @@
 -- An answer in a block is one in the list.
-use Rattle.std.proofs.Common.{◌≡◌, ℕ, suc, ◌+◌, ◌-◌, ◌<◌, ◌≤◌, List, [], length, get_or, sym, ap, subst, ◌∙◌, arith, Ok, Err, inl, inr}
-use Rattle.std.specs.List.{All}
-use Rattle.std.specs.declared.cmp.Ordering.{Ordering}
-use Rattle.std.specs.declared.cmp.Ordering.TheVariants.{Less, Equal, Greater}
-use Rattle.std.proofs.lemmas.Bool.{cases_lt}
-use Rattle.std.proofs.lemmas.List.{get_or_read}
-use Rattle.sorted_blocks.specs.declared.place.Place.{Place}
-use Rattle.sorted_blocks.specs.Shape.{Shape, items}
-use Rattle.sorted_blocks.specs.Places.{before, IsPlace, IsItem}
-use Rattle.sorted_blocks.specs.Found.{IsGap, IsFound}
-use Rattle.sorted_blocks.specs.Sought.{IsLessAt, IsLead, IsBlockGap, IsRowLeft}
+use Rattle.sorted_blocks.proofs.Words.{◌≡◌, ℕ, suc, ◌+◌, ◌-◌, ◌<◌, ◌≤◌, List, [], length, get_or, sym, ap, subst, ◌∙◌, arith, Ok, Err, inl, inr, All, Ordering, Less, Equal, Greater, cases_lt, get_or_read, Place, Shape, items, before, IsPlace, IsItem, IsGap, IsFound, IsLessAt, IsLead, IsBlockGap, IsRowLeft}
 use Rattle.sorted_blocks.proofs.Joined.{start, item_at, start-suc, start-all, start-within}
 use Rattle.sorted_blocks.proofs.Moves.{before_is, is_item, is_place, is_start, item_block, item_within}
 

@@ -1,11 +1,5 @@
 -- The row of the first items follows each edit of the blocks.
-use Rattle.std.proofs.Common.{◌≡◌, ℕ, zero, suc, ◌+◌, ◌<◌, ◌≤◌, List, [], ◌∷◌, length, get_or, set, refl, ap, sym, ◌∙◌, arith}
-use Rattle.std.specs.List.{insert, remove}
-use Rattle.std.proofs.lemmas.List.{length-set}
-use Rattle.std.proofs.lemmas.List.Edits.{length-insert, length-remove}
-use Rattle.sorted_blocks.specs.Shape.{firsts}
-use Rattle.sorted_blocks.specs.Sound.{AllFilled, IsLed}
-use Rattle.sorted_blocks.specs.Sought.{IsLead}
+use Rattle.sorted_blocks.proofs.Words.{◌≡◌, ℕ, zero, suc, ◌+◌, ◌<◌, ◌≤◌, List, [], ◌∷◌, length, get_or, set, refl, ap, sym, ◌∙◌, arith, insert, remove, length-set, length-insert, length-remove, firsts, AllFilled, IsLed, IsLead}
 use Rattle.sorted_blocks.proofs.Counted.{filled-get}
 
 module _ {A : Type 0} where

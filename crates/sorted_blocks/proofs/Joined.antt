@@ -1,9 +1,5 @@
 -- What an edit of a block is to the list of all items.
-use Rattle.std.proofs.Common.{◌≡◌, ℕ, zero, suc, ◌+◌, ◌-◌, ◌<◌, ◌≤◌, List, [], ◌∷◌, ◌++◌, length, get_or, set, take, drop, refl, sym, ap, ◌∙◌, arith, length-append, append_assoc, zero-add}
-use Rattle.std.specs.List.{insert, remove}
-use Rattle.std.proofs.lemmas.List.{take-append-drop, get_or_append_left, get_or-append-add}
-use Rattle.std.proofs.lemmas.List.Edits.{insert-append_left, insert-append_right, remove-append_left, remove-append_right}
-use Rattle.sorted_blocks.specs.Shape.{joined, cut}
+use Rattle.sorted_blocks.proofs.Words.{◌≡◌, ℕ, zero, suc, ◌+◌, ◌-◌, ◌<◌, ◌≤◌, List, [], ◌∷◌, ◌++◌, length, get_or, set, take, drop, refl, sym, ap, ◌∙◌, arith, length-append, append_assoc, zero-add, insert, remove, take-append-drop, get_or_append_left, get_or-append-add, insert-append_left, insert-append_right, remove-append_left, remove-append_right, joined, cut}
 use Rattle.sorted_blocks.proofs.Cuts.{cut-append_left, cut-append_right}
 
 module _ {A : Type 0} where

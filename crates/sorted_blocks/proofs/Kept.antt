@@ -1,9 +1,5 @@
 -- Every edit keeps a list in blocks sound.
-use Rattle.std.proofs.Common.{◌≡◌, ℕ, ◌+◌, ◌-◌, ◌*◌, ◌^◌, ◌<◌, ◌≤◌, List, [], ◌++◌, length, get_or, set, take, drop, ap, ◌∙◌, arith, length-append, length-drop}
-use Rattle.std.specs.List.{insert, remove}
-use Rattle.std.proofs.lemmas.List.{get_or_read, length-set, length-take-le}
-use Rattle.std.proofs.lemmas.List.Edits.{length-insert, length-remove}
-use Rattle.sorted_blocks.specs.Sound.{IsSound}
+use Rattle.sorted_blocks.proofs.Words.{◌≡◌, ℕ, ◌+◌, ◌-◌, ◌*◌, ◌^◌, ◌<◌, ◌≤◌, List, [], ◌++◌, length, get_or, set, take, drop, ap, ◌∙◌, arith, length-append, length-drop, insert, remove, get_or_read, length-set, length-take-le, length-insert, length-remove, IsSound}
 use Rattle.sorted_blocks.proofs.Counted.{count-set, count-insert, count-remove, filled-get, filled-set, filled-insert, filled-remove, count-few}
 
 module _ {A : Type 0} where

@@ -1,9 +1,5 @@
 -- What an edit leaves of a block whose first items are left over.
-use Rattle.std.proofs.Common.{◌≡◌, ℕ, suc, ◌+◌, ◌-◌, ◌<◌, ◌≤◌, List, ◌++◌, length, take, drop, ap, sym, ◌∙◌, arith, append_assoc}
-use Rattle.std.proofs.Math.Seq.{paste}
-use Rattle.std.specs.List.{insert, remove}
-use Rattle.std.proofs.lemmas.List.{drop-drop, drop-take, drop_at, length-take-le, take-append-drop}
-use Rattle.std.proofs.lemmas.List.Edits.{insert-append_right, remove-append_right}
+use Rattle.sorted_blocks.proofs.Words.{◌≡◌, ℕ, suc, ◌+◌, ◌-◌, ◌<◌, ◌≤◌, List, ◌++◌, length, take, drop, ap, sym, ◌∙◌, arith, append_assoc, paste, insert, remove, drop-drop, drop-take, drop_at, length-take-le, take-append-drop, insert-append_right, remove-append_right}
 
 pub insert_beyond : {X : Type 0} (start at : ℕ) (xs : List X) (y : X) → start ≤ length xs → drop start (insert xs (start + at) y) ≡ insert (drop start xs) at y
 insert_beyond start at xs y within =

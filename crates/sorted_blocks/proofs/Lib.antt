@@ -1,3 +1,4 @@
+pub mod Words
 pub mod Capacity
 pub mod Counted
 pub mod Cuts

@@ -1,11 +1,5 @@
 -- What each edit does to the list and to a place.
-use Rattle.std.proofs.Common.{◌≡◌, ℕ, suc, ◌+◌, ◌-◌, ◌<◌, ◌≤◌, List, [], ◌∷◌, ◌++◌, length, get_or, set, take, drop, refl, sym, ap, subst, ◌∙◌, arith, length-append, length-drop, add-one, ◌⊎◌, inl, inr}
-use Rattle.std.specs.List.{insert, remove}
-use Rattle.std.proofs.lemmas.List.{length-set, length-take-le, get_or-set_same}
-use Rattle.std.proofs.lemmas.List.Edits.{length-insert, length-remove}
-use Rattle.sorted_blocks.specs.declared.place.Place.{Place}
-use Rattle.sorted_blocks.specs.Shape.{Shape, items, joined, cut}
-use Rattle.sorted_blocks.specs.Places.{before, IsPlace, IsItem}
+use Rattle.sorted_blocks.proofs.Words.{◌≡◌, ℕ, suc, ◌+◌, ◌-◌, ◌<◌, ◌≤◌, List, [], ◌∷◌, ◌++◌, length, get_or, set, take, drop, refl, sym, ap, subst, ◌∙◌, arith, length-append, length-drop, add-one, ◌⊎◌, inl, inr, insert, remove, length-set, length-take-le, get_or-set_same, length-insert, length-remove, Place, Shape, items, joined, cut, before, IsPlace, IsItem}
 use Rattle.sorted_blocks.proofs.Cuts.{length-cut}
 use Rattle.sorted_blocks.proofs.Joined.{start, joined-put, joined-take, joined-cut, joined-whole, joined-split, joined-merge, item_at, start-suc, start-all}
 use Rattle.sorted_blocks.proofs.Starts.{start-set, start-split, start-split_suc, at-split, at-split_suc, start-merge, at-merge, start-remove}

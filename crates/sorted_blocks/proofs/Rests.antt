@@ -1,11 +1,5 @@
 -- What a block has from a place on.
-use Rattle.std.proofs.Common.{◌≡◌, ℕ, suc, ◌+◌, ◌-◌, ◌<◌, ◌≤◌, List, [], ◌∷◌, ◌++◌, length, get_or, take, drop, refl, sym, ap, ◌∙◌, arith, length-drop, inl, inr, zero}
-use Rattle.std.proofs.lemmas.Bool.{cases_lt}
-use Rattle.std.proofs.lemmas.List.{take_at}
-use Rattle.std.proofs.Math.ListN.{drop_of_length-le}
-use Rattle.sorted_blocks.specs.declared.place.Place.{Place}
-use Rattle.sorted_blocks.specs.Shape.{Shape, items, joined}
-use Rattle.sorted_blocks.specs.Places.{before, rest_of, IsPlace, IsItem}
+use Rattle.sorted_blocks.proofs.Words.{◌≡◌, ℕ, suc, ◌+◌, ◌-◌, ◌<◌, ◌≤◌, List, [], ◌∷◌, ◌++◌, length, get_or, take, drop, refl, sym, ap, ◌∙◌, arith, length-drop, inl, inr, zero, cases_lt, take_at, drop_of_length-le, Place, Shape, items, joined, before, rest_of, IsPlace, IsItem}
 use Rattle.sorted_blocks.proofs.Moves.{item_within}
 use Rattle.sorted_blocks.proofs.Walking.{from_block}
 

@@ -1,8 +1,5 @@
 -- A search by halves.
-use Rattle.std.proofs.Common.{◌≡◌, ◌≢◌, ℕ, zero, suc, ◌+◌, ◌-◌, ◌*◌, ◌/◌, ◌%◌, ◌<◌, ◌≤◌, List, length, get_or, subst, refl, arith}
-use Rattle.std.specs.declared.cmp.Ordering.{Ordering}
-use Rattle.std.specs.declared.cmp.Ordering.TheVariants.{Less}
-use Rattle.sorted_blocks.specs.Sought.{IsLessAt}
+use Rattle.sorted_blocks.proofs.Words.{◌≡◌, ◌≢◌, ℕ, zero, suc, ◌+◌, ◌-◌, ◌*◌, ◌/◌, ◌%◌, ◌<◌, ◌≤◌, List, length, get_or, subst, refl, arith, Ordering, Less, IsLessAt}
 
 -- what stands before `low` is less, and what stands `left` after it is not
 pub record IsLeft {A : Type 0} (order : A → Ordering) (row : List A) (from low left : ℕ) : Type 0 where

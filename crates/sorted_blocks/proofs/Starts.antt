@@ -1,8 +1,5 @@
 -- Where blocks start after an edit.
-use Rattle.std.proofs.Common.{◌≡◌, ℕ, zero, suc, ◌+◌, ◌<◌, List, [], ◌∷◌, length, get_or, set, take, refl, ap, arith, length-append}
-use Rattle.std.specs.List.{insert, remove}
-use Rattle.std.proofs.lemmas.List.{take-set}
-use Rattle.sorted_blocks.specs.Shape.{joined}
+use Rattle.sorted_blocks.proofs.Words.{◌≡◌, ℕ, zero, suc, ◌+◌, ◌<◌, List, [], ◌∷◌, length, get_or, set, take, refl, ap, arith, length-append, insert, remove, take-set, joined}
 use Rattle.sorted_blocks.proofs.Joined.{start}
 
 module _ {A : Type 0} where

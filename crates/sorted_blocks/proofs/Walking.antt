@@ -1,13 +1,6 @@
 -- A walk over the items of blocks.
-use Rattle.std.proofs.Common.{◌≡◌, ℕ, zero, suc, ◌+◌, ◌-◌, ◌<◌, ◌≤◌, List, [], ◌∷◌, ◌++◌, length, get_or, take, drop, refl, sym, ap, ◌∙◌, arith, length-append, add-one, zero-add}
-use Rattle.std.proofs.lemmas.List.{drop-append-le, get_or_read}
-use Rattle.std.proofs.Math.Seq.{drop-append-add}
-use Rattle.std.proofs.Math.ListN.{drop_of_length-le}
-use Rattle.sorted_blocks.specs.declared.place.Place.{Place}
-use Rattle.sorted_blocks.specs.Shape.{Shape, joined, items}
-use Rattle.sorted_blocks.specs.Sound.{AllFilled}
+use Rattle.sorted_blocks.proofs.Words.{◌≡◌, ℕ, zero, suc, ◌+◌, ◌-◌, ◌<◌, ◌≤◌, List, [], ◌∷◌, ◌++◌, length, get_or, take, drop, refl, sym, ap, ◌∙◌, arith, length-append, add-one, zero-add, drop-append-le, get_or_read, drop-append-add, drop_of_length-le, Place, Shape, joined, items, AllFilled, before, IsPlace}
 use Rattle.sorted_blocks.proofs.Counted.{filled-get}
-use Rattle.sorted_blocks.specs.Places.{before, IsPlace}
 use Rattle.sorted_blocks.proofs.Joined.{start}
 use Rattle.sorted_blocks.proofs.Moves.{at_most, place_block, before_is}
 

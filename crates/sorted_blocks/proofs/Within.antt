@@ -1,8 +1,5 @@
 -- Places stand within the list.
-use Rattle.std.proofs.Common.{◌≡◌, ℕ, zero, suc, ◌+◌, ◌<◌, ◌≤◌, List, [], ◌∷◌, length, get_or, ap, arith, length-append, take, refl}
-use Rattle.sorted_blocks.specs.declared.place.Place.{Place}
-use Rattle.sorted_blocks.specs.Shape.{Shape, items, joined}
-use Rattle.sorted_blocks.specs.Places.{before, IsPlace}
+use Rattle.sorted_blocks.proofs.Words.{◌≡◌, ℕ, zero, suc, ◌+◌, ◌<◌, ◌≤◌, List, [], ◌∷◌, length, get_or, ap, arith, length-append, take, refl, Place, Shape, items, joined, before, IsPlace}
 use Rattle.sorted_blocks.proofs.Joined.{start}
 use Rattle.sorted_blocks.proofs.Moves.{before_is}
 

@@ -1,12 +1,5 @@
 -- What stands under the numbers of a list, and what an edit of the numbers and of the slab makes of it.
-use Rattle.std.proofs.Common.{◌≡◌, ◌≢◌, ℕ, zero, suc, ◌+◌, ◌-◌, ◌<◌, ◌≤◌, true, List, [], ◌∷◌, length, get_or, set, take, drop, Option, Some, None, option_copied, Bor, is_some, count_by, refl, sym, ap, ◌∙◌, arith}
-use Rattle.std.proofs.lemmas.Bool.{false≢true}
-use Rattle.std.specs.List.{insert, remove, AllByRecursion}
-use Rattle.std.specs.Iterator.{YieldsFirstBy, MakesProgress, item_count}
-use Rattle.slab.specs.Slab.{Slab, get, slab_len, with_value, entries_from, Updates}
-use Rattle.slab.proofs.SlabLemmas.{length-entries}
-use Rattle.sorted_slab.specs.Listed.{with_item, found}
-use Rattle.sorted_slab.specs.Sound.{AllDiffer, AllHeld}
+use Rattle.sorted_slab.proofs.Words.{◌≡◌, ◌≢◌, ℕ, zero, suc, ◌+◌, ◌-◌, ◌<◌, ◌≤◌, true, List, [], ◌∷◌, length, get_or, set, take, drop, Option, Some, None, option_copied, Bor, is_some, count_by, refl, sym, ap, ◌∙◌, arith, false≢true, insert, remove, AllByRecursion, YieldsFirstBy, MakesProgress, item_count, Slab, get, slab_len, with_value, entries_from, Updates, length-entries, with_item, found, AllDiffer, AllHeld}
 
 pub some_of : {A : Type 0} (o : Option A) → is_some o ≡ true → (x : A) × (o ≡ Some x)
 some_of None h = absurd (false≢true h)

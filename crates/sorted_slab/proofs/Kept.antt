@@ -1,17 +1,7 @@
 -- An edit keeps what holds of the list.
-use Rattle.std.proofs.Common.{◌≡◌, ℕ, ◌+◌, ◌-◌, ◌<◌, ◌≤◌, List, length, get_or, Some, None, Result, Ok, Err, OnOk, set, count_by, IsSomeAnd, is_some, true, refl, sym, ap, subst, ◌∙◌, arith}
-use Rattle.std.specs.List.{insert, remove, All}
-use Rattle.std.specs.declared.cmp.Ordering.{Ordering}
-use Rattle.std.proofs.lemmas.List.Edits.{length-insert, length-remove}
-use Rattle.slab.specs.Slab.{Slab, get, slab_len, with_value, Updates}
-use Rattle.slab.proofs.SlabLemmas.{Updates-with_value}
-use Rattle.sorted_blocks.specs.Found.{IsGap, IsEqualAt}
-use Rattle.sorted_blocks.specs.Shape.{Shape, items, capacity}
-use Rattle.sorted_blocks.specs.declared.place.Place.{Place}
-use Rattle.sorted_blocks.specs.Places.{before, IsPlace as IsIndexPlace, IsItem as IsIndexItem}
+use Rattle.sorted_slab.proofs.Words.{◌≡◌, ℕ, ◌+◌, ◌-◌, ◌<◌, ◌≤◌, List, length, get_or, Some, None, Result, Ok, Err, OnOk, set, count_by, IsSomeAnd, is_some, true, refl, sym, ap, subst, ◌∙◌, arith, insert, remove, All, Ordering, length-insert, length-remove, Slab, get, slab_len, with_value, Updates, Updates-with_value, IsGap, IsEqualAt, Shape, items, capacity, Place, before, Listed, listed, found, at, IsPlace, IsItem, IsFound, order_of, IsSound}
+use Rattle.sorted_blocks.specs.Places.{IsPlace as IsIndexPlace, IsItem as IsIndexItem}
 use Rattle.sorted_blocks.specs.Found.{IsFound as IsIndexFound}
-use Rattle.sorted_slab.specs.Listed.{Listed, listed, found, at, IsPlace, IsItem, IsFound, order_of}
-use Rattle.sorted_slab.specs.Sound.{IsSound}
 use Rattle.sorted_slab.proofs.Found.{some_of, differ_insert, differ_remove, length_found, held_at, found_at, found_apart, held_apart, fresh, found_insert, held_insert, found_remove, held_remove, found_set, held_set, len_set, held_same}
 
 pub on_ok : {X E : Type 0} {P Q : Type 0} (r : Result X E) → OnOk r P → (P → Q) → OnOk r Q

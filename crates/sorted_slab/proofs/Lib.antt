@@ -1,2 +1,3 @@
+pub mod Words
 pub mod Found
 pub mod Kept

@@ -1,5 +1,4 @@
-use Rattle.std.proofs.Common.{ap}
-use Rattle.sorted_blocks.specs.Shape.{Shape}
+use Rattle.sorted_blocks.proofs.Words.{ap, Shape}
 use Rattle.sorted_blocks.proofs.Dense.{dense-none}
 use Rattle.sorted_blocks.proofs.blocks.Blocks.new.Goals as goal
 

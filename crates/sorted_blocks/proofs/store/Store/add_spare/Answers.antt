@@ -1,5 +1,4 @@
-use Rattle.std.proofs.Common.{rules, length, sym, ap, ◌∙◌, arith}
-use Rattle.sorted_blocks.specs.Shape.{firsts}
+use Rattle.sorted_blocks.proofs.Words.{rules, length, sym, ap, ◌∙◌, arith, firsts}
 use Rattle.sorted_blocks.proofs.Firsts.{led_long}
 use Rattle.sorted_blocks.proofs.store.Store.add_spare.Goals as goal
 

@@ -1,7 +1,4 @@
-use Rattle.std.proofs.Common.{◌≡◌, [], ◌∷◌, ◌++◌, length, get_or, sym, ap, ◌∙◌, arith}
-use Rattle.std.specs.List.{insert}
-use Rattle.sorted_blocks.specs.Shape.{Shape}
-use Rattle.std.proofs.lemmas.List.{nil_from_length}
+use Rattle.sorted_blocks.proofs.Words.{◌≡◌, [], ◌∷◌, ◌++◌, length, get_or, sym, ap, ◌∙◌, arith, insert, Shape, nil_from_length}
 use Rattle.sorted_blocks.proofs.Firsts.{led_insert, led_long}
 use Rattle.sorted_blocks.proofs.Kept.{kept_insert}
 use Rattle.sorted_blocks.proofs.store.Store.begin.Goals as goal

@@ -1,6 +1,4 @@
-use Rattle.std.proofs.Common.{◌+◌, ◌<◌, ◌≤◌, [], length, ap, ◌∙◌, arith, lit<}
-use Rattle.std.proofs.lemmas.List.{get_or_read}
-use Rattle.sorted_blocks.specs.Shape.{Shape}
+use Rattle.sorted_blocks.proofs.Words.{◌+◌, ◌<◌, ◌≤◌, [], length, ap, ◌∙◌, arith, lit<, get_or_read, Shape}
 use Rattle.sorted_blocks.proofs.Counted.{filled-get}
 use Rattle.sorted_blocks.proofs.Cuts.{length-cut}
 use Rattle.sorted_blocks.proofs.Kept.{kept_set, count_covers}

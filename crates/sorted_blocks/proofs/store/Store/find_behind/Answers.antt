@@ -1,7 +1,4 @@
-use Rattle.std.proofs.Common.{ℕ, get_or, refl, sym, ap, ◌∙◌, arith}
-use Rattle.std.proofs.lemmas.Bool.{false≢true}
-use Rattle.std.specs.declared.cmp.Ordering.TheVariants.{Greater}
-use Rattle.sorted_blocks.specs.Shape.{items}
+use Rattle.sorted_blocks.proofs.Words.{ℕ, get_or, refl, sym, ap, ◌∙◌, arith, false≢true, Greater, items}
 use Rattle.sorted_blocks.proofs.Finding.{can_item, reads, found_item, found_behind}
 use Rattle.sorted_blocks.proofs.store.Store.find_behind.Goals as goal
 

@@ -1,5 +1,4 @@
-use Rattle.std.proofs.Common.{refl, lit<}
-use Rattle.std.specs.declared.cmp.Ordering.TheVariants.{Less}
+use Rattle.sorted_blocks.proofs.Words.{refl, lit<, Less}
 use Rattle.sorted_blocks.proofs.Finding.{can_item, reads, found_item}
 use Rattle.sorted_blocks.proofs.store.Store.find_near.Goals as goal
 

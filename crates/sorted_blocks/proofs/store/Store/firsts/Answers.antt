@@ -1,5 +1,4 @@
-use Rattle.std.proofs.Common.{sym, ap, ◌∙◌}
-use Rattle.sorted_blocks.specs.Shape.{Shape}
+use Rattle.sorted_blocks.proofs.Words.{sym, ap, ◌∙◌, Shape}
 use Rattle.sorted_blocks.proofs.Firsts.{is_lead}
 use Rattle.sorted_blocks.proofs.store.Store.firsts.Goals as goal
 

@@ -1,6 +1,4 @@
-use Rattle.std.proofs.Common.{◌<◌, drop, length, get_or, [], ap, ◌∙◌, arith}
-use Rattle.std.proofs.lemmas.List.{get_or_read}
-use Rattle.sorted_blocks.specs.Shape.{joined}
+use Rattle.sorted_blocks.proofs.Words.{◌<◌, drop, length, get_or, [], ap, ◌∙◌, arith, get_or_read, joined}
 use Rattle.sorted_blocks.proofs.Walking.{walk_from, from_none}
 use Rattle.sorted_blocks.proofs.Moves.{at_most}
 use Rattle.sorted_blocks.proofs.store.Store.iter_from.Goals as goal

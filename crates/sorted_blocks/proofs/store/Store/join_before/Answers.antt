@@ -1,8 +1,7 @@
 use Rattle.sorted_blocks.proofs.Moves.{is_place, merge_moves}
-use Rattle.std.proofs.Common.{◌≡◌, ◌+◌, ◌-◌, length, subst, arith}
+use Rattle.sorted_blocks.proofs.Words.{◌≡◌, ◌+◌, ◌-◌, length, subst, arith, IsDenseIn}
 use Rattle.sorted_blocks.proofs.store.Store.join_before.Goals.{then-place-eq0-via-then-place-eq0, then-place-eq0-via-else-place-eq0+then-not-are_short}
 use Rattle.sorted_blocks.proofs.Dense.{not_short, dense-merge, dense-both, dense-longer}
-use Rattle.sorted_blocks.specs.Sound.{IsDenseIn}
 use Rattle.sorted_blocks.proofs.store.Store.join_before.Goals as goal
 
 pub returns-then-place-eq0-clause-place : goal.returns-then-place-eq0-clause-place

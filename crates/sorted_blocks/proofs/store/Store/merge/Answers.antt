@@ -1,8 +1,4 @@
-use Rattle.std.proofs.Common.{◌+◌, ◌<◌, ◌≤◌, [], length, length-append, ap, ◌∙◌, arith}
-use Rattle.std.specs.List.{remove}
-use Rattle.std.proofs.lemmas.List.{get_or_read}
-use Rattle.std.proofs.lemmas.List.Edits.{length-remove, get_or-remove_below}
-use Rattle.sorted_blocks.specs.Shape.{Shape}
+use Rattle.sorted_blocks.proofs.Words.{◌+◌, ◌<◌, ◌≤◌, [], length, length-append, ap, ◌∙◌, arith, remove, get_or_read, length-remove, get_or-remove_below, Shape}
 use Rattle.sorted_blocks.proofs.Counted.{filled-get, filled-remove}
 use Rattle.sorted_blocks.proofs.Firsts.{led_set, led_remove, led_long}
 use Rattle.sorted_blocks.proofs.Kept.{kept_merge}

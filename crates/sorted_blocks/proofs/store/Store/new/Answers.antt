@@ -1,6 +1,4 @@
-use Rattle.std.proofs.Common.{refl, arith}
-use Rattle.sorted_blocks.specs.Shape.{firsts}
-use Rattle.sorted_blocks.specs.Sound.{AllFilled}
+use Rattle.sorted_blocks.proofs.Words.{refl, arith, firsts, AllFilled}
 use Rattle.sorted_blocks.proofs.store.Store.new.Goals as goal
 
 pub invariant_of-result : goal.invariant_of-result

@@ -1,5 +1,4 @@
-use Rattle.sorted_blocks.specs.Sound.{IsDenseIn}
-use Rattle.std.proofs.Common.{◌+◌, length, sym, ◌∙◌, arith, lit<}
+use Rattle.sorted_blocks.proofs.Words.{IsDenseIn, ◌+◌, length, sym, ◌∙◌, arith, lit<}
 use Rattle.sorted_blocks.proofs.Moves.{item_block, item_within, item_of, set_before, take_items, take_block, take_at, whole_items, whole_before, whole_is}
 use Rattle.sorted_blocks.proofs.Dense.{dense-remove, front-set, back-set}
 use Rattle.sorted_blocks.proofs.store.Store.remove.Goals as goal

@@ -1,7 +1,4 @@
-use Rattle.std.proofs.Common.{◌≡◌, ◌+◌, ◌-◌, ◌≤◌, length, ap, sym, ◌∙◌, arith, lit<}
-use Rattle.std.specs.List.{remove}
-use Rattle.sorted_blocks.specs.Shape.{items, cut}
-use Rattle.sorted_blocks.specs.Places.{before}
+use Rattle.sorted_blocks.proofs.Words.{◌≡◌, ◌+◌, ◌-◌, ◌≤◌, length, ap, sym, ◌∙◌, arith, lit<, remove, items, cut, before}
 use Rattle.sorted_blocks.proofs.Cuts.{cut_one, cut_cut, length-cut}
 use Rattle.sorted_blocks.proofs.Finding.{index_within}
 use Rattle.sorted_blocks.proofs.Moves.{item_block, item_within, before_is}

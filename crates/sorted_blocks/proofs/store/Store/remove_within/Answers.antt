@@ -1,7 +1,4 @@
-use Rattle.sorted_blocks.specs.Shape.{cut, block_at}
-use Rattle.sorted_blocks.specs.Sound.{IsDenseIn}
-use Rattle.std.proofs.Common.{◌+◌, length, ap, ◌∙◌, arith, lit<}
-use Rattle.std.proofs.lemmas.List.{length-set}
+use Rattle.sorted_blocks.proofs.Words.{cut, block_at, IsDenseIn, ◌+◌, length, ap, ◌∙◌, arith, lit<, length-set}
 use Rattle.sorted_blocks.proofs.Moves.{item_block, set_before, cut_items, cut_block, cut_at}
 use Rattle.sorted_blocks.proofs.Dense.{front-set, back-set}
 use Rattle.sorted_blocks.proofs.store.Store.remove_within.Goals as goal

@@ -1,5 +1,4 @@
-use Rattle.std.proofs.Common.{◌≡◌, ◌-◌, ◌≤◌}
-use Rattle.sorted_blocks.specs.Shape.{block_total, capacity}
+use Rattle.sorted_blocks.proofs.Words.{◌≡◌, ◌-◌, ◌≤◌, block_total, capacity}
 use Rattle.sorted_blocks.proofs.store.Store.reserve_capacity.Given as goal
 
 abbrev pub invariant-loop-self : goal.invariant-loop-self

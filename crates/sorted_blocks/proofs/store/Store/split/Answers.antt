@@ -1,9 +1,6 @@
-use Rattle.std.proofs.Common.{◌≡◌, ◌+◌, ◌<◌, [], length, length-drop, set, sym, ap, ◌∙◌, arith}
-use Rattle.std.proofs.lemmas.List.{get_or_read, length-set, length-take-le}
+use Rattle.sorted_blocks.proofs.Words.{◌≡◌, ◌+◌, ◌<◌, [], length, length-drop, set, sym, ap, ◌∙◌, arith, get_or_read, length-set, length-take-le, true≢false, Shape}
 use Rattle.sorted_blocks.proofs.Counted.{filled-set}
 use Rattle.sorted_blocks.proofs.Firsts.{led_set, led_insert, led_long}
-use Rattle.std.proofs.lemmas.Bool.{true≢false}
-use Rattle.sorted_blocks.specs.Shape.{Shape}
 use Rattle.sorted_blocks.proofs.Kept.{kept_split}
 use Rattle.sorted_blocks.proofs.store.Store.split.Goals as goal
 

@@ -1,7 +1,4 @@
-use Rattle.std.proofs.Common.{◌+◌, ◌<◌, [], length, ap, ◌∙◌, arith}
-use Rattle.std.proofs.lemmas.List.{get_or_read}
-use Rattle.std.proofs.lemmas.List.Edits.{length-remove}
-use Rattle.sorted_blocks.specs.Shape.{Shape}
+use Rattle.sorted_blocks.proofs.Words.{◌+◌, ◌<◌, [], length, ap, ◌∙◌, arith, get_or_read, length-remove, Shape}
 use Rattle.sorted_blocks.proofs.Counted.{filled-get}
 use Rattle.sorted_blocks.proofs.Kept.{kept_set, count_covers}
 use Rattle.sorted_blocks.proofs.Firsts.{led_set, led_long}

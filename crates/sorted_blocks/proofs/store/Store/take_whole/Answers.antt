@@ -1,6 +1,4 @@
-use Rattle.std.proofs.Common.{◌≡◌, ◌<◌, [], length, ap, arith}
-use Rattle.std.proofs.lemmas.List.{get_or_read}
-use Rattle.sorted_blocks.specs.Shape.{Shape}
+use Rattle.sorted_blocks.proofs.Words.{◌≡◌, ◌<◌, [], length, ap, arith, get_or_read, Shape}
 use Rattle.sorted_blocks.proofs.Kept.{kept_remove, count_covers}
 use Rattle.sorted_blocks.proofs.Firsts.{led_remove, led_long}
 use Rattle.sorted_blocks.proofs.store.Store.take_whole.Goals as goal

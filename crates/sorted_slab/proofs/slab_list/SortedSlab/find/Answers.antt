@@ -1,7 +1,4 @@
-use Rattle.std.proofs.Common.{lit<, sym, subst}
-use Rattle.std.specs.List.{All}
-use Rattle.sorted_blocks.specs.Shape.{items}
-use Rattle.sorted_slab.specs.Listed.{Listed}
+use Rattle.sorted_slab.proofs.Words.{lit<, sym, subst, All, items, Listed}
 use Rattle.sorted_slab.proofs.Kept.{can_compare, found_place}
 use Rattle.sorted_slab.proofs.slab_list.SortedSlab.find.Goals as goal
 

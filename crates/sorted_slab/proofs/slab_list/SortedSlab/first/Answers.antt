@@ -1,5 +1,4 @@
-use Rattle.std.proofs.Common.{◌<◌, length, arith}
-use Rattle.sorted_blocks.specs.Shape.{items}
+use Rattle.sorted_slab.proofs.Words.{◌<◌, length, arith, items}
 use Rattle.sorted_slab.proofs.Kept.{seen_length, seen_item}
 use Rattle.sorted_slab.proofs.slab_list.SortedSlab.first.Goals as goal
 

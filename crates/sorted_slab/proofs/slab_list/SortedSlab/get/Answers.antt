@@ -1,7 +1,4 @@
-use Rattle.std.proofs.Common.{◌≡◌, get_or, subst}
-use Rattle.sorted_blocks.specs.Shape.{items}
-use Rattle.sorted_blocks.specs.Places.{before}
-use Rattle.sorted_slab.specs.Listed.{Listed, at}
+use Rattle.sorted_slab.proofs.Words.{◌≡◌, get_or, subst, items, before, Listed, at}
 use Rattle.sorted_slab.proofs.Kept.{index_within, is_held, item_is}
 use Rattle.sorted_slab.proofs.slab_list.SortedSlab.get.Goals as goal
 

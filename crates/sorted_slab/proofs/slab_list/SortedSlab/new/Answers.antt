@@ -1,5 +1,4 @@
-use Rattle.std.proofs.Common.{ap}
-use Rattle.sorted_blocks.specs.Shape.{items}
+use Rattle.sorted_slab.proofs.Words.{ap, items}
 use Rattle.sorted_slab.proofs.Found.{sound_none, found_none}
 use Rattle.sorted_slab.proofs.slab_list.SortedSlab.new.Goals as goal
 

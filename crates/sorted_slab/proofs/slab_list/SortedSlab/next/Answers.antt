@@ -1,6 +1,4 @@
-use Rattle.std.proofs.Common.{◌<◌, ◌+◌, length, arith}
-use Rattle.sorted_blocks.specs.Shape.{items}
-use Rattle.sorted_blocks.specs.Places.{before}
+use Rattle.sorted_slab.proofs.Words.{◌<◌, ◌+◌, length, arith, items, before}
 use Rattle.sorted_slab.proofs.Kept.{seen_length, seen_at, seen_item}
 use Rattle.sorted_slab.proofs.slab_list.SortedSlab.next.Goals as goal
 

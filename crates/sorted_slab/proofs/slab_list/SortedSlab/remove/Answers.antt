@@ -1,10 +1,4 @@
-use Rattle.std.proofs.Common.{sym, ap, subst, ◌≡◌, ◌∙◌, get_or}
-use Rattle.std.specs.List.{remove}
-use Rattle.slab.specs.Slab.{get}
-use Rattle.sorted_blocks.specs.Shape.{items}
-use Rattle.sorted_blocks.specs.Places.{before}
-use Rattle.sorted_slab.specs.Listed.{Listed, found, at}
-use Rattle.sorted_slab.specs.Sound.{IsSound}
+use Rattle.sorted_slab.proofs.Words.{sym, ap, subst, ◌≡◌, ◌∙◌, get_or, remove, get, items, before, Listed, found, at, IsSound}
 use Rattle.sorted_slab.proofs.Kept.{index_within, is_held, item_is, removed, sound_remove}
 use Rattle.sorted_slab.proofs.slab_list.SortedSlab.remove.Goals as goal
 

@@ -1,8 +1,4 @@
-use Rattle.std.proofs.Common.{sym, ap, subst, arith}
-use Rattle.std.proofs.lemmas.Bool.{false≢true}
-use Rattle.slab.specs.Slab.{Slab}
-use Rattle.sorted_blocks.specs.Shape.{items}
-use Rattle.sorted_slab.specs.Sound.{IsSound}
+use Rattle.sorted_slab.proofs.Words.{sym, ap, subst, arith, false≢true, Slab, items, IsSound}
 use Rattle.sorted_slab.proofs.Found.{length_found}
 use Rattle.sorted_slab.proofs.Kept.{slab_room, index_room, sound_same, on_ok}
 use Rattle.sorted_slab.proofs.slab_list.SortedSlab.reserve.Goals as goal

@@ -1,7 +1,4 @@
-use Rattle.std.proofs.Common.{set, ap, ◌∙◌}
-use Rattle.sorted_blocks.specs.Shape.{items}
-use Rattle.sorted_blocks.specs.Places.{before}
-use Rattle.sorted_slab.specs.Listed.{Listed, at}
+use Rattle.sorted_slab.proofs.Words.{set, ap, ◌∙◌, items, before, Listed, at}
 use Rattle.sorted_slab.proofs.Kept.{index_within, is_held, sound_set, was_set}
 use Rattle.sorted_slab.proofs.slab_list.SortedSlab.set.Goals as goal
 

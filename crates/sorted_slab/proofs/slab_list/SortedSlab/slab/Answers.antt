@@ -1,7 +1,4 @@
-use Rattle.std.proofs.Common.{◌≡◌, ◌<◌, ℕ, Some, get_or, length, sym, subst}
-use Rattle.slab.specs.Slab.{get}
-use Rattle.sorted_blocks.specs.Shape.{items}
-use Rattle.sorted_slab.specs.Listed.{Listed, numbers}
+use Rattle.sorted_slab.proofs.Words.{◌≡◌, ◌<◌, ℕ, Some, get_or, length, sym, subst, get, items, Listed, numbers}
 use Rattle.sorted_slab.proofs.Found.{found_at, length_found}
 use Rattle.sorted_slab.proofs.slab_list.SortedSlab.slab.Goals as goal
 

@@ -1,8 +1,4 @@
-use Rattle.std.proofs.Common.{take, drop, ap, ◌∙◌}
-use Rattle.slab.specs.Slab.{get}
-use Rattle.sorted_blocks.specs.Shape.{items}
-use Rattle.sorted_blocks.specs.Places.{before}
-use Rattle.sorted_slab.specs.Listed.{Listed, found, at}
+use Rattle.sorted_slab.proofs.Words.{take, drop, ap, ◌∙◌, get, items, before, Listed, found, at}
 use Rattle.sorted_slab.proofs.Found.{held_drop, found_drop}
 use Rattle.sorted_slab.proofs.slab_list.SortedSlab.walk.Goals as goal
 
