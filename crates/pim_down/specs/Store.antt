@@ -25,13 +25,6 @@ pub record IsKept {A : Type 0} (counts rpts : List ℕ) (list : Listed (Held A))
       slice_index_or rpts port 0 ≡ rpt_count_on port (records_seen bytes_of list.items)
   pub fits : length list.items ≤ list.capacity
 
--- The record with its machine in another state, timers unchanged.
-abbrev pub in_state : {A : Type 0} → State → Held A → Held A
-in_state state held = record {
-  key = held.key;
-  machine = record { state = state; expires_at = held.machine.expires_at; pending = held.machine.pending };
-}
-
 -- How a record compares with a bound: less if it is before the bound, greater otherwise.
 abbrev pub side : Bool → Ordering
 side true = Less

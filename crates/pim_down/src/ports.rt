@@ -21,12 +21,12 @@ use crate::machines::fault::HearFault;
 use crate::machines::key::{Key, OfFamily, What};
 use crate::machines::machine::{Machine, Record, State};
 use crate::machines::step::{Firing, Step};
-use crate::records::after::{first_machine_after, first_of_groups_after};
+use crate::records::after::first_of_groups_after;
 use crate::records::edits::machine_near;
 use crate::records::group::GroupMachines;
 use crate::records::near::Near;
 use crate::records::store::Store;
-use crate::records::walk::{Records, count_on, machine_after, on_port, record_after, rpt_count_on};
+use crate::records::walk::{Records, count_on, machine_after, on_port, rpt_count_on};
 use crate::running::run::{Halt, Stop, run, run_to_firing};
 use crate::running::timers::next_end;
 use pim_addr::{Family, Routes};
@@ -153,11 +153,6 @@ impl<F: Family> Ports<F> {
 
     /// The same as `state_of`, with a hint where the look-up begins. Also returns the place of the
     /// machine's record, or where it would be.
-    ///
-    /// With the hint at this record it costs one comparison, and at the record before it two. At
-    /// the place where the record would be it costs at most three. With a hint at an earlier record
-    /// it costs a search in a block of up to 512 records and a few comparisons. Otherwise it costs
-    /// a binary search.
     pub fn state_of_near(
         &self,
         port: usize,
@@ -177,8 +172,7 @@ impl<F: Family> Ports<F> {
     }
 
     /// One machine with the time left of its timers; `None` is NoInfo. The look-up begins at a
-    /// hint, and the call also returns the place of the machine's record, or where it would be. It
-    /// costs as much as `state_of_near`.
+    /// hint, and the call also returns the place of the machine's record, or where it would be.
     pub fn machine_near(
         &self,
         port: usize,
@@ -227,11 +221,7 @@ impl<F: Family> Ports<F> {
     }
 
     /// The same as `group_after`, with a hint where the look-up begins. Also returns the place of
-    /// the group's first record on the port, or where it would be.
-    ///
-    /// With the hint at the last record of this group, or at the result, it costs at most three
-    /// comparisons. With a hint at an earlier record it costs a search in a block of up to 512
-    /// records and a few comparisons. Otherwise it costs a binary search. It takes no memory.
+    /// the group's first record on the port, or where it would be. It takes no memory.
     pub fn group_after_near(
         &self,
         port: usize,
@@ -264,11 +254,7 @@ impl<F: Family> Ports<F> {
     }
 
     /// The same as `record_after`, with a hint where the look-up begins. Also returns the place of
-    /// the record, or where it would be.
-    ///
-    /// With the hint at the record before, or at the result, it costs at most three comparisons.
-    /// With a hint at an earlier record it costs a search in a block of up to 512 records and a few
-    /// comparisons. Otherwise it costs a binary search. It takes no memory.
+    /// the record, or where it would be. It takes no memory.
     pub fn record_after_near(
         &self,
         port: usize,
@@ -279,15 +265,9 @@ impl<F: Family> Ports<F> {
         ensures { option_map (told_seen F.bytes_of) result.0
             ≡ next_in_group port (F.bytes_of group) (what_seen F.bytes_of what) self.now.records }
     {
-        let (first, place) = first_machine_after::<F>(
-            &self.records,
-            near,
-            &Key { port, group, what },
-        );
-        match first {
-            Some(first) => (Some(record_after(&first, self.moment)), place),
-            None => (None, place),
-        }
+        let mut left = self.machines_after_near(port, group, what, near);
+        let place = left.near();
+        (left.next_machine(), place)
     }
 
     /// A walk, in key order, over the machines of this group on the port after this one, which need

@@ -18,6 +18,7 @@ use crate::machines::machine::State;
 use crate::records::store::Store;
 use pim_addr::{Family, Routes};
 use pim_jp::{Entries, JpView};
+use sorted_blocks::Place;
 
 /// Whether a machine has the state only while a message is heard.
 fn is_temporary(state: State) -> bool
@@ -33,7 +34,7 @@ fn end_group<F: Family>(records: &mut Store<F::Addr, OfFamily<F>>, port: usize, 
         ≡ filter (λ held. not (is_over_in port (F.bytes_of group) held))
         (records_seen F.bytes_of records.old.items) }
 {
-    let mut place = records.first_behind(&RptsOf::<F> { port, group });
+    let mut place = records.first_behind(Place::START, &RptsOf::<F> { port, group });
     while records.is_item(place) {
         let held = records.get(place);
         if !is_rpt_of::<F>(&held.key, port, group) {

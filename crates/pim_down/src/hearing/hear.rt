@@ -5,19 +5,18 @@ ghost use Rattle.std.specs.Prelude.{◌≡◌, ◌≤◌, ◌+◌, ℕ, List, le
 ghost use Rattle.pim_jp.specs.Seen.{entry_seen};
 ghost use Rattle.pim_down.specs.Records.{IsAscending, changed, each_changed};
 ghost use Rattle.pim_down.specs.Hearing.{is_known, entry_events, start_of, on_own, is_rpt_of};
-ghost use Rattle.pim_down.specs.Hearing.{on_rpts, is_star_join};
-ghost use Rattle.pim_down.specs.Hearing.{key_of, act, is_rpt};
+ghost use Rattle.pim_down.specs.Hearing.{on_rpts, is_star_join, key_of, act, is_rpt};
 ghost use Rattle.pim_down.specs.After.{beside_rpts};
 ghost use Rattle.pim_down.specs.Ends.{IsLateStart};
 ghost use Rattle.pim_down.specs.Known.{known_in};
 ghost use Rattle.pim_down.specs.Running.{start_after};
-ghost use Rattle.pim_down.specs.Seen.{start_seen, machine_seen, what_seen, key_seen};
-ghost use Rattle.pim_down.specs.Seen.{records_seen, event_seen, events_seen};
+ghost use Rattle.pim_down.specs.Seen.{start_seen, machine_seen, what_seen, key_seen, records_seen};
+ghost use Rattle.pim_down.specs.Seen.{event_seen, events_seen};
 
 use crate::machines::event::{Event, Timing};
 use crate::machines::held::{Start, Timed, Waiting};
 use crate::machines::key::{Key, OfFamily, What, compare_groups};
-use crate::machines::machine::{on_join, on_prune, on_rpt_prune, star_joined};
+use crate::machines::machine::{on_join, on_prune, on_rpt_prune, on_star_join};
 use crate::records::bound::Bound;
 use crate::records::edits::{find_place, machine_of, put_machine};
 use crate::records::store::Store;
@@ -154,14 +153,14 @@ pub(crate) fn join_rpts<F: Family>(
         ≡ each_changed (on_rpts port (F.bytes_of group)) (records_seen F.bytes_of records.old.items) }
     ensures capacity { records.new.capacity ≡ records.old.capacity }
 {
-    let mut place = records.first_behind(&RptsOf::<F> { port, group });
+    let mut place = records.first_behind(Place::START, &RptsOf::<F> { port, group });
     while records.is_item(place) {
         let held = records.get(place);
         if !is_rpt_of::<F>(&held.key, port, group) {
             return;
         }
-        let state = star_joined(held.machine.state);
-        records.set_state(place, state);
+        let machine = on_star_join(held.machine);
+        records.set_machine(place, machine);
         place = records.next(place);
     }
 }

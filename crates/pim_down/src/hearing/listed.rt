@@ -1,7 +1,6 @@
 //! Hears the events of a message from a list of their own.
 
-ghost use Rattle.std.specs.Prelude.{◌≡◌, ◌≤◌, ◌<◌, ◌+◌, map, length};
-ghost use Rattle.std.specs.Prelude.{slice_index_or, Some};
+ghost use Rattle.std.specs.Prelude.{◌≡◌, ◌≤◌, ◌<◌, ◌+◌, map, length, slice_index_or, Some};
 ghost use Rattle.pim_down.specs.Records.{IsAscending, changed, each_changed};
 ghost use Rattle.pim_down.specs.Hearing.{act, act_all, on_rpts};
 ghost use Rattle.pim_down.specs.Ordered.{StayButNamed, IsLast};

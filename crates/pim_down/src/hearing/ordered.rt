@@ -21,7 +21,7 @@ ghost use Rattle.pim_down.specs.Ordered.{is_of_rpts_of, StarsComeFirst, AreAlike
 ghost use Rattle.pim_down.specs.Seen.{what_seen, event_seen};
 
 use crate::hearing::hear::{event_of, is_star_join};
-use crate::hearing::scattered::{is_scattered, may_repeat};
+use crate::hearing::scattered::is_scattered;
 use crate::machines::event::Event;
 use crate::machines::key::{What, compare_addresses, compare_whats};
 use pim_addr::{Family, Routes};
@@ -218,7 +218,7 @@ pub(crate) fn in_key_order<F: Family>(
     ensures { IfSome result (λ events. AreAlike (map (event_seen F.bytes_of) events.items)
         (events_of (known_in F.family routes.now) message.now)) }
 {
-    if !is_scattered::<F>(message) && !may_repeat::<F>(message.sets()) {
+    if !is_scattered::<F>(message) {
         return None;
     }
     let Ok(events) = events_of::<F>(alloc, routes, message) else {

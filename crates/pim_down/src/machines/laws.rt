@@ -2,15 +2,13 @@
 //! These functions do nothing; their clauses are the laws.
 
 ghost use Rattle.pim_down.specs.Laws.{ChangeActsAtItsKey, AMapHasOneList, KeysAreToldApart};
-ghost use Rattle.pim_down.specs.Laws.{EventActsAtEachKey};
-ghost use Rattle.pim_down.specs.Laws.{EndActsAtEachKey, EventKeepsTheOrder, HearingKeepsTheOrder};
-ghost use Rattle.pim_down.specs.Laws.{HearingKeepsSound};
+ghost use Rattle.pim_down.specs.Laws.{EventActsAtEachKey, EndActsAtEachKey, EventKeepsTheOrder};
+ghost use Rattle.pim_down.specs.Laws.{HearingKeepsTheOrder, HearingKeepsSound};
 ghost use Rattle.pim_down.specs.Laws.{HearingLeavesOtherPorts, HearingActsAtEachKey, RunGoesOn};
-ghost use Rattle.pim_down.specs.Laws.{RunHasOneEnd};
-ghost use Rattle.pim_down.specs.Laws.{RunKeepsSound, RunKeepsItsBounds, SilenceActsAtEachKey};
-ghost use Rattle.pim_down.specs.Laws.{EveryStateHasARun};
-ghost use Rattle.pim_down.specs.Laws.{EchoNamesAMachine, RunKeepsTheOrder, TimersRunOut};
-ghost use Rattle.pim_down.specs.Laws.{FiringSaysMore, RunIsAChainOfFirings, FiringHasOneEnd};
+ghost use Rattle.pim_down.specs.Laws.{RunHasOneEnd, RunKeepsSound, RunKeepsItsBounds};
+ghost use Rattle.pim_down.specs.Laws.{SilenceActsAtEachKey, EveryStateHasARun, EchoNamesAMachine};
+ghost use Rattle.pim_down.specs.Laws.{RunKeepsTheOrder, TimersRunOut, FiringSaysMore};
+ghost use Rattle.pim_down.specs.Laws.{RunIsAChainOfFirings, FiringHasOneEnd};
 
 /// A change of one machine leaves all others unchanged.
 pub fn change_acts_at_its_key()

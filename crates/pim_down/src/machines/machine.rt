@@ -112,27 +112,21 @@ pub(crate) fn on_prune(start: Start, held: Option<Timed>) -> Option<Timed>
     }
 }
 
-/// The state of an (S,G,rpt) machine after a Join(*,G) of its group (RFC 7761, 4.5.3). Its timers
-/// stay.
+/// Receive Join(*,G) at an (S,G,rpt) machine of the group (RFC 7761, 4.5.3). Its timers stay.
 #[tactic(auto, unfolding(crate::specs::Tables::on_star_join))]
-pub(crate) fn star_joined(state: State) -> State
-    ensures { (held : Machine) → held.state ≡ state →
-        machine_in result held.expires_in held.pending ≡ on_star_join (Some held) }
-{
-    match state {
-        State::Prune => State::PruneTmp,
-        State::PrunePending => State::PrunePendingTmp,
-        state => state,
-    }
-}
-
-/// Receive Join(*,G) at an (S,G,rpt) machine of the group (RFC 7761, 4.5.3).
 pub(crate) fn on_star_join(machine: Timed) -> Timed
     ensures { Some (timed_seen result) ≡ on_star_join (Some (timed_seen machine)) }
 {
-    Timed {
-        state: star_joined(machine.state),
-        ..machine
+    match machine.state {
+        State::Prune => Timed {
+            state: State::PruneTmp,
+            ..machine
+        },
+        State::PrunePending => Timed {
+            state: State::PrunePendingTmp,
+            ..machine
+        },
+        _ => machine,
     }
 }
 

@@ -1,12 +1,11 @@
-//! What follows in key order on a port: the next group, and the next machine of a group. A search
-//! begins near a place or is a binary search.
+//! What follows in key order on a port: the next group, and the bound after a machine. A search
+//! begins near a place.
 
 ghost use Rattle.std.specs.Prelude.{◌≡◌, option_map};
 ghost use Rattle.std.specs.List.{find};
-ghost use Rattle.pim_down.specs.After.{is_before_groups, is_up_to, is_of_group_after};
-ghost use Rattle.pim_down.specs.After.{is_machine_after, is_of_group};
+ghost use Rattle.pim_down.specs.After.{is_of_group_after, is_of_group};
 ghost use Rattle.pim_down.specs.Records.{IsAscending};
-ghost use Rattle.pim_down.specs.Seen.{what_seen, key_seen, record_seen, records_seen};
+ghost use Rattle.pim_down.specs.Seen.{key_seen, record_seen, records_seen};
 
 use crate::machines::held::Held;
 use crate::machines::key::{Key, OfFamily, compare_addresses, compare_groups, compare_keys};
@@ -52,15 +51,15 @@ pub(crate) fn first_of_groups_after<F: Family>(
         ≡ find (is_of_group_after port (option_map F.bytes_of bound))
         (records_seen F.bytes_of records.now.items) }
 {
-    let place = records.first_behind_near(near.place, &GroupsAbove::<F> { port, bound });
+    let place = records.first_behind(near.place, &GroupsAbove::<F> { port, bound });
     if !records.is_item(place) {
-        return (None, Near { place: Some(place) });
+        return (None, Near { place });
     }
     let first = *records.get(place);
     if first.key.port == port {
-        (Some(first), Near { place: Some(place) })
+        (Some(first), Near { place })
     } else {
-        (None, Near { place: Some(place) })
+        (None, Near { place })
     }
 }
 
@@ -86,31 +85,4 @@ pub(crate) fn is_of_group<F: Family>(key: &Key<F::Addr>, bound: &Key<F::Addr>) -
     ensures { result ≡ is_of_group (key_seen F.bytes_of bound.now) (key_seen F.bytes_of key.now) }
 {
     key.port == bound.port && compare_addresses::<F>(key.group, bound.group).is_eq()
-}
-
-/// The first record of the key's port and group whose machine comes after the key's. Also returns
-/// the place of this record, or where it would be. The search begins near a place, which doesn't
-/// affect the record that it finds.
-pub(crate) fn first_machine_after<F: Family>(
-    records: &Store<F::Addr, OfFamily<F>>,
-    near: Near,
-    key: &Key<F::Addr>,
-) -> (Option<Held<F::Addr>>, Near)
-    requires { IsAscending (records_seen F.bytes_of records.now.items) }
-    ensures { option_map (record_seen F.bytes_of) result.0
-        ≡ find
-        (is_machine_after key.now.port (F.bytes_of key.now.group)
-        (what_seen F.bytes_of key.now.what))
-        (records_seen F.bytes_of records.now.items) }
-{
-    let place = records.first_behind_near(near.place, &Behind::<F> { key: *key });
-    if !records.is_item(place) {
-        return (None, Near { place: Some(place) });
-    }
-    let first = *records.get(place);
-    if is_of_group::<F>(&first.key, key) {
-        (Some(first), Near { place: Some(place) })
-    } else {
-        (None, Near { place: Some(place) })
-    }
 }

@@ -108,12 +108,9 @@ pub(crate) fn machine_near<F: Family>(
     ensures { machine_seen result.0
         ≡ machine_at (key_seen F.bytes_of key.now) (records_seen F.bytes_of records.now.items) }
 {
-    let place = near.place.unwrap_or(records.first());
-    let found = find_place::<F>(records, place, key);
-    let stands = Near {
-        place: Some(place_of(found)),
-    };
-    (machine_of::<F>(records, key, found), stands)
+    let found = find_place::<F>(records, near.place, key);
+    let place = place_of(found);
+    (machine_of::<F>(records, key, found), Near { place })
 }
 
 /// Gives the machine that was searched this state, or removes its record. The caller ensures room

@@ -59,7 +59,7 @@ impl<'a, F: Family> GroupMachines<'a, F> {
           behind = key_seen F.bytes_of key;
         } }
     {
-        let place = records.first_behind_near(near.place, &Behind::<F> { key });
+        let place = records.first_behind(near.place, &Behind::<F> { key });
         GroupMachines {
             records,
             place,
@@ -91,9 +91,7 @@ impl<'a, F: Family> GroupMachines<'a, F> {
     /// The place of the next machine, or where it would be. Look-ups among these records may begin
     /// near it.
     pub fn near(&self) -> Near {
-        Near {
-            place: Some(self.place),
-        }
+        Near { place: self.place }
     }
 }
 

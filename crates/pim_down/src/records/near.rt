@@ -8,11 +8,13 @@ use sorted_blocks::Place;
 /// otherwise it goes on with a binary search.
 #[derive(Clone, Copy, Drop)]
 pub struct Near {
-    /// A place that was looked at, if there is one.
-    pub(crate) place: Option<Place>,
+    /// A place that was looked at.
+    pub(crate) place: Place,
 }
 
 impl Near {
     /// No hint: the look-up is a binary search among all records.
-    pub const UNKNOWN: Near = Near { place: None };
+    pub const UNKNOWN: Near = Near {
+        place: Place::START,
+    };
 }

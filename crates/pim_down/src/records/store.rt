@@ -17,11 +17,10 @@ ghost use Rattle.pim_down.specs.Records.{count_on};
 ghost use Rattle.pim_down.specs.Schedule.{deadline_seen, timers_of};
 ghost use Rattle.pim_down.specs.Seen.{what_seen, records_seen};
 ghost use Rattle.pim_down.specs.PutOff.{put_off_from};
-ghost use Rattle.pim_down.specs.Store.{in_state, IsKept};
+ghost use Rattle.pim_down.specs.Store.{IsKept};
 
 use crate::machines::held::{Held, Timed};
 use crate::machines::key::{KeyOrder, What};
-use crate::machines::machine::State;
 use crate::records::blocks::{HALF_OF_RECORDS, HALF_OF_TIMERS};
 use crate::records::bound::{Bound, Side};
 use crate::records::deadline::Deadline;
@@ -252,22 +251,6 @@ impl<A: Copy, O: KeyOrder<A>> Store<A, O> {
         );
     }
 
-    /// Gives the machine of the record at this place another state. Its timers stay, so that the
-    /// schedule needs no change.
-    pub(crate) fn set_state(&mut self, place: Place, state: State)
-        requires { IsItem self.old place }
-        ensures items { (d : Held A) → self.new.items ≡ slice_set self.old.items (at self.old place)
-            (in_state state (slice_index_or self.old.items (at self.old place) d)) }
-        ensures places { (p : Place) → IsItem self.old p → IsItem self.new p }
-        ensures at { (p : Place) → at self.new p ≡ at self.old p }
-        ensures capacity { self.new.capacity ≡ self.old.capacity }
-    {
-        let _slab = self.list.slab();
-        let Held { key, machine } = *self.list.get(place);
-        let machine = Timed { state, ..machine };
-        self.list.set(place, Held { key, machine });
-    }
-
     /// Puts off the Expiry Timers of the first ones of these records; all of them end at one moment.
     /// It takes as many as are side by side in a block of the index, with timers side by side in a
     /// block of the schedule. Returns their number.
@@ -362,8 +345,8 @@ impl<A: Copy, O: KeyOrder<A>> Store<A, O> {
     }
 
     /// The place after the records that come before the bound: that of the first other record, if
-    /// there is any. It is a binary search.
-    pub(crate) fn first_behind<B: Bound<A>>(&self, bound: &B) -> Place
+    /// there is any. The search begins near a place.
+    pub(crate) fn first_behind<B: Bound<A>>(&self, near: Place, bound: &B) -> Place
         requires { IsPartitionedBy (λ held. B.is_before bound.now held.key) self.now.items }
         ensures place { IsPlace self.now result }
         ensures within { at self.now result ≤ length self.now.items }
@@ -371,24 +354,6 @@ impl<A: Copy, O: KeyOrder<A>> Store<A, O> {
         ensures parts { IsPartitionPoint (λ held. B.is_before bound.now held.key ≡ true)
             (λ held. B.is_before bound.now held.key ≡ false) self.now.items (at self.now result) }
     {
-        match self.list.find(&Side { bound }) {
-            Ok(_) => unreachable!(),
-            Err(place) => self.list.settled(place),
-        }
-    }
-
-    /// The same as `first_behind`. The search begins near a place, if there is one.
-    pub(crate) fn first_behind_near<B: Bound<A>>(&self, near: Option<Place>, bound: &B) -> Place
-        requires { IsPartitionedBy (λ held. B.is_before bound.now held.key) self.now.items }
-        ensures place { IsPlace self.now result }
-        ensures within { at self.now result ≤ length self.now.items }
-        ensures item { at self.now result < length self.now.items → IsItem self.now result }
-        ensures parts { IsPartitionPoint (λ held. B.is_before bound.now held.key ≡ true)
-            (λ held. B.is_before bound.now held.key ≡ false) self.now.items (at self.now result) }
-    {
-        let Some(near) = near else {
-            return self.first_behind(bound);
-        };
         match self.list.find_near(near, &Side { bound }) {
             Ok(_) => unreachable!(),
             Err(place) => self.list.settled(place),

@@ -16,6 +16,7 @@ use crate::records::blocks::HALF_OF_RECORDS;
 use crate::records::bound::Bound;
 use crate::records::store::Store;
 use pim_addr::Family;
+use sorted_blocks::Place;
 use sorted_slab::Walk;
 use std::fmt;
 use std::marker::{Model, PhantomData};
@@ -80,7 +81,7 @@ pub(crate) fn on_port<F: Family>(
         ≡ filter (is_on port) (records_seen F.bytes_of records.now.items) }
 {
     records.walk(
-        records.first_behind(&OfPort { port }),
+        records.first_behind(Place::START, &OfPort { port }),
         records.count_on(port),
     )
 }

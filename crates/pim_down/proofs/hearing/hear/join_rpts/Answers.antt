@@ -1,13 +1,10 @@
-use Rattle.std.proofs.Common.{◌+◌, length, get_or, set, refl, sym, ap, ◌∙◌, arith}
+use Rattle.std.proofs.Common.{◌+◌, length, refl, sym, ap, ◌∙◌, arith}
 use Rattle.std.proofs.lemmas.List.{length-set}
 use Rattle.sorted_slab.specs.Listed.{at}
 use Rattle.pim_down.proofs.Looking.{past_end}
 use Rattle.pim_down.proofs.Rpts.{rpts_fall, behind_parts, joins_begin, joins_more, joins_end, joins_past}
 use Rattle.pim_down.proofs.Searched.{parted}
 use Rattle.pim_down.specs.After.{is_before_rpts}
-use Rattle.pim_down.specs.Seen.{timed_seen}
-use Rattle.pim_down.specs.declared.machines.held.Held.{Held}
-use Rattle.pim_down.specs.declared.machines.held.Timed.{Timed}
 use Rattle.pim_down.proofs.hearing.hear.join_rpts.Goals as goal
 
 pub first_behind-place-requires : goal.first_behind-place-requires
@@ -33,8 +30,8 @@ loop-group-init g c =
 pub loop-group-smaller : goal.loop-group-smaller
 loop-group-smaller g c =
     let here = c.is_item.ensures.0 c.loop-group-test.true in
-    let same = ap length (c.set_state.ensures.items c.get-held.result.now) ∙ length-set c.loop-group.records.items (at c.loop-group.records c.loop-group.place) _ in
-    omega (arith, here.1, same, c.next-place.ensures.at, c.set_state.ensures.at c.loop-group.place)
+    let same = ap length (c.set_machine.ensures.items c.get-held.result.now) ∙ length-set c.loop-group.records.items (at c.loop-group.records c.loop-group.place) _ in
+    omega (arith, here.1, same, c.next-place.ensures.at, c.set_machine.ensures.at c.loop-group.place)
 
 pub loop-group-preserved : goal.loop-group-preserved
 loop-group-preserved g c =
@@ -44,16 +41,14 @@ loop-group-preserved g c =
     let list = c.loop-group.records in
     let i = at list c.loop-group.place in
     let here = c.is_item.ensures.0 c.loop-group-test.true in
-    let same = ap length (c.set_state.ensures.items c.get-held.result.now) ∙ length-set list.items i _ in
-    let next = c.next-place.ensures.at ∙ ap (λ n. n + 1) (c.set_state.ensures.at c.loop-group.place) in
-    let now : Timed = record { state = c.star_joined-state.result; expires_at = c.get-held.result.now.machine.expires_at; pending = c.get-held.result.now.machine.pending } in
-    let put = c.set_state.ensures.items c.get-held.result.now ∙ ap (λ (h : Held g.row.F-Addr.Denot). set list.items i (record { key = (get_or list.items i c.get-held.result.now).key; machine = record { state = c.star_joined-state.result; expires_at = h.machine.expires_at; pending = h.machine.pending } })) (sym c.get-held.ensures) in
+    let same = ap length (c.set_machine.ensures.items c.get-held.result.now) ∙ length-set list.items i _ in
+    let next = c.next-place.ensures.at ∙ ap (λ n. n + 1) (c.set_machine.ensures.at c.loop-group.place) in
     record {
-      changed = joins_more bytes_of c.args.port group old list.items c.set_state.new.self.items i (at c.set_state.new.self c.next-place.result) c.get-held.result.now now c.loop-group.invariant.long here.1 c.get-held.ensures (sym c.is_rpt_of.ensures ∙ c.if-not-is_rpt_of.false) (c.star_joined-state.ensures (timed_seen c.get-held.result.now.machine) refl) put next c.loop-group.invariant.changed;
+      changed = joins_more bytes_of c.args.port group old list.items c.set_machine.new.self.items i (at c.set_machine.new.self c.next-place.result) c.get-held.result.now c.on_star_join-machine.result c.loop-group.invariant.long here.1 c.get-held.ensures (sym c.is_rpt_of.ensures ∙ c.if-not-is_rpt_of.false) c.on_star_join-machine.ensures (c.set_machine.ensures.items c.get-held.result.now) next c.loop-group.invariant.changed;
       behind = λ k d le w. c.loop-group.invariant.behind k d (omega (arith, le, next)) w;
       next = λ lt. c.next-place.ensures.item (omega (arith, lt, c.next-place.ensures.at));
       long = same ∙ c.loop-group.invariant.long;
-      capacity = c.set_state.ensures.capacity ∙ c.loop-group.invariant.capacity;
+      capacity = c.set_machine.ensures.capacity ∙ c.loop-group.invariant.capacity;
     }
 
 pub returns-then-not-is_rpt_of-clause-records : goal.returns-then-not-is_rpt_of-clause-records
