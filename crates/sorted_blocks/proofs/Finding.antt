@@ -85,7 +85,7 @@ module _ {A : Type 0} where
   reads order s p r o item e is d = ap order (sym (get_or_read (items s) (before s p) r (before_within s p item) e d)) ∙ sym is
 
   pub found_item : (order : A → Ordering) (s : Shape A) (p : Place) (r : A) → IsItem s p → r ≡ get_or (items s) (before s p) r → Equal ≡ order r → IsFound order s (Ok p)
-  found_item order s p r item e is = (item, record { within = before_within s p item; equal = reads order s p r Equal item e is; })
+  found_item order s p r item e is = (item, record { within = before_within s p item; equal = reads order s p r Equal item e is })
 
   -- the gap behind an item that is less
   pub found_behind : (order : A → Ordering) (s : Shape A) (near behind : Place) → IsLessAt order (items s) (before s near) → IsPlace s behind → before s behind ≡ before s near + 1 → ((d : A) → before s behind < length (items s) → order (get_or (items s) (before s behind) d) ≡ Greater) → IsFound order s (Err behind)

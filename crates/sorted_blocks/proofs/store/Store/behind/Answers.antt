@@ -1,4 +1,4 @@
-use Rattle.std.proofs.Common.{◌+◌, arith, lit<}
+use Rattle.std.proofs.Common.{◌+◌, arith}
 use Rattle.sorted_blocks.proofs.Moves.{item_block, item_within, is_place, before_is}
 use Rattle.sorted_blocks.proofs.store.Store.behind.Goals as goal
 
