@@ -1,16 +1,5 @@
 -- What an event leaves at every key, and how many records a message may make.
-use Rattle.std.proofs.Common.{◌≡◌, ℕ, Bool, true, false, cond, ◌&&◌, List, [], ◌∷◌, None, eqb, refl, ap, subst, ◌∙◌}
-use Rattle.std.proofs.lemmas.Bool.{false≢true}
-use Rattle.pim_down.specs.declared.machines.key.What.{What}
-use Rattle.pim_down.specs.declared.machines.key.What.TheVariants.{Star, Source, Rpt}
-use Rattle.pim_down.specs.declared.machines.key.Key.{Key}
-use Rattle.pim_down.specs.Tables.{Start}
-use Rattle.pim_down.specs.declared.machines.machine.Record.{Record}
-use Rattle.pim_down.specs.Hearing.{Event}
-use Rattle.pim_down.specs.Key.{same_key}
-use Rattle.pim_down.specs.Tables.{on_star_join, on_end}
-use Rattle.pim_down.specs.Records.{IsAscending, machine_at, changed, each_changed}
-use Rattle.pim_down.specs.Hearing.{key_of, on_own, is_star, is_rpt, is_star_join, is_rpt_on, is_rpt_of, on_rpts, effect, effects, act, act_all, at_end, heard_at, hearing}
+use Rattle.pim_down.proofs.Words.{◌≡◌, ℕ, Bool, true, false, cond, ◌&&◌, List, [], ◌∷◌, None, eqb, refl, ap, subst, ◌∙◌, false≢true, What, Star, Source, Rpt, Key, Start, Record, Event, same_key, on_star_join, on_end, IsAscending, machine_at, changed, each_changed, key_of, on_own, is_star, is_rpt, is_star_join, is_rpt_on, is_rpt_of, on_rpts, effect, effects, act, act_all, at_end, heard_at, hearing}
 use Rattle.pim_down.proofs.Order.{same_keys, same_back}
 use Rattle.pim_down.proofs.Map.{IsAscending-changed, at_changed, at_other_changed, IsAscending-each_changed, at_each_changed}
 

@@ -1,21 +1,6 @@
 -- The timers of one kind: found by their records' numbers, put in and taken out.
-use Rattle.std.proofs.Common.{◌≡◌, ℕ, zero, suc, ◌+◌, ◌-◌, ◌<◌, ◌≤◌, true, false, cond, List, [], ◌∷◌, Option, Some, None, option_map, map, length, take, drop, ◌++◌, get_or, sym, ap, subst, ◌∙◌, arith}
-use Rattle.std.specs.declared.cmp.Ordering.{Ordering}
-use Rattle.std.specs.declared.cmp.Ordering.TheVariants.{Less, Equal, Greater}
-use Rattle.std.specs.Ordering.{nat_cmp, ordering_then, is_gt}
-use Rattle.std.specs.List.{insert, remove, AllByRecursion}
-use Rattle.std.specs.Cmp.{IsTotalOrder}
-use Rattle.std.specs.FinMap.{nat_cmp-IsAntisymmetric}
-use Rattle.std.proofs.lemmas.Cmp.{nat_cmp_total, on_total, then_total}
-use Rattle.std.proofs.lemmas.List.{length-map, get_or-map}
-use Rattle.slab.specs.Slab.{Slab, get}
-use Rattle.sorted_blocks.specs.Found.{IsGap, IsEqualAt}
-use Rattle.pim_down.specs.declared.records.deadline.Alarm.{Alarm}
-use Rattle.pim_down.specs.declared.machines.held.Held.{Held}
-use Rattle.pim_down.specs.declared.machines.key.Key.{Key}
-use Rattle.pim_down.specs.Key.{key_cmp}
-use Rattle.pim_down.specs.Schedule.{placed, without, IsInOrder, Numbered, alarm_cmp, alarm_of, with_alarm, key_of, AreKnown, key_order, alarm_order}
-use Rattle.pim_down.specs.Seen.{key_seen}
+use Rattle.pim_down.proofs.Words.{◌≡◌, ℕ, zero, suc, ◌+◌, ◌-◌, ◌<◌, ◌≤◌, true, false, cond, List, [], ◌∷◌, Option, Some, None, option_map, map, length, take, drop, ◌++◌, get_or, sym, ap, subst, ◌∙◌, arith, Ordering, Less, Equal, Greater, nat_cmp, ordering_then, is_gt, insert, remove, AllByRecursion, IsTotalOrder, nat_cmp-IsAntisymmetric, nat_cmp_total, on_total, then_total, length-map, get_or-map, Slab, get, IsGap, IsEqualAt, Alarm, Held, Key, key_cmp, placed, without, IsInOrder, Numbered, alarm_cmp, alarm_of, with_alarm, AreKnown, key_order, alarm_order, key_seen}
+use Rattle.pim_down.specs.Schedule.{key_of}
 use Rattle.pim_down.proofs.Lists.{map_insert, map_remove}
 use Rattle.pim_down.proofs.Order.{key_total, both_equal, equal_keys}
 use Rattle.pim_down.proofs.InOrder.{le_itself, greater_le, in_order_at, low_parts, without_placed, insert_is, remove_is, gap_without}

@@ -1,11 +1,5 @@
 -- What stands before a bound, and what behind it.
-use Rattle.std.proofs.Common.{◌≡◌, ℕ, ◌-◌, ◌≤◌, Bool, true, false, List, [], ◌∷◌, length, get_or, refl, sym, ap, ◌∙◌, arith}
-use Rattle.std.specs.declared.cmp.Ordering.TheVariants.{Less, Equal, Greater}
-use Rattle.std.specs.Ordering.{is_lt, is_eq}
-use Rattle.std.specs.List.Sorted.{IsPartitionedBy, IsPartitionPoint}
-use Rattle.std.proofs.lemmas.Bool.{false≢true}
-use Rattle.sorted_blocks.specs.Found.{IsGap, IsEqualAt}
-use Rattle.pim_down.specs.Store.{side}
+use Rattle.pim_down.proofs.Words.{◌≡◌, ℕ, ◌-◌, ◌≤◌, Bool, true, false, List, [], ◌∷◌, length, get_or, refl, sym, ap, ◌∙◌, arith, Less, Equal, Greater, is_lt, is_eq, IsPartitionedBy, IsPartitionPoint, false≢true, IsGap, IsEqualAt, side}
 
 side_less : (b : Bool) → side b ≡ Less → b ≡ true
 side_less true e = refl

@@ -1,19 +1,5 @@
 -- How many records each port has, and how many (S,G,rpt) ones, while records come and go.
-use Rattle.std.proofs.Common.{◌≡◌, ℕ, zero, suc, ◌+◌, ◌-◌, ◌<◌, ◌≤◌, Bool, true, false, cond, List, [], ◌∷◌, length, get_or, set, replicate, eqb, ltb, ◌&&◌, refl, sym, ap, subst, ◌∙◌, arith}
-use Rattle.std.specs.Int.{from_bool}
-use Rattle.std.specs.List.{filter, insert, remove}
-use Rattle.std.proofs.lemmas.Bool.{eqb-true, eqb-false, ltb-true, ltb-false}
-use Rattle.std.proofs.lemmas.Grind.{get_or-set_at}
-use Rattle.std.proofs.lemmas.List.{get_or-set_other, length-set}
-use Rattle.std.proofs.lemmas.List.Edits.{length-remove}
-use Rattle.sorted_slab.specs.Listed.{Listed}
-use Rattle.pim_down.specs.declared.machines.held.Held.{Held}
-use Rattle.pim_down.specs.declared.machines.key.Key.{Key}
-use Rattle.pim_down.specs.declared.machines.machine.Record.{Record}
-use Rattle.pim_down.specs.Hearing.{is_rpt, is_rpt_on, rpt_count_on}
-use Rattle.pim_down.specs.Records.{count_on}
-use Rattle.pim_down.specs.Seen.{what_seen, record_seen, records_seen}
-use Rattle.pim_down.specs.Store.{IsKept}
+use Rattle.pim_down.proofs.Words.{◌≡◌, ℕ, zero, suc, ◌+◌, ◌-◌, ◌<◌, ◌≤◌, Bool, true, false, cond, List, [], ◌∷◌, length, get_or, set, replicate, eqb, ltb, ◌&&◌, refl, sym, ap, subst, ◌∙◌, arith, from_bool, filter, insert, remove, eqb-true, eqb-false, ltb-true, ltb-false, get_or-set_at, get_or-set_other, length-set, length-remove, Listed, Held, Key, Record, is_rpt, is_rpt_on, rpt_count_on, count_on, what_seen, record_seen, records_seen, IsKept}
 
 -- what each record adds to the count of its port
 module _ {A : Type 0} (weight : Held A → ℕ) (port : ℕ) where

@@ -1,18 +1,5 @@
 -- The timers of records as contracts see them: their order is total, and they are in it.
-use Rattle.std.proofs.Common.{◌≡◌, ℕ, List, [], ◌∷◌, Option, Some, None, refl, ap}
-use Rattle.std.specs.declared.cmp.Ordering.TheVariants.{Equal}
-use Rattle.std.specs.Ordering.{nat_cmp, ordering_then, is_eq}
-use Rattle.std.specs.Cmp.{IsTotalOrder}
-use Rattle.std.specs.FinMap.{nat_cmp-IsAntisymmetric}
-use Rattle.std.proofs.lemmas.Cmp.{nat_cmp_total, on_total, then_total}
-use Rattle.std.proofs.lemmas.Bool.{false≢true}
-use Rattle.pim_down.specs.declared.records.deadline.Deadline.{Deadline}
-use Rattle.pim_down.specs.declared.records.deadline.TimerKind.{TimerKind}
-use Rattle.pim_down.specs.declared.records.deadline.TimerKind.TheVariants.{PendingTimer, ExpiryTimer}
-use Rattle.pim_down.specs.declared.machines.key.Key.{Key}
-use Rattle.pim_down.specs.declared.machines.machine.Record.{Record}
-use Rattle.pim_down.specs.Key.{key_cmp}
-use Rattle.pim_down.specs.Schedule.{IsInOrder, timer_rank, deadline_cmp, end_of, with_end, timers_of}
+use Rattle.pim_down.proofs.Words.{◌≡◌, ℕ, List, [], ◌∷◌, Option, Some, None, refl, ap, Equal, nat_cmp, ordering_then, is_eq, IsTotalOrder, nat_cmp-IsAntisymmetric, nat_cmp_total, on_total, then_total, false≢true, Deadline, TimerKind, PendingTimer, ExpiryTimer, Key, Record, key_cmp, IsInOrder, timer_rank, deadline_cmp, end_of, with_end, timers_of}
 use Rattle.pim_down.proofs.Order.{key_total, both_equal, equal_keys}
 use Rattle.pim_down.proofs.InOrder.{order_placed}
 

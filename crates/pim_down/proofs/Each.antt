@@ -1,23 +1,5 @@
 -- Changes of records one after another, as loops make them.
-use Rattle.std.proofs.Common.{◌≡◌, ℕ, ◌+◌, ◌<◌, Bool, true, false, cond, ◌&&◌, not, List, [], ◌∷◌, ◌++◌, Option, Some, None, length, take, drop, get_or, refl, sym, ap, subst, ◌∙◌, arith, length-append}
-use Rattle.std.specs.declared.cmp.Ordering.TheVariants.{Less, Equal, Greater}
-use Rattle.std.specs.List.{filter}
-use Rattle.std.proofs.lemmas.List.{drop_more, take_more, take_at, drop_at, append_assoc, append-nil}
-use Rattle.pim_down.specs.declared.machines.held.Held.{Held}
-use Rattle.pim_down.specs.declared.machines.key.Key.{Key}
-use Rattle.pim_down.specs.declared.machines.machine.State.{State}
-use Rattle.pim_down.specs.declared.machines.machine.State.TheVariants.{Join, PrunePending, Prune, PruneTmp, PrunePendingTmp}
-use Rattle.pim_down.specs.declared.machines.machine.Machine.{Machine}
-use Rattle.pim_down.specs.Tables.{Start}
-use Rattle.pim_down.specs.declared.machines.machine.Record.{Record}
-use Rattle.pim_down.specs.Hearing.{Event}
-use Rattle.pim_down.specs.Key.{key_cmp, same_key}
-use Rattle.pim_down.specs.Tables.{on_star_join, star_join_in, on_end, end_in}
-use Rattle.pim_down.specs.Records.{IsBelow, IsAscending, machine_at, recorded, at_rank, changed, each_changed}
-use Rattle.pim_down.specs.Hearing.{key_of, on_own, is_star_join, is_rpt_on, is_rpt_of, on_rpts, act, at_end}
-use Rattle.pim_down.specs.Sound.{is_temporary}
-use Rattle.pim_down.specs.Running.{is_over}
-use Rattle.pim_down.specs.Seen.{record_seen, records_seen}
+use Rattle.pim_down.proofs.Words.{◌≡◌, ℕ, ◌+◌, ◌<◌, Bool, true, false, cond, ◌&&◌, not, List, [], ◌∷◌, ◌++◌, Option, Some, None, length, take, drop, get_or, refl, sym, ap, subst, ◌∙◌, arith, length-append, Less, Equal, Greater, filter, drop_more, take_more, take_at, drop_at, append_assoc, append-nil, Held, Key, State, Join, PrunePending, Prune, PruneTmp, PrunePendingTmp, Machine, Start, Record, Event, key_cmp, same_key, on_star_join, star_join_in, on_end, end_in, IsBelow, IsAscending, machine_at, recorded, at_rank, changed, each_changed, key_of, on_own, is_star_join, is_rpt_on, is_rpt_of, on_rpts, act, at_end, is_temporary, is_over, record_seen, records_seen}
 use Rattle.pim_down.proofs.Order.{less_differs, greater_differs, equal_keys, same_itself}
 use Rattle.pim_down.proofs.Map.{none_below, IsBelow-trans}
 

@@ -1,21 +1,5 @@
 -- What an echo names.
-use Rattle.std.proofs.Common.{◌≡◌, ℕ, ◌+◌, ◌-◌, ◌≤◌, Bool, true, false, cond, List, [], ◌∷◌, Option, Some, None, refl, sym, ap, subst, ◌∙◌, arith}
-use Rattle.std.specs.declared.cmp.Ordering.TheVariants.{Less}
-use Rattle.std.specs.Option.{is_some}
-use Rattle.std.proofs.lemmas.Bool.Decides.{nat_tests}
-use Rattle.std.proofs.lemmas.Bool.{false≢true, eqb-true}
-use Rattle.pim_down.specs.declared.machines.key.What.{What}
-use Rattle.pim_down.specs.declared.machines.key.What.TheVariants.{Star, Source, Rpt}
-use Rattle.pim_down.specs.declared.machines.key.Key.{Key}
-use Rattle.pim_down.specs.declared.machines.machine.State.TheVariants.{Prune}
-use Rattle.pim_down.specs.declared.machines.machine.Pending.{Pending}
-use Rattle.pim_down.specs.declared.machines.machine.Machine.{Machine}
-use Rattle.pim_down.specs.declared.machines.machine.Record.{Record}
-use Rattle.pim_down.specs.declared.machines.step.Step.{Step}
-use Rattle.pim_down.specs.declared.machines.step.Step.TheVariants.{Reached, Echo}
-use Rattle.pim_down.specs.Key.{key_cmp, same_key}
-use Rattle.pim_down.specs.Records.{IsBelow, IsAscending, machine_at, recorded}
-use Rattle.pim_down.specs.Time.{Downstream, pending_after, machine_after, tick, pending_due, et_due, ppt_due, on_ppt, after_et, after_ppt, had_several, echoes_at, echo_of, first_due, with_first, fire_et, fire_ppt, fired, with_records, Runs, IsEchoOf}
+use Rattle.pim_down.proofs.Words.{◌≡◌, ℕ, ◌+◌, ◌-◌, ◌≤◌, Bool, true, false, cond, List, [], ◌∷◌, Option, Some, None, refl, sym, ap, subst, ◌∙◌, arith, Less, is_some, nat_tests, false≢true, eqb-true, What, Star, Source, Rpt, Key, Prune, Pending, Machine, Record, Step, Reached, Echo, key_cmp, same_key, IsBelow, IsAscending, machine_at, recorded, Downstream, pending_after, machine_after, tick, pending_due, et_due, ppt_due, on_ppt, after_et, after_ppt, had_several, echoes_at, echo_of, first_due, with_first, fire_et, fire_ppt, fired, with_records, Runs, IsEchoOf}
 use Rattle.pim_down.proofs.Order.{same_itself, greater_differs, less_back}
 use Rattle.pim_down.proofs.Map.{at_recorded}
 use Rattle.pim_down.proofs.Kept.{kept_later, kept_fired}

@@ -1,28 +1,6 @@
 -- End of Message, group by group.
-use Rattle.std.proofs.Common.{◌≡◌, ℕ, zero, suc, ◌+◌, ◌<◌, ◌≤◌, Bool, true, false, cond, ◌&&◌, ◌||◌, not, List, [], ◌∷◌, ◌++◌, Option, Some, None, length, get_or, eqb, ltb, refl, sym, ap, subst, ◌∙◌, arith}
-use Rattle.std.specs.declared.cmp.Ordering.TheVariants.{Less, Equal, Greater}
-use Rattle.std.specs.List.{filter, remove, flat_map, list_any, AllByRecursion}
-use Rattle.std.specs.Cmp.Lexicographic.{pointwise, same_text}
-use Rattle.std.proofs.lemmas.Bool.{false≢true, or_right, ltb-true, ltb-false}
-use Rattle.pim_jp.specs.declared.entry.Entry.{Entry}
+use Rattle.pim_down.proofs.Words.{◌≡◌, ℕ, zero, suc, ◌+◌, ◌<◌, ◌≤◌, Bool, true, false, cond, ◌&&◌, ◌||◌, not, List, [], ◌∷◌, ◌++◌, Option, Some, None, length, get_or, eqb, ltb, refl, sym, ap, subst, ◌∙◌, arith, Less, Equal, Greater, filter, remove, flat_map, list_any, AllByRecursion, pointwise, same_text, false≢true, or_right, ltb-true, ltb-false, Entry, GroupSet, Held, What, Star, Source, Rpt, Key, Machine, State, Join, PrunePending, Prune, PruneTmp, PrunePendingTmp, Record, key_cmp, Start, greater, on_join, on_prune, on_star_join, rpt_prune_in, on_rpt_prune, IsBelow, IsAscending, recorded, at_rank, changed, each_changed, Event, is_known, list_events, set_events, key_of, on_own, is_star_join, is_rpt_on, is_rpt_of, on_rpts, act, act_all, at_end, is_temporary, IsSettled, is_before_rpts, is_over, is_over_in, is_joined_in, AreOverIn, record_seen, records_seen}
 use Rattle.pim_jp.specs.declared.entry.Entry.TheVariants as entry
-use Rattle.pim_jp.specs.Message.{GroupSet}
-use Rattle.pim_down.specs.declared.machines.held.Held.{Held}
-use Rattle.pim_down.specs.declared.machines.key.What.{What}
-use Rattle.pim_down.specs.declared.machines.key.What.TheVariants.{Star, Source, Rpt}
-use Rattle.pim_down.specs.declared.machines.key.Key.{Key}
-use Rattle.pim_down.specs.declared.machines.machine.Machine.{Machine}
-use Rattle.pim_down.specs.declared.machines.machine.State.{State}
-use Rattle.pim_down.specs.declared.machines.machine.State.TheVariants.{Join, PrunePending, Prune, PruneTmp, PrunePendingTmp}
-use Rattle.pim_down.specs.declared.machines.machine.Record.{Record}
-use Rattle.pim_down.specs.Key.{key_cmp}
-use Rattle.pim_down.specs.Tables.{Start, greater, on_join, on_prune, on_star_join, rpt_prune_in, on_rpt_prune}
-use Rattle.pim_down.specs.Records.{IsBelow, IsAscending, recorded, at_rank, changed, each_changed}
-use Rattle.pim_down.specs.Hearing.{Event, is_known, list_events, set_events, key_of, on_own, is_star_join, is_rpt_on, is_rpt_of, on_rpts, act, act_all, at_end}
-use Rattle.pim_down.specs.Sound.{is_temporary, IsSettled}
-use Rattle.pim_down.specs.After.{is_before_rpts}
-use Rattle.pim_down.specs.Running.{is_over, is_over_in, is_joined_in, AreOverIn}
-use Rattle.pim_down.specs.Seen.{record_seen, records_seen}
 use Rattle.pim_down.proofs.Order.{equal_keys}
 use Rattle.pim_down.proofs.Each.{end_filter, seen_filter}
 use Rattle.pim_down.proofs.Rpts.{itself, AreBehind, AreOthers}

@@ -1,17 +1,6 @@
 -- A message's events, list by list and set by set.
-use Rattle.std.proofs.Common.{◌≡◌, ℕ, ◌+◌, ◌≤◌, Bool, true, false, cond, ◌&&◌, not, List, [], ◌∷◌, ◌++◌, Option, length, refl, sym, ap, subst, ◌∙◌, arith}
-use Rattle.std.specs.List.{flat_map}
-use Rattle.std.proofs.lemmas.List.{append_assoc}
-use Rattle.pim_jp.specs.declared.entry.Entry.{Entry}
+use Rattle.pim_down.proofs.Words.{◌≡◌, ℕ, ◌+◌, ◌≤◌, Bool, true, false, cond, ◌&&◌, not, List, [], ◌∷◌, ◌++◌, Option, length, refl, sym, ap, subst, ◌∙◌, arith, flat_map, append_assoc, Entry, GroupSet, Star, Start, Record, Event, IsAscending, act, act_all, is_new, count_new, is_known, entry_events, list_events, set_events, HasRoom}
 use Rattle.pim_jp.specs.declared.entry.Entry.TheVariants as entry
-use Rattle.pim_jp.specs.Message.{GroupSet}
-use Rattle.pim_down.specs.declared.machines.key.What.TheVariants.{Star}
-use Rattle.pim_down.specs.Tables.{Start}
-use Rattle.pim_down.specs.declared.machines.machine.Record.{Record}
-use Rattle.pim_down.specs.Hearing.{Event}
-use Rattle.pim_down.specs.Records.{IsAscending}
-use Rattle.pim_down.specs.Hearing.{act, act_all, is_new, count_new, is_known, entry_events, list_events, set_events}
-use Rattle.pim_down.specs.Space.{HasRoom}
 use Rattle.pim_down.proofs.Act.{IsAscending-act_all}
 use Rattle.pim_down.proofs.Room.{room}
 

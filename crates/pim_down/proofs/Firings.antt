@@ -1,13 +1,5 @@
 -- Runs with the number of timers that fire in them, in records whose times count from the moment 0.
-use Rattle.std.proofs.Common.{◌≡◌, ℕ, zero, suc, ◌+◌, ◌-◌, ◌<◌, ◌≤◌, true, false, List, Some, max, refl, sym, ap, subst, ◌∙◌, arith}
-use Rattle.std.specs.Option.{is_some}
-use Rattle.pim_down.specs.declared.machines.held.Held.{Held}
-use Rattle.pim_down.specs.declared.machines.step.Step.{Step}
-use Rattle.pim_down.specs.declared.machines.step.Step.TheVariants.{Reached, Echo}
-use Rattle.pim_down.specs.Time.{Downstream, fired, tick, Runs, RunsLooking, run_within, fires_within, ticks, IsQuietFor, turn, moves, echoes, rests}
-use Rattle.pim_down.specs.Ends.{first_end, ends_by}
-use Rattle.pim_down.specs.Seen.{records_seen, shown}
-use Rattle.pim_down.specs.Running.{downstream_at}
+use Rattle.pim_down.proofs.Words.{◌≡◌, ℕ, zero, suc, ◌+◌, ◌-◌, ◌<◌, ◌≤◌, true, false, List, Some, max, refl, sym, ap, subst, ◌∙◌, arith, is_some, Held, Step, Reached, Echo, Downstream, fired, tick, Runs, RunsLooking, run_within, fires_within, ticks, IsQuietFor, turn, moves, echoes, rests, first_end, ends_by, records_seen, shown, downstream_at}
 use Rattle.pim_down.proofs.Time.{fired_by, turn_passes, turn_rests}
 use Rattle.pim_down.proofs.Jumps.{ticks_shown, quiet_until, due_shown, not_yet}
 

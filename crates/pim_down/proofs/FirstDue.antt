@@ -1,24 +1,5 @@
 -- The first timer that is due, in a list of records whose times count from the moment 0.
-use Rattle.std.proofs.Common.{◌≡◌, ℕ, zero, suc, ◌+◌, ◌*◌, ◌<◌, ◌≤◌, Bool, true, false, cond, List, [], ◌∷◌, ◌++◌, Option, Some, None, option_map, map, length, take, drop, get_or, ltb, refl, sym, ap, subst, ◌∙◌, arith}
-use Rattle.std.specs.List.{position, position_or_len, remove}
-use Rattle.std.proofs.lemmas.List.{map-append, take-map, drop-map}
-use Rattle.std.proofs.lemmas.Bool.{ltb-false, false≢true}
-use Rattle.std.proofs.lemmas.List.Quantifiers.{position-Some}
-use Rattle.std.proofs.lemmas.List.Sums.{fails_before_first}
-use Rattle.pim_down.specs.declared.machines.held.Held.{Held}
-use Rattle.pim_down.specs.declared.machines.key.What.{What}
-use Rattle.pim_down.specs.declared.machines.key.What.TheVariants.{Star, Source, Rpt}
-use Rattle.pim_down.specs.declared.machines.machine.Pending.{Pending}
-use Rattle.pim_down.specs.declared.machines.machine.Record.{Record}
-use Rattle.pim_down.specs.declared.machines.step.Firing.{Firing}
-use Rattle.pim_down.specs.declared.machines.step.Step.{Step}
-use Rattle.pim_down.specs.declared.machines.step.Step.TheVariants.{Reached}
-use Rattle.pim_down.specs.Records.{recorded}
-use Rattle.pim_down.specs.Time.{machine_after, record_after, pending_after, et_due, ppt_due, pending_due, on_ppt, after_et, after_ppt, echo_of, first_due, with_first, fire_et, fire_ppt, fired}
-use Rattle.pim_down.specs.Laws.{said_of}
-use Rattle.pim_down.specs.Ends.{weight, pending_weight}
-use Rattle.pim_down.specs.Firing.{ppt_fires, et_fires, et_firing, ppt_firing, firing, step_of}
-use Rattle.pim_down.specs.Seen.{record_seen, records_seen, shown}
+use Rattle.pim_down.proofs.Words.{◌≡◌, ℕ, zero, suc, ◌+◌, ◌*◌, ◌<◌, ◌≤◌, Bool, true, false, cond, List, [], ◌∷◌, ◌++◌, Option, Some, None, option_map, map, length, take, drop, get_or, ltb, refl, sym, ap, subst, ◌∙◌, arith, position, position_or_len, remove, map-append, take-map, drop-map, ltb-false, false≢true, position-Some, fails_before_first, Held, What, Star, Source, Rpt, Pending, Record, Firing, Step, Reached, recorded, machine_after, record_after, pending_after, et_due, ppt_due, pending_due, on_ppt, after_et, after_ppt, echo_of, first_due, with_first, fire_et, fire_ppt, fired, said_of, weight, pending_weight, ppt_fires, et_fires, et_firing, ppt_firing, firing, step_of, record_seen, records_seen, shown}
 use Rattle.pim_down.proofs.Lists.{map_remove}
 
 module _ {X : Type 0} (f : X → Record (List ℕ)) (due : Record (List ℕ) → Bool) where

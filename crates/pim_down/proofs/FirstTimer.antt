@@ -1,29 +1,5 @@
 -- The timer that fires first, in records in key order.
-use Rattle.std.proofs.Common.{◌≡◌, ℕ, zero, suc, ◌<◌, ◌≤◌, Bool, true, false, cond, List, [], ◌∷◌, Option, Some, None, min, length, get_or, ltb, eqb, refl, sym, ap, subst, ◌∙◌, arith}
-use Rattle.std.specs.declared.cmp.Ordering.TheVariants.{Less, Equal}
-use Rattle.std.specs.Ordering.{nat_cmp, ordering_then, is_gt}
-use Rattle.std.specs.List.{AllByRecursion, position, slice_get}
-use Rattle.std.proofs.lemmas.Cmp.{nat_cmp_total, tied_itself}
-use Rattle.std.proofs.lemmas.Bool.{false≢true, ltb-true, eqb-true}
-use Rattle.std.proofs.lemmas.Bool.Decides.{nat_tests}
-use Rattle.sorted_blocks.specs.declared.place.Place.{Place}
-use Rattle.sorted_slab.specs.Listed.{Listed, at, IsItem}
-use Rattle.pim_down.specs.declared.records.deadline.Deadline.{Deadline}
-use Rattle.pim_down.specs.declared.records.deadline.TimerKind.{TimerKind}
-use Rattle.pim_down.specs.declared.records.deadline.TimerKind.TheVariants.{PendingTimer, ExpiryTimer}
-use Rattle.pim_down.specs.declared.machines.held.Held.{Held}
-use Rattle.pim_down.specs.declared.machines.key.Key.{Key}
-use Rattle.pim_down.specs.declared.machines.machine.Machine.{Machine}
-use Rattle.pim_down.specs.declared.machines.machine.Pending.{Pending}
-use Rattle.pim_down.specs.declared.machines.machine.Record.{Record}
-use Rattle.pim_down.specs.Key.{key_cmp, same_key}
-use Rattle.pim_down.specs.Records.{IsBelow, IsAscending, machine_at}
-use Rattle.pim_down.specs.Places.{StandsAt, WouldStandAt}
-use Rattle.pim_down.specs.Time.{record_after, pending_after, expiry_after, pending_due, expiry_due, ppt_due, et_due}
-use Rattle.pim_down.specs.Ends.{sooner, pending_end, first_end}
-use Rattle.pim_down.specs.Schedule.{placed, IsLow, IsInOrder, timer_rank, deadline_cmp, end_of, with_end, timers_of}
-use Rattle.pim_down.specs.Seen.{key_seen, record_seen, records_seen}
-use Rattle.pim_down.specs.Store.{NoneBefore}
+use Rattle.pim_down.proofs.Words.{◌≡◌, ℕ, zero, suc, ◌<◌, ◌≤◌, Bool, true, false, cond, List, [], ◌∷◌, Option, Some, None, min, length, get_or, ltb, eqb, refl, sym, ap, subst, ◌∙◌, arith, Less, Equal, nat_cmp, ordering_then, is_gt, AllByRecursion, position, slice_get, nat_cmp_total, tied_itself, false≢true, ltb-true, eqb-true, nat_tests, Place, Listed, at, IsItem, Deadline, TimerKind, PendingTimer, ExpiryTimer, Held, Key, Machine, Pending, Record, key_cmp, same_key, IsBelow, IsAscending, machine_at, StandsAt, WouldStandAt, record_after, pending_after, expiry_after, pending_due, expiry_due, ppt_due, et_due, sooner, pending_end, first_end, placed, IsLow, IsInOrder, timer_rank, deadline_cmp, end_of, with_end, timers_of, key_seen, record_seen, records_seen, NoneBefore}
 use Rattle.pim_down.proofs.Order.{same_keys, same_itself, less_back}
 use Rattle.pim_down.proofs.Map.{none_below}
 use Rattle.pim_down.proofs.Lists.{map_at}

@@ -1,21 +1,5 @@
 -- A message that is heard keeps the machines sound, and leaves those of other ports as they are.
-use Rattle.std.proofs.Common.{◌≡◌, ◌≢◌, ℕ, ◌+◌, ◌≤◌, Bool, true, false, cond, ◌&&◌, List, [], ◌∷◌, ◌++◌, Option, Some, None, eqb, refl, sym, ap, subst, ◌∙◌, arith}
-use Rattle.std.specs.declared.cmp.Ordering.TheVariants.{Less, Equal, Greater}
-use Rattle.std.proofs.lemmas.Bool.{false≢true, eqb-true, eq-eqb}
-use Rattle.pim_down.specs.declared.machines.key.What.{What}
-use Rattle.pim_down.specs.declared.machines.key.What.TheVariants.{Star, Source, Rpt}
-use Rattle.pim_down.specs.declared.machines.key.Key.{Key}
-use Rattle.pim_down.specs.declared.machines.machine.State.{State}
-use Rattle.pim_down.specs.declared.machines.machine.State.TheVariants.{Join, PrunePending, Prune, PruneTmp, PrunePendingTmp}
-use Rattle.pim_down.specs.declared.machines.machine.Machine.{Machine}
-use Rattle.pim_down.specs.Tables.{Start}
-use Rattle.pim_down.specs.declared.machines.machine.Record.{Record}
-use Rattle.pim_down.specs.Hearing.{Event}
-use Rattle.pim_down.specs.Key.{key_cmp, same_key}
-use Rattle.pim_down.specs.Tables.{join_in, on_join, prune_in, on_prune, on_star_join, on_rpt_prune, end_in, on_end}
-use Rattle.pim_down.specs.Records.{IsAscending, machine_at, recorded, at_rank, changed, each_changed, count_on}
-use Rattle.pim_down.specs.Hearing.{key_of, on_own, is_star_join, is_rpt_on, is_rpt_of, on_rpts, effect, act, act_all, at_end, hearing, count_new}
-use Rattle.pim_down.specs.Sound.{is_temporary, IsSettled}
+use Rattle.pim_down.proofs.Words.{◌≡◌, ◌≢◌, ℕ, ◌+◌, ◌≤◌, Bool, true, false, cond, ◌&&◌, List, [], ◌∷◌, ◌++◌, Option, Some, None, eqb, refl, sym, ap, subst, ◌∙◌, arith, Less, Equal, Greater, false≢true, eqb-true, eq-eqb, What, Star, Source, Rpt, Key, State, Join, PrunePending, Prune, PruneTmp, PrunePendingTmp, Machine, Start, Record, Event, key_cmp, same_key, join_in, on_join, prune_in, on_prune, on_star_join, on_rpt_prune, end_in, on_end, IsAscending, machine_at, recorded, at_rank, changed, each_changed, count_on, key_of, on_own, is_star_join, is_rpt_on, is_rpt_of, on_rpts, effect, act, act_all, at_end, hearing, count_new, is_temporary, IsSettled}
 use Rattle.pim_down.proofs.Order.{same_keys, equal_keys}
 use Rattle.pim_down.proofs.Act.{at_act, at_hearing_end, IsAscending-act, IsAscending-act_all}
 use Rattle.pim_down.proofs.Room.{room_on, room_elsewhere}

@@ -1,21 +1,5 @@
 -- What a call that hears a message leaves, whose records count from the moment 0.
-use Rattle.std.proofs.Common.{◌≡◌, ◌≢◌, ◌<◌, ℕ, List, Option, Result, Ok, Err, OnOk, OnErr, map, sym, ap, subst, ◌∙◌, arith}
-use Rattle.pim_addr.specs.declared.family.AddressFamily.{AddressFamily}
-use Rattle.pim_jp.specs.Message.{Message}
-use Rattle.pim_jp.specs.Canonical.{IsMessage}
-use Rattle.pim_down.specs.declared.machines.held.Held.{Held}
-use Rattle.pim_down.specs.declared.machines.key.Key.{Key}
-use Rattle.pim_down.specs.Tables.{Start}
-use Rattle.pim_down.specs.declared.machines.machine.Record.{Record}
-use Rattle.pim_down.specs.declared.machines.event.Timing.{Timing}
-use Rattle.pim_down.specs.declared.machines.fault.HearFault.{HearFault}
-use Rattle.pim_down.specs.Records.{IsAscending, machine_at}
-use Rattle.pim_down.specs.Hearing.{hearing, events_of, start_of, needed, count_new}
-use Rattle.pim_down.specs.Time.{Downstream, record_after}
-use Rattle.pim_down.specs.Sound.{IsSound}
-use Rattle.pim_down.specs.Heard.{heard, needed_for, new_for, IsWithin, MayWantMemory}
-use Rattle.pim_down.specs.Seen.{records_seen, shown}
-use Rattle.pim_down.specs.Running.{downstream_at, start_after}
+use Rattle.pim_down.proofs.Words.{◌≡◌, ◌≢◌, ◌<◌, ℕ, List, Option, Result, Ok, Err, OnOk, OnErr, map, sym, ap, subst, ◌∙◌, arith, AddressFamily, Message, IsMessage, Held, Key, Start, Record, Timing, HearFault, IsAscending, machine_at, hearing, events_of, start_of, needed, count_new, Downstream, record_after, IsSound, heard, needed_for, new_for, IsWithin, MayWantMemory, records_seen, shown, downstream_at, start_after}
 use Rattle.pim_down.proofs.Origin.{hearing_later, count_on_later, count_new_later}
 use Rattle.pim_down.proofs.Heard.{hearing_elsewhere}
 use Rattle.pim_down.proofs.SoundHeard.{sound_heard}

@@ -1,13 +1,5 @@
 -- Jumps from deadline to deadline, in records whose times count from the moment 0, are the run of milliseconds.
-use Rattle.std.proofs.Common.{◌≡◌, ℕ, ◌+◌, ◌-◌, ◌<◌, ◌≤◌, true, false, List, Option, Some, None, map, leb, max, refl, sym, ap, subst, ◌∙◌, arith}
-use Rattle.std.specs.Option.{is_some}
-use Rattle.std.proofs.lemmas.Bool.Decides.{nat_tests}
-use Rattle.pim_down.specs.declared.machines.held.Held.{Held}
-use Rattle.pim_down.specs.declared.machines.step.Step.{Step}
-use Rattle.pim_down.specs.Time.{Downstream, record_after, fired, ticks, is_due_after, IsQuietFor, IsNextDue}
-use Rattle.pim_down.specs.Ends.{AreLate, first_end, ends_by, weight}
-use Rattle.pim_down.specs.Seen.{records_seen, shown}
-use Rattle.pim_down.specs.Running.{downstream_at}
+use Rattle.pim_down.proofs.Words.{◌≡◌, ℕ, ◌+◌, ◌-◌, ◌<◌, ◌≤◌, true, false, List, Option, Some, None, map, leb, max, refl, sym, ap, subst, ◌∙◌, arith, is_some, nat_tests, Held, Step, Downstream, record_after, fired, ticks, is_due_after, IsQuietFor, IsNextDue, AreLate, first_end, ends_by, weight, records_seen, shown, downstream_at}
 use Rattle.pim_down.proofs.Time.{records_more, ticks_is, fired_by}
 use Rattle.pim_down.proofs.Late.{late_first}
 use Rattle.pim_down.proofs.FirstDue.{weight_fired, weight_later}

@@ -1,21 +1,5 @@
 -- Time keeps the machines sound.
-use Rattle.std.proofs.Common.{◌≡◌, ℕ, zero, suc, ◌+◌, ◌≤◌, Bool, true, false, cond, List, [], ◌∷◌, ◌++◌, Option, Some, None, option_map, map, ltb, refl, sym, ap, subst, ◌∙◌, arith}
-use Rattle.std.proofs.lemmas.Bool.{ltb-true}
-use Rattle.std.specs.List.{AllByRecursion}
-use Rattle.pim_addr.specs.declared.family.AddressFamily.{AddressFamily}
-use Rattle.pim_down.specs.declared.machines.held.Held.{Held}
-use Rattle.pim_down.specs.declared.machines.key.What.{What}
-use Rattle.pim_down.specs.declared.machines.key.What.TheVariants.{Star, Source, Rpt}
-use Rattle.pim_down.specs.declared.machines.key.Key.{Key}
-use Rattle.pim_down.specs.declared.machines.machine.Machine.{Machine}
-use Rattle.pim_down.specs.declared.machines.machine.Record.{Record}
-use Rattle.pim_down.specs.declared.machines.step.Step.{Step}
-use Rattle.pim_down.specs.declared.machines.step.Step.TheVariants.{Reached, Echo}
-use Rattle.pim_down.specs.Key.{same_key}
-use Rattle.pim_down.specs.Records.{IsBelow, IsAscending, machine_at, recorded, count_on, state_of_machine, state_of}
-use Rattle.pim_down.specs.Running.{downstream_at}
-use Rattle.pim_down.specs.Time.{Downstream, record_after, machine_after, tick, on_ppt, after_et, after_ppt, et_due, ppt_due, first_due, with_first, fire_et, fire_ppt, fired, echo_of, Outcome, rests, moves, echoes, with_records, told, turn_by, turn, run_on, run_within, Runs}
-use Rattle.pim_down.specs.Sound.{is_temporary, IsSettled, IsReal, IsSound}
+use Rattle.pim_down.proofs.Words.{◌≡◌, ℕ, zero, suc, ◌+◌, ◌≤◌, Bool, true, false, cond, List, [], ◌∷◌, ◌++◌, Option, Some, None, option_map, map, ltb, refl, sym, ap, subst, ◌∙◌, arith, ltb-true, AllByRecursion, AddressFamily, Held, What, Star, Source, Rpt, Key, Machine, Record, Step, Reached, Echo, same_key, IsBelow, IsAscending, machine_at, recorded, count_on, state_of_machine, state_of, downstream_at, Downstream, record_after, machine_after, tick, on_ppt, after_et, after_ppt, et_due, ppt_due, first_due, with_first, fire_et, fire_ppt, fired, echo_of, Outcome, rests, moves, echoes, with_records, told, turn_by, turn, run_on, run_within, Runs, is_temporary, IsSettled, IsReal, IsSound}
 use Rattle.pim_down.proofs.Real.{real_later, real_ppt}
 use Rattle.pim_down.proofs.Map.{IsBelow-recorded, IsAscending-recorded}
 

@@ -1,24 +1,5 @@
 -- No timer ends before a moment: what is left of that when timers fire and when a message is heard.
-use Rattle.std.proofs.Common.{◌≡◌, ℕ, zero, suc, ◌+◌, ◌<◌, ◌≤◌, Bool, true, false, List, [], ◌∷◌, ◌++◌, length, take, drop, get_or, Option, Some, None, Result, Ok, Err, OnOk, OnErr, cond, max, sym, ap, subst, arith}
-use Rattle.std.specs.List.{remove}
-use Rattle.std.specs.declared.cmp.Ordering.TheVariants.{Less, Equal, Greater}
-use Rattle.std.proofs.lemmas.Bool.Decides.{nat_tests}
-use Rattle.pim_down.specs.declared.machines.held.Held.{Held}
-use Rattle.pim_down.specs.declared.machines.key.Key.{Key}
-use Rattle.pim_down.specs.declared.machines.key.What.{What}
-use Rattle.pim_down.specs.declared.machines.key.What.TheVariants.{Star, Source, Rpt}
-use Rattle.pim_down.specs.declared.machines.machine.State.{State}
-use Rattle.pim_down.specs.declared.machines.machine.State.TheVariants.{Join, PrunePending, Prune, PruneTmp, PrunePendingTmp}
-use Rattle.pim_down.specs.declared.machines.machine.Machine.{Machine}
-use Rattle.pim_down.specs.declared.machines.machine.Record.{Record}
-use Rattle.pim_down.specs.declared.machines.fault.HearFault.{HearFault}
-use Rattle.pim_down.specs.Key.{key_cmp}
-use Rattle.pim_down.specs.Records.{recorded, at_rank, changed, each_changed}
-use Rattle.pim_down.specs.Tables.{Start, greater, on_join, join_in, on_prune, prune_in, on_rpt_prune, rpt_prune_in, on_star_join, star_join_in, on_end, end_in}
-use Rattle.pim_down.specs.Hearing.{Event, key_of, on_own, is_star_join, is_rpt_on, is_rpt_of, on_rpts, at_end, act, act_all, hearing}
-use Rattle.pim_down.specs.Time.{on_ppt, after_ppt}
-use Rattle.pim_down.specs.Ends.{sooner, pending_end, first_end, ends_by, IsQuietUntil, IsLate, AreLate, IsLateStart}
-use Rattle.pim_down.specs.Seen.{record_seen, records_seen}
+use Rattle.pim_down.proofs.Words.{◌≡◌, ℕ, zero, suc, ◌+◌, ◌<◌, ◌≤◌, Bool, true, false, List, [], ◌∷◌, ◌++◌, length, take, drop, get_or, Option, Some, None, Result, Ok, Err, OnOk, OnErr, cond, max, sym, ap, subst, arith, remove, Less, Equal, Greater, nat_tests, Held, Key, What, Star, Source, Rpt, State, Join, PrunePending, Prune, PruneTmp, PrunePendingTmp, Machine, Record, HearFault, key_cmp, recorded, at_rank, changed, each_changed, Start, greater, on_join, join_in, on_prune, prune_in, on_rpt_prune, rpt_prune_in, on_star_join, star_join_in, on_end, end_in, Event, key_of, on_own, is_star_join, is_rpt_on, is_rpt_of, on_rpts, at_end, act, act_all, hearing, on_ppt, after_ppt, sooner, pending_end, first_end, ends_by, IsQuietUntil, IsLate, AreLate, IsLateStart, record_seen, records_seen}
 
 -- ---- the first end
 

@@ -1,3 +1,4 @@
+pub mod Words
 pub mod Order
 pub mod InOrder
 pub mod Deadlines

@@ -1,25 +1,6 @@
 -- Events that stand in a list of their own, one after another.
-use Rattle.std.proofs.Common.{◌≡◌, ℕ, suc, ◌+◌, ◌<◌, ◌≤◌, Bool, true, false, List, [], ◌∷◌, ◌++◌, Option, length, map, take, drop, get_or, ltb, refl, sym, ap, subst, ◌∙◌, arith}
-use Rattle.std.specs.List.{list_any}
-use Rattle.std.specs.Borrow.{Bor}
-use Rattle.std.specs.Fn.{Mut, Called, ComparesAs}
-use Rattle.std.specs.declared.cmp.Ordering.{Ordering}
-use Rattle.std.specs.Ordering.{is_lt}
-use Rattle.std.specs.Cmp.{IsStrictWeakOrder}
-use Rattle.std.specs.List.Sorted.{IsStableBy}
-use Rattle.std.proofs.lemmas.Bool.{ltb-true, ltb-false}
-use Rattle.std.proofs.lemmas.Fn.{always_returns_same}
-use Rattle.std.proofs.lemmas.List.Sorted.{ranks_by}
-use Rattle.std.proofs.lemmas.List.{append_assoc, append-nil, drop_more, drop_all, length-map, get_or-map, take-map, take_more, drop-append-le, length-take, map-append}
-use Rattle.pim_jp.specs.Message.{GroupSet}
+use Rattle.pim_down.proofs.Words.{◌≡◌, ℕ, suc, ◌+◌, ◌<◌, ◌≤◌, Bool, true, false, List, [], ◌∷◌, ◌++◌, Option, length, map, take, drop, get_or, ltb, refl, sym, ap, subst, ◌∙◌, arith, list_any, Bor, Mut, Called, ComparesAs, Ordering, is_lt, IsStrictWeakOrder, IsStableBy, ltb-true, ltb-false, always_returns_same, ranks_by, append_assoc, append-nil, drop_more, drop_all, length-map, get_or-map, take-map, take_more, drop-append-le, length-take, map-append, GroupSet, Record, Start, Event, list_events, act_all, is_star_join, Key, key_cmp, is_of_rpts_of, ComeFirstBehind, StarsComeFirst, event_seen}
 use Rattle.pim_down.specs.declared.machines.event.Event.{Event as EventOf}
-use Rattle.pim_down.specs.declared.machines.machine.Record.{Record}
-use Rattle.pim_down.specs.Tables.{Start}
-use Rattle.pim_down.specs.Hearing.{Event, list_events, act_all, is_star_join}
-use Rattle.pim_down.specs.declared.machines.key.Key.{Key}
-use Rattle.pim_down.specs.Key.{key_cmp}
-use Rattle.pim_down.specs.Ordered.{is_of_rpts_of, ComeFirstBehind, StarsComeFirst}
-use Rattle.pim_down.specs.Seen.{event_seen}
 use Rattle.pim_down.proofs.Order.{key_total}
 use Rattle.pim_down.proofs.Events.{sets_events}
 

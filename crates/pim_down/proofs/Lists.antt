@@ -1,12 +1,5 @@
 -- What edits of a list of records leave, as a contract sees them.
-use Rattle.std.proofs.Common.{◌≡◌, ℕ, suc, ◌+◌, ◌<◌, List, ◌∷◌, ◌++◌, Option, Some, None, map, length, take, drop, set, get_or, sym, ap, ◌∙◌, arith, add-one}
-use Rattle.std.specs.List.{insert, remove}
-use Rattle.std.proofs.lemmas.List.{map-append, take-map, drop-map, set_split, get_or-map}
-use Rattle.pim_down.specs.declared.machines.held.Held.{Held}
-use Rattle.pim_down.specs.declared.machines.key.Key.{Key}
-use Rattle.pim_down.specs.declared.machines.held.Timed.{Timed}
-use Rattle.pim_down.specs.Records.{recorded}
-use Rattle.pim_down.specs.Seen.{machine_seen, key_seen, record_seen, records_seen}
+use Rattle.pim_down.proofs.Words.{◌≡◌, ℕ, suc, ◌+◌, ◌<◌, List, ◌∷◌, ◌++◌, Option, Some, None, map, length, take, drop, set, get_or, sym, ap, ◌∙◌, arith, add-one, insert, remove, map-append, take-map, drop-map, set_split, get_or-map, Held, Key, Timed, recorded, machine_seen, key_seen, record_seen, records_seen}
 
 module _ {X Y : Type 0} (f : X → Y) where
   map_parts : (xs ys : List X) (x : X) → map f (xs ++ x ∷ ys) ≡ map f xs ++ f x ∷ map f ys

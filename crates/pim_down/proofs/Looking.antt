@@ -1,12 +1,5 @@
 -- Going from place to place of a list, up to the first record that passes a test.
-use Rattle.std.proofs.Common.{◌≡◌, ◌↔◌, IsTrue, ℕ, ◌+◌, ◌<◌, ◌≤◌, Bool, true, false, cond, List, [], ◌∷◌, Option, Some, None, length, drop, get_or, ltb, refl, sym, ap, ◌∙◌, arith}
-use Rattle.std.specs.List.{position, slice_get}
-use Rattle.std.proofs.lemmas.Bool.{false≢true, ltb-true, ltb-false, lt-ltb}
-use Rattle.std.proofs.lemmas.List.{get_or-drop, length-drop}
-use Rattle.std.proofs.lemmas.List.Sums.{position_or_len_is}
-use Rattle.std.proofs.lemmas.Option.{slice_get_past, slice_get-get_or}
-use Rattle.sorted_blocks.specs.declared.place.Place.{Place}
-use Rattle.sorted_slab.specs.Listed.{Listed, at, IsItem}
+use Rattle.pim_down.proofs.Words.{◌≡◌, ◌↔◌, IsTrue, ℕ, ◌+◌, ◌<◌, ◌≤◌, Bool, true, false, cond, List, [], ◌∷◌, Option, Some, None, length, drop, get_or, ltb, refl, sym, ap, ◌∙◌, arith, position, slice_get, false≢true, ltb-true, ltb-false, lt-ltb, get_or-drop, length-drop, position_or_len_is, slice_get_past, slice_get-get_or, Place, Listed, at, IsItem}
 pub use Rattle.pim_down.specs.Store.{NoneBefore}
 use Rattle.pim_down.proofs.Rpts.{same_default}
 

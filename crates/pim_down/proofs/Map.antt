@@ -1,12 +1,5 @@
 -- The changes of records in ascending order: what each leaves at every key, and that the order stays.
-use Rattle.std.proofs.Common.{◌≡◌, ℕ, true, false, cond, List, [], ◌∷◌, ◌++◌, Option, Some, None, refl, sym, ap, subst, ◌∙◌}
-use Rattle.std.specs.declared.cmp.Ordering.TheVariants.{Less, Equal, Greater}
-use Rattle.std.specs.Ordering.{is_eq}
-use Rattle.pim_down.specs.declared.machines.key.Key.{Key}
-use Rattle.pim_down.specs.declared.machines.machine.Machine.{Machine}
-use Rattle.pim_down.specs.declared.machines.machine.Record.{Record}
-use Rattle.pim_down.specs.Key.{key_cmp, same_key}
-use Rattle.pim_down.specs.Records.{IsBelow, IsAscending, machine_at, recorded, at_rank, changed, each_changed}
+use Rattle.pim_down.proofs.Words.{◌≡◌, ℕ, true, false, cond, List, [], ◌∷◌, ◌++◌, Option, Some, None, refl, sym, ap, subst, ◌∙◌, Less, Equal, Greater, is_eq, Key, Machine, Record, key_cmp, same_key, IsBelow, IsAscending, machine_at, recorded, at_rank, changed, each_changed}
 use Rattle.pim_down.proofs.Order.{key_total, equal_keys, same_keys, same_itself, less_differs, greater_differs, greater_back}
 
 -- ---- below

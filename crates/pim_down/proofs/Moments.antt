@@ -1,10 +1,5 @@
 -- The order of records after a timer has fired.
-use Rattle.std.proofs.Common.{◌≡◌, ℕ, List, Some}
-use Rattle.pim_down.specs.declared.machines.held.Held.{Held}
-use Rattle.pim_down.specs.declared.machines.step.Step.{Step}
-use Rattle.pim_down.specs.Records.{IsAscending}
-use Rattle.pim_down.specs.Time.{fired}
-use Rattle.pim_down.specs.Seen.{records_seen, shown}
+use Rattle.pim_down.proofs.Words.{◌≡◌, ℕ, List, Some, Held, Step, IsAscending, fired, records_seen, shown}
 use Rattle.pim_down.proofs.Kept.{kept_later, kept_fired, ascending_back}
 
 module _ {A : Type 0} (bytes_of : A → List ℕ) (now : ℕ) where

@@ -1,17 +1,5 @@
 -- The timers of one kind of records with numbers, while records come, go and change.
-use Rattle.std.proofs.Common.{◌≡◌, ℕ, zero, suc, ◌+◌, ◌-◌, ◌*◌, ◌<◌, ◌≤◌, List, [], ◌∷◌, Option, Some, None, option_map, map, length, get_or, set, refl, sym, ap, subst, ◌∙◌, arith}
-use Rattle.std.specs.List.{insert, remove, AllByRecursion}
-use Rattle.std.proofs.lemmas.List.{length-map, length-set}
-use Rattle.slab.specs.Slab.{Slab, get}
-use Rattle.sorted_slab.specs.Listed.{Listed, numbers}
-use Rattle.pim_down.specs.declared.records.deadline.Alarm.{Alarm}
-use Rattle.pim_down.specs.declared.records.deadline.TimerKind.{TimerKind}
-use Rattle.pim_down.specs.declared.records.deadline.TimerKind.TheVariants.{PendingTimer, ExpiryTimer}
-use Rattle.pim_down.specs.declared.machines.held.Held.{Held}
-use Rattle.pim_down.specs.declared.machines.held.Timed.{Timed}
-use Rattle.pim_down.specs.declared.machines.key.Key.{Key}
-use Rattle.pim_down.specs.Schedule.{IsInOrder, Numbered, alarm_cmp, alarm_of, end_of, with_alarm, with_its, numbered, AreKnown, AlarmList, IsTimed}
-use Rattle.pim_down.specs.Seen.{timed_seen, key_seen, records_seen}
+use Rattle.pim_down.proofs.Words.{◌≡◌, ℕ, zero, suc, ◌+◌, ◌-◌, ◌*◌, ◌<◌, ◌≤◌, List, [], ◌∷◌, Option, Some, None, option_map, map, length, get_or, set, refl, sym, ap, subst, ◌∙◌, arith, insert, remove, AllByRecursion, length-map, length-set, Slab, get, Listed, numbers, Alarm, TimerKind, PendingTimer, ExpiryTimer, Held, Timed, Key, IsInOrder, Numbered, alarm_cmp, alarm_of, end_of, with_alarm, with_its, numbered, AreKnown, AlarmList, IsTimed, timed_seen, key_seen, records_seen}
 use Rattle.pim_down.proofs.InOrder.{placed_swap, order_placed, length_placed}
 use Rattle.pim_down.proofs.AlarmOrder.{alarm_total, same_alarm, all_placed, known_rest}
 

@@ -1,25 +1,5 @@
 -- The records of one port stand together.
-use Rattle.std.proofs.Common.{◌≡◌, ℕ, zero, suc, ◌+◌, ◌<◌, ◌≤◌, Bool, true, false, ◌&&◌, cond, List, [], ◌∷◌, map, length, take, drop, get_or, eqb, ltb, refl, sym, ap, subst, ◌∙◌, arith}
-use Rattle.std.specs.declared.cmp.Ordering.{Ordering}
-use Rattle.std.specs.declared.cmp.Ordering.TheVariants.{Less, Greater}
-use Rattle.std.specs.Ordering.{ordering_then, nat_cmp}
-use Rattle.std.specs.Cmp.{nat_cmp_is}
-use Rattle.std.specs.List.{filter, AllByRecursion}
-use Rattle.std.specs.List.Sorted.{IsNonDecreasingBy, IsPartitionPoint}
-use Rattle.std.proofs.lemmas.List.Sorted.{IsNonDecreasingBy-drop}
-use Rattle.pim_addr.specs.declared.family.AddressFamily.{AddressFamily}
-use Rattle.std.proofs.lemmas.Bool.{ltb-true, ltb-false}
-use Rattle.std.proofs.lemmas.Bool.Decides.{nat_tests}
-use Rattle.std.proofs.lemmas.List.{get_or-drop, length-drop, length-map}
-use Rattle.pim_down.specs.declared.machines.held.Held.{Held}
-use Rattle.pim_down.specs.declared.machines.key.Key.{Key}
-use Rattle.pim_down.specs.declared.machines.machine.Record.{Record}
-use Rattle.pim_down.specs.Hearing.{is_rpt, is_rpt_on, rpt_count_on}
-use Rattle.pim_down.specs.Key.{address_cmp, what_cmp, key_cmp}
-use Rattle.pim_down.specs.Records.{IsBelow, IsAscending, count_on, is_on}
-use Rattle.pim_down.specs.Time.{record_after}
-use Rattle.pim_down.specs.Seen.{record_seen, records_seen}
-use Rattle.pim_down.specs.Sound.{IsReal}
+use Rattle.pim_down.proofs.Words.{◌≡◌, ℕ, zero, suc, ◌+◌, ◌<◌, ◌≤◌, Bool, true, false, ◌&&◌, cond, List, [], ◌∷◌, map, length, take, drop, get_or, eqb, ltb, refl, sym, ap, subst, ◌∙◌, arith, Ordering, Less, Greater, ordering_then, nat_cmp, nat_cmp_is, filter, AllByRecursion, IsNonDecreasingBy, IsPartitionPoint, IsNonDecreasingBy-drop, AddressFamily, ltb-true, ltb-false, nat_tests, get_or-drop, length-drop, length-map, Held, Key, Record, is_rpt, is_rpt_on, rpt_count_on, address_cmp, what_cmp, key_cmp, IsBelow, IsAscending, count_on, is_on, record_after, record_seen, records_seen, IsReal}
 use Rattle.pim_down.proofs.Each.{seen_filter}
 
 -- ---- ports don't fall

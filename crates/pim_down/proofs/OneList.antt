@@ -1,13 +1,5 @@
 -- A map has one list in key order.
-use Rattle.std.proofs.Common.{◌≡◌, ℕ, true, false, List, [], ◌∷◌, Option, Some, None, refl, sym, ap, subst, ◌∙◌}
-use Rattle.std.specs.declared.cmp.Ordering.TheVariants.{Less, Equal, Greater}
-use Rattle.std.specs.Option.{is_some}
-use Rattle.std.proofs.lemmas.Bool.{false≢true}
-use Rattle.pim_down.specs.declared.machines.key.Key.{Key}
-use Rattle.pim_down.specs.declared.machines.machine.Machine.{Machine}
-use Rattle.pim_down.specs.declared.machines.machine.Record.{Record}
-use Rattle.pim_down.specs.Key.{key_cmp, same_key}
-use Rattle.pim_down.specs.Records.{IsBelow, IsAscending, machine_at, changed}
+use Rattle.pim_down.proofs.Words.{◌≡◌, ℕ, true, false, List, [], ◌∷◌, Option, Some, None, refl, sym, ap, subst, ◌∙◌, Less, Equal, Greater, is_some, false≢true, Key, Machine, Record, key_cmp, same_key, IsBelow, IsAscending, machine_at, changed}
 use Rattle.pim_down.proofs.Order.{equal_keys, same_keys, same_itself, greater_back}
 use Rattle.pim_down.proofs.Map.{IsBelow-trans, none_below, at_changed, at_other_changed}
 

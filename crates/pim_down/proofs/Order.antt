@@ -1,16 +1,5 @@
 -- The order of keys is total, and tells no two of them alike.
-use Rattle.std.proofs.Common.{◌≡◌, ◌↔◌, ℕ, true, false, List, refl, ap, subst, ◌∙◌}
-use Rattle.std.specs.declared.cmp.Ordering.{Ordering}
-use Rattle.std.specs.declared.cmp.Ordering.TheVariants.{Less, Equal, Greater}
-use Rattle.std.specs.Ordering.{ordering_then, is_eq, ordering_reverse, nat_cmp}
-use Rattle.std.specs.Cmp.{IsTotalOrder}
-use Rattle.std.specs.FinMap.{slice_cmp-IsAntisymmetric, nat_cmp-IsAntisymmetric}
-use Rattle.std.proofs.lemmas.Cmp.{nat_cmp_total, nat_list_cmp_total, on_total, then_total, tied_itself}
-use Rattle.std.proofs.lemmas.Bool.{false≢true}
-use Rattle.pim_down.specs.declared.machines.key.What.{What}
-use Rattle.pim_down.specs.declared.machines.key.What.TheVariants.{Star, Source, Rpt}
-use Rattle.pim_down.specs.declared.machines.key.Key.{Key}
-use Rattle.pim_down.specs.Key.{rank, source_of, address_cmp, what_cmp, key_cmp, same_key}
+use Rattle.pim_down.proofs.Words.{◌≡◌, ◌↔◌, ℕ, true, false, List, refl, ap, subst, ◌∙◌, Ordering, Less, Equal, Greater, ordering_then, is_eq, ordering_reverse, nat_cmp, IsTotalOrder, slice_cmp-IsAntisymmetric, nat_cmp-IsAntisymmetric, nat_cmp_total, nat_list_cmp_total, on_total, then_total, tied_itself, false≢true, What, Star, Source, Rpt, Key, rank, source_of, address_cmp, what_cmp, key_cmp, same_key}
 
 pub key_total : IsTotalOrder key_cmp
 unfolding key_cmp what_cmp

@@ -1,23 +1,5 @@
 -- A message does the same, from whatever moment the times are counted.
-use Rattle.std.proofs.Common.{◌≡◌, ℕ, ◌+◌, ◌-◌, Bool, true, false, cond, List, [], ◌∷◌, ◌++◌, Option, Some, None, map, max, eqb, refl, ap, ◌∙◌, arith}
-use Rattle.std.specs.declared.cmp.Ordering.TheVariants.{Less, Equal, Greater}
-use Rattle.std.specs.Option.{is_some}
-use Rattle.std.proofs.lemmas.List.{map-append}
-use Rattle.pim_down.specs.declared.machines.key.What.{What}
-use Rattle.pim_down.specs.declared.machines.key.What.TheVariants.{Star, Source, Rpt}
-use Rattle.pim_down.specs.declared.machines.key.Key.{Key}
-use Rattle.pim_down.specs.declared.machines.machine.State.{State}
-use Rattle.pim_down.specs.declared.machines.machine.State.TheVariants.{Join, PrunePending, Prune, PruneTmp, PrunePendingTmp}
-use Rattle.pim_down.specs.declared.machines.machine.Machine.{Machine}
-use Rattle.pim_down.specs.Tables.{Start}
-use Rattle.pim_down.specs.declared.machines.machine.Record.{Record}
-use Rattle.pim_down.specs.Hearing.{Event}
-use Rattle.pim_down.specs.Key.{key_cmp, same_key}
-use Rattle.pim_down.specs.Tables.{greater, join_in, on_join, prune_in, on_prune, star_join_in, on_star_join, rpt_prune_in, on_rpt_prune, end_in, on_end}
-use Rattle.pim_down.specs.Records.{machine_at, recorded, at_rank, changed, each_changed, count_on}
-use Rattle.pim_down.specs.Hearing.{key_of, on_own, is_star_join, is_rpt_on, is_rpt_of, on_rpts, act, act_all, at_end, hearing, count_new}
-use Rattle.pim_down.specs.Time.{expiry_after, machine_after, record_after}
-use Rattle.pim_down.specs.Running.{start_after}
+use Rattle.pim_down.proofs.Words.{◌≡◌, ℕ, ◌+◌, ◌-◌, Bool, true, false, cond, List, [], ◌∷◌, ◌++◌, Option, Some, None, map, max, eqb, refl, ap, ◌∙◌, arith, Less, Equal, Greater, is_some, map-append, What, Star, Source, Rpt, Key, State, Join, PrunePending, Prune, PruneTmp, PrunePendingTmp, Machine, Start, Record, Event, key_cmp, same_key, greater, join_in, on_join, prune_in, on_prune, star_join_in, on_star_join, rpt_prune_in, on_rpt_prune, end_in, on_end, machine_at, recorded, at_rank, changed, each_changed, count_on, key_of, on_own, is_star_join, is_rpt_on, is_rpt_of, on_rpts, act, act_all, at_end, hearing, count_new, expiry_after, machine_after, record_after, start_after}
 
 abbrev option_after : ℕ → Option Machine → Option Machine
 option_after k None = None

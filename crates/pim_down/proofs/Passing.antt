@@ -1,13 +1,5 @@
 -- The machines of a group on a port, one after another.
-use Rattle.std.proofs.Common.{◌≡◌, ℕ, ◌+◌, ◌<◌, ◌≤◌, Bool, true, false, List, length, get_or, ltb, refl, sym, ap, ◌∙◌, arith}
-use Rattle.std.specs.Ordering.{is_le}
-use Rattle.std.specs.List.Sorted.{IsPartitionPoint}
-use Rattle.std.proofs.lemmas.Bool.{ltb-true, ltb-false}
-use Rattle.pim_down.specs.declared.machines.held.Held.{Held}
-use Rattle.pim_down.specs.Key.{key_cmp}
-use Rattle.pim_down.specs.After.{is_up_to}
-use Rattle.pim_down.specs.Records.{IsAscending}
-use Rattle.pim_down.specs.Seen.{key_seen, records_seen}
+use Rattle.pim_down.proofs.Words.{◌≡◌, ℕ, ◌+◌, ◌<◌, ◌≤◌, Bool, true, false, List, length, get_or, ltb, refl, sym, ap, ◌∙◌, arith, is_le, IsPartitionPoint, ltb-true, ltb-false, Held, key_cmp, is_up_to, IsAscending, key_seen, records_seen}
 use Rattle.pim_down.proofs.Order.{key_itself, less_back}
 use Rattle.pim_down.proofs.Rpts.{same_default}
 use Rattle.pim_down.proofs.Searched.{rise_at}

@@ -1,14 +1,5 @@
 -- Going through records in key order, up to the place of a key.
-use Rattle.std.proofs.Common.{◌≡◌, ℕ, ◌+◌, ◌<◌, cond, List, [], ◌∷◌, ◌++◌, Option, Some, None, length, take, drop, get_or, refl, sym, ap, subst, ◌∙◌, arith}
-use Rattle.std.specs.declared.cmp.Ordering.{Ordering}
-use Rattle.std.specs.declared.cmp.Ordering.TheVariants.{Less, Equal, Greater}
-use Rattle.std.proofs.lemmas.List.{drop_more, drop_all, take_more, append_assoc, append-nil}
-use Rattle.pim_down.specs.declared.machines.key.Key.{Key}
-use Rattle.pim_down.specs.declared.machines.machine.Machine.{Machine}
-use Rattle.pim_down.specs.declared.machines.machine.Record.{Record}
-use Rattle.pim_down.specs.Key.{key_cmp, same_key}
-use Rattle.pim_down.specs.Records.{IsBelow, IsAscending, machine_at, recorded, at_rank, changed}
-use Rattle.pim_down.specs.Places.{StandsAt, WouldStandAt}
+use Rattle.pim_down.proofs.Words.{◌≡◌, ℕ, ◌+◌, ◌<◌, cond, List, [], ◌∷◌, ◌++◌, Option, Some, None, length, take, drop, get_or, refl, sym, ap, subst, ◌∙◌, arith, Ordering, Less, Equal, Greater, drop_more, drop_all, take_more, append_assoc, append-nil, Key, Machine, Record, key_cmp, same_key, IsBelow, IsAscending, machine_at, recorded, at_rank, changed, StandsAt, WouldStandAt}
 use Rattle.pim_down.proofs.Order.{equal_keys, same_itself, greater_differs}
 use Rattle.pim_down.proofs.Map.{IsBelow-trans, none_below}
 

@@ -1,16 +1,6 @@
 -- Records side by side whose Expiry Timers are put off, and the timers of these records.
-use Rattle.std.proofs.Common.{◌≡◌, ℕ, zero, suc, ◌+◌, ◌<◌, ◌≤◌, List, [], ◌∷◌, ◌++◌, Some, map, length, take, drop, get_or, set, refl, sym, ap, subst, ◌∙◌, arith, add-one, append_assoc, length-append, length-drop}
-use Rattle.std.specs.List.{All, AllByRecursion}
-use Rattle.std.proofs.lemmas.List.{drop-drop, take-append-drop, length-take-le, length-map}
-use Rattle.std.proofs.lemmas.List.Elements.{recursion_from_All}
-use Rattle.slab.specs.Slab.{Slab, get}
-use Rattle.pim_down.specs.declared.records.deadline.Alarm.{Alarm}
-use Rattle.pim_down.specs.declared.records.deadline.TimerKind.{TimerKind}
-use Rattle.pim_down.specs.declared.records.deadline.TimerKind.TheVariants.{PendingTimer, ExpiryTimer}
-use Rattle.pim_down.specs.declared.machines.held.Held.{Held}
-use Rattle.pim_down.specs.PutOff.{put_off, put_off_from, with_run}
-use Rattle.pim_down.specs.Schedule.{Numbered, alarm_of, end_of, with_alarm, with_its, numbered, AreKnown}
-use Rattle.pim_down.specs.Seen.{timed_seen, key_seen}
+use Rattle.pim_down.proofs.Words.{◌≡◌, ℕ, zero, suc, ◌+◌, ◌<◌, ◌≤◌, List, [], ◌∷◌, ◌++◌, Some, map, length, take, drop, get_or, set, refl, sym, ap, subst, ◌∙◌, arith, add-one, length-append, All, AllByRecursion, drop-drop, take-append-drop, length-take-le, length-map, recursion_from_All, Slab, get, Alarm, TimerKind, PendingTimer, ExpiryTimer, Held, put_off, put_off_from, with_run, Numbered, alarm_of, end_of, with_alarm, with_its, numbered, AreKnown, timed_seen, key_seen}
+use Rattle.std.proofs.Common.{append_assoc, length-drop}
 use Rattle.pim_down.proofs.Numbered.{timers, alarm_swap, known_timers}
 
 -- ---- lists

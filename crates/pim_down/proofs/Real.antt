@@ -1,30 +1,7 @@
 -- The records that are held are real: their ports are there, their addresses those of their kinds, and their states and
 -- timers go together.
-use Rattle.std.proofs.Common.{◌≡◌, ℕ, ◌<◌, ◌≤◌, Bool, true, false, cond, ◌&&◌, not, List, [], ◌∷◌, ◌++◌, Option, Some, None, map, refl, sym, ap, subst, ◌∙◌, arith}
-use Rattle.std.specs.declared.cmp.Ordering.TheVariants.{Less, Equal, Greater}
-use Rattle.std.specs.Option.{is_some}
-use Rattle.std.specs.List.{AllByRecursion, flat_map}
-use Rattle.std.proofs.lemmas.Bool.{false≢true}
-use Rattle.pim_addr.specs.Address.{IsGroupAddress}
-use Rattle.pim_addr.specs.declared.family.AddressFamily.{AddressFamily}
-use Rattle.pim_jp.specs.declared.entry.Entry.{Entry}
+use Rattle.pim_down.proofs.Words.{◌≡◌, ℕ, ◌<◌, ◌≤◌, Bool, true, false, cond, ◌&&◌, not, List, [], ◌∷◌, ◌++◌, Option, Some, None, map, refl, sym, ap, subst, ◌∙◌, arith, Less, Equal, Greater, is_some, AllByRecursion, flat_map, false≢true, IsGroupAddress, AddressFamily, Entry, GroupSet, Message, IsMessageEntry, IsMessageSet, IsMessage, What, Star, Source, Rpt, Key, State, Join, PrunePending, Prune, PruneTmp, PrunePendingTmp, Pending, Machine, Record, key_cmp, same_key, Start, join_in, on_join, prune_in, on_prune, star_join_in, on_star_join, rpt_prune_in, on_rpt_prune, end_in, on_end, machine_at, recorded, at_rank, changed, each_changed, Event, is_known, entry_events, list_events, set_events, events_of, key_of, on_own, is_rpt, is_star_join, is_rpt_on, is_rpt_of, on_rpts, act, act_all, at_end, hearing, pending_after, record_after, on_ppt, is_temporary, IsSettled, HasSource, joined_or_pending, has_state, is_pending, IsReal}
 use Rattle.pim_jp.specs.declared.entry.Entry.TheVariants as entry
-use Rattle.pim_jp.specs.Message.{GroupSet, Message}
-use Rattle.pim_jp.specs.Canonical.{IsMessageEntry, IsMessageSet, IsMessage}
-use Rattle.pim_down.specs.declared.machines.key.What.{What}
-use Rattle.pim_down.specs.declared.machines.key.What.TheVariants.{Star, Source, Rpt}
-use Rattle.pim_down.specs.declared.machines.key.Key.{Key}
-use Rattle.pim_down.specs.declared.machines.machine.State.{State}
-use Rattle.pim_down.specs.declared.machines.machine.State.TheVariants.{Join, PrunePending, Prune, PruneTmp, PrunePendingTmp}
-use Rattle.pim_down.specs.declared.machines.machine.Pending.{Pending}
-use Rattle.pim_down.specs.declared.machines.machine.Machine.{Machine}
-use Rattle.pim_down.specs.declared.machines.machine.Record.{Record}
-use Rattle.pim_down.specs.Key.{key_cmp, same_key}
-use Rattle.pim_down.specs.Tables.{Start, join_in, on_join, prune_in, on_prune, star_join_in, on_star_join, rpt_prune_in, on_rpt_prune, end_in, on_end}
-use Rattle.pim_down.specs.Records.{machine_at, recorded, at_rank, changed, each_changed}
-use Rattle.pim_down.specs.Hearing.{Event, is_known, entry_events, list_events, set_events, events_of, key_of, on_own, is_rpt, is_star_join, is_rpt_on, is_rpt_of, on_rpts, act, act_all, at_end, hearing}
-use Rattle.pim_down.specs.Time.{pending_after, record_after, on_ppt}
-use Rattle.pim_down.specs.Sound.{is_temporary, IsSettled, HasSource, joined_or_pending, has_state, is_pending, IsReal}
 use Rattle.pim_down.proofs.Order.{equal_keys, same_keys}
 use Rattle.pim_down.proofs.Heard.{settled_hearing}
 

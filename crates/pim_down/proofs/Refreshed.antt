@@ -1,31 +1,7 @@
 -- A run of refreshes does what its entries do, one after another.
-use Rattle.std.proofs.Common.{◌≡◌, ℕ, zero, suc, ◌+◌, ◌<◌, ◌≤◌, max, Bool, true, false, ◌&&◌, eqb, List, [], ◌∷◌, ◌++◌, Option, None, Some, map, length, take, drop, refl, sym, ap, subst, ◌∙◌, arith}
-use Rattle.std.specs.List.{All}
-use Rattle.std.specs.Cmp.Lexicographic.{pointwise, same_text}
-use Rattle.std.specs.declared.cmp.Ordering.TheVariants.{Less, Equal, Greater}
-use Rattle.std.proofs.lemmas.Bool.{false≢true, eqb-true}
-use Rattle.std.proofs.lemmas.List.{append_assoc, map-append, take-append-drop, take-map, drop-map, drop-drop, length-map, length-drop}
-use Rattle.std.proofs.lemmas.List.Elements.{All-cons, All-nil}
-use Rattle.pim_jp.specs.declared.entry.Entry.{Entry}
+use Rattle.pim_down.proofs.Words.{◌≡◌, ℕ, zero, suc, ◌+◌, ◌<◌, ◌≤◌, max, Bool, true, false, ◌&&◌, eqb, List, [], ◌∷◌, ◌++◌, Option, None, Some, map, length, take, drop, refl, sym, ap, subst, ◌∙◌, arith, All, pointwise, same_text, Less, Equal, Greater, false≢true, eqb-true, append_assoc, map-append, take-append-drop, take-map, drop-map, drop-drop, length-map, length-drop, All-cons, All-nil, Entry, Held, What, Star, Source, Rpt, Key, State, Join, PrunePending, Prune, PruneTmp, PrunePendingTmp, Machine, Record, Start, on_join, greater, key_cmp, IsBelow, IsAscending, recorded, changed, at_rank, Event, entry_events, list_events, act, act_all, record_seen, records_seen, put_off, put_off_from, is_of_source, is_source_of, is_join, is_time, is_joined_until, names_joined, AreJoinedUntil, flat_map-append, HasRoom}
 use Rattle.pim_jp.specs.declared.entry.Entry.TheVariants as entry
-use Rattle.pim_down.specs.declared.machines.held.Held.{Held}
-use Rattle.pim_down.specs.declared.machines.key.What.{What}
-use Rattle.pim_down.specs.declared.machines.key.What.TheVariants.{Star, Source, Rpt}
-use Rattle.pim_down.specs.declared.machines.key.Key.{Key}
-use Rattle.pim_down.specs.declared.machines.machine.State.{State}
-use Rattle.pim_down.specs.declared.machines.machine.State.TheVariants.{Join, PrunePending, Prune, PruneTmp, PrunePendingTmp}
-use Rattle.pim_down.specs.declared.machines.machine.Machine.{Machine}
-use Rattle.pim_down.specs.declared.machines.machine.Record.{Record}
-use Rattle.pim_down.specs.Tables.{Start, on_join, greater}
-use Rattle.pim_down.specs.Key.{key_cmp}
-use Rattle.pim_down.specs.Records.{IsBelow, IsAscending, recorded, changed, at_rank}
-use Rattle.pim_down.specs.Hearing.{Event, entry_events, list_events, act, act_all}
-use Rattle.pim_down.specs.Seen.{record_seen, records_seen}
-use Rattle.pim_down.specs.PutOff.{put_off, put_off_from}
-use Rattle.pim_down.specs.Refresh.{is_of_source, is_source_of, is_join, is_time, is_joined_until, names_joined, AreJoinedUntil}
 use Rattle.pim_down.proofs.Order.{key_itself, less_back}
-use Rattle.std.proofs.lemmas.Grind.{flat_map-append}
-use Rattle.pim_down.specs.Space.{HasRoom}
 use Rattle.pim_down.proofs.Act.{IsAscending-act, IsAscending-act_all}
 use Rattle.pim_down.proofs.Events.{act_append, room_then}
 

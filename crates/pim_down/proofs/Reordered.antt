@@ -1,26 +1,8 @@
 -- Events in key order, those of one machine in the order in which they came, do what they did before, where no Join(*,G) stands behind
 -- events of its group's (S,G,rpt) machines. In order by source, where a Join(*,G) and those events keep their order too, they do so always.
-use Rattle.std.proofs.Common.{◌≡◌, ℕ, ◌+◌, Bool, true, false, cond, not, ◌&&◌, ◌||◌, List, [], ◌∷◌, ◌++◌, map, Option, filter, sum_by, nat_eq, ◌==◌, refl, sym, ap, subst, ◌∙◌}
-use Rattle.std.specs.Ordering.{is_lt}
-use Rattle.std.specs.Cmp.Lexicographic.{pointwise, same_text}
-use Rattle.std.specs.List.{list_any}
-use Rattle.std.specs.List.Sorted.{IsPermutation, ties, IsStableBy}
-use Rattle.std.proofs.lemmas.Bool.{false≢true, and_parts, and_from, or_parts, or_from, or_left, or_right, false_from_ne_true}
-use Rattle.std.proofs.lemmas.List.Folds.{list_any-append, Any-from_list_any}
-use Rattle.std.proofs.lemmas.List.Sums.{sum_by-cons}
-use Rattle.std.proofs.lemmas.List.Sorted.{IsPermutation-map, sum_by-IsPermutation, list_any-IsPermutation}
-use Rattle.pim_down.specs.declared.machines.key.What.{What}
-use Rattle.pim_down.specs.declared.machines.key.What.TheVariants.{Star, Source, Rpt}
-use Rattle.pim_down.specs.declared.machines.key.Key.{Key}
-use Rattle.pim_down.specs.declared.machines.machine.Machine.{Machine}
-use Rattle.pim_down.specs.declared.machines.machine.Record.{Record}
+use Rattle.pim_down.proofs.Words.{◌≡◌, ℕ, ◌+◌, Bool, true, false, cond, not, ◌&&◌, ◌||◌, List, [], ◌∷◌, ◌++◌, map, Option, sum_by, nat_eq, ◌==◌, refl, sym, ap, subst, ◌∙◌, is_lt, pointwise, same_text, list_any, IsPermutation, ties, IsStableBy, false≢true, and_parts, and_from, or_parts, or_from, or_left, or_right, false_from_ne_true, list_any-append, Any-from_list_any, sum_by-cons, IsPermutation-map, sum_by-IsPermutation, list_any-IsPermutation, What, Star, Source, Rpt, Key, Machine, Record, key_cmp, same_key, Start, on_star_join, machine_at, Event, key_of, is_star, is_rpt, is_star_join, is_rpt_on, is_rpt_of, effect, effects, act_all, is_new, count_new, source_or_star, source_key_of, comes_before_by_source, is_of_rpts_of, ComeFirstBehind, StarsComeFirst, AreAlike, event_seen}
+use Rattle.std.proofs.Common.{filter}
 use Rattle.pim_down.specs.declared.machines.event.Event.{Event as EventOf}
-use Rattle.pim_down.specs.Key.{key_cmp, same_key}
-use Rattle.pim_down.specs.Tables.{Start, on_star_join}
-use Rattle.pim_down.specs.Records.{machine_at}
-use Rattle.pim_down.specs.Hearing.{Event, key_of, is_star, is_rpt, is_star_join, is_rpt_on, is_rpt_of, effect, effects, act_all, is_new, count_new}
-use Rattle.pim_down.specs.Ordered.{source_or_star, source_key_of, comes_before_by_source, is_of_rpts_of, ComeFirstBehind, StarsComeFirst, AreAlike}
-use Rattle.pim_down.specs.Seen.{event_seen}
 use Rattle.pim_down.proofs.Order.{key_itself, same_keys}
 use Rattle.pim_down.proofs.OneList.{one_list}
 use Rattle.pim_down.proofs.Act.{IsAscending-act_all, at_all}

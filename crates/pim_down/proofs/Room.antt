@@ -1,18 +1,5 @@
 -- How many records a message may make: no more than were held and those that it creates anew.
-use Rattle.std.proofs.Common.{◌≡◌, ℕ, ◌+◌, ◌≤◌, Bool, true, false, cond, ◌&&◌, ◌||◌, not, List, [], ◌∷◌, Option, Some, None, length, eqb, refl, sym, ap, subst, ◌∙◌, arith}
-use Rattle.std.specs.Option.{is_some}
-use Rattle.std.proofs.lemmas.Bool.{false≢true}
-use Rattle.pim_down.specs.declared.machines.key.What.{What}
-use Rattle.pim_down.specs.declared.machines.key.What.TheVariants.{Star, Source, Rpt}
-use Rattle.pim_down.specs.declared.machines.key.Key.{Key}
-use Rattle.pim_down.specs.declared.machines.machine.Machine.{Machine}
-use Rattle.pim_down.specs.Tables.{Start}
-use Rattle.pim_down.specs.declared.machines.machine.Record.{Record}
-use Rattle.pim_down.specs.Hearing.{Event}
-use Rattle.pim_down.specs.Key.{same_key}
-use Rattle.pim_down.specs.Tables.{on_prune, on_star_join}
-use Rattle.pim_down.specs.Records.{IsBelow, IsAscending, machine_at, count_on}
-use Rattle.pim_down.specs.Hearing.{key_of, on_own, is_star_join, is_rpt_of, on_rpts, effect, act, act_all, creates_by, creates, is_new, count_new}
+use Rattle.pim_down.proofs.Words.{◌≡◌, ℕ, ◌+◌, ◌≤◌, Bool, true, false, cond, ◌&&◌, ◌||◌, not, List, [], ◌∷◌, Option, Some, None, length, eqb, refl, sym, ap, subst, ◌∙◌, arith, is_some, false≢true, What, Star, Source, Rpt, Key, Machine, Start, Record, Event, same_key, on_prune, on_star_join, IsBelow, IsAscending, machine_at, count_on, key_of, on_own, is_star_join, is_rpt_of, on_rpts, effect, act, act_all, creates_by, creates, is_new, count_new}
 use Rattle.pim_down.proofs.Order.{same_keys, same_itself}
 use Rattle.pim_down.proofs.Map.{none_below}
 use Rattle.pim_down.proofs.Act.{at_act, IsAscending-act}

@@ -1,28 +1,5 @@
 -- The (S,G,rpt) machines of a group on a port stand together.
-use Rattle.std.proofs.Common.{◌≡◌, ℕ, zero, suc, ◌+◌, ◌<◌, ◌≤◌, Bool, true, false, cond, ◌&&◌, List, [], ◌∷◌, ◌++◌, Option, Some, length, take, drop, set, get_or, eqb, ltb, refl, sym, ap, subst, ◌∙◌, arith}
-use Rattle.std.specs.declared.cmp.Ordering.{Ordering}
-use Rattle.std.specs.declared.cmp.Ordering.TheVariants.{Less, Equal, Greater}
-use Rattle.std.specs.Ordering.{ordering_then, is_lt, is_le, nat_cmp}
-use Rattle.std.specs.FinMap.{nat_cmp-IsAntisymmetric}
-use Rattle.std.specs.Cmp.Lexicographic.{pointwise, same_text}
-use Rattle.std.specs.List.Sorted.{IsPartitionPoint}
-use Rattle.std.proofs.lemmas.Cmp.{nat_cmp_total, nat_list_cmp_total, tied_itself}
-use Rattle.std.proofs.lemmas.Bool.{false≢true, eqb-true, eq-eqb, ltb-true, ltb-false}
-use Rattle.std.proofs.lemmas.List.{length-map, length-take, take-append-drop, get_or-take, get_or-drop, get_or-map, length-drop, drop_at}
-use Rattle.pim_down.specs.declared.machines.held.Held.{Held}
-use Rattle.pim_down.specs.declared.machines.key.What.{What}
-use Rattle.pim_down.specs.declared.machines.key.What.TheVariants.{Star, Source, Rpt}
-use Rattle.pim_down.specs.declared.machines.key.Key.{Key}
-use Rattle.pim_down.specs.declared.machines.machine.Machine.{Machine}
-use Rattle.pim_down.specs.declared.machines.machine.Record.{Record}
-use Rattle.pim_down.specs.Key.{address_cmp, what_cmp, key_cmp}
-use Rattle.pim_down.specs.Places.{is_below}
-use Rattle.pim_down.specs.Records.{IsAscending, recorded, each_changed}
-use Rattle.pim_down.specs.Hearing.{is_rpt, is_rpt_of, on_rpts}
-use Rattle.pim_down.specs.Tables.{on_star_join}
-use Rattle.pim_down.specs.After.{beside_rpts, is_before_rpts}
-use Rattle.pim_down.specs.Seen.{timed_seen, key_seen, record_seen, records_seen}
-use Rattle.pim_down.specs.declared.machines.held.Timed.{Timed}
+use Rattle.pim_down.proofs.Words.{◌≡◌, ℕ, zero, suc, ◌+◌, ◌<◌, ◌≤◌, Bool, true, false, cond, ◌&&◌, List, [], ◌∷◌, ◌++◌, Option, Some, length, take, drop, set, get_or, eqb, ltb, refl, sym, ap, subst, ◌∙◌, arith, Ordering, Less, Equal, Greater, ordering_then, is_lt, is_le, nat_cmp, nat_cmp-IsAntisymmetric, pointwise, same_text, IsPartitionPoint, nat_cmp_total, nat_list_cmp_total, tied_itself, false≢true, eqb-true, eq-eqb, ltb-true, ltb-false, length-map, length-take, take-append-drop, get_or-take, get_or-drop, get_or-map, length-drop, drop_at, Held, What, Star, Source, Rpt, Key, Machine, Record, address_cmp, what_cmp, key_cmp, is_below, IsAscending, recorded, each_changed, is_rpt, is_rpt_of, on_rpts, on_star_join, beside_rpts, is_before_rpts, timed_seen, key_seen, record_seen, records_seen, Timed}
 use Rattle.pim_down.proofs.Order.{both_equal, same_address, key_total}
 use Rattle.pim_down.proofs.Searched.{first_part as first_of, second_part as second_of, front_of, rise_at}
 use Rattle.pim_down.proofs.Lists.{map_set, map_at}

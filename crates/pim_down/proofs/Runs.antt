@@ -1,12 +1,5 @@
 -- What a run leaves: by induction on its turns.
-use Rattle.std.proofs.Common.{◌≡◌, ℕ, zero, suc, ◌+◌, ◌-◌, ◌<◌, ◌≤◌, Bool, true, false, List, Some, None, ltb, max, refl, sym, ap, subst, arith}
-use Rattle.std.proofs.lemmas.Bool.{false≢true, ltb-true, ltb-false}
-use Rattle.pim_down.specs.declared.machines.key.What.{What}
-use Rattle.pim_down.specs.declared.machines.machine.Record.{Record}
-use Rattle.pim_down.specs.declared.machines.step.Step.{Step}
-use Rattle.pim_down.specs.declared.machines.step.Step.TheVariants.{Reached, Echo}
-use Rattle.pim_down.specs.Time.{Downstream, tick, fired, rests, moves, echoes, with_records, turn, run_within, Runs, HasRun}
-use Rattle.pim_down.specs.Ends.{weight}
+use Rattle.pim_down.proofs.Words.{◌≡◌, ℕ, zero, suc, ◌+◌, ◌-◌, ◌<◌, ◌≤◌, Bool, true, false, List, Some, None, ltb, max, refl, sym, ap, subst, arith, false≢true, ltb-true, ltb-false, What, Record, Step, Reached, Echo, Downstream, tick, fired, rests, moves, echoes, with_records, turn, run_within, Runs, HasRun, weight}
 use Rattle.pim_down.proofs.Time.{Answer, run_more, run_echo, run_rest}
 use Rattle.pim_down.proofs.FirstDue.{weight_fired, weight_later}
 

@@ -1,27 +1,7 @@
 -- What a search by halves for the next group, or the next machine of a group, passes over.
-use Rattle.std.proofs.Common.{◌≡◌, ℕ, zero, suc, ◌+◌, ◌<◌, ◌≤◌, Bool, true, false, cond, ◌&&◌, List, [], ◌∷◌, Option, Some, None, length, drop, get_or, eqb, ltb, option_map, map, refl, sym, ap, subst, ◌∙◌, arith}
-use Rattle.std.specs.declared.cmp.Ordering.{Ordering}
-use Rattle.std.specs.declared.cmp.Ordering.TheVariants.{Less, Equal, Greater}
-use Rattle.std.specs.Ordering.{ordering_then, ordering_reverse, is_eq, is_lt, is_le, nat_cmp}
-use Rattle.std.specs.Cmp.{IsTotalOrder}
-use Rattle.std.specs.List.{find, slice_get}
-use Rattle.std.specs.Option.{is_some}
-use Rattle.std.specs.List.Sorted.{IsPartitionPoint, IsPartitionedBy}
-use Rattle.std.proofs.lemmas.Cmp.{nat_cmp_total, nat_list_cmp_total, alike_right, on_total, then_total}
-use Rattle.std.proofs.lemmas.Bool.{false≢true, ltb-true, ltb-false}
-use Rattle.std.proofs.lemmas.Bool.Decides.{nat_tests}
-use Rattle.std.proofs.lemmas.List.{get_or-drop, length-drop}
-use Rattle.pim_down.specs.declared.machines.held.Held.{Held}
-use Rattle.pim_down.specs.declared.machines.machine.Record.{Record}
-use Rattle.pim_down.specs.Key.{rank, source_of, address_cmp, what_cmp, key_cmp}
-use Rattle.pim_down.specs.declared.machines.key.What.{What}
+use Rattle.pim_down.proofs.Words.{◌≡◌, ℕ, zero, suc, ◌+◌, ◌<◌, ◌≤◌, Bool, true, false, cond, ◌&&◌, List, [], ◌∷◌, Option, Some, None, length, drop, get_or, eqb, ltb, option_map, map, refl, sym, ap, subst, ◌∙◌, arith, Ordering, Less, Equal, Greater, ordering_then, ordering_reverse, is_eq, is_lt, is_le, nat_cmp, IsTotalOrder, find, slice_get, is_some, IsPartitionPoint, IsPartitionedBy, nat_cmp_total, nat_list_cmp_total, alike_right, on_total, then_total, false≢true, ltb-true, ltb-false, nat_tests, get_or-drop, length-drop, Held, Record, rank, source_of, address_cmp, what_cmp, key_cmp, What, IsBelow, IsAscending, record_seen, records_seen, record_after, group_after, next_in_group, is_above, is_of_group_after, is_machine_after, is_before_groups, is_up_to, is_of_group, Key}
 use Rattle.pim_down.proofs.Order.{key_total}
-use Rattle.pim_down.specs.Records.{IsBelow, IsAscending}
-use Rattle.pim_down.specs.Seen.{record_seen, records_seen}
-use Rattle.pim_down.specs.Time.{record_after}
-use Rattle.pim_down.specs.After.{group_after, next_in_group, is_above, is_of_group_after, is_machine_after, is_before_groups, is_up_to, is_of_group}
 use Rattle.pim_down.proofs.OnPort.{ports_rise}
-use Rattle.pim_down.specs.declared.machines.key.Key.{Key}
 
 none_some : {X : Type 0} {x : X} → None ≡ Some x → ⊥
 none_some e = absurd (false≢true (ap is_some e))

@@ -1,19 +1,5 @@
 -- A run that reaches a moment, key by key.
-use Rattle.std.proofs.Common.{◌≡◌, ℕ, ◌+◌, ◌-◌, ◌≤◌, Bool, true, false, cond, List, [], ◌∷◌, ◌++◌, Option, Some, None, map, refl, sym, ap, subst, ◌∙◌, arith}
-use Rattle.std.specs.Option.{is_some}
-use Rattle.std.proofs.lemmas.Bool.{false≢true}
-use Rattle.std.proofs.lemmas.Bool.Decides.{nat_tests}
-use Rattle.pim_down.specs.declared.machines.key.What.{What}
-use Rattle.pim_down.specs.declared.machines.key.What.TheVariants.{Star, Source, Rpt}
-use Rattle.pim_down.specs.declared.machines.key.Key.{Key}
-use Rattle.pim_down.specs.declared.machines.machine.Pending.{Pending}
-use Rattle.pim_down.specs.declared.machines.machine.Machine.{Machine}
-use Rattle.pim_down.specs.declared.machines.machine.Record.{Record}
-use Rattle.pim_down.specs.declared.machines.step.Step.{Step}
-use Rattle.pim_down.specs.declared.machines.step.Step.TheVariants.{Reached, Echo}
-use Rattle.pim_down.specs.Key.{same_key}
-use Rattle.pim_down.specs.Records.{IsBelow, IsAscending, machine_at, recorded}
-use Rattle.pim_down.specs.Time.{Downstream, expiry_after, pending_after, machine_after, record_after, tick, expiry_due, pending_due, et_due, ppt_due, on_ppt, after_et, after_ppt, echo_of, first_due, with_first, fire_et, fire_ppt, fired, with_records, Runs, settled_at, after_silence}
+use Rattle.pim_down.proofs.Words.{◌≡◌, ℕ, ◌+◌, ◌-◌, ◌≤◌, Bool, true, false, cond, List, [], ◌∷◌, ◌++◌, Option, Some, None, map, refl, sym, ap, subst, ◌∙◌, arith, is_some, false≢true, nat_tests, What, Star, Source, Rpt, Key, Pending, Machine, Record, Step, Reached, Echo, same_key, IsBelow, IsAscending, machine_at, recorded, Downstream, expiry_after, pending_after, machine_after, record_after, tick, expiry_due, pending_due, et_due, ppt_due, on_ppt, after_et, after_ppt, echo_of, first_due, with_first, fire_et, fire_ppt, fired, with_records, Runs, settled_at, after_silence}
 use Rattle.pim_down.proofs.Order.{same_keys}
 use Rattle.pim_down.proofs.Map.{at_recorded, at_other_recorded}
 use Rattle.pim_down.proofs.Time.{machine_more, machine_none}

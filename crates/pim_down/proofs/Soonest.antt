@@ -1,23 +1,5 @@
 -- The timer that fires first is the lesser one of the first timers of both kinds.
-use Rattle.std.proofs.Common.{◌≡◌, ℕ, Bool, true, false, cond, List, [], ◌∷◌, Option, Some, None, option_map, map, length, ltb, refl, sym, ap, ◌∙◌, arith}
-use Rattle.std.specs.declared.cmp.Ordering.{Ordering}
-use Rattle.std.specs.declared.cmp.Ordering.TheVariants.{Less, Equal, Greater}
-use Rattle.std.specs.Ordering.{nat_cmp, ordering_then, is_gt}
-use Rattle.std.specs.List.{slice_get}
-use Rattle.std.specs.FinMap.{nat_cmp-IsAntisymmetric}
-use Rattle.std.proofs.lemmas.Cmp.{nat_cmp_total, tied_itself}
-use Rattle.std.proofs.lemmas.Bool.{false≢true}
-use Rattle.slab.specs.Slab.{Slab, get}
-use Rattle.pim_down.specs.declared.records.deadline.Alarm.{Alarm}
-use Rattle.pim_down.specs.declared.records.deadline.Deadline.{Deadline}
-use Rattle.pim_down.specs.declared.machines.held.Held.{Held}
-use Rattle.pim_down.specs.declared.records.deadline.TimerKind.{TimerKind}
-use Rattle.pim_down.specs.declared.records.deadline.TimerKind.TheVariants.{PendingTimer, ExpiryTimer}
-use Rattle.pim_down.specs.declared.machines.key.Key.{Key}
-use Rattle.pim_down.specs.declared.machines.machine.Record.{Record}
-use Rattle.pim_down.specs.Key.{key_cmp}
-use Rattle.pim_down.specs.Schedule.{placed, timer_rank, deadline_cmp, end_of, with_end, timers_of, deadline_seen, Numbered, alarm_cmp, alarm_of, with_alarm, numbered, AreKnown, deadline_at, first_in, sooner_of}
-use Rattle.pim_down.specs.Seen.{key_seen}
+use Rattle.pim_down.proofs.Words.{◌≡◌, ℕ, Bool, true, false, cond, List, [], ◌∷◌, Option, Some, None, option_map, map, length, ltb, refl, sym, ap, ◌∙◌, arith, Ordering, Less, Equal, Greater, nat_cmp, ordering_then, is_gt, slice_get, nat_cmp-IsAntisymmetric, nat_cmp_total, tied_itself, false≢true, Slab, get, Alarm, Deadline, Held, TimerKind, PendingTimer, ExpiryTimer, Key, Record, key_cmp, placed, timer_rank, deadline_cmp, end_of, with_end, timers_of, deadline_seen, Numbered, alarm_cmp, alarm_of, with_alarm, numbered, AreKnown, deadline_at, first_in, sooner_of, key_seen}
 use Rattle.pim_down.proofs.Order.{equal_keys}
 use Rattle.pim_down.proofs.InOrder.{le_other, le_trans, le_both}
 use Rattle.pim_down.proofs.Deadlines.{deadline_total, same_deadline}

@@ -1,27 +1,5 @@
 -- A key that is looked for among records in key order, and what is done at the place that is found.
-use Rattle.std.proofs.Common.{◌≡◌, ℕ, zero, suc, ◌+◌, ◌-◌, ◌<◌, ◌≤◌, Bool, true, false, not, List, [], ◌∷◌, ◌++◌, Option, Some, None, Result, Ok, Err, length, take, drop, get_or, ltb, refl, sym, ap, subst, ◌∙◌, arith, add-one}
-use Rattle.std.specs.declared.cmp.Ordering.{Ordering}
-use Rattle.std.specs.declared.cmp.Ordering.TheVariants.{Less, Equal, Greater}
-use Rattle.std.specs.Ordering.{ordering_reverse}
-use Rattle.std.specs.Option.{is_some}
-use Rattle.std.specs.Prelude.{is_err}
-use Rattle.pim_down.specs.declared.machines.machine.State.TheVariants.{Join}
-use Rattle.std.proofs.lemmas.Bool.{ltb-true, ltb-false}
-use Rattle.std.proofs.lemmas.Cmp.{alike_right}
-use Rattle.std.proofs.lemmas.List.{length-map, get_or-map}
-use Rattle.sorted_blocks.specs.declared.place.Place.{Place}
-use Rattle.sorted_blocks.specs.Found.{IsGap, IsEqualAt}
-use Rattle.sorted_slab.specs.Listed.{Listed, at, IsItem, IsPlace, IsFound}
-use Rattle.pim_down.specs.declared.machines.held.Held.{Held}
-use Rattle.pim_down.specs.declared.machines.held.Timed.{Timed}
-use Rattle.pim_down.specs.declared.machines.key.Key.{Key}
-use Rattle.pim_down.specs.declared.machines.machine.Machine.{Machine}
-use Rattle.pim_down.specs.declared.machines.machine.Record.{Record}
-use Rattle.pim_down.specs.Key.{key_cmp}
-use Rattle.pim_down.specs.Records.{IsAscending, machine_at, recorded, changed}
-use Rattle.pim_down.specs.Places.{StandsAt, WouldStandAt}
-use Rattle.pim_down.specs.Seen.{timed_seen, machine_seen, key_seen, record_seen, records_seen}
-use Rattle.pim_down.specs.Store.{IsPlaceOf}
+use Rattle.pim_down.proofs.Words.{◌≡◌, ℕ, zero, suc, ◌+◌, ◌-◌, ◌<◌, ◌≤◌, Bool, true, false, not, List, [], ◌∷◌, ◌++◌, Option, Some, None, Result, Ok, Err, length, take, drop, get_or, ltb, refl, sym, ap, subst, ◌∙◌, arith, add-one, Ordering, Less, Equal, Greater, ordering_reverse, is_some, is_err, Join, ltb-true, ltb-false, alike_right, length-map, get_or-map, Place, IsGap, IsEqualAt, Listed, at, IsItem, IsPlace, IsFound, Held, Timed, Key, Machine, Record, key_cmp, IsAscending, machine_at, recorded, changed, StandsAt, WouldStandAt, timed_seen, machine_seen, key_seen, record_seen, records_seen, IsPlaceOf}
 use Rattle.pim_down.proofs.Order.{key_total, less_back, greater_back}
 use Rattle.pim_down.proofs.Lists.{map_at}
 use Rattle.pim_down.proofs.Places.{IsPast, past_none, past_more, stands_here, would_stand_here, would_stand_last}

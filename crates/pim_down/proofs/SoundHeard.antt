@@ -1,13 +1,5 @@
 -- A message that is heard keeps the machines sound.
-use Rattle.std.proofs.Common.{ℕ, ◌<◌, ◌≤◌, List, Option}
-use Rattle.pim_addr.specs.declared.family.AddressFamily.{AddressFamily}
-use Rattle.pim_jp.specs.Message.{Message}
-use Rattle.pim_jp.specs.Canonical.{IsMessage}
-use Rattle.pim_down.specs.declared.machines.event.Timing.{Timing}
-use Rattle.pim_down.specs.Hearing.{events_of, start_of}
-use Rattle.pim_down.specs.Time.{Downstream}
-use Rattle.pim_down.specs.Sound.{IsSound}
-use Rattle.pim_down.specs.Heard.{heard, needed_for}
+use Rattle.pim_down.proofs.Words.{ℕ, ◌<◌, ◌≤◌, List, Option, AddressFamily, Message, IsMessage, Timing, events_of, start_of, Downstream, IsSound, heard, needed_for}
 use Rattle.pim_down.proofs.Act.{IsAscending-hearing}
 use Rattle.pim_down.proofs.Heard.{settled_hearing, within_hearing}
 use Rattle.pim_down.proofs.Real.{real_events, real_hearing}

@@ -1,26 +1,6 @@
 -- A Join(*,G) that comes again within a message: which (S,G,rpt) machines it leaves as they are.
-use Rattle.std.proofs.Common.{◌≡◌, ℕ, Bool, true, false, cond, ◌&&◌, ◌||◌, ◌⊎◌, inl, inr, List, [], ◌∷◌, ◌++◌, Option, Some, None, map, eqb, refl, sym, ap, subst, ◌∙◌}
-use Rattle.std.specs.Cmp.Lexicographic.{pointwise, same_text}
-use Rattle.std.specs.List.{list_any}
-use Rattle.std.proofs.lemmas.Bool.{false≢true, eq-eqb}
-use Rattle.std.proofs.lemmas.List.{take-append-drop}
-use Rattle.pim_jp.specs.declared.entry.Entry.{Entry}
+use Rattle.pim_down.proofs.Words.{◌≡◌, ℕ, Bool, true, false, cond, ◌&&◌, ◌||◌, ◌⊎◌, inl, inr, List, [], ◌∷◌, ◌++◌, Option, Some, None, map, eqb, refl, sym, ap, subst, ◌∙◌, pointwise, same_text, list_any, false≢true, eq-eqb, take-append-drop, Entry, What, Star, Source, Rpt, Key, State, Join, PrunePending, Prune, PruneTmp, PrunePendingTmp, Machine, Record, same_key, Start, on_star_join, star_join_in, IsAscending, machine_at, changed, each_changed, Event, is_rpt, is_star, is_star_join, is_rpt_on, is_rpt_of, on_own, on_rpts, key_of, effect, act, entry_of_what, entry_named, StayButNamed, WouldStandAt, what_seen, Stays, StayBut, AllStay, rpt_key, is_prune_of, is_pruned_by}
 use Rattle.pim_jp.specs.declared.entry.Entry.TheVariants as entry
-use Rattle.pim_down.specs.declared.machines.key.What.{What}
-use Rattle.pim_down.specs.declared.machines.key.What.TheVariants.{Star, Source, Rpt}
-use Rattle.pim_down.specs.declared.machines.key.Key.{Key}
-use Rattle.pim_down.specs.declared.machines.machine.State.{State}
-use Rattle.pim_down.specs.declared.machines.machine.State.TheVariants.{Join, PrunePending, Prune, PruneTmp, PrunePendingTmp}
-use Rattle.pim_down.specs.declared.machines.machine.Machine.{Machine}
-use Rattle.pim_down.specs.declared.machines.machine.Record.{Record}
-use Rattle.pim_down.specs.Key.{same_key}
-use Rattle.pim_down.specs.Tables.{Start, on_star_join, star_join_in}
-use Rattle.pim_down.specs.Records.{IsAscending, machine_at, changed, each_changed}
-use Rattle.pim_down.specs.Hearing.{Event, is_rpt, is_star, is_star_join, is_rpt_on, is_rpt_of, on_own, on_rpts, key_of, effect, act}
-use Rattle.pim_down.specs.Ordered.{entry_of_what, entry_named, StayButNamed}
-use Rattle.pim_down.specs.Places.{WouldStandAt}
-use Rattle.pim_down.specs.Seen.{what_seen}
-use Rattle.pim_down.specs.Stars.{Stays, StayBut, AllStay, rpt_key, is_prune_of, is_pruned_by}
 use Rattle.pim_down.proofs.Order.{same_keys, same_back}
 use Rattle.pim_down.proofs.Map.{IsAscending-changed, IsAscending-each_changed, at_changed, at_other_changed, at_each_changed}
 use Rattle.pim_down.proofs.OneList.{one_list}

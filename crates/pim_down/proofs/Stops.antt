@@ -1,20 +1,5 @@
 -- Runs that stop at the first timer that fires.
-use Rattle.std.proofs.Common.{◌≡◌, ℕ, zero, suc, ◌+◌, ◌-◌, ◌<◌, ◌≤◌, true, false, List, Option, Some, None, ltb, max, refl, sym, ap, subst, ◌∙◌, arith}
-use Rattle.std.specs.Option.{is_some}
-use Rattle.std.proofs.lemmas.Bool.{false≢true, ltb-true, ltb-false}
-use Rattle.pim_addr.specs.declared.family.AddressFamily.{AddressFamily}
-use Rattle.pim_down.specs.declared.machines.held.Held.{Held}
-use Rattle.pim_down.specs.declared.machines.machine.Record.{Record}
-use Rattle.pim_down.specs.declared.machines.step.Firing.{Firing}
-use Rattle.pim_down.specs.declared.machines.step.Step.{Step}
-use Rattle.pim_down.specs.declared.machines.step.Step.TheVariants.{Reached}
-use Rattle.pim_down.specs.Ends.{first_end, ends_by}
-use Rattle.pim_down.specs.Firing.{firing, fired_in, firing_in, step_of, FiresTo}
-use Rattle.pim_down.specs.Laws.{RunIsAChainOfFirings, FiringHasOneEnd}
-use Rattle.pim_down.specs.Running.{downstream_at}
-use Rattle.pim_down.specs.Seen.{records_seen, shown}
-use Rattle.pim_down.specs.Sound.{IsSound}
-use Rattle.pim_down.specs.Time.{Downstream, fired, tick, ticks, turn, moves, echoes, with_records, IsQuietFor, Runs}
+use Rattle.pim_down.proofs.Words.{◌≡◌, ℕ, zero, suc, ◌+◌, ◌-◌, ◌<◌, ◌≤◌, true, false, List, Option, Some, None, ltb, max, refl, sym, ap, subst, ◌∙◌, arith, is_some, false≢true, ltb-true, ltb-false, AddressFamily, Held, Record, Firing, Step, Reached, first_end, ends_by, firing, fired_in, firing_in, step_of, FiresTo, RunIsAChainOfFirings, FiringHasOneEnd, downstream_at, records_seen, shown, IsSound, Downstream, fired, tick, ticks, turn, moves, echoes, with_records, IsQuietFor, Runs}
 use Rattle.pim_down.proofs.FirstDue.{fired_with}
 use Rattle.pim_down.proofs.Jumps.{ticks_shown, quiet_until, due_shown, not_yet}
 use Rattle.pim_down.proofs.Kept.{kept_later, kept_fired, sound_kept}

@@ -1,17 +1,6 @@
 -- The machine of milliseconds: jumps over the milliseconds in which nothing fires, runs one after another, and that a
 -- run has one end.
-use Rattle.std.proofs.Common.{◌≡◌, ℕ, zero, suc, ◌+◌, ◌-◌, ◌<◌, ◌≤◌, Bool, true, false, cond, ◌||◌, List, [], ◌∷◌, Option, Some, None, map, ltb, leb, eqb, min, refl, sym, ap, subst, ◌∙◌, arith}
-use Rattle.std.specs.Option.{is_some}
-use Rattle.std.proofs.lemmas.Bool.{false≢true, true≢false, lt-ltb, le-ltb, ltb-true}
-use Rattle.std.proofs.lemmas.Bool.Decides.{nat_tests}
-use Rattle.pim_down.specs.declared.machines.key.What.{What}
-use Rattle.pim_down.specs.declared.machines.machine.Pending.{Pending}
-use Rattle.pim_down.specs.declared.machines.machine.Machine.{Machine}
-use Rattle.pim_down.specs.declared.machines.machine.Record.{Record}
-use Rattle.pim_down.specs.declared.machines.step.Step.{Step}
-use Rattle.pim_down.specs.declared.machines.step.Step.TheVariants.{Echo, Reached}
-use Rattle.pim_down.specs.Time.{Downstream, expiry_after, pending_after, machine_after, record_after, tick, expiry_due, pending_due, et_due, ppt_due, after_ppt, echo_of, first_due, with_first, fire_et, fired, Outcome, rests, moves, echoes, with_records, told, turn, run_on, run_within, Runs, ticks}
-use Rattle.pim_down.specs.Ends.{sooner, pending_end, first_end, ends_by}
+use Rattle.pim_down.proofs.Words.{◌≡◌, ℕ, zero, suc, ◌+◌, ◌-◌, ◌<◌, ◌≤◌, Bool, true, false, cond, ◌||◌, List, [], ◌∷◌, Option, Some, None, map, ltb, leb, eqb, min, refl, sym, ap, subst, ◌∙◌, arith, is_some, false≢true, true≢false, lt-ltb, le-ltb, ltb-true, nat_tests, What, Pending, Machine, Record, Step, Echo, Reached, Downstream, expiry_after, pending_after, machine_after, record_after, tick, expiry_due, pending_due, et_due, ppt_due, after_ppt, echo_of, first_due, with_first, fire_et, fired, Outcome, rests, moves, echoes, with_records, told, turn, run_on, run_within, Runs, ticks, sooner, pending_end, first_end, ends_by}
 
 -- ---- milliseconds add up
 

@@ -23,3 +23,4 @@ pub mod Heard
 pub mod Space
 pub mod Stars
 pub mod Laws
+pub mod Words

@@ -1,18 +1,11 @@
 //! The public calls on the downstream machines of a router's ports.
 
 ghost use Rattle.std.specs.Prelude.{◌≡◌, ◌≤◌, ◌<◌, [], None, max, option_map, OnOk, OnErr};
-ghost use Rattle.std.specs.List.{filter};
-ghost use Rattle.pim_down.specs.declared.machines.step.Step.TheVariants.{Reached};
-ghost use Rattle.pim_down.specs.Hearing.{rpt_count_on};
-ghost use Rattle.pim_down.specs.Records.{state_of, machine_at, is_on, count_on};
-ghost use Rattle.pim_down.specs.Heard.{heard, needed_for, new_for, IsWithin, MayWantMemory};
-ghost use Rattle.pim_down.specs.Heard.{OthersStay};
-ghost use Rattle.pim_down.specs.Time.{Downstream, Runs, RunsLooking, IsNextDue};
-ghost use Rattle.pim_down.specs.Firing.{FiresTo};
-ghost use Rattle.pim_down.specs.Known.{known_in};
-ghost use Rattle.pim_down.specs.Seen.{key_at, what_seen, step_seen, firing_seen, told_seen};
-ghost use Rattle.pim_down.specs.After.{group_after, next_in_group};
-ghost use Rattle.pim_down.specs.Sound.{IsSound};
+ghost use Rattle.pim_down.specs.Words.{filter, Reached, rpt_count_on, state_of, machine_at, is_on};
+ghost use Rattle.pim_down.specs.Words.{count_on, heard, needed_for, new_for, IsWithin};
+ghost use Rattle.pim_down.specs.Words.{MayWantMemory, OthersStay, Downstream, Runs, RunsLooking};
+ghost use Rattle.pim_down.specs.Words.{IsNextDue, FiresTo, known_in, key_at, what_seen, step_seen};
+ghost use Rattle.pim_down.specs.Words.{firing_seen, told_seen, group_after, next_in_group, IsSound};
 
 use crate::hearing::hear::start_at;
 use crate::hearing::message::hear_message;
@@ -26,7 +19,7 @@ use crate::records::edits::machine_near;
 use crate::records::group::GroupMachines;
 use crate::records::near::Near;
 use crate::records::store::Store;
-use crate::records::walk::{Records, count_on, machine_after, on_port, rpt_count_on};
+use crate::records::walk::{Records, count_on, machine_after, on_port};
 use crate::running::run::{Halt, Stop, run, run_to_firing};
 use crate::running::timers::next_end;
 use pim_addr::{Family, Routes};
@@ -122,7 +115,7 @@ impl<F: Family> Ports<F> {
         if port >= self.ports {
             return 0;
         }
-        rpt_count_on::<F>(&self.records, port)
+        self.records.rpt_count_on(port)
     }
 
     /// A law: what holds of the machines between calls. For each record its port exists, its group

@@ -3,13 +3,9 @@
 //! groups that had a Join(*,G) that counts: a message without one costs no walk.
 
 ghost use Rattle.std.specs.Prelude.{◌≡◌, not, map, true, Some};
-ghost use Rattle.std.specs.List.{filter, list_any};
-ghost use Rattle.pim_down.specs.Records.{IsAscending, each_changed};
-ghost use Rattle.pim_down.specs.Hearing.{at_end, events_of, is_star_join, list_events};
-ghost use Rattle.pim_down.specs.Known.{known_in};
-ghost use Rattle.pim_down.specs.Running.{is_over_in, AreOverIn};
-ghost use Rattle.pim_down.specs.Seen.{records_seen, event_seen};
-ghost use Rattle.pim_down.specs.Sound.{is_temporary};
+ghost use Rattle.pim_down.specs.Words.{filter, list_any, IsAscending, each_changed, at_end};
+ghost use Rattle.pim_down.specs.Words.{events_of, is_star_join, list_events, known_in, is_over_in};
+ghost use Rattle.pim_down.specs.Words.{AreOverIn, records_seen, event_seen, is_temporary};
 
 use crate::hearing::hear::{RptsOf, event_of, is_rpt_of, is_star_join};
 use crate::machines::event::Event;

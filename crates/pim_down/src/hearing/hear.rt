@@ -2,16 +2,11 @@
 //! no timer fires while it is heard, and the next run fires those that are due.
 
 ghost use Rattle.std.specs.Prelude.{◌≡◌, ◌≤◌, ◌+◌, ℕ, List, length};
-ghost use Rattle.pim_jp.specs.Seen.{entry_seen};
-ghost use Rattle.pim_down.specs.Records.{IsAscending, changed, each_changed};
-ghost use Rattle.pim_down.specs.Hearing.{is_known, entry_events, start_of, on_own, is_rpt_of};
-ghost use Rattle.pim_down.specs.Hearing.{on_rpts, is_star_join, key_of, act, is_rpt};
-ghost use Rattle.pim_down.specs.After.{beside_rpts};
-ghost use Rattle.pim_down.specs.Ends.{IsLateStart};
-ghost use Rattle.pim_down.specs.Known.{known_in};
-ghost use Rattle.pim_down.specs.Running.{start_after};
-ghost use Rattle.pim_down.specs.Seen.{start_seen, machine_seen, what_seen, key_seen, records_seen};
-ghost use Rattle.pim_down.specs.Seen.{event_seen, events_seen};
+ghost use Rattle.pim_down.specs.Words.{entry_seen, IsAscending, changed, each_changed, is_known};
+ghost use Rattle.pim_down.specs.Words.{entry_events, start_of, on_own, is_rpt_of, on_rpts};
+ghost use Rattle.pim_down.specs.Words.{is_star_join, key_of, act, is_rpt, beside_rpts, IsLateStart};
+ghost use Rattle.pim_down.specs.Words.{known_in, start_after, start_seen, machine_seen, what_seen};
+ghost use Rattle.pim_down.specs.Words.{key_seen, records_seen, event_seen, events_seen};
 
 use crate::machines::event::{Event, Timing};
 use crate::machines::held::{Start, Timed, Waiting};

@@ -1,13 +1,9 @@
 //! Hears the events of a message from a list of their own.
 
 ghost use Rattle.std.specs.Prelude.{◌≡◌, ◌≤◌, ◌<◌, ◌+◌, map, length, slice_index_or, Some};
-ghost use Rattle.pim_down.specs.Records.{IsAscending, changed, each_changed};
-ghost use Rattle.pim_down.specs.Hearing.{act, act_all, on_rpts};
-ghost use Rattle.pim_down.specs.Ordered.{StayButNamed, IsLast};
-ghost use Rattle.pim_down.specs.Space.{HasRoom};
-ghost use Rattle.pim_down.specs.Stars.{rpt_key};
-ghost use Rattle.pim_down.specs.Tables.{on_star_join};
-ghost use Rattle.pim_down.specs.Seen.{start_seen, records_seen, event_seen};
+ghost use Rattle.pim_down.specs.Words.{IsAscending, changed, each_changed, act, act_all, on_rpts};
+ghost use Rattle.pim_down.specs.Words.{StayButNamed, IsLast, HasRoom, rpt_key, on_star_join};
+ghost use Rattle.pim_down.specs.Words.{start_seen, records_seen, event_seen};
 
 use crate::hearing::hear::{act_on_own, is_star_join, join_rpts};
 use crate::machines::event::Event;

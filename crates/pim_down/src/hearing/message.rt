@@ -4,16 +4,10 @@
 
 ghost use Rattle.std.specs.Prelude.{◌≡◌, ◌≤◌, ◌<◌, ◌+◌, ℕ, List, map, length};
 ghost use Rattle.std.specs.Prelude.{OnOk, OnErr, IfOk, IfSome};
-ghost use Rattle.std.specs.List.{flat_map};
-ghost use Rattle.pim_down.specs.Records.{IsAscending, count_on};
-ghost use Rattle.pim_down.specs.Hearing.{list_events, set_events, events_of, act_all, hearing};
-ghost use Rattle.pim_down.specs.Hearing.{creates, is_new, count_new, needed};
-ghost use Rattle.pim_down.specs.Heard.{IsWithin, MayWantMemory, OnFull};
-ghost use Rattle.pim_down.specs.Known.{known_in};
-ghost use Rattle.pim_down.specs.Ordered.{AreAlike};
-ghost use Rattle.pim_down.specs.Space.{HasRoom};
-ghost use Rattle.pim_down.specs.Sound.{IsSettled};
-ghost use Rattle.pim_down.specs.Seen.{start_seen, records_seen, event_seen};
+ghost use Rattle.pim_down.specs.Words.{flat_map, IsAscending, count_on, list_events, set_events};
+ghost use Rattle.pim_down.specs.Words.{events_of, act_all, hearing, creates, is_new, count_new};
+ghost use Rattle.pim_down.specs.Words.{needed, IsWithin, MayWantMemory, OnFull, known_in, AreAlike};
+ghost use Rattle.pim_down.specs.Words.{HasRoom, IsSettled, start_seen, records_seen, event_seen};
 
 use crate::hearing::end::{end_events, end_sets};
 use crate::hearing::hear::{act, event_of};
@@ -172,25 +166,11 @@ fn hear_sets<F: Family>(
     let mut near = Place::START;
     for set in message.sets() {
         let group = set.group();
+        let joined = set.joined();
+        hear_list::<F>(records, &mut near, port, start, routes, true, group, joined);
+        let pruned = set.pruned();
         hear_list::<F>(
-            records,
-            &mut near,
-            port,
-            start,
-            routes,
-            true,
-            group,
-            set.joined(),
-        );
-        hear_list::<F>(
-            records,
-            &mut near,
-            port,
-            start,
-            routes,
-            false,
-            group,
-            set.pruned(),
+            records, &mut near, port, start, routes, false, group, pruned,
         );
     }
 }

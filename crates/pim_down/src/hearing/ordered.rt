@@ -9,16 +9,11 @@
 //! no proof depends on the order that the sort makes.
 
 ghost use Rattle.std.specs.Prelude.{◌≡◌, ◌≤◌, ℕ, List, Option, true, ◌++◌, map, OnOk, IfOk, IfSome};
-ghost use Rattle.std.specs.List.{list_any};
-ghost use Rattle.std.specs.List.Sorted.{IsPermutation, IsStableBy};
-ghost use Rattle.pim_down.specs.declared.machines.machine.Record.{Record};
-ghost use Rattle.pim_down.specs.Hearing.{key_of, list_events, events_of, count_new};
-ghost use Rattle.pim_down.specs.Key.{key_cmp};
-ghost use Rattle.pim_down.specs.Known.{known_in};
-ghost use Rattle.pim_down.specs.Ordered.{comes_before, source_or_star, source_key_of};
-ghost use Rattle.pim_down.specs.Ordered.{comes_before_by_source};
-ghost use Rattle.pim_down.specs.Ordered.{is_of_rpts_of, StarsComeFirst, AreAlike};
-ghost use Rattle.pim_down.specs.Seen.{what_seen, event_seen};
+ghost use Rattle.pim_down.specs.Words.{list_any, IsPermutation, IsStableBy, Record, key_of};
+ghost use Rattle.pim_down.specs.Words.{list_events, events_of, count_new, key_cmp, known_in};
+ghost use Rattle.pim_down.specs.Words.{comes_before, source_or_star, source_key_of};
+ghost use Rattle.pim_down.specs.Words.{comes_before_by_source, is_of_rpts_of, StarsComeFirst};
+ghost use Rattle.pim_down.specs.Words.{AreAlike, what_seen, event_seen};
 
 use crate::hearing::hear::{event_of, is_star_join};
 use crate::hearing::scattered::is_scattered;

@@ -1,9 +1,8 @@
 //! The keys of machines, and the order in which machines are held and returned.
 
 ghost use Rattle.std.specs.Prelude.{◌≡◌};
-ghost use Rattle.std.specs.Ordering.{nat_cmp, ordering_then};
-ghost use Rattle.pim_down.specs.Key.{address_cmp, what_cmp, key_cmp};
-ghost use Rattle.pim_down.specs.Seen.{what_seen, key_seen};
+ghost use Rattle.pim_down.specs.Words.{nat_cmp, ordering_then, address_cmp, what_cmp, key_cmp};
+ghost use Rattle.pim_down.specs.Words.{what_seen, key_seen};
 
 use pim_addr::{Family, numbers_are_in_order};
 use std::cmp::Ordering;

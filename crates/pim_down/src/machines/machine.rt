@@ -3,10 +3,8 @@
 //! repeated Prunes could put the end off forever.
 
 ghost use Rattle.std.specs.Prelude.{◌≡◌, Some};
-ghost use Rattle.pim_down.specs.declared.machines.machine.Machine.{Machine};
-ghost use Rattle.pim_down.specs.Seen.{start_seen, timed_seen, machine_seen};
-ghost use Rattle.pim_down.specs.Tables.{greater, on_join, on_prune, on_star_join, on_rpt_prune};
-ghost use Rattle.pim_down.specs.Tables.{machine_in};
+ghost use Rattle.pim_down.specs.Words.{start_seen, timed_seen, machine_seen, greater, on_join};
+ghost use Rattle.pim_down.specs.Words.{on_prune, on_star_join, on_rpt_prune};
 
 use crate::machines::held::{Start, Timed};
 use crate::machines::key::Key;

@@ -2,10 +2,8 @@
 //! begins near a place.
 
 ghost use Rattle.std.specs.Prelude.{◌≡◌, option_map};
-ghost use Rattle.std.specs.List.{find};
-ghost use Rattle.pim_down.specs.After.{is_of_group_after, is_of_group};
-ghost use Rattle.pim_down.specs.Records.{IsAscending};
-ghost use Rattle.pim_down.specs.Seen.{key_seen, record_seen, records_seen};
+ghost use Rattle.pim_down.specs.Words.{find, is_of_group_after, is_of_group, IsAscending, key_seen};
+ghost use Rattle.pim_down.specs.Words.{record_seen, records_seen};
 
 use crate::machines::held::Held;
 use crate::machines::key::{Key, OfFamily, compare_addresses, compare_groups, compare_keys};

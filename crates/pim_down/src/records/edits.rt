@@ -2,11 +2,8 @@
 
 ghost use Rattle.std.specs.Prelude.{◌≡◌, ◌+◌, ◌<◌, ◌≤◌, ℕ, List, ◌++◌, Option, take, drop, length};
 ghost use Rattle.std.specs.Prelude.{slice_index_or};
-ghost use Rattle.sorted_slab.specs.Listed.{at, IsItem};
-ghost use Rattle.pim_down.specs.declared.machines.held.Held.{Held};
-ghost use Rattle.pim_down.specs.Records.{IsAscending, machine_at, recorded, changed};
-ghost use Rattle.pim_down.specs.Seen.{key_seen, machine_seen, records_seen};
-ghost use Rattle.pim_down.specs.Store.{IsPlaceOf};
+ghost use Rattle.pim_down.specs.Words.{at, IsItem, Held, IsAscending, machine_at, recorded};
+ghost use Rattle.pim_down.specs.Words.{changed, key_seen, machine_seen, records_seen, IsPlaceOf};
 
 use crate::machines::held::{Held, Timed};
 use crate::machines::key::{Key, KeyOrder, OfFamily, compare_keys};

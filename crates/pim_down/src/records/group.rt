@@ -1,9 +1,8 @@
 //! A walk over the machines of a group on a port.
 
 ghost use Rattle.std.specs.Prelude.{◌≡◌, option_map};
-ghost use Rattle.pim_down.specs.After.{next_machine, left_behind};
-ghost use Rattle.pim_down.specs.Records.{IsAscending};
-ghost use Rattle.pim_down.specs.Seen.{key_seen, records_seen, shown, told_seen};
+ghost use Rattle.pim_down.specs.Words.{next_machine, left_behind, IsAscending, key_seen};
+ghost use Rattle.pim_down.specs.Words.{records_seen, shown, told_seen};
 
 use crate::machines::key::{Key, OfFamily};
 use crate::machines::machine::Record;

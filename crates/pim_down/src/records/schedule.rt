@@ -4,14 +4,9 @@
 
 ghost use Rattle.std.specs.Prelude.{◌≡◌, ℕ, List, ◌+◌, ◌-◌, ◌*◌, ◌<◌, ◌≤◌, [], length, map};
 ghost use Rattle.std.specs.Prelude.{option_map, OnOk, take};
-ghost use Rattle.slab.specs.Slab.{get};
-ghost use Rattle.pim_down.specs.declared.records.deadline.TimerKind.TheVariants.{PendingTimer, ExpiryTimer};
-ghost use Rattle.pim_down.specs.declared.machines.held.Held.{Held};
-ghost use Rattle.pim_down.specs.PutOff.{with_run};
-ghost use Rattle.pim_down.specs.Schedule.{Numbered, deadline_seen, alarm_of, with_its, AreKnown};
-ghost use Rattle.pim_down.specs.Schedule.{first_in, sooner_of, deadline_at};
-ghost use Rattle.pim_down.specs.Ends.{pending_end};
-ghost use Rattle.pim_down.specs.Seen.{waiting_seen};
+ghost use Rattle.pim_down.specs.Words.{get, PendingTimer, ExpiryTimer, Held, with_run, Numbered};
+ghost use Rattle.pim_down.specs.Words.{deadline_seen, alarm_of, with_its, AreKnown, first_in};
+ghost use Rattle.pim_down.specs.Words.{sooner_of, deadline_at, pending_end, waiting_seen};
 
 use crate::machines::held::{Held, Timed};
 use crate::machines::key::{Key, KeyOrder};
@@ -177,20 +172,11 @@ impl<A: Copy, O: KeyOrder<A>, const HALF: usize> Schedule<A, O, HALF> {
         ensures pending_room { self.new.pending.capacity ≡ self.old.pending.capacity }
         ensures expiry_room { self.new.expiry.capacity ≡ self.old.expiry.capacity }
     {
-        self.pending.change(
-            slab,
-            held.key,
-            number,
-            pending_end(&held.machine),
-            pending_end(to),
-        );
-        self.expiry.change(
-            slab,
-            held.key,
-            number,
-            held.machine.expires_at,
-            to.expires_at,
-        );
+        let Held { key, machine } = *held;
+        self.pending
+            .change(slab, key, number, pending_end(&machine), pending_end(to));
+        self.expiry
+            .change(slab, key, number, machine.expires_at, to.expires_at);
     }
 
     /// Gives Expiry Timers of the records with these numbers, all with one end, another end. It takes

@@ -7,17 +7,10 @@
 ghost use Rattle.std.specs.Prelude.{◌≡◌, ℕ, List, ◌+◌, ◌-◌, ◌*◌, ◌<◌, ◌≤◌, ◌↔◌, [], length, take};
 ghost use Rattle.std.specs.Prelude.{drop, option_map};
 ghost use Rattle.std.specs.Prelude.{slice_index_or, slice_set, OnOk, IsOk, IsTrue, true, false};
-ghost use Rattle.std.specs.List.{All, insert, remove, slice_get};
-ghost use Rattle.std.specs.List.Sorted.{IsPartitionedBy, IsPartitionPoint};
-ghost use Rattle.sorted_blocks.specs.declared.place.Place.{Place};
-ghost use Rattle.sorted_slab.specs.Listed.{at, IsPlace, IsItem, IsFound};
-ghost use Rattle.pim_down.specs.declared.machines.held.Held.{Held};
-ghost use Rattle.pim_down.specs.Hearing.{is_rpt, rpt_count_on};
-ghost use Rattle.pim_down.specs.Records.{count_on};
-ghost use Rattle.pim_down.specs.Schedule.{deadline_seen, timers_of};
-ghost use Rattle.pim_down.specs.Seen.{what_seen, records_seen};
-ghost use Rattle.pim_down.specs.PutOff.{put_off_from};
-ghost use Rattle.pim_down.specs.Store.{IsKept};
+ghost use Rattle.pim_down.specs.Words.{All, insert, remove, slice_get, IsPartitionedBy};
+ghost use Rattle.pim_down.specs.Words.{IsPartitionPoint, Place, at, IsPlace, IsItem, IsFound, Held};
+ghost use Rattle.pim_down.specs.Words.{is_rpt, rpt_count_on, count_on, deadline_seen, timers_of};
+ghost use Rattle.pim_down.specs.Words.{what_seen, records_seen, put_off_from, IsKept};
 
 use crate::machines::held::{Held, Timed};
 use crate::machines::key::{KeyOrder, What};
@@ -242,13 +235,8 @@ impl<A: Copy, O: KeyOrder<A>> Store<A, O> {
         let number = self.list.number_of(place);
         self.schedule
             .change_all(self.list.slab(), number, &old, &machine);
-        self.list.set(
-            place,
-            Held {
-                key: old.key,
-                machine,
-            },
-        );
+        let key = old.key;
+        self.list.set(place, Held { key, machine });
     }
 
     /// Puts off the Expiry Timers of the first ones of these records; all of them end at one moment.

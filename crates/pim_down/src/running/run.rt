@@ -2,13 +2,8 @@
 //! first timer of the schedule is the one that the definition fires, at its deadline.
 
 ghost use Rattle.std.specs.Prelude.{◌≡◌, ◌≤◌, ℕ, None, max, option_map};
-ghost use Rattle.pim_down.specs.declared.machines.step.Step.TheVariants.{Reached};
-ghost use Rattle.pim_down.specs.Records.{IsAscending};
-ghost use Rattle.pim_down.specs.Time.{RunsLooking};
-ghost use Rattle.pim_down.specs.Ends.{AreLate};
-ghost use Rattle.pim_down.specs.Firing.{FiresTo};
-ghost use Rattle.pim_down.specs.Seen.{step_seen, firing_seen, records_seen};
-ghost use Rattle.pim_down.specs.Running.{downstream_at};
+ghost use Rattle.pim_down.specs.Words.{Reached, IsAscending, RunsLooking, AreLate, FiresTo};
+ghost use Rattle.pim_down.specs.Words.{step_seen, firing_seen, records_seen, downstream_at};
 
 use crate::machines::key::OfFamily;
 use crate::machines::step::{Firing, Step};

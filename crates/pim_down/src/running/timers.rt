@@ -3,17 +3,13 @@
 
 ghost use Rattle.std.specs.Prelude.{◌≡◌, ◌+◌, ◌<◌, ℕ, List, ◌++◌, take, drop, length};
 ghost use Rattle.std.specs.Prelude.{slice_index_or, nat_le};
-ghost use Rattle.std.specs.List.{slice_get, remove};
-ghost use Rattle.sorted_slab.specs.Listed.{at, IsItem};
-ghost use Rattle.pim_down.specs.declared.machines.held.Held.{Held};
-ghost use Rattle.pim_down.specs.Records.{IsAscending, state_of_machine};
-ghost use Rattle.pim_down.specs.Time.{on_ppt, after_ppt, record_after, echoes_at, had_several};
-ghost use Rattle.pim_down.specs.Time.{fired};
-ghost use Rattle.pim_down.specs.Ends.{first_end, AreLate};
-ghost use Rattle.pim_down.specs.Firing.{ppt_fires, et_fires, firing, step_of};
-ghost use Rattle.pim_down.specs.Schedule.{deadline_seen, timers_of, IsFirstBy, IsLookedAt};
-ghost use Rattle.pim_down.specs.Seen.{timed_seen, machine_seen, waiting_seen, what_seen};
-ghost use Rattle.pim_down.specs.Seen.{record_seen, records_seen, step_seen, firing_seen, shown};
+ghost use Rattle.pim_down.specs.Words.{slice_get, remove, at, IsItem, Held, IsAscending};
+ghost use Rattle.pim_down.specs.Words.{state_of_machine, on_ppt, after_ppt, record_after};
+ghost use Rattle.pim_down.specs.Words.{echoes_at, had_several, fired, first_end, AreLate};
+ghost use Rattle.pim_down.specs.Words.{ppt_fires, et_fires, firing, step_of, deadline_seen};
+ghost use Rattle.pim_down.specs.Words.{timers_of, IsFirstBy, IsLookedAt, timed_seen, machine_seen};
+ghost use Rattle.pim_down.specs.Words.{waiting_seen, what_seen, record_seen, records_seen};
+ghost use Rattle.pim_down.specs.Words.{step_seen, firing_seen, shown};
 
 use crate::machines::held::{Held, Timed};
 use crate::machines::key::{Key, OfFamily, What};

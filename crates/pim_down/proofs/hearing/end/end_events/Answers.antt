@@ -1,7 +1,4 @@
-use Rattle.std.proofs.Common.{◌≡◌, ◌+◌, not, Some, sym, subst, ◌∙◌, arith}
-use Rattle.std.specs.List.{filter}
-use Rattle.pim_down.specs.Running.{is_over_in}
-use Rattle.pim_down.specs.Seen.{records_seen, event_seen}
+use Rattle.pim_down.proofs.Words.{◌≡◌, ◌+◌, not, Some, sym, subst, ◌∙◌, arith, filter, is_over_in, records_seen, event_seen}
 use Rattle.pim_down.proofs.Ending.{others_star, still_other, ends_group, ends_skip, ends_message, ended_group}
 use Rattle.pim_down.proofs.Listing.{seen_from, event_left, no_event_left}
 use Rattle.pim_down.proofs.hearing.end.end_events.Goals.{then-is_star_join, else-is_star_join}

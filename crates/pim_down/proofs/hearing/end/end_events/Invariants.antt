@@ -1,7 +1,4 @@
-use Rattle.std.proofs.Common.{◌≡◌, Some, not}
-use Rattle.std.specs.List.{filter}
-use Rattle.pim_down.specs.Running.{is_over_in}
-use Rattle.pim_down.specs.Seen.{records_seen}
+use Rattle.pim_down.proofs.Words.{◌≡◌, Some, not, filter, is_over_in, records_seen}
 use Rattle.pim_down.proofs.Ending.{EndsBy}
 use Rattle.pim_down.proofs.Listing.{seen_from}
 use Rattle.pim_down.proofs.hearing.end.end_events.Given as goal

@@ -1,7 +1,4 @@
-use Rattle.std.proofs.Common.{true, false, length, sym, ap, ◌∙◌, arith}
-use Rattle.std.proofs.lemmas.List.Edits.{length-remove}
-use Rattle.sorted_slab.specs.Listed.{at}
-use Rattle.pim_down.specs.After.{is_before_rpts}
+use Rattle.pim_down.proofs.Words.{true, false, length, sym, ap, ◌∙◌, arith, length-remove, at, is_before_rpts}
 use Rattle.pim_down.proofs.Searched.{parted}
 use Rattle.pim_down.proofs.Looking.{past_end}
 use Rattle.pim_down.proofs.Rpts.{rpts_fall, before_parts, behind_parts, none_behind, none_past}

@@ -1,5 +1,4 @@
-use Rattle.std.proofs.Common.{◌-◌, length}
-use Rattle.sorted_slab.specs.Listed.{at}
+use Rattle.pim_down.proofs.Words.{◌-◌, length, at}
 use Rattle.pim_down.proofs.Ending.{EndsTo}
 use Rattle.pim_down.proofs.Looking.{IsNext}
 use Rattle.pim_down.proofs.hearing.end.end_group.Given as goal

@@ -1,7 +1,4 @@
-use Rattle.std.proofs.Common.{◌≡◌, List, ℕ, not, sym, subst}
-use Rattle.std.specs.List.{filter}
-use Rattle.pim_down.specs.Running.{is_over_in}
-use Rattle.pim_down.specs.Seen.{records_seen}
+use Rattle.pim_down.proofs.Words.{◌≡◌, List, ℕ, not, sym, subst, filter, is_over_in, records_seen}
 use Rattle.pim_down.proofs.hearing.end.end_next.Goals as goal
 
 pub returns-in-Some : goal.returns-in-Some

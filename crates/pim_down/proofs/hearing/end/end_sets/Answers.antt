@@ -1,6 +1,4 @@
-use Rattle.std.proofs.Common.{refl, sym, ap, ◌∙◌}
-use Rattle.pim_down.specs.Known.{known_in}
-use Rattle.pim_down.specs.Seen.{records_seen}
+use Rattle.pim_down.proofs.Words.{refl, sym, ap, ◌∙◌, known_in, records_seen}
 use Rattle.pim_down.proofs.Ending.{others_set, still_set, ends_group, ends_skip, ends_message}
 use Rattle.pim_down.proofs.Events.{sets_events}
 use Rattle.pim_down.proofs.hearing.end.end_sets.Goals as goal

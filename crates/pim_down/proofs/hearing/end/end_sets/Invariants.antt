@@ -1,5 +1,4 @@
-use Rattle.pim_down.specs.Known.{known_in}
-use Rattle.pim_down.specs.Seen.{records_seen}
+use Rattle.pim_down.proofs.Words.{known_in, records_seen}
 use Rattle.pim_down.proofs.Ending.{EndsBy}
 use Rattle.pim_down.proofs.Events.{sets_events}
 use Rattle.pim_down.proofs.hearing.end.end_sets.Given as goal

@@ -1,7 +1,4 @@
-use Rattle.std.proofs.Common.{◌≡◌, true}
-use Rattle.std.specs.List.{list_any}
-use Rattle.pim_down.specs.Hearing.{list_events, is_star_join}
-use Rattle.pim_down.specs.Known.{known_in}
+use Rattle.pim_down.proofs.Words.{◌≡◌, true, list_any, list_events, is_star_join, known_in}
 use Rattle.pim_down.proofs.hearing.end.has_star_join.Given as goal
 
 -- one of the entries that are left is one exactly where one of all is

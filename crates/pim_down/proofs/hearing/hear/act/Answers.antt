@@ -1,7 +1,4 @@
-use Rattle.std.proofs.Common.{◌∙◌, ap, sym, subst}
-use Rattle.pim_down.specs.Seen.{start_seen, event_seen, records_seen}
-use Rattle.pim_down.specs.Records.{IsAscending, each_changed}
-use Rattle.pim_down.specs.Hearing.{on_own, on_rpts, key_of}
+use Rattle.pim_down.proofs.Words.{◌∙◌, ap, sym, subst, start_seen, event_seen, records_seen, IsAscending, each_changed, on_own, on_rpts, key_of}
 use Rattle.pim_down.proofs.Map.{IsAscending-changed}
 use Rattle.pim_down.proofs.Each.{act_star, act_other}
 use Rattle.pim_down.proofs.hearing.hear.act.Goals as goal

@@ -1,7 +1,4 @@
-use Rattle.std.proofs.Common.{◌∙◌, Option, length, ap, arith}
-use Rattle.pim_down.specs.declared.machines.machine.Machine.{Machine}
-use Rattle.pim_down.specs.Seen.{start_seen, machine_seen, event_seen, records_seen}
-use Rattle.pim_down.specs.Hearing.{on_own, key_of}
+use Rattle.pim_down.proofs.Words.{◌∙◌, Option, length, ap, arith, Machine, start_seen, machine_seen, event_seen, records_seen, on_own, key_of}
 use Rattle.pim_down.proofs.Each.{changed_into, length_act}
 use Rattle.pim_down.proofs.hearing.hear.act_on_own.Goals as goal
 

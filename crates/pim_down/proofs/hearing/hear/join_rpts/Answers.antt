@@ -1,10 +1,7 @@
-use Rattle.std.proofs.Common.{◌+◌, length, refl, sym, ap, ◌∙◌, arith}
-use Rattle.std.proofs.lemmas.List.{length-set}
-use Rattle.sorted_slab.specs.Listed.{at}
+use Rattle.pim_down.proofs.Words.{◌+◌, length, refl, sym, ap, ◌∙◌, arith, length-set, at, is_before_rpts}
 use Rattle.pim_down.proofs.Looking.{past_end}
 use Rattle.pim_down.proofs.Rpts.{rpts_fall, behind_parts, joins_begin, joins_more, joins_end, joins_past}
 use Rattle.pim_down.proofs.Searched.{parted}
-use Rattle.pim_down.specs.After.{is_before_rpts}
 use Rattle.pim_down.proofs.hearing.hear.join_rpts.Goals as goal
 
 pub first_behind-place-requires : goal.first_behind-place-requires

@@ -1,7 +1,4 @@
-use Rattle.std.proofs.Common.{◌≡◌, ◌-◌, length}
-use Rattle.sorted_slab.specs.Listed.{at}
-use Rattle.pim_down.specs.Hearing.{on_rpts}
-use Rattle.pim_down.specs.Seen.{records_seen}
+use Rattle.pim_down.proofs.Words.{◌≡◌, ◌-◌, length, at, on_rpts, records_seen}
 use Rattle.pim_down.proofs.Each.{ChangedTo}
 use Rattle.pim_down.proofs.Rpts.{AreBehind}
 use Rattle.pim_down.proofs.Looking.{IsNext}

@@ -1,10 +1,4 @@
-use Rattle.std.proofs.Common.{ℕ, ◌≡◌, ◌+◌, ◌++◌, ◌∷◌, [], List, ap, sym, subst, ◌∙◌, map, take, drop, arith}
-use Rattle.pim_down.specs.declared.machines.machine.Record.{Record}
-use Rattle.pim_down.specs.Hearing.{Event, key_of, on_own, on_rpts, act}
-use Rattle.pim_down.specs.Ordered.{StayButNamed, entry_named}
-use Rattle.pim_down.specs.Records.{IsAscending, each_changed}
-use Rattle.pim_down.specs.Seen.{start_seen, records_seen, event_seen}
-use Rattle.pim_down.specs.Stars.{is_pruned_by}
+use Rattle.pim_down.proofs.Words.{ℕ, ◌≡◌, ◌+◌, ◌++◌, ◌∷◌, [], List, ap, sym, subst, ◌∙◌, map, take, drop, arith, Record, Event, key_of, on_own, on_rpts, act, StayButNamed, entry_named, IsAscending, each_changed, start_seen, records_seen, event_seen, is_pruned_by}
 use Rattle.pim_down.proofs.Each.{act_star, act_other}
 use Rattle.pim_down.proofs.Listing.{seen_more, none_seen}
 use Rattle.pim_down.proofs.Map.{IsAscending-changed}

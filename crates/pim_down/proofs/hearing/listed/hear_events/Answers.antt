@@ -1,6 +1,4 @@
-use Rattle.std.proofs.Common.{◌+◌, ◌∙◌, sym, ap, arith}
-use Rattle.pim_down.specs.Hearing.{act, act_all}
-use Rattle.pim_down.specs.Seen.{start_seen, records_seen, event_seen}
+use Rattle.pim_down.proofs.Words.{◌+◌, ◌∙◌, sym, ap, arith, act, act_all, start_seen, records_seen, event_seen}
 use Rattle.pim_down.proofs.Act.{IsAscending-act}
 use Rattle.pim_down.proofs.Events.{room_at, left_at, room_grows}
 use Rattle.pim_down.proofs.Listing.{seen_from, event_left, no_event_left, none_acts}

@@ -1,9 +1,4 @@
-use Rattle.std.proofs.Common.{◌≡◌, map}
-use Rattle.pim_down.specs.Records.{IsAscending}
-use Rattle.pim_down.specs.Hearing.{act_all}
-use Rattle.pim_down.specs.Ordered.{IsLast}
-use Rattle.pim_down.specs.Space.{HasRoom}
-use Rattle.pim_down.specs.Seen.{start_seen, event_seen, records_seen}
+use Rattle.pim_down.proofs.Words.{◌≡◌, map, IsAscending, act_all, IsLast, HasRoom, start_seen, event_seen, records_seen}
 use Rattle.pim_down.proofs.Listing.{seen_from}
 use Rattle.pim_down.proofs.hearing.listed.hear_events.Given as goal
 

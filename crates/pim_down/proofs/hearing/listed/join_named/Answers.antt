@@ -1,6 +1,4 @@
-use Rattle.std.proofs.Common.{◌≡◌, ◌∷◌, ◌+◌, ap, ◌∙◌, map, arith}
-use Rattle.pim_down.specs.Ordered.{entry_of_what, entry_named}
-use Rattle.pim_down.specs.Seen.{what_seen, event_seen, records_seen}
+use Rattle.pim_down.proofs.Words.{◌≡◌, ◌∷◌, ◌+◌, ap, ◌∙◌, map, arith, entry_of_what, entry_named, what_seen, event_seen, records_seen}
 use Rattle.pim_down.proofs.Listing.{seen_from, event_left, no_event_left}
 use Rattle.pim_down.proofs.Stays.{pruned_rpt, pruned_other, no_named_prune, named_end}
 use Rattle.pim_down.proofs.hearing.listed.join_named.Goals.{in-Rpt, in-Star}

@@ -1,6 +1,4 @@
-use Rattle.std.proofs.Common.{◌≡◌, map}
-use Rattle.pim_down.specs.Ordered.{entry_named}
-use Rattle.pim_down.specs.Seen.{event_seen, records_seen}
+use Rattle.pim_down.proofs.Words.{◌≡◌, map, entry_named, event_seen, records_seen}
 use Rattle.pim_down.proofs.Listing.{seen_from}
 use Rattle.pim_down.proofs.Stays.{JoinsPruned}
 use Rattle.pim_down.proofs.hearing.listed.join_named.Given as goal

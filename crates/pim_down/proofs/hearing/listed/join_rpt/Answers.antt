@@ -1,10 +1,4 @@
-use Rattle.std.proofs.Common.{◌≡◌, Option, Some, sym, ap, ◌∙◌}
-use Rattle.sorted_slab.specs.Listed.{at}
-use Rattle.pim_down.specs.declared.machines.machine.Machine.{Machine}
-use Rattle.pim_down.specs.Records.{machine_at}
-use Rattle.pim_down.specs.Tables.{on_star_join}
-use Rattle.pim_down.specs.Seen.{timed_seen, records_seen}
-use Rattle.pim_down.specs.Stars.{rpt_key}
+use Rattle.pim_down.proofs.Words.{◌≡◌, Option, Some, sym, ap, ◌∙◌, at, Machine, machine_at, on_star_join, timed_seen, records_seen, rpt_key}
 use Rattle.pim_down.proofs.Each.{changed_into}
 use Rattle.pim_down.proofs.Sought.{place_ok, place_err, machine_is, replaced_is}
 use Rattle.pim_down.proofs.Stays.{joined_none}

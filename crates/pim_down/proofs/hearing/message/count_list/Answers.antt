@@ -1,8 +1,4 @@
-use Rattle.std.proofs.Common.{◌∙◌, sym, arith}
-use Rattle.pim_jp.specs.Seen.{entry_seen}
-use Rattle.pim_down.specs.Hearing.{list_events}
-use Rattle.pim_down.specs.Known.{known_in}
-use Rattle.pim_down.specs.Seen.{records_seen, event_seen}
+use Rattle.pim_down.proofs.Words.{◌∙◌, sym, arith, entry_seen, list_events, known_in, records_seen, event_seen}
 use Rattle.pim_down.proofs.Events.{events_one, count_yes, count_no, count_none, list_bound}
 use Rattle.pim_down.proofs.hearing.message.count_list.Goals as goal
 

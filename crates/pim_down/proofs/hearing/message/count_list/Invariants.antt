@@ -1,7 +1,4 @@
-use Rattle.std.proofs.Common.{◌≡◌, ◌+◌}
-use Rattle.pim_down.specs.Hearing.{list_events, count_new}
-use Rattle.pim_down.specs.Known.{known_in}
-use Rattle.pim_down.specs.Seen.{records_seen}
+use Rattle.pim_down.proofs.Words.{◌≡◌, ◌+◌, list_events, count_new, known_in, records_seen}
 use Rattle.pim_down.proofs.hearing.message.count_list.Given as goal
 
 -- those so far and those of the entries that are left are those of all

@@ -1,7 +1,4 @@
-use Rattle.std.proofs.Common.{List, length, ap, arith}
-use Rattle.pim_jp.specs.Message.{GroupSet}
-use Rattle.pim_down.specs.Known.{known_in}
-use Rattle.pim_down.specs.Seen.{records_seen}
+use Rattle.pim_down.proofs.Words.{List, length, ap, arith, GroupSet, known_in, records_seen}
 use Rattle.pim_down.proofs.Events.{set_count_is, no_set_count}
 use Rattle.pim_down.proofs.hearing.message.count_sets.Goals as goal
 

@@ -1,7 +1,4 @@
-use Rattle.std.proofs.Common.{◌≡◌, ◌≤◌, ◌+◌, ◌*◌, length}
-use Rattle.pim_down.specs.Hearing.{count_new}
-use Rattle.pim_down.specs.Known.{known_in}
-use Rattle.pim_down.specs.Seen.{records_seen}
+use Rattle.pim_down.proofs.Words.{◌≡◌, ◌≤◌, ◌+◌, ◌*◌, length, count_new, known_in, records_seen}
 use Rattle.pim_down.proofs.Events.{sets_events}
 use Rattle.pim_down.proofs.hearing.message.count_sets.Given as goal
 

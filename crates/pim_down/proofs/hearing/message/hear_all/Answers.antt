@@ -1,8 +1,4 @@
-use Rattle.std.proofs.Common.{◌≡◌, map, length, arith}
-use Rattle.std.proofs.lemmas.List.{length-map}
-use Rattle.pim_down.specs.Hearing.{events_of}
-use Rattle.pim_down.specs.Known.{known_in}
-use Rattle.pim_down.specs.Seen.{start_seen, records_seen, event_seen}
+use Rattle.pim_down.proofs.Words.{◌≡◌, map, length, arith, length-map, events_of, known_in, start_seen, records_seen, event_seen}
 use Rattle.pim_down.proofs.Act.{IsAscending-act_all}
 use Rattle.pim_down.proofs.Ending.{over_heard}
 use Rattle.pim_down.proofs.Events.{room_for}

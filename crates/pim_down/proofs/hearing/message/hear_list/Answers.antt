@@ -1,9 +1,4 @@
-use Rattle.std.proofs.Common.{◌≡◌, ◌∙◌, List, sym, ap, subst, arith}
-use Rattle.pim_jp.specs.Seen.{entry_seen}
-use Rattle.pim_down.specs.Hearing.{Event, list_events, act_all, act}
-use Rattle.pim_down.specs.Known.{known_in}
-use Rattle.pim_down.specs.Space.{HasRoom}
-use Rattle.pim_down.specs.Seen.{start_seen, records_seen, event_seen}
+use Rattle.pim_down.proofs.Words.{◌≡◌, ◌∙◌, List, sym, ap, subst, arith, entry_seen, Event, list_events, act_all, act, known_in, HasRoom, start_seen, records_seen, event_seen}
 use Rattle.pim_down.proofs.Act.{IsAscending-act}
 use Rattle.pim_down.proofs.Events.{events_one, room_at, left_at, nothing_left, room_grows}
 use Rattle.pim_down.proofs.Refreshed.{Follows, front_heard, no_event}

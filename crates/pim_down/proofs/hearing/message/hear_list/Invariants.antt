@@ -1,9 +1,4 @@
-use Rattle.std.proofs.Common.{◌≡◌, ◌≤◌, length}
-use Rattle.pim_down.specs.Records.{IsAscending}
-use Rattle.pim_down.specs.Hearing.{list_events, act_all}
-use Rattle.pim_down.specs.Space.{HasRoom}
-use Rattle.pim_down.specs.Known.{known_in}
-use Rattle.pim_down.specs.Seen.{start_seen, records_seen}
+use Rattle.pim_down.proofs.Words.{◌≡◌, ◌≤◌, length, IsAscending, list_events, act_all, HasRoom, known_in, start_seen, records_seen}
 use Rattle.pim_down.proofs.hearing.message.hear_list.Given as goal
 
 -- what the entries that are left leave is what all leave

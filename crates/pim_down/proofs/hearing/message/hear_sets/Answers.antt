@@ -1,7 +1,4 @@
-use Rattle.std.proofs.Common.{◌∙◌, true, false, refl, sym, ap}
-use Rattle.pim_down.specs.Hearing.{list_events, act_all}
-use Rattle.pim_down.specs.Known.{known_in}
-use Rattle.pim_down.specs.Seen.{start_seen, records_seen}
+use Rattle.pim_down.proofs.Words.{◌∙◌, true, false, refl, sym, ap, list_events, act_all, known_in, start_seen, records_seen}
 use Rattle.pim_down.proofs.Act.{IsAscending-act_all}
 use Rattle.pim_down.proofs.Events.{sets_events, set_room, set_left, no_set_left, room_grows}
 use Rattle.pim_down.proofs.hearing.message.hear_sets.Goals as goal
@@ -21,7 +18,7 @@ hear_list-requires-clause-room g c =
     let known = known_in g.F.Family.family c.args.routes.now in
     let seen = records_seen bytes_of c.loop-set.records.items in
     let space = set_room c.args.port (start_seen c.args.start) c.loop-set.records.capacity known c.in-Some.set c.loop-set.set-iterator c.next.new.self seen c.in-Some.ensures.steps c.loop-set.invariant.room in
-    rw (c.group-group.ensures, c.joined.ensures) space.0
+    rw (c.group-group.ensures, c.joined-joined.ensures) space.0
 
 pub hear_list-requires-in-loop-set-clause-ascending : goal.hear_list-requires-in-loop-set-clause-ascending
 hear_list-requires-in-loop-set-clause-ascending g c =
@@ -35,9 +32,9 @@ hear_list-requires-in-loop-set-clause-room g c =
     let set = c.in-Some.set in
     let seen = records_seen bytes_of c.loop-set.records.items in
     let space = set_room c.args.port (start_seen c.args.start) c.loop-set.records.capacity known set c.loop-set.set-iterator c.next.new.self seen c.in-Some.ensures.steps c.loop-set.invariant.room in
-    let joined = rw (c.group-group.ensures, c.joined.ensures) at c.hear_list.ensures.records in
+    let joined = rw (c.group-group.ensures, c.joined-joined.ensures) at c.hear_list.ensures.records in
     let grown = room_grows c.args.port (start_seen c.args.start) c.loop-set.records.capacity c.hear_list.new.records.capacity (list_events known false set.group set.pruned) (act_all c.args.port (start_seen c.args.start) (list_events known true set.group set.joined) seen) c.hear_list.ensures.capacity space.1 in
-    rw (joined, c.group-group.ensures, c.pruned.ensures) grown
+    rw (joined, c.group-group.ensures, c.pruned-pruned.ensures) grown
 
 pub loop-set-preserved : goal.loop-set-preserved
 loop-set-preserved g c =
@@ -49,8 +46,8 @@ loop-set-preserved g c =
     let joins = list_events known true set.group set.joined in
     let prunes = list_events known false set.group set.pruned in
     let space = set_room c.args.port (start_seen c.args.start) c.loop-set.records.capacity known set c.loop-set.set-iterator c.next.new.self seen c.in-Some.ensures.steps c.loop-set.invariant.room in
-    let joined = rw (c.group-group.ensures, c.joined.ensures) at c.hear_list.ensures.records in
-    let pruned = rw (joined, c.group-group.ensures, c.pruned.ensures) at c.hear_list-in-loop-set.ensures.records in
+    let joined = rw (c.group-group.ensures, c.joined-joined.ensures) at c.hear_list.ensures.records in
+    let pruned = rw (joined, c.group-group.ensures, c.pruned-pruned.ensures) at c.hear_list-in-loop-set.ensures.records in
     let middle = act_all c.args.port (start_seen c.args.start) joins seen in
     let after = act_all c.args.port (start_seen c.args.start) prunes middle in
     let grown = room_grows c.args.port (start_seen c.args.start) c.loop-set.records.capacity c.hear_list.new.records.capacity rest after c.hear_list.ensures.capacity space.2 in

@@ -1,9 +1,4 @@
-use Rattle.std.proofs.Common.{◌≡◌}
-use Rattle.pim_down.specs.Records.{IsAscending}
-use Rattle.pim_down.specs.Hearing.{act_all}
-use Rattle.pim_down.specs.Space.{HasRoom}
-use Rattle.pim_down.specs.Known.{known_in}
-use Rattle.pim_down.specs.Seen.{start_seen, records_seen}
+use Rattle.pim_down.proofs.Words.{◌≡◌, IsAscending, act_all, HasRoom, known_in, start_seen, records_seen}
 use Rattle.pim_down.proofs.Events.{sets_events}
 use Rattle.pim_down.proofs.hearing.message.hear_sets.Given as goal
 

@@ -1,8 +1,4 @@
-use Rattle.std.proofs.Common.{◌&&◌, not, sym, ap, ◌∙◌}
-use Rattle.std.specs.Option.{is_some}
-use Rattle.pim_down.specs.Records.{machine_at}
-use Rattle.pim_down.specs.Hearing.{key_of}
-use Rattle.pim_down.specs.Seen.{event_seen, records_seen}
+use Rattle.pim_down.proofs.Words.{◌&&◌, not, sym, ap, ◌∙◌, is_some, machine_at, key_of, event_seen, records_seen}
 use Rattle.pim_down.proofs.Sought.{missing_is}
 use Rattle.pim_down.proofs.hearing.message.is_new.Goals as goal
 

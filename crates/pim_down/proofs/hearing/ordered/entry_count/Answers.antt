@@ -1,5 +1,4 @@
-use Rattle.std.proofs.Common.{List, true, false, length, ap, arith}
-use Rattle.pim_jp.specs.Message.{GroupSet}
+use Rattle.pim_down.proofs.Words.{List, true, false, length, ap, arith, GroupSet}
 use Rattle.pim_down.proofs.Events.{set_count_is, no_set_count, list_bound}
 use Rattle.pim_down.proofs.hearing.ordered.entry_count.Goals as goal
 

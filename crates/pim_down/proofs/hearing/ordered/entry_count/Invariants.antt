@@ -1,6 +1,4 @@
-use Rattle.std.proofs.Common.{ℕ, ◌+◌, ◌≤◌, ◌*◌, List, Option, length}
-use Rattle.pim_down.specs.declared.machines.machine.Record.{Record}
-use Rattle.pim_down.specs.Hearing.{count_new}
+use Rattle.pim_down.proofs.Words.{ℕ, ◌+◌, ◌≤◌, ◌*◌, List, Option, length, Record, count_new}
 use Rattle.pim_down.proofs.Events.{sets_events}
 use Rattle.pim_down.proofs.hearing.ordered.entry_count.Given as goal
 

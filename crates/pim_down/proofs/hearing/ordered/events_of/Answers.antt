@@ -1,6 +1,4 @@
-use Rattle.std.proofs.Common.{map}
-use Rattle.pim_down.specs.Known.{known_in}
-use Rattle.pim_down.specs.Seen.{event_seen}
+use Rattle.pim_down.proofs.Words.{map, known_in, event_seen}
 use Rattle.pim_down.proofs.Events.{sets_events}
 use Rattle.pim_down.proofs.Listing.{set_more}
 use Rattle.pim_down.proofs.hearing.ordered.events_of.Goals as goal

@@ -1,7 +1,4 @@
-use Rattle.std.proofs.Common.{◌≡◌, map}
-use Rattle.std.specs.List.{list_any}
-use Rattle.pim_down.specs.Ordered.{is_of_rpts_of}
-use Rattle.pim_down.specs.Seen.{event_seen}
+use Rattle.pim_down.proofs.Words.{◌≡◌, map, list_any, is_of_rpts_of, event_seen}
 use Rattle.pim_down.proofs.Listing.{seen_from}
 use Rattle.pim_down.proofs.hearing.ordered.have_rpts_of.Given as goal
 

@@ -1,7 +1,4 @@
-use Rattle.std.proofs.Common.{◌≡◌, ◌++◌, map}
-use Rattle.pim_down.specs.Hearing.{list_events}
-use Rattle.pim_down.specs.Known.{known_in}
-use Rattle.pim_down.specs.Seen.{event_seen}
+use Rattle.pim_down.proofs.Words.{◌≡◌, ◌++◌, map, list_events, known_in, event_seen}
 use Rattle.pim_down.proofs.hearing.ordered.push_list.Given as goal
 
 -- the events so far and those of the entries that are left are those before and those of all

@@ -1,6 +1,4 @@
-use Rattle.std.proofs.Common.{rules}
-use Rattle.pim_down.specs.Hearing.{key_of}
-use Rattle.pim_down.specs.Seen.{event_seen}
+use Rattle.pim_down.proofs.Words.{rules, key_of, event_seen}
 use Rattle.pim_down.proofs.Listing.{stays_by}
 use Rattle.pim_down.proofs.hearing.ordered.put_in_key_order.Goals as goal
 

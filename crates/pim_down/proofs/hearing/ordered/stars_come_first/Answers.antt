@@ -1,5 +1,4 @@
-use Rattle.std.proofs.Common.{◌∙◌, sym, arith}
-use Rattle.std.proofs.lemmas.Bool.{false≢true}
+use Rattle.pim_down.proofs.Words.{◌∙◌, sym, arith, false≢true}
 use Rattle.pim_down.proofs.Listing.{first_more, all_first}
 use Rattle.pim_down.proofs.hearing.ordered.stars_come_first.Goals.{else-is_star_join-via-then-is_star_join+else-have_rpts_of, else-is_star_join-via-else-is_star_join}
 use Rattle.pim_down.proofs.hearing.ordered.stars_come_first.Goals as goal

@@ -1,5 +1,4 @@
-use Rattle.std.proofs.Common.{map}
-use Rattle.pim_down.specs.Seen.{event_seen}
+use Rattle.pim_down.proofs.Words.{map, event_seen}
 use Rattle.pim_down.proofs.Listing.{AreFirstTo}
 use Rattle.pim_down.proofs.hearing.ordered.stars_come_first.Given as goal
 

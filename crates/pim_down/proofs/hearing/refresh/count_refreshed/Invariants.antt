@@ -1,7 +1,4 @@
-use Rattle.std.proofs.Common.{◌≡◌, ℕ, ◌+◌, length, drop}
-use Rattle.sorted_slab.specs.Listed.{at}
-use Rattle.pim_down.specs.Refresh.{AreJoinedUntil}
-use Rattle.pim_down.specs.Seen.{records_seen}
+use Rattle.pim_down.proofs.Words.{◌≡◌, ℕ, ◌+◌, length, drop, at, AreJoinedUntil, records_seen}
 use Rattle.pim_down.proofs.hearing.refresh.count_refreshed.Given as goal
 
 -- with those that are left, those so far are named

@@ -1,9 +1,4 @@
-use Rattle.std.proofs.Common.{◌≡◌, ◌<◌, ◌≤◌, List, ℕ, Option, true, refl, sym, ap, subst, length, take, drop, arith}
-use Rattle.sorted_slab.specs.Listed.{at}
-use Rattle.pim_jp.specs.declared.entry.Entry.{Entry}
-use Rattle.pim_down.specs.Hearing.{list_events, act_all}
-use Rattle.pim_down.specs.Refresh.{AreJoinedUntil}
-use Rattle.pim_down.specs.Seen.{start_seen, records_seen}
+use Rattle.pim_down.proofs.Words.{◌≡◌, ◌<◌, ◌≤◌, List, ℕ, Option, true, refl, sym, ap, subst, length, take, drop, arith, at, Entry, list_events, act_all, AreJoinedUntil, start_seen, records_seen}
 use Rattle.pim_down.proofs.Refreshed.{joined_within, all_end, fit, run_refreshed}
 use Rattle.pim_down.proofs.hearing.refresh.refresh_front.Goals as goal
 

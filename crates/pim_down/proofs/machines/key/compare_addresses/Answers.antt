@@ -1,6 +1,4 @@
-use Rattle.std.proofs.Common.{◌∙◌, sym, ap}
-use Rattle.std.specs.Ordering.{nat_cmp}
-use Rattle.pim_addr.specs.Address.{number_of}
+use Rattle.pim_down.proofs.Words.{◌∙◌, sym, ap, nat_cmp, number_of}
 use Rattle.pim_down.proofs.machines.key.compare_addresses.Goals as goal
 
 -- the order of the numbers, which are those of the bytes

@@ -1,7 +1,4 @@
-use Rattle.std.proofs.Common.{ap, sym, ◌∙◌, arith}
-use Rattle.pim_down.specs.Records.{count_on}
-use Rattle.pim_down.specs.Time.{Downstream}
-use Rattle.pim_down.specs.Seen.{records_seen, shown}
+use Rattle.pim_down.proofs.Words.{ap, sym, ◌∙◌, arith, count_on, Downstream, records_seen, shown}
 use Rattle.pim_down.proofs.OnPort.{count_none}
 use Rattle.pim_down.proofs.Origin.{count_on_later}
 use Rattle.pim_down.proofs.ports.Ports.count_on.Goals as goal

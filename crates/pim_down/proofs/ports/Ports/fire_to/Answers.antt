@@ -1,6 +1,4 @@
-use Rattle.std.proofs.Common.{option_map}
-use Rattle.pim_down.specs.Seen.{firing_seen, records_seen}
-use Rattle.pim_down.specs.Running.{downstream_at}
+use Rattle.pim_down.proofs.Words.{option_map, firing_seen, records_seen, downstream_at}
 use Rattle.pim_down.proofs.Kept.{ascending_back}
 use Rattle.pim_down.proofs.Stops.{sound_fires}
 use Rattle.pim_down.proofs.ports.Ports.fire_to.Goals as goal

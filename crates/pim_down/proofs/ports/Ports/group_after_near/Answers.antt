@@ -1,6 +1,4 @@
-use Rattle.std.proofs.Common.{option_map, Some, None, ap, sym, ◌∙◌}
-use Rattle.pim_down.specs.Time.{Downstream}
-use Rattle.pim_down.specs.Seen.{record_seen, records_seen}
+use Rattle.pim_down.proofs.Words.{option_map, Some, None, ap, sym, ◌∙◌, Downstream, record_seen, records_seen}
 use Rattle.pim_down.proofs.Kept.{ascending_back}
 use Rattle.pim_down.proofs.Searched.{group_told}
 use Rattle.pim_down.proofs.ports.Ports.group_after_near.Goals as goal

@@ -1,13 +1,5 @@
-use Rattle.std.proofs.Common.{◌≡◌, ◌≢◌, ◌<◌, ℕ, List, refl, sym, ap, subst, arith}
-use Rattle.std.proofs.lemmas.Result.{on_ok_weaker}
-use Rattle.pim_down.specs.declared.machines.key.Key.{Key}
-use Rattle.pim_down.specs.Records.{machine_at}
-use Rattle.pim_down.specs.Time.{Downstream}
-use Rattle.pim_down.specs.Running.{downstream_at}
-use Rattle.pim_down.specs.Known.{known_in}
-use Rattle.pim_down.specs.Seen.{start_seen, records_seen}
+use Rattle.pim_down.proofs.Words.{◌≡◌, ◌≢◌, ◌<◌, ℕ, List, refl, sym, ap, subst, arith, on_ok_weaker, Key, machine_at, Downstream, downstream_at, known_in, start_seen, records_seen, events_of}
 use Rattle.pim_down.proofs.Late.{late_heard}
-use Rattle.pim_down.specs.Hearing.{events_of}
 use Rattle.pim_down.proofs.Kept.{ascending_back, settled_back}
 use Rattle.pim_down.proofs.Origin.{count_on_later}
 use Rattle.pim_down.proofs.Hears.{heard_is, within_is, others_are, memory_is, sound_is, on_err}

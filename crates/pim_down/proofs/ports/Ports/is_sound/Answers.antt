@@ -1,5 +1,4 @@
-use Rattle.std.proofs.Common.{subst}
-use Rattle.pim_down.specs.Sound.{IsSound}
+use Rattle.pim_down.proofs.Words.{subst, IsSound}
 use Rattle.pim_down.proofs.ports.Ports.is_sound.Goals as goal
 
 pub returns : goal.returns

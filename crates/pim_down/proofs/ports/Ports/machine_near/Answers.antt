@@ -1,7 +1,4 @@
-use Rattle.std.proofs.Common.{ap, sym, subst, ◌∙◌, Some, None}
-use Rattle.pim_down.specs.Time.{Downstream}
-use Rattle.pim_down.specs.Sound.{IsSound}
-use Rattle.pim_down.specs.Seen.{timed_seen, machine_seen, key_seen, records_seen}
+use Rattle.pim_down.proofs.Words.{ap, sym, subst, ◌∙◌, Some, None, Downstream, IsSound, timed_seen, machine_seen, key_seen, records_seen}
 use Rattle.pim_down.proofs.Kept.{ascending_back, machine_shown}
 use Rattle.pim_down.proofs.Real.{none_on}
 use Rattle.pim_down.proofs.ports.Ports.machine_near.Goals as goal

@@ -1,9 +1,5 @@
-use Rattle.std.proofs.Common.{ℕ, List, ap, ◌∙◌}
-use Rattle.pim_down.specs.After.{MachinesLeft}
-use Rattle.pim_down.specs.Seen.{key_at, records_seen}
-use Rattle.pim_down.specs.Time.{Downstream}
+use Rattle.pim_down.proofs.Words.{ℕ, List, ap, ◌∙◌, MachinesLeft, key_at, records_seen, Downstream, Key}
 use Rattle.pim_down.proofs.Kept.{ascending_back}
-use Rattle.pim_down.specs.declared.machines.key.Key.{Key}
 use Rattle.pim_down.proofs.ports.Ports.machines_after_near.Goals as goal
 
 abbrev machines_behind : Key (List ℕ) → Downstream → MachinesLeft

@@ -1,5 +1,4 @@
-use Rattle.std.proofs.Common.{subst}
-use Rattle.pim_down.specs.Time.{Downstream, IsNextDue}
+use Rattle.pim_down.proofs.Words.{subst, Downstream, IsNextDue}
 use Rattle.pim_down.proofs.Jumps.{next_is}
 use Rattle.pim_down.proofs.ports.Ports.next_due.Goals as goal
 

@@ -1,5 +1,4 @@
-use Rattle.std.proofs.Common.{ap, ◌∙◌}
-use Rattle.pim_down.specs.After.{next_machine}
+use Rattle.pim_down.proofs.Words.{ap, ◌∙◌, next_machine}
 use Rattle.pim_down.proofs.ports.Ports.record_after_near.Goals as goal
 
 pub returns : goal.returns

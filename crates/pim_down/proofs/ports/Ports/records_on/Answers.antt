@@ -1,8 +1,4 @@
-use Rattle.std.proofs.Common.{ap, sym, ◌∙◌, arith}
-use Rattle.std.specs.List.{filter}
-use Rattle.pim_down.specs.Records.{is_on}
-use Rattle.pim_down.specs.Time.{Downstream}
-use Rattle.pim_down.specs.Seen.{records_seen, shown}
+use Rattle.pim_down.proofs.Words.{ap, sym, ◌∙◌, arith, filter, is_on, Downstream, records_seen, shown}
 use Rattle.pim_down.proofs.Kept.{ascending_back}
 use Rattle.pim_down.proofs.OnPort.{shown_later, none_on_port}
 use Rattle.pim_down.proofs.ports.Ports.records_on.Goals as goal

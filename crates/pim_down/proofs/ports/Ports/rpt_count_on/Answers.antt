@@ -1,7 +1,4 @@
-use Rattle.std.proofs.Common.{◌≡◌, ap, sym, ◌∙◌, arith}
-use Rattle.pim_down.specs.Hearing.{rpt_count_on}
-use Rattle.pim_down.specs.Time.{Downstream}
-use Rattle.pim_down.specs.Seen.{records_seen, shown}
+use Rattle.pim_down.proofs.Words.{◌≡◌, ap, sym, ◌∙◌, arith, rpt_count_on, Downstream, records_seen, shown}
 use Rattle.pim_down.proofs.OnPort.{count_none, rpts_few, rpts_later}
 use Rattle.pim_down.proofs.ports.Ports.rpt_count_on.Goals as goal
 
@@ -17,6 +14,6 @@ pub returns : goal.returns
 returns g c =
     let p = c.self.inside in
     let held = records_seen g.F.Family.bytes_of p.records.items in
-    c.rpt_count_on.ensures
+    c.rpt_count_on.ensures g.F.Family.bytes_of
     ∙ sym (rpts_later c.args.port p.moment held)
     ∙ ap (λ (s : Downstream). rpt_count_on c.args.port s.records) c.self.view_is

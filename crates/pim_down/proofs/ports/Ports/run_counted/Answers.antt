@@ -1,5 +1,4 @@
-use Rattle.pim_down.specs.Seen.{step_seen, records_seen}
-use Rattle.pim_down.specs.Running.{downstream_at}
+use Rattle.pim_down.proofs.Words.{step_seen, records_seen, downstream_at}
 use Rattle.pim_down.proofs.Firings.{runs_looking}
 use Rattle.pim_down.proofs.Kept.{ascending_back, sound_runs}
 use Rattle.pim_down.proofs.ports.Ports.run_counted.Goals as goal

@@ -1,8 +1,4 @@
-use Rattle.std.proofs.Common.{ap, sym, subst, ◌∙◌, Some, None}
-use Rattle.pim_down.specs.Time.{Downstream}
-use Rattle.pim_down.specs.Records.{state_of_machine}
-use Rattle.pim_down.specs.Sound.{IsSound}
-use Rattle.pim_down.specs.Seen.{timed_seen, machine_seen, key_seen, records_seen}
+use Rattle.pim_down.proofs.Words.{ap, sym, subst, ◌∙◌, Some, None, Downstream, state_of_machine, IsSound, timed_seen, machine_seen, key_seen, records_seen}
 use Rattle.pim_down.proofs.Kept.{ascending_back, state_seen}
 use Rattle.pim_down.proofs.Real.{none_on}
 use Rattle.pim_down.proofs.ports.Ports.state_of_near.Goals as goal

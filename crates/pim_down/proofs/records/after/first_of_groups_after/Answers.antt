@@ -1,7 +1,4 @@
-use Rattle.std.proofs.Common.{drop, option_map, eqb, refl}
-use Rattle.std.proofs.lemmas.Bool.{eq-eqb, ne_eqb}
-use Rattle.sorted_slab.specs.Listed.{at}
-use Rattle.pim_down.specs.After.{is_before_groups, is_of_group_after}
+use Rattle.pim_down.proofs.Words.{drop, option_map, eqb, refl, eq-eqb, ne_eqb, at, is_before_groups, is_of_group_after}
 use Rattle.pim_down.proofs.Searched.{parted, found_none, found_some, found_other, groups_fall, groups_apart, groups_near, group_first}
 use Rattle.pim_down.proofs.Looking.{past_end, front_none, front_some}
 use Rattle.pim_down.proofs.records.after.first_of_groups_after.Goals as goal

@@ -1,5 +1,4 @@
-use Rattle.sorted_slab.specs.Listed.{at}
-use Rattle.pim_down.specs.Seen.{key_seen}
+use Rattle.pim_down.proofs.Words.{at, key_seen}
 use Rattle.pim_down.proofs.Sought.{place_ok, machine_is}
 use Rattle.pim_down.proofs.records.edits.machine_of.Goals as goal
 

@@ -1,6 +1,4 @@
-use Rattle.std.proofs.Common.{sym, ◌∙◌}
-use Rattle.sorted_slab.specs.Listed.{at}
-use Rattle.pim_down.specs.Seen.{machine_seen, key_seen, records_seen}
+use Rattle.pim_down.proofs.Words.{sym, ◌∙◌, at, machine_seen, key_seen, records_seen}
 use Rattle.pim_down.proofs.Lists.{inserted}
 use Rattle.pim_down.proofs.Sought.{place_ok, place_err, replaced_is, room_one}
 use Rattle.pim_down.proofs.records.edits.put_machine.Goals as goal

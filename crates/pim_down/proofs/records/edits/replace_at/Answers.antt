@@ -1,6 +1,4 @@
-use Rattle.std.proofs.Common.{get_or, ap, ◌∙◌}
-use Rattle.sorted_slab.specs.Listed.{at}
-use Rattle.pim_down.specs.Seen.{key_seen, records_seen}
+use Rattle.pim_down.proofs.Words.{get_or, ap, ◌∙◌, at, key_seen, records_seen}
 use Rattle.pim_down.proofs.Lists.{replaced_some, replaced_none}
 use Rattle.pim_down.proofs.records.edits.replace_at.Goals as goal
 

@@ -1,10 +1,4 @@
-use Rattle.std.proofs.Common.{◌≡◌, ℕ, suc, ◌<◌, ◌+◌, ◌-◌, length, set, refl, ap, sym, arith, ◌∙◌}
-use Rattle.std.proofs.lemmas.List.{length-set}
-use Rattle.sorted_blocks.specs.Shape.{Shape}
-use Rattle.sorted_blocks.specs.Places.{before}
-use Rattle.sorted_slab.specs.Listed.{at}
-use Rattle.pim_down.specs.declared.machines.held.Held.{Held}
-use Rattle.pim_down.specs.PutOff.{put_off, put_off_from}
+use Rattle.pim_down.proofs.Words.{◌≡◌, ℕ, suc, ◌<◌, ◌+◌, ◌-◌, length, set, refl, ap, sym, arith, ◌∙◌, length-set, Shape, before, at, Held, put_off, put_off_from}
 use Rattle.pim_down.proofs.Counts.{kept_set}
 use Rattle.pim_down.proofs.PutOff.{put_off_none, put_off_next}
 use Rattle.pim_down.proofs.records.store.put_off_rows.Goals as goal

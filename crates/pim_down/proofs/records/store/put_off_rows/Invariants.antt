@@ -1,7 +1,4 @@
-use Rattle.std.proofs.Common.{◌≡◌, ℕ, List, ◌+◌, ◌<◌, ◌≤◌, length}
-use Rattle.sorted_slab.specs.Listed.{at, IsItem}
-use Rattle.pim_down.specs.PutOff.{put_off_from}
-use Rattle.pim_down.specs.Store.{IsKept}
+use Rattle.pim_down.proofs.Words.{◌≡◌, ℕ, List, ◌+◌, ◌<◌, ◌≤◌, length, at, IsItem, put_off_from, IsKept}
 use Rattle.pim_down.proofs.records.store.put_off_rows.Given as goal
 
 abbrev pub invariant-loop-left : goal.invariant-loop-left

@@ -1,7 +1,4 @@
-use Rattle.std.proofs.Common.{take, drop, ap, ◌∙◌}
-use Rattle.std.proofs.lemmas.List.Sorted.{IsPartitionedBy-ltb}
-use Rattle.sorted_slab.specs.Listed.{at}
-use Rattle.pim_down.specs.Seen.{records_seen}
+use Rattle.pim_down.proofs.Words.{take, drop, ap, ◌∙◌, IsPartitionedBy-ltb, at, records_seen}
 use Rattle.pim_down.proofs.OnPort.{rising, together}
 use Rattle.pim_down.proofs.records.walk.on_port.Goals as goal
 

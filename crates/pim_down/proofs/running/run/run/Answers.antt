@@ -1,8 +1,4 @@
-use Rattle.std.proofs.Common.{◌+◌, ◌≡◌, Some, subst, arith}
-use Rattle.pim_down.specs.Time.{fired}
-use Rattle.pim_down.specs.Schedule.{deadline_seen}
-use Rattle.pim_down.specs.Seen.{step_seen, record_seen, records_seen, shown}
-use Rattle.std.proofs.lemmas.List.{length-map}
+use Rattle.pim_down.proofs.Words.{◌+◌, ◌≡◌, Some, subst, arith, fired, deadline_seen, step_seen, record_seen, records_seen, shown, length-map}
 use Rattle.pim_down.proofs.FirstDue.{weight_length}
 use Rattle.pim_down.proofs.FirstTimer.{first_end_some}
 use Rattle.pim_down.proofs.Late.{late_first, late_not_by, late_at_end}

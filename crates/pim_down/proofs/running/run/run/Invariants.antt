@@ -1,10 +1,4 @@
-use Rattle.std.proofs.Common.{◌+◌, ◌≤◌, ℕ, List}
-use Rattle.pim_down.specs.declared.machines.step.Step.{Step}
-use Rattle.pim_down.specs.Records.{IsAscending}
-use Rattle.pim_down.specs.Time.{Downstream}
-use Rattle.pim_down.specs.Seen.{records_seen}
-use Rattle.pim_down.specs.Running.{downstream_at}
-use Rattle.pim_down.specs.Ends.{weight, AreLate}
+use Rattle.pim_down.proofs.Words.{◌+◌, ◌≤◌, ℕ, List, Step, IsAscending, Downstream, records_seen, downstream_at, weight, AreLate}
 use Rattle.pim_down.proofs.Firings.{RunsFiring}
 use Rattle.pim_down.proofs.running.run.run.Given as goal
 

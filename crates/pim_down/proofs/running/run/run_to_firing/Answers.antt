@@ -1,6 +1,4 @@
-use Rattle.std.proofs.Common.{arith}
-use Rattle.pim_down.specs.Schedule.{deadline_seen}
-use Rattle.pim_down.specs.Seen.{firing_seen, records_seen}
+use Rattle.pim_down.proofs.Words.{arith, deadline_seen, firing_seen, records_seen}
 use Rattle.pim_down.proofs.FirstTimer.{first_end_some}
 use Rattle.pim_down.proofs.Late.{late_first, late_not_by, late_at_end}
 use Rattle.pim_down.proofs.Stops.{fires_at, fires_none}

@@ -1,8 +1,4 @@
-use Rattle.std.proofs.Common.{ap, ◌∙◌}
-use Rattle.sorted_slab.specs.Listed.{at}
-use Rattle.pim_down.specs.Firing.{et_fires}
-use Rattle.pim_down.specs.Time.{record_after}
-use Rattle.pim_down.specs.Seen.{record_seen}
+use Rattle.pim_down.proofs.Words.{ap, ◌∙◌, at, et_fires, record_after, record_seen}
 use Rattle.pim_down.proofs.Rpts.{same_default}
 use Rattle.pim_down.proofs.running.timers.fire_expiry.Goals as goal
 

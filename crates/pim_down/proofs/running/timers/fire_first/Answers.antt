@@ -1,6 +1,4 @@
-use Rattle.std.proofs.Common.{◌≡◌, Some, sym, subst}
-use Rattle.pim_down.specs.Time.{fired}
-use Rattle.pim_down.specs.Seen.{shown, firing_seen}
+use Rattle.pim_down.proofs.Words.{◌≡◌, Some, sym, subst, fired, shown, firing_seen}
 use Rattle.pim_down.proofs.FirstDue.{fired_with}
 use Rattle.pim_down.proofs.running.timers.fire_first.Goals as goal
 

@@ -1,9 +1,4 @@
-use Rattle.std.proofs.Common.{◌+◌, ◌++◌, take, drop, get_or, ap, ◌∙◌}
-use Rattle.sorted_slab.specs.Listed.{at}
-use Rattle.pim_down.specs.Records.{recorded}
-use Rattle.pim_down.specs.Firing.{ppt_fires}
-use Rattle.pim_down.specs.Time.{on_ppt, record_after}
-use Rattle.pim_down.specs.Seen.{what_seen, key_seen, timed_seen, record_seen, records_seen}
+use Rattle.pim_down.proofs.Words.{◌+◌, ◌++◌, take, drop, get_or, ap, ◌∙◌, at, recorded, ppt_fires, on_ppt, record_after, what_seen, key_seen, timed_seen, record_seen, records_seen}
 use Rattle.pim_down.proofs.Rpts.{same_default}
 use Rattle.pim_down.proofs.running.timers.fire_pending.Goals as goal
 

@@ -1,9 +1,4 @@
-use Rattle.std.proofs.Common.{◌≡◌, Some, subst}
-use Rattle.std.specs.List.{position}
-use Rattle.sorted_slab.specs.Listed.{at}
-use Rattle.pim_down.specs.Time.{record_after}
-use Rattle.pim_down.specs.Schedule.{deadline_seen}
-use Rattle.pim_down.specs.Seen.{record_seen, records_seen}
+use Rattle.pim_down.proofs.Words.{◌≡◌, Some, subst, position, at, record_after, deadline_seen, record_seen, records_seen}
 use Rattle.pim_down.proofs.Sought.{element}
 use Rattle.pim_down.proofs.FirstDue.{firing_pending, firing_expiry}
 use Rattle.pim_down.proofs.FirstTimer.{due_of, fires_here, none_pending, never_missing}

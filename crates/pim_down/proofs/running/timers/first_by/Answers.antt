@@ -1,7 +1,4 @@
-use Rattle.std.proofs.Common.{sym, ap, ◌∙◌}
-use Rattle.pim_down.specs.Ends.{ends_by}
-use Rattle.pim_down.specs.Schedule.{deadline_seen}
-use Rattle.pim_down.specs.Seen.{records_seen}
+use Rattle.pim_down.proofs.Words.{sym, ap, ◌∙◌, ends_by, deadline_seen, records_seen}
 use Rattle.pim_down.proofs.FirstTimer.{first_end_some, first_end_none}
 use Rattle.pim_down.proofs.running.timers.first_by.Goals as goal
 

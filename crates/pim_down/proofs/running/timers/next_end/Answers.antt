@@ -1,6 +1,4 @@
-use Rattle.std.proofs.Common.{sym}
-use Rattle.pim_down.specs.Schedule.{deadline_seen}
-use Rattle.pim_down.specs.Seen.{records_seen}
+use Rattle.pim_down.proofs.Words.{sym, deadline_seen, records_seen}
 use Rattle.pim_down.proofs.FirstTimer.{first_end_some, first_end_none}
 use Rattle.pim_down.proofs.running.timers.next_end.Goals as goal
 

@@ -1,5 +1,4 @@
-use Rattle.pim_down.specs.After.{is_up_to}
-use Rattle.pim_down.specs.Seen.{key_seen}
+use Rattle.pim_down.proofs.Words.{is_up_to, key_seen}
 use Rattle.pim_down.proofs.Searched.{parted, machines_fall}
 use Rattle.pim_down.proofs.records.group.GroupMachines.behind.Goals as goal
 

@@ -1,7 +1,4 @@
-use Rattle.std.proofs.Common.{Some, None, drop, refl, sym, ap, ◌∙◌}
-use Rattle.sorted_slab.specs.Listed.{at}
-use Rattle.pim_down.specs.After.{MachinesLeft, is_up_to, is_machine_after, is_of_group, next_machine, left_behind}
-use Rattle.pim_down.specs.Seen.{key_seen, records_seen, shown}
+use Rattle.pim_down.proofs.Words.{Some, None, drop, refl, sym, ap, ◌∙◌, at, MachinesLeft, is_up_to, is_machine_after, is_of_group, next_machine, left_behind, key_seen, records_seen, shown}
 use Rattle.pim_down.proofs.Looking.{past_end, front_none, front_some}
 use Rattle.pim_down.proofs.Passing.{behind_it}
 use Rattle.pim_down.proofs.Searched.{found_none, found_some, found_other, machines_apart, machines_near, machine_first, next_told}

@@ -1,6 +1,4 @@
-use Rattle.std.proofs.Common.{ap, ◌∙◌}
-use Rattle.pim_down.specs.declared.records.deadline.TimerKind.TheVariants.{PendingTimer, ExpiryTimer}
-use Rattle.pim_down.specs.Schedule.{deadline_at}
+use Rattle.pim_down.proofs.Words.{ap, ◌∙◌, PendingTimer, ExpiryTimer, deadline_at}
 use Rattle.pim_down.proofs.Soonest.{found_first}
 use Rattle.pim_down.proofs.records.schedule.Schedule.first.Goals as goal
 

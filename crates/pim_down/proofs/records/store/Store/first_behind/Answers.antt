@@ -1,7 +1,4 @@
-use Rattle.std.proofs.Common.{◌≡◌, ℕ, true, false, sym, subst}
-use Rattle.std.specs.List.Sorted.{IsPartitionedBy, IsPartitionPoint}
-use Rattle.sorted_slab.specs.Listed.{Listed, at}
-use Rattle.pim_down.specs.declared.machines.held.Held.{Held}
+use Rattle.pim_down.proofs.Words.{◌≡◌, ℕ, true, false, sym, subst, IsPartitionedBy, IsPartitionPoint, Listed, at, Held}
 use Rattle.pim_down.proofs.Bounds.{never_found, gap_parts}
 use Rattle.pim_down.proofs.records.store.Store.first_behind.Goals as goal
 

@@ -1,11 +1,4 @@
-use Rattle.std.proofs.Common.{◌≡◌, option_map, subst, arith, ◌∙◌}
-use Rattle.std.specs.List.{slice_get}
-use Rattle.std.proofs.lemmas.List.{length-map}
-use Rattle.sorted_slab.specs.Listed.{Listed, numbers}
-use Rattle.pim_down.specs.declared.records.deadline.TimerKind.TheVariants.{PendingTimer, ExpiryTimer}
-use Rattle.pim_down.specs.declared.machines.held.Held.{Held}
-use Rattle.pim_down.specs.Schedule.{deadline_seen, timers_of}
-use Rattle.pim_down.specs.Seen.{record_seen, records_seen}
+use Rattle.pim_down.proofs.Words.{◌≡◌, option_map, subst, arith, ◌∙◌, slice_get, length-map, Listed, numbers, PendingTimer, ExpiryTimer, Held, deadline_seen, timers_of, record_seen, records_seen}
 use Rattle.pim_down.proofs.Numbered.{timers, known_timers}
 use Rattle.pim_down.proofs.Soonest.{first_of_both}
 use Rattle.pim_down.proofs.records.store.Store.first_timer.Goals as goal

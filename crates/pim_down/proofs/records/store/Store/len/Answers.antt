@@ -1,6 +1,4 @@
-use Rattle.std.proofs.Common.{◌+◌, ◌*◌, ◌≤◌, length, subst, arith}
-use Rattle.sorted_slab.specs.Listed.{Listed}
-use Rattle.pim_down.specs.declared.machines.held.Held.{Held}
+use Rattle.pim_down.proofs.Words.{◌+◌, ◌*◌, ◌≤◌, length, subst, arith, Listed, Held}
 use Rattle.pim_down.proofs.records.store.Store.len.Goals as goal
 
 pub returns-clause-small : goal.returns-clause-small

@@ -1,14 +1,6 @@
-use Rattle.std.proofs.Common.{◌≡◌, ℕ, ◌<◌, ◌+◌, ◌≤◌, List, Some, length, map, take, drop, ap, sym, subst, lit<, arith, ◌∙◌}
-use Rattle.std.specs.List.{All}
-use Rattle.std.proofs.lemmas.List.{take-take, length-take-le}
-use Rattle.std.proofs.lemmas.List.Elements.{All-take}
-use Rattle.sorted_blocks.specs.Shape.{Shape, items as numbers_of}
-use Rattle.sorted_blocks.specs.Places.{before, IsItem as IsIndexItem}
-use Rattle.sorted_slab.specs.Listed.{Listed, at, numbers, IsItem}
-use Rattle.pim_down.specs.declared.records.deadline.TimerKind.TheVariants.{PendingTimer, ExpiryTimer}
-use Rattle.pim_down.specs.declared.machines.held.Held.{Held}
-use Rattle.pim_down.specs.PutOff.{with_run}
-use Rattle.pim_down.specs.Schedule.{Numbered, alarm_of, AreKnown}
+use Rattle.pim_down.proofs.Words.{◌≡◌, ℕ, ◌<◌, ◌+◌, ◌≤◌, List, Some, length, map, take, drop, ap, sym, subst, lit<, arith, ◌∙◌, All, take-take, length-take-le, All-take, Shape, before, Listed, at, numbers, IsItem, PendingTimer, ExpiryTimer, Held, with_run, Numbered, alarm_of, AreKnown}
+use Rattle.sorted_blocks.specs.Shape.{items as numbers_of}
+use Rattle.sorted_blocks.specs.Places.{IsItem as IsIndexItem}
 use Rattle.pim_down.proofs.Numbered.{room_among, timers}
 use Rattle.pim_down.proofs.PutOff.{length_put_off, prunes_stay, expiries_move}
 use Rattle.pim_down.proofs.records.store.Store.put_off.Goals as goal

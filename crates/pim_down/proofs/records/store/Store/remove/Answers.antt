@@ -1,9 +1,4 @@
-use Rattle.std.proofs.Common.{◌<◌, length, ap, sym, subst, arith, ◌∙◌}
-use Rattle.std.specs.Int.{from_bool}
-use Rattle.std.proofs.lemmas.List.Edits.{length-remove}
-use Rattle.sorted_slab.specs.Listed.{Listed, at, numbers}
-use Rattle.pim_down.specs.declared.records.deadline.TimerKind.TheVariants.{PendingTimer, ExpiryTimer}
-use Rattle.pim_down.specs.declared.machines.held.Held.{Held}
+use Rattle.pim_down.proofs.Words.{◌<◌, length, ap, sym, subst, arith, ◌∙◌, from_bool, length-remove, Listed, at, numbers, PendingTimer, ExpiryTimer, Held}
 use Rattle.pim_down.proofs.Counts.{some_out, some_rpt_out, kept_out, kept_as}
 use Rattle.pim_down.proofs.Numbered.{timers_out}
 use Rattle.pim_down.proofs.records.store.Store.remove.Goals as goal

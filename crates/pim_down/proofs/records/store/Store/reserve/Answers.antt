@@ -1,5 +1,4 @@
-use Rattle.std.proofs.lemmas.Bool.{false≢true}
-use Rattle.std.proofs.Common.{refl, arith}
+use Rattle.pim_down.proofs.Words.{false≢true, refl, arith}
 use Rattle.pim_down.proofs.Counts.{kept_same}
 use Rattle.pim_down.proofs.Numbered.{timed_same, timed_more}
 use Rattle.pim_down.proofs.records.store.Store.reserve.Goals as goal

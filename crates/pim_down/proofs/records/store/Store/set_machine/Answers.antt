@@ -1,9 +1,5 @@
-use Rattle.std.proofs.Common.{◌≡◌, ◌<◌, length, set, refl, ap, sym, subst, lit<, arith}
-use Rattle.std.proofs.lemmas.List.{length-set}
+use Rattle.pim_down.proofs.Words.{◌≡◌, ◌<◌, length, set, refl, ap, sym, subst, lit<, arith, length-set, Listed, at, numbers, PendingTimer, ExpiryTimer, Held}
 use Rattle.sorted_blocks.specs.Shape.{items as numbers_of}
-use Rattle.sorted_slab.specs.Listed.{Listed, at, numbers}
-use Rattle.pim_down.specs.declared.records.deadline.TimerKind.TheVariants.{PendingTimer, ExpiryTimer}
-use Rattle.pim_down.specs.declared.machines.held.Held.{Held}
 use Rattle.pim_down.proofs.Counts.{kept_set}
 use Rattle.pim_down.proofs.Numbered.{room_among, timers_set}
 use Rattle.pim_down.proofs.records.store.Store.set_machine.Goals as goal
