@@ -45,8 +45,8 @@ names_joined port group from held (entry.Source source) =
     is_joined_until from held.machine && is_source_of port group source held.key
 names_joined port group from held (entry.Rpt source) = false
 
--- So many entries in front name so many records in front, one after another, each in Join until
--- this time.
+-- This number of entries in front name this number of records in front, one after another, each in
+-- Join until this time.
 unfoldable pub AreJoinedUntil : ℕ → List ℕ → ℕ → ℕ → List (Record (List ℕ)) → List (Entry (List ℕ)) → Type 0
 AreJoinedUntil port group from zero records entries = Unit {0}
 AreJoinedUntil port group from (suc count) [] entries = true ≡ false
