@@ -11,6 +11,7 @@ pub mod LeftOver
 pub mod Moves
 pub mod Rests
 pub mod Seeking
+pub mod Splices
 pub mod Starts
 pub mod Walking
 pub mod Within

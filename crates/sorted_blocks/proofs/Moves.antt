@@ -1,6 +1,8 @@
 -- What each edit does to the list and to a place.
 use Rattle.sorted_blocks.proofs.Words.{◌≡◌, ℕ, suc, ◌+◌, ◌-◌, ◌<◌, ◌≤◌, List, [], ◌∷◌, ◌++◌, length, get_or, set, take, drop, refl, sym, ap, subst, ◌∙◌, arith, length-append, length-drop, add-one, ◌⊎◌, inl, inr, insert, remove, length-set, length-take-le, get_or-set_same, length-insert, length-remove, Place, Shape, items, joined, cut, before, IsPlace, IsItem}
+use Rattle.sorted_blocks.specs.Shape.{spliced}
 use Rattle.sorted_blocks.proofs.Cuts.{length-cut}
+use Rattle.sorted_blocks.proofs.Splices.{length-spliced, joined-spliced}
 use Rattle.sorted_blocks.proofs.Joined.{start, joined-put, joined-take, joined-cut, joined-whole, joined-split, joined-merge, item_at, start-suc, start-all}
 use Rattle.sorted_blocks.proofs.Starts.{start-set, start-split, start-split_suc, at-split, at-split_suc, start-merge, at-merge, start-remove}
 
@@ -70,6 +72,24 @@ module _ {A : Type 0} where
       let n = ap length e ∙ length-set s.blocks p.block c in
       let r = ap length (ap (λ bs. get_or bs p.block []) e ∙ get_or-set_same s.blocks p.block c [] h) in
       is_item t p (omega (arith, n, h)) (omega (arith, r, l, length-insert (get_or s.blocks p.block []) p.at x l))
+
+  -- items put into a block
+  pub spliced_items : (s t : Shape A) (p : Place) (run : List A) → p.block < length s.blocks → p.at ≤ length (get_or s.blocks p.block []) → t.blocks ≡ set s.blocks p.block (spliced (get_or s.blocks p.block []) p.at run) → items t ≡ spliced (items s) (before s p) run
+  unfolding before
+  spliced_items s t p run h l e = ap joined e ∙ joined-spliced s.blocks p.block p.at run h l
+
+  pub spliced_place : (s t : Shape A) (p : Place) (run : List A) → p.block < length s.blocks → p.at ≤ length (get_or s.blocks p.block []) → t.blocks ≡ set s.blocks p.block (spliced (get_or s.blocks p.block []) p.at run) → IsPlace t (record { block = p.block; at = p.at + length run })
+  spliced_place s t p run h l e =
+      let c = spliced (get_or s.blocks p.block []) p.at run in
+      let n = ap length e ∙ length-set s.blocks p.block c in
+      let r = ap length (ap (λ bs. get_or bs p.block []) e ∙ get_or-set_same s.blocks p.block c [] h) in
+      is_place t (record { block = p.block; at = p.at + length run }) (omega (arith, n, h)) (omega (arith, r, l, length-spliced (get_or s.blocks p.block []) p.at run l))
+
+  pub spliced_before : (s t : Shape A) (p : Place) (run : List A) → t.blocks ≡ set s.blocks p.block (spliced (get_or s.blocks p.block []) p.at run) → before t (record { block = p.block; at = p.at + length run }) ≡ before s p + length run
+  spliced_before s t p run e =
+      let c = spliced (get_or s.blocks p.block []) p.at run in
+      let n = ap (λ bs. start bs p.block) e ∙ start-set s.blocks p.block c in
+      omega (arith, n, before_is t (record { block = p.block; at = p.at + length run }), before_is s p)
 
   -- a place in a block that is replaced
   pub set_before : (s t : Shape A) (p : Place) (c : List A) → t.blocks ≡ set s.blocks p.block c → before t p ≡ before s p

@@ -12,6 +12,10 @@ pub record Shape (A : Type 0) : Type 0 where
 unfoldable pub cut : {A : Type 0} → List A → ℕ → ℕ → List A
 cut xs at count = take at xs ++ drop (at + count) xs
 
+-- The list with these items put in before index `at`.
+unfoldable pub spliced : {A : Type 0} → List A → ℕ → List A → List A
+spliced xs at run = take at xs ++ (run ++ drop at xs)
+
 module _ {A : Type 0} where
   -- The block with this number.
   abbrev pub block_at : List (List A) → ℕ → List A
@@ -24,6 +28,10 @@ module _ {A : Type 0} where
   -- The blocks with an item put into one of them.
   abbrev pub put_into : List (List A) → ℕ → ℕ → A → List (List A)
   put_into blocks block at item = slice_set blocks block (insert (block_at blocks block) at item)
+
+  -- The blocks with items put into one of them.
+  abbrev pub spliced_into : List (List A) → ℕ → ℕ → List A → List (List A)
+  spliced_into blocks block at run = slice_set blocks block (spliced (block_at blocks block) at run)
 
   -- The blocks with an item taken out of one of them.
   abbrev pub taken_out : List (List A) → ℕ → ℕ → List (List A)

@@ -4,10 +4,10 @@
 //! the memory of the block is full. All items then move down once. Lists of timers lose their items
 //! from the front, and each removal there would move half a block.
 
-ghost use Rattle.std.specs.Prelude.{◌≡◌, ℕ, ◌+◌, ◌<◌, ◌≤◌, [], ◌++◌, length, take, drop};
+ghost use Rattle.std.specs.Prelude.{◌≡◌, ℕ, ◌+◌, ◌-◌, ◌<◌, ◌≤◌, [], ◌++◌, length, take, drop};
 ghost use Rattle.std.specs.Prelude.{slice_index_or, vec_len, vec_capacity, IfOk};
 ghost use Rattle.std.specs.List.{insert, remove};
-ghost use Rattle.sorted_blocks.specs.Shape.{cut};
+ghost use Rattle.sorted_blocks.specs.Shape.{cut, spliced};
 
 use std::alloc::{AllocError, Global};
 use std::marker::Model;
@@ -91,6 +91,17 @@ impl<T: Copy, const HALF: usize> Block<T, HALF> {
         if self.items.insert(self.start + at, item).is_err() {
             unreachable!()
         }
+    }
+
+    /// Inserts these items at this place of a block that has room for them. One move makes way.
+    #[tactic(auto, using(crate::proofs::Splices::spliced_beyond))]
+    pub(crate) fn put_all(&mut self, at: usize, run: &[T])
+        requires within { at ≤ length self.old }
+        requires room { length self.old + length run.now ≤ HALF + HALF }
+        ensures { self.new ≡ spliced self.old at run.now }
+    {
+        self.start = make_way(&mut self.items, self.start, run.len(), HALF + HALF);
+        put_all(&mut self.items, self.start + at, run);
     }
 
     /// Takes out the item at this place. It moves the items before it where these are few, else the
@@ -181,6 +192,24 @@ fn make_room<T: Copy>(items: &mut Vec<T>, start: usize, most: usize) -> usize
     0
 }
 
+/// Makes room for `count` more items after the items from `start` on, and returns where these then
+/// begin.
+fn make_way<T: Copy>(items: &mut Vec<T>, start: usize, count: usize, most: usize) -> usize
+    requires begins { start ≤ vec_len items.old }
+    requires few { vec_len items.old + count ≤ start + most }
+    requires small { count ≤ most }
+    ensures begins { result ≤ vec_len items.new }
+    ensures same { drop result items.new.items ≡ drop start items.old.items }
+    ensures room { vec_len items.new + count ≤ most }
+    ensures capacity { vec_capacity items.new ≡ vec_capacity items.old }
+{
+    if items.len() <= most - count {
+        return start;
+    }
+    move_down(items, start);
+    0
+}
+
 /// Removes the first `count` items, and moves the others to the beginning.
 #[tactic(auto, using(crate::proofs::Cuts::cut_first))]
 fn move_down<T: Copy>(items: &mut Vec<T>, count: usize)
@@ -202,4 +231,39 @@ fn cut_out<T: Copy>(items: &mut Vec<T>, at: usize, count: usize)
     let len = items.len();
     items.copy_within(at + count..len, at);
     items.truncate(len - count);
+}
+
+/// Inserts these items at `at`, within the capacity.
+fn put_all<T: Copy>(items: &mut Vec<T>, at: usize, run: &[T])
+    requires within { at ≤ vec_len items.old }
+    requires room { vec_len items.old + length run.now ≤ vec_capacity items.old }
+    ensures items { items.new.items ≡ spliced items.old.items at run.now }
+    ensures len { vec_len items.new ≡ vec_len items.old + length run.now }
+    ensures capacity { vec_capacity items.old ≤ vec_capacity items.new }
+{
+    if items.extend_from_slice(run).is_err() {
+        unreachable!()
+    }
+    put_over(items.as_mut_slice(), at, run);
+}
+
+/// Puts these items in at `at`, and takes as many off the end of the row.
+fn put_over<T: Copy>(row: &mut [T], at: usize, run: &[T])
+    requires { at + length run.now ≤ length row.old }
+    ensures { row.new ≡ take at row.old ++ (run.now
+        ++ take (length row.old - at - length run.now) (drop at row.old)) }
+{
+    let (_front, back) = row.split_at_mut(at);
+    put_before(back, run);
+}
+
+/// Puts these items in at the front, and takes as many off the end of the row.
+fn put_before<T: Copy>(row: &mut [T], run: &[T])
+    requires { length run.now ≤ length row.old }
+    ensures { row.new ≡ run.now ++ take (length row.old - length run.now) row.old }
+{
+    let kept = row.len() - run.len();
+    row.copy_within(0..kept, run.len());
+    let (place, _moved) = row.split_at_mut(run.len());
+    place.copy_from_slice(run);
 }

@@ -1,9 +1,9 @@
 //! The list with its public calls.
 
 ghost use Rattle.std.specs.Prelude.{◌≡◌, ◌+◌, ◌-◌, ◌*◌, ◌<◌, ◌≤◌, [], length, take, drop};
-ghost use Rattle.std.specs.Prelude.{slice_index_or, OnOk, IsOk, IsTrue, ◌↔◌};
+ghost use Rattle.std.specs.Prelude.{slice_index_or, OnOk, IsOk, IsTrue, ◌↔◌, IfSome, IfNone};
 ghost use Rattle.std.specs.List.{All, insert, remove};
-ghost use Rattle.sorted_blocks.specs.Shape.{items, capacity, cut, Shape};
+ghost use Rattle.sorted_blocks.specs.Shape.{items, capacity, cut, spliced, Shape};
 ghost use Rattle.sorted_blocks.specs.Places.{before, rest_of, IsPlace, IsItem};
 ghost use Rattle.sorted_blocks.specs.Found.{IsFound};
 ghost use Rattle.sorted_blocks.specs.declared.place.Place.{Place};
@@ -90,6 +90,20 @@ impl<T: Copy, const HALF: usize> Blocks<T, HALF> {
         ensures before { before self.new result ≡ before self.old place }
     {
         self.store.insert_reserved(place, item)
+    }
+
+    /// Inserts these items at this place, if its block has room for them. Returns the place after
+    /// them, or else changes nothing. It moves at most the items of one block.
+    pub fn insert_in_block(&mut self, place: Place, run: &[T]) -> Option<Place>
+        requires { IsPlace self.old place }
+        ensures some { IfSome result (λ behind.
+            (items self.new ≡ spliced (items self.old) (before self.old place) run.now)
+            × IsPlace self.new behind
+            × (before self.new behind ≡ before self.old place + length run.now)) }
+        ensures none { IfNone result (self.new ≡ self.old) }
+        ensures capacity { capacity HALF self.new ≡ capacity HALF self.old }
+    {
+        self.store.insert_in_block(place, run)
     }
 
     /// Takes out the item at this place, and returns it with the place of the item that followed.

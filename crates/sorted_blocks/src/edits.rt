@@ -5,9 +5,9 @@
 //! do not split and merge each time.
 
 ghost use Rattle.std.specs.Prelude.{◌≡◌, ℕ, ◌+◌, ◌-◌, ◌<◌, ◌≤◌, [], ◌∷◌, ◌++◌, length};
-ghost use Rattle.std.specs.Prelude.{slice_index_or, IsTrue, ◌↔◌};
+ghost use Rattle.std.specs.Prelude.{slice_index_or, IsTrue, ◌↔◌, IfSome, IfNone};
 ghost use Rattle.std.specs.List.{insert, remove};
-ghost use Rattle.sorted_blocks.specs.Shape.{items, block_total, block_at, together, cut};
+ghost use Rattle.sorted_blocks.specs.Shape.{items, block_total, block_at, together, cut, spliced};
 ghost use Rattle.sorted_blocks.specs.Places.{before, rest_of, IsPlace, IsItem};
 ghost use Rattle.sorted_blocks.specs.Sound.{IsDense, IsDenseIn};
 
@@ -32,6 +32,34 @@ impl<T: Copy, const HALF: usize> Store<T, HALF> {
         let place = self.make_way(place);
         self.put(place.block, place.at, item);
         place
+    }
+
+    /// Inserts these items at this place, if its block has room for them. Returns the place after
+    /// them.
+    pub(crate) fn insert_in_block(&mut self, place: Place, run: &[T]) -> Option<Place>
+        requires { IsPlace self.old place }
+        ensures some { IfSome result (λ behind.
+            (items self.new ≡ spliced (items self.old) (before self.old place) run.now)
+            × IsPlace self.new behind
+            × (before self.new behind ≡ before self.old place + length run.now)) }
+        ensures none { IfNone result (self.new ≡ self.old) }
+        ensures total { block_total self.new ≡ block_total self.old }
+        ensures dense { IsDense HALF self.old.blocks → IsDense HALF self.new.blocks }
+    {
+        if place.block >= self.block_count() {
+            return None;
+        }
+        let len = self.block_len(place.block);
+        let room = HALF + HALF - len;
+        let count = run.len();
+        if count > room {
+            return None;
+        }
+        self.put_all(place.block, place.at, run);
+        Some(Place {
+            block: place.block,
+            at: place.at + count,
+        })
     }
 
     /// Returns the same place in a block that is not full: a full block is split.

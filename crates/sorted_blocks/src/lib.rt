@@ -5,6 +5,8 @@
 //! - `insert_within` is `insert` of std on the list, and `remove` is its `remove`.
 //!   `remove_in_block` takes out several items of one block. Each returns a place with as many
 //!   items before it.
+//! - `insert_in_block` puts in several items by one move, where the block of the place has room for
+//!   them, and else changes nothing. It returns the place after them.
 //! - `reserve_capacity(n)` at Ok leaves a capacity for n more items, which the edits keep. Below it
 //!   `insert_within` always succeeds.
 //! - Only `reserve_capacity` can run out of memory. The list and its places then stay.

@@ -7,7 +7,7 @@ ghost use Rattle.std.specs.Prelude.{◌≡◌, ◌+◌, ◌<◌, ◌≤◌, [], 
 ghost use Rattle.std.specs.Prelude.{OnOk, OnErr};
 ghost use Rattle.std.specs.List.{remove};
 ghost use Rattle.sorted_blocks.specs.Shape.{Shape, joined, block_at, together, put_into, taken_out};
-ghost use Rattle.sorted_blocks.specs.Shape.{cut_from, split, merged, block_total};
+ghost use Rattle.sorted_blocks.specs.Shape.{spliced_into, cut_from, split, merged, block_total};
 ghost use Rattle.sorted_blocks.specs.Sound.{AllFilled};
 ghost use Rattle.sorted_blocks.specs.Sought.{IsLead};
 
@@ -146,6 +146,20 @@ impl<T: Copy, const HALF: usize> Store<T, HALF> {
         row.put(at, item);
         self.firsts[block] = *row.get(0);
         self.count += 1;
+    }
+
+    /// Inserts items in a block that has room for them.
+    pub(crate) fn put_all(&mut self, block: usize, at: usize, run: &[T])
+        requires block { block < length self.old.blocks }
+        requires at { at ≤ length (block_at self.old.blocks block) }
+        requires room { length (block_at self.old.blocks block) + length run.now ≤ HALF + HALF }
+        ensures blocks { self.new.blocks ≡ spliced_into self.old.blocks block at run.now }
+        ensures spare { self.new.spare ≡ self.old.spare }
+    {
+        let row = &mut self.used[block];
+        row.put_all(at, run);
+        self.firsts[block] = *row.get(0);
+        self.count += run.len();
     }
 
     /// Puts the first item of the list into a spare block.
