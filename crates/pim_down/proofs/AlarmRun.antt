@@ -50,7 +50,7 @@ this_placed P x (y ∷ ys) all =
 -- ---- a run
 
 module _ {A : Type 0} (bytes_of : A → List ℕ) where
-  abbrev timer_of : ℕ → ℕ → Held A → Numbered
+  abbrev pub timer_of : ℕ → ℕ → Held A → Numbered
   timer_of ends n x = record { ends_at = ends; key = key_seen bytes_of x.key; number = n }
 
   -- one more of a run
@@ -65,29 +65,29 @@ module _ {A : Type 0} (bytes_of : A → List ℕ) where
       ∙ placed_swap alarm_cmp alarm_total same_alarm (timer_of ends m y) (timer_of ends n x) (with_run bytes_of ends (take i ns) (take i xs) ts)
 
   module _ (slab : Slab (Held A)) where
-    abbrev HasKey : Numbered → Type 0
+    abbrev pub HasKey : Numbered → Type 0
     HasKey t = key_of bytes_of slab t.number ≡ Some t.key
 
-    known_this : (t : Numbered) (ts : List Numbered) → AreKnown bytes_of slab (placed alarm_cmp t ts) → HasKey t
+    pub known_this : (t : Numbered) (ts : List Numbered) → AreKnown bytes_of slab (placed alarm_cmp t ts) → HasKey t
     known_this t ts known = this_placed HasKey t ts known.keys
 
-    known_that : (t : Numbered) (ts : List Numbered) → AreKnown bytes_of slab (placed alarm_cmp t ts) → AreKnown bytes_of slab ts
+    pub known_that : (t : Numbered) (ts : List Numbered) → AreKnown bytes_of slab (placed alarm_cmp t ts) → AreKnown bytes_of slab ts
     known_that t ts known = known_rest bytes_of slab t.key t.number (Some t.ends_at) ts known
 
-    known_more : (t : Numbered) (ts : List Numbered) → HasKey t → AreKnown bytes_of slab ts → AreKnown bytes_of slab (placed alarm_cmp t ts)
+    pub known_more : (t : Numbered) (ts : List Numbered) → HasKey t → AreKnown bytes_of slab ts → AreKnown bytes_of slab (placed alarm_cmp t ts)
     known_more t ts key known = record {
       keys = all_placed HasKey t ts key known.keys;
       order = order_placed alarm_cmp alarm_total same_alarm t ts known.order;
     }
 
-    known_base : (ends : ℕ) (ns : List ℕ) (xs : List (Held A)) (ts : List Numbered) → AreKnown bytes_of slab (with_run bytes_of ends ns xs ts) → AreKnown bytes_of slab ts
+    pub known_base : (ends : ℕ) (ns : List ℕ) (xs : List (Held A)) (ts : List Numbered) → AreKnown bytes_of slab (with_run bytes_of ends ns xs ts) → AreKnown bytes_of slab ts
     unfolding with_run
     known_base ends [] xs ts known = known
     known_base ends (n ∷ ns) [] ts known = known
     known_base ends (n ∷ ns) (x ∷ xs) ts known = known_base ends ns xs ts (known_that (timer_of ends n x) (with_run bytes_of ends ns xs ts) known)
 
     -- with another end, the first of them are known too
-    known_front : (ends to : ℕ) (ns : List ℕ) (xs : List (Held A)) (ts : List Numbered) (i : ℕ) → AreKnown bytes_of slab (with_run bytes_of ends ns xs ts) → AreKnown bytes_of slab (with_run bytes_of to (take i ns) (take i xs) ts)
+    pub known_front : (ends to : ℕ) (ns : List ℕ) (xs : List (Held A)) (ts : List Numbered) (i : ℕ) → AreKnown bytes_of slab (with_run bytes_of ends ns xs ts) → AreKnown bytes_of slab (with_run bytes_of to (take i ns) (take i xs) ts)
     unfolding with_run
     known_front ends to ns xs ts zero known = known_base ends ns xs ts known
     known_front ends to [] xs ts (suc i) known = known
@@ -97,7 +97,7 @@ module _ {A : Type 0} (bytes_of : A → List ℕ) where
         let others = with_run bytes_of ends ns xs ts in
         known_more (timer_of to n x) (with_run bytes_of to (take i ns) (take i xs) ts) (known_this t others known) (known_front ends to ns xs ts i (known_that t others known))
 
-    known_key : (ends : ℕ) (ns : List ℕ) (xs : List (Held A)) (ts : List Numbered) (i n : ℕ) (x : Held A) → AreKnown bytes_of slab (with_run bytes_of ends ns xs ts) → i < length ns → i < length xs → n ≡ get_or ns i n → x ≡ get_or xs i x → key_of bytes_of slab n ≡ Some (key_seen bytes_of x.key)
+    pub known_key : (ends : ℕ) (ns : List ℕ) (xs : List (Held A)) (ts : List Numbered) (i n : ℕ) (x : Held A) → AreKnown bytes_of slab (with_run bytes_of ends ns xs ts) → i < length ns → i < length xs → n ≡ get_or ns i n → x ≡ get_or xs i x → key_of bytes_of slab n ≡ Some (key_seen bytes_of x.key)
     unfolding with_run
     known_key ends [] xs ts i n x known w v en ex = absurd (omega (arith, w))
     known_key ends (m ∷ ns) [] ts i n x known w v en ex = absurd (omega (arith, v))

@@ -6,6 +6,7 @@ pub mod AlarmOrder
 pub mod Numbered
 pub mod AlarmRun
 pub mod PutOff
+pub mod RunPut
 pub mod Soonest
 pub mod Searched
 pub mod Map

@@ -1,7 +1,12 @@
 -- Expiry Timers of records side by side that are put off together.
-use Rattle.std.specs.Prelude.{ℕ, ◌+◌, List, [], ◌∷◌, ◌++◌, Some, map, take, drop}
+use Rattle.std.specs.Prelude.{◌≡◌, ℕ, zero, suc, ◌+◌, true, false, List, [], ◌∷◌, ◌++◌, Some, map, take, drop}
+use Rattle.std.specs.declared.cmp.Ordering.TheVariants.{Less}
+use Rattle.slab.specs.Slab.{Slab}
+use Rattle.pim_down.specs.declared.machines.key.Key.{Key}
+use Rattle.pim_down.specs.declared.records.deadline.Alarm.{Alarm}
 use Rattle.pim_down.specs.declared.machines.held.Held.{Held}
-use Rattle.pim_down.specs.Schedule.{Numbered, with_alarm}
+use Rattle.pim_down.specs.Key.{key_cmp}
+use Rattle.pim_down.specs.Schedule.{Numbered, with_alarm, key_of}
 use Rattle.pim_down.specs.Seen.{key_seen}
 
 -- The record, with another end of its Expiry Timer.
@@ -23,3 +28,15 @@ with_run bytes_of ends [] run timers = timers
 with_run bytes_of ends (number ∷ numbers) [] timers = timers
 with_run bytes_of ends (number ∷ numbers) (held ∷ run) timers =
     with_alarm (key_seen bytes_of held.key) number (Some ends) (with_run bytes_of ends numbers run timers)
+
+-- The alarm of the record with this number, with this end.
+abbrev pub alarm_at : ℕ → ℕ → Alarm
+alarm_at ends number = record { ends_at = ends; number = number }
+
+-- The keys of the records with these numbers, of the first `count`, ascend from this key on.
+unfoldable pub Ascend : {A : Type 0} → (A → List ℕ) → Slab (Held A) → ℕ → Key (List ℕ) → List ℕ → Type 0
+Ascend bytes_of slab zero key numbers = Unit {0}
+Ascend bytes_of slab (suc count) key [] = true ≡ false
+Ascend bytes_of slab (suc count) key (number ∷ numbers) =
+    (next : Key (List ℕ)) × (key_of bytes_of slab number ≡ Some next) × (key_cmp key next ≡ Less)
+    × Ascend bytes_of slab count next numbers

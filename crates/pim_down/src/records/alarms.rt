@@ -2,14 +2,15 @@
 //! the number of its record. Its key is read from the slab, only where ends are equal.
 
 ghost use Rattle.std.specs.Prelude.{◌≡◌, ℕ, List, Option, ◌+◌, ◌<◌, ◌≤◌, [], length, map, OnOk};
+ghost use Rattle.std.specs.Prelude.{IsTrue};
 ghost use Rattle.std.specs.Prelude.{slice_index_or, take};
 ghost use Rattle.std.specs.List.{slice_get, insert};
 ghost use Rattle.slab.specs.Slab.{get};
-ghost use Rattle.sorted_blocks.specs.Shape.{items};
-ghost use Rattle.sorted_blocks.specs.Places.{before, IsPlace};
+ghost use Rattle.sorted_blocks.specs.Shape.{items, capacity};
+ghost use Rattle.sorted_blocks.specs.Places.{before, IsPlace, IsItem};
 ghost use Rattle.pim_down.specs.declared.records.deadline.Alarm.{Alarm};
 ghost use Rattle.pim_down.specs.declared.machines.held.Held.{Held};
-ghost use Rattle.pim_down.specs.PutOff.{with_run};
+ghost use Rattle.pim_down.specs.PutOff.{with_run, alarm_at, Ascend};
 ghost use Rattle.pim_down.specs.Schedule.{Numbered, alarm_cmp, alarm_of, alarm_seen, with_alarm};
 ghost use Rattle.pim_down.specs.Schedule.{AreKnown, key_order, alarm_order, placed, without};
 ghost use Rattle.pim_down.specs.Seen.{key_seen};
@@ -22,6 +23,9 @@ use sorted_blocks::{Blocks, Place, Probe, item_has_a_place, place_is_within};
 use std::alloc::{AllocError, Global};
 use std::cmp::Ordering;
 use std::marker::{Model, PhantomData};
+
+/// How many timers are put in by one move at most.
+const RUN: usize = 32;
 
 /// Compares the key of the record with this number.
 fn compare_key<A: Copy, O: KeyOrder<A>>(
@@ -139,6 +143,113 @@ fn count_run(row: &[Alarm], from: u64, numbers: &[usize]) -> usize
         count += 1;
     }
     count
+}
+
+/// How many of these numbers, from the first one on, are of records whose keys ascend from this key
+/// on. It counts no more than fit in a run.
+fn count_ascending<A: Copy, O: KeyOrder<A>>(
+    slab: &Slab<Held<A>>,
+    key: &Key<A>,
+    numbers: &[usize],
+) -> usize
+    ensures numbers { result ≤ length numbers.now }
+    ensures most { result ≤ 32 }
+    ensures ascend { Ascend O.bytes_of slab.now result (key_seen O.bytes_of key.now) numbers.now }
+{
+    let most = numbers.len().min(RUN);
+    let mut last = *key;
+    let mut count = 0;
+    while count < most {
+        let Some(held) = slab.get(numbers[count]) else {
+            return count;
+        };
+        if !O::compare(&last, &held.key).is_lt() {
+            return count;
+        }
+        last = held.key;
+        count += 1;
+    }
+    count
+}
+
+/// A row for a run, with alarms that mean nothing.
+fn blank_run() -> [Alarm; 32] {
+    [Alarm {
+        ends_at: 0,
+        number: 0,
+    }; 32]
+}
+
+/// Writes the alarms with this end of the records with these numbers to the front of a row.
+fn write_run(to: u64, numbers: &[usize], row: &mut [Alarm; 32])
+    requires { length numbers.now ≤ 32 }
+    ensures { take (length numbers.now) row.new ≡ map (alarm_at to) numbers.now }
+{
+    let mut count = 0;
+    while count < numbers.len() {
+        row[count] = Alarm {
+            ends_at: to,
+            number: numbers[count],
+        };
+        count += 1;
+    }
+}
+
+/// Whether the item at this place, if there is one, ends later.
+fn ends_later<const HALF: usize>(list: &Blocks<Alarm, HALF>, place: Place, to: u64) -> bool
+    requires { IsPlace list.now place }
+    ensures { (d : Alarm) → IsTrue result → before list.now place < length (items list.now)
+        → to < (slice_index_or (items list.now) (before list.now place) d).ends_at }
+{
+    let place = list.settled(place);
+    if !list.is_item(place) {
+        return true;
+    }
+    to < list.get(place).ends_at
+}
+
+/// Puts in the timers of the records with these numbers that belong right after the one at this
+/// place: of the first ones, as many as its block has room for. Returns their number, and a place
+/// near the last one.
+fn put_behind<A: Copy, O: KeyOrder<A>, const HALF: usize>(
+    list: &mut Blocks<Alarm, HALF>,
+    stands: Place,
+    slab: &Slab<Held<A>>,
+    to: u64,
+    key: &Key<A>,
+    numbers: &[usize],
+) -> (usize, Place)
+    requires { IsItem list.old stands }
+    ensures numbers { result.0 ≤ length numbers.now }
+    ensures alarms { (number : ℕ) (run : List (Held A)) (timers : List Numbered)
+        → length run ≡ length numbers.now
+        → AreKnown O.bytes_of slab.now (with_run O.bytes_of to numbers.now run timers)
+        → items list.old ≡ map alarm_of timers
+        → ((d : Numbered) → slice_index_or timers (before list.old stands) d
+        ≡ record { ends_at = to; key = key_seen O.bytes_of key.now; number = number })
+        → items list.new ≡ map alarm_of
+        (with_run O.bytes_of to (take result.0 numbers.now) (take result.0 run) timers) }
+    ensures more { length (items list.new) ≡ length (items list.old) + result.0 }
+    ensures capacity { capacity HALF list.new ≡ capacity HALF list.old }
+{
+    item_has_a_place::<Alarm>();
+    place_is_within::<Alarm>();
+    if numbers.is_empty() {
+        return (0, stands);
+    }
+    let place = list.next(stands);
+    if !ends_later(list, place, to) {
+        return (0, stands);
+    }
+    let count = count_ascending::<A, O>(slab, key, numbers);
+    let (run, _others) = numbers.split_at(count);
+    let mut row = blank_run();
+    write_run(to, run, &mut row);
+    let (run, _blank) = row.split_at(count);
+    match list.insert_in_block(place, run) {
+        Some(behind) => (count, behind),
+        None => (0, stands),
+    }
 }
 
 impl<A: Copy, O: KeyOrder<A>, const HALF: usize> Alarms<A, O, HALF> {
@@ -328,15 +439,50 @@ impl<A: Copy, O: KeyOrder<A>, const HALF: usize> Alarms<A, O, HALF> {
             ≡ map alarm_of (with_run O.bytes_of to numbers.now run timers) }
         ensures capacity { self.new.capacity ≡ self.old.capacity }
     {
-        for number in numbers {
-            if let Some(held) = slab.get(*number) {
-                let alarm = Alarm {
-                    ends_at: to,
-                    number: *number,
-                };
-                self.put(slab, held.key, alarm);
-            }
+        let mut at = 0;
+        while at < numbers.len() {
+            let (_done, left) = numbers.split_at(at);
+            at += self.put_front(slab, to, left);
         }
+    }
+
+    /// Puts in the first one of these timers, all with this end, and those after it that belong
+    /// right after it. Returns their number.
+    fn put_front(&mut self, slab: &Slab<Held<A>>, to: u64, numbers: &[usize]) -> usize
+        requires some { 0 < length numbers.now }
+        requires room { length self.old.alarms < self.old.capacity }
+        ensures some { 0 < result }
+        ensures numbers { result ≤ length numbers.now }
+        ensures alarms { (run : List (Held A)) (timers : List Numbered)
+            → length run ≡ length numbers.now
+            → AreKnown O.bytes_of slab.now (with_run O.bytes_of to numbers.now run timers)
+            → self.old.alarms ≡ map alarm_of timers → self.new.alarms ≡ map alarm_of
+            (with_run O.bytes_of to (take result numbers.now) (take result run) timers) }
+        ensures more { length self.new.alarms ≤ length self.old.alarms + result }
+        ensures capacity { self.new.capacity ≡ self.old.capacity }
+    {
+        place_is_within::<Alarm>();
+        let (first, others) = numbers.split_at(1);
+        let number = first[0];
+        let Some(held) = slab.get(number) else {
+            return 1;
+        };
+        let alarm = Alarm {
+            ends_at: to,
+            number,
+        };
+        let place = slot_of::<A, O, HALF>(&self.list, self.put, slab, held.key, alarm);
+        let stands = self.list.insert_within(place, alarm);
+        let (count, near) = put_behind::<A, O, HALF>(
+            &mut self.list,
+            stands,
+            slab,
+            to,
+            &held.key,
+            others,
+        );
+        self.put = near;
+        1 + count
     }
 
     /// Gives timers of the records with these numbers, all with one end, another end. It takes as

@@ -1,14 +1,18 @@
-use Rattle.std.proofs.Common.{◌≡◌, ℕ, List, ◌+◌, ◌≤◌, length, map, take}
+use Rattle.std.proofs.Common.{◌≡◌, ℕ, List, ◌+◌, ◌-◌, ◌≤◌, length, map, take}
 use Rattle.pim_down.specs.declared.machines.held.Held.{Held}
 use Rattle.pim_down.specs.PutOff.{with_run}
 use Rattle.pim_down.specs.Schedule.{Numbered, alarm_of, AreKnown}
 use Rattle.pim_down.proofs.records.alarms.Alarms.put_run.Given as goal
 
-abbrev pub invariant-loop-number : goal.invariant-loop-number
-invariant-loop-number g l = record {
+abbrev pub invariant-loop-at : goal.invariant-loop-at
+invariant-loop-at g l = record {
   alarms : (ends : ℕ) (run : List (Held g.row.A.Denot)) (timers : List Numbered) → length run ≡ length l.numbers →
       AreKnown g.O.KeyOrder.bytes_of l.slab (with_run g.O.KeyOrder.bytes_of ends l.numbers run timers) → l.fn.self.alarms ≡ map alarm_of timers →
-      l.self.alarms ≡ map alarm_of (with_run g.O.KeyOrder.bytes_of l.to (take l.number-index l.numbers) (take l.number-index run) timers);
-  few : length l.self.alarms ≤ length l.fn.self.alarms + l.number-index;
+      l.self.alarms ≡ map alarm_of (with_run g.O.KeyOrder.bytes_of l.to (take l.at l.numbers) (take l.at run) timers);
+  within : l.at ≤ length l.numbers;
+  few : length l.self.alarms ≤ length l.fn.self.alarms + l.at;
   capacity : l.self.capacity ≡ l.fn.self.capacity;
 }
+
+abbrev pub decreases-loop-at : goal.decreases-loop-at
+decreases-loop-at g l = length l.numbers - l.at
