@@ -161,10 +161,20 @@ fn put_capture<W: Drain>(writer: &mut W, cause: CaptureCause) -> Result<(), Fail
         CaptureCause::Block => write_all(writer, b"capture block"),
         CaptureCause::Time => write_all(writer, b"capture time"),
         CaptureCause::Vlans { first, other } => {
-            put_two(writer, b"capture vlans ", u64::from(first), u64::from(other))
+            put_two(
+                writer,
+                b"capture vlans ",
+                u64::from(first),
+                u64::from(other),
+            )
         }
         CaptureCause::Interfaces { first, other } => {
-            put_two(writer, b"capture interfaces ", u64::from(first), u64::from(other))
+            put_two(
+                writer,
+                b"capture interfaces ",
+                u64::from(first),
+                u64::from(other),
+            )
         }
     }
 }

@@ -58,7 +58,13 @@ fn write_warning<W: Drain>(
             number,
             b" frames that are cut by the snapshot length",
         ),
-        Warning::RunsBack => write_about(writer, b"time runs back in ", file, b" at record ", number),
+        Warning::RunsBack => write_about(
+            writer,
+            b"time runs back in ",
+            file,
+            b" at record ",
+            number,
+        ),
         Warning::Jumps => write_about(writer, b"time jumps in ", file, b" at record ", number),
     }
 }

@@ -28,10 +28,7 @@ use pim_words::{Captures, Port, Side, Writing};
 use std::alloc::{AllocError, Global};
 
 /// The program's fault for a fault of the comparison.
-fn same_fault<'a, F: Family>(
-    captures: &Captures<'a, F::Addr>,
-    fault: SameFault<F>,
-) -> Fault<'a>
+fn same_fault<'a, F: Family>(captures: &Captures<'a, F::Addr>, fault: SameFault<F>) -> Fault<'a>
     ensures { result ≡ same_fault (filter (is_of Side.A) captures.now.ports.items)
         (filter (is_of Side.B) captures.now.ports.items) F.family F.bytes_of fault }
 {

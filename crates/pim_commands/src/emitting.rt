@@ -24,10 +24,7 @@ use pim_words::{Captures, Writing};
 use std::alloc::Global;
 
 /// The program's fault for a fault of the messages.
-fn emit_fault<'a, F: Family>(
-    captures: &Captures<'a, F::Addr>,
-    fault: EmitFault<F>,
-) -> Fault<'a>
+fn emit_fault<'a, F: Family>(captures: &Captures<'a, F::Addr>, fault: EmitFault<F>) -> Fault<'a>
     ensures { result ≡ emit_fault captures.now.ports.items F.family F.bytes_of fault }
 {
     match fault {

@@ -76,11 +76,7 @@ fn file_of<'a, A: Copy>(port: &Port<'a, A>) -> Option<&'a str>
 }
 
 /// That of the port of this number among those of a router.
-fn file_at<'a, A: Copy>(
-    ports: &[Port<'a, A>],
-    side: Option<Side>,
-    number: usize,
-) -> Option<&'a str>
+fn file_at<'a, A: Copy>(ports: &[Port<'a, A>], side: Option<Side>, number: usize) -> Option<&'a str>
     ensures { result ≡ file_at (filter (is_in side) ports.now) number }
 {
     let mut left = number;
@@ -120,5 +116,9 @@ pub(crate) fn port_fault<'a, A: Copy>(
     let Some(cause) = cause_of(told.fault) else {
         return Fault::Memory;
     };
-    in_file(file_at(&captures.ports, side, told.capture), told.record, cause)
+    in_file(
+        file_at(&captures.ports, side, told.capture),
+        told.record,
+        cause,
+    )
 }

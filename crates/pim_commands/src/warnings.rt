@@ -105,11 +105,7 @@ fn warn_of_file<W: Drain>(writer: &mut W, file: &str, tally: Tally) -> Result<()
 }
 
 /// Writes the warnings on the capture of a port.
-fn warn_of_port<W: Drain, A>(
-    writer: &mut W,
-    port: &Port<'_, A>,
-    tally: Tally,
-) -> Result<(), Failed>
+fn warn_of_port<W: Drain, A>(writer: &mut W, port: &Port<'_, A>, tally: Tally) -> Result<(), Failed>
     ensures bytes { AppendsAll (W.contents writer.old) (W.contents writer.new) result
         (port_warnings port.now tally) }
     ensures count { W.failures writer.new ≡ failures_after (W.failures writer.old) result }

@@ -43,9 +43,9 @@ module _ {X : Type 0} where
       let front : length (f ++ x ∷ []) ≡ suc at = omega (arith, length_more f, length-take-le at xs w) in
       let parts : insert xs at x ≡ (f ++ x ∷ []) ++ b = sym (append_assoc f (x ∷ []) b) in
       sym (
-        ap (λ (ys : List X). take (suc at) ys ++ (run ++ drop (suc at) ys)) parts
-        ∙ ap₂ (λ p q. p ++ (run ++ q)) (take_at (f ++ x ∷ []) b (suc at) front) (drop_at (f ++ x ∷ []) b (suc at) front)
-        ∙ append_assoc f (x ∷ []) (run ++ b)
+      ap (λ (ys : List X). take (suc at) ys ++ (run ++ drop (suc at) ys)) parts
+      ∙ ap₂ (λ p q. p ++ (run ++ q)) (take_at (f ++ x ∷ []) b (suc at) front) (drop_at (f ++ x ∷ []) b (suc at) front)
+      ∙ append_assoc f (x ∷ []) (run ++ b)
       )
     where
       length_more : (ys : List X) → length (ys ++ x ∷ []) ≡ suc (length ys)

@@ -64,8 +64,14 @@ fn run_on_system<'a, F: Family>(rt: &HostRuntime, task: &Task<'a, F::Addr>) -> R
     let mut input = Counted::new(rt.stdin());
     let mut errors = Counted::new(rt.stderr());
     let alloc = rt.alloc();
-    let status =
-        run_task::<F, _, _, _, _>(alloc, &mut files, task, &mut input, &mut output, &mut errors);
+    let status = run_task::<F, _, _, _, _>(
+        alloc,
+        &mut files,
+        task,
+        &mut input,
+        &mut output,
+        &mut errors,
+    );
     match output.into_inner().flush() {
         Err(_) if status.is_ok() => Err(Fault::Output),
         _ => status,
