@@ -38,7 +38,7 @@ WORDS = {
     "CONTRIBUTING.md": 600,
     "docs/ARCHITECTURE.md": 1500,
     "docs/CAPTURES.md": 500,
-    "docs/CONTRACTS.md": 2600,
+    "docs/CONTRACTS.md": 2700,
     "docs/DEFINITIONS.md": 1500,
     "docs/HEADLINE.md": 1500,
     "docs/MANUAL.md": 1500,
