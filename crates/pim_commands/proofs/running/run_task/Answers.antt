@@ -1,0 +1,13 @@
+use Rattle.pim_commands.proofs.running.run_task.Goals as goal
+
+pub returns-in-Same-clause-done : goal.returns-in-Same-clause-done
+returns-in-Same-clause-done g c = rw c.in-Same.is c.same.ensures.report
+
+pub returns-in-Mirror-clause-done : goal.returns-in-Mirror-clause-done
+returns-in-Mirror-clause-done g c = rw c.in-Mirror.is c.mirror.ensures.text
+
+pub returns-in-Emit-clause-done : goal.returns-in-Emit-clause-done
+returns-in-Emit-clause-done g c = rw c.in-Emit.is c.emit.ensures.bytes
+
+pub returns-in-Change-clause-done : goal.returns-in-Change-clause-done
+returns-in-Change-clause-done g c = rw c.in-Change.is c.change.ensures.text
