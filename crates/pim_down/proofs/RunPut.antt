@@ -177,9 +177,9 @@ module _ {A : Type 0} (bytes_of : A → List ℕ) where
         ∙ ap (map alarm_of) (run_its to (take c ns) (take c xs) t ts)
 
     -- the run stands behind a timer of this end
-    pub put_behind : (c m k at : ℕ) (key : Key (List ℕ)) (ns : List ℕ) (xs : List (Held A)) (ts : List Numbered) (old new row : List Alarm) → Ascend bytes_of slab c key ns → length xs ≡ length ns → AreKnown bytes_of slab (with_run bytes_of to ns xs ts) → old ≡ map alarm_of ts → k < length old → at ≡ k + 1 →
+    pub put_run_after : (c m k at : ℕ) (key : Key (List ℕ)) (ns : List ℕ) (xs : List (Held A)) (ts : List Numbered) (old new row : List Alarm) → Ascend bytes_of slab c key ns → length xs ≡ length ns → AreKnown bytes_of slab (with_run bytes_of to ns xs ts) → old ≡ map alarm_of ts → k < length old → at ≡ k + 1 →
         ((d : Numbered) → get_or ts k d ≡ record { ends_at = to; key = key; number = m }) → ((d : Alarm) → at < length old → to < (get_or old at d).ends_at) → row ≡ map (alarm_at to) (take c ns) → new ≡ spliced old at row → new ≡ map alarm_of (with_run bytes_of to (take c ns) (take c xs) ts)
-    put_behind c m k at key ns xs ts old new row asc long known kept w next here later is put =
+    put_run_after c m k at key ns xs ts old new row asc long known kept w next here later is put =
         let count = ap length kept ∙ length-map ts alarm_of in
         let behind : at ≡ suc k = omega (arith, next) in
         put

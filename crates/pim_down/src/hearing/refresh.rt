@@ -123,7 +123,7 @@ fn front_place<F: Family>(
     None
 }
 
-/// The place so many records after this one; that of the last one where they are fewer.
+/// The place that is `count` records after this one; that of the last one where they are fewer.
 fn place_after<F: Family>(
     records: &Store<F::Addr, OfFamily<F>>,
     place: Place,

@@ -211,7 +211,7 @@ fn ends_later<const HALF: usize>(list: &Blocks<Alarm, HALF>, place: Place, to: u
 /// Puts in the timers of the records with these numbers that belong right after the one at this
 /// place: of the first ones, as many as its block has room for. Returns their number, and a place
 /// near the last one.
-fn put_behind<A: Copy, O: KeyOrder<A>, const HALF: usize>(
+fn put_run_after<A: Copy, O: KeyOrder<A>, const HALF: usize>(
     list: &mut Blocks<Alarm, HALF>,
     stands: Place,
     slab: &Slab<Held<A>>,
@@ -247,7 +247,7 @@ fn put_behind<A: Copy, O: KeyOrder<A>, const HALF: usize>(
     write_run(to, run, &mut row);
     let (run, _blank) = row.split_at(count);
     match list.insert_in_block(place, run) {
-        Some(behind) => (count, behind),
+        Some(last) => (count, last),
         None => (0, stands),
     }
 }
@@ -473,7 +473,7 @@ impl<A: Copy, O: KeyOrder<A>, const HALF: usize> Alarms<A, O, HALF> {
         };
         let place = slot_of::<A, O, HALF>(&self.list, self.put, slab, held.key, alarm);
         let stands = self.list.insert_within(place, alarm);
-        let (count, near) = put_behind::<A, O, HALF>(
+        let (count, near) = put_run_after::<A, O, HALF>(
             &mut self.list,
             stands,
             slab,

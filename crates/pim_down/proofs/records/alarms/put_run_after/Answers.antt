@@ -3,8 +3,8 @@ use Rattle.sorted_blocks.specs.Shape.{items}
 use Rattle.sorted_blocks.specs.Places.{before}
 use Rattle.pim_down.specs.PutOff.{with_run}
 use Rattle.pim_down.specs.Seen.{key_seen}
-use Rattle.pim_down.proofs.RunPut.{put_behind, row_is, length_spliced}
-use Rattle.pim_down.proofs.records.alarms.put_behind.Goals as goal
+use Rattle.pim_down.proofs.RunPut.{put_run_after, row_is, length_spliced}
+use Rattle.pim_down.proofs.records.alarms.put_run_after.Goals as goal
 
 pub returns-then-is_empty-clause-alarms : goal.returns-then-is_empty-clause-alarms
 unfolding with_run
@@ -25,7 +25,7 @@ returns-in-Some-clause-alarms g c number run timers long known kept here =
     let count = c.count_ascending-count.result in
     let place = c.next-place.result in
     let row = row_is c.args.to count numbers c.split_at.result.0.now c.write_run.new.row c.split_at-2.result.0.now c.count_ascending-count.ensures.numbers c.split_at.ensures.front c.write_run.ensures c.split_at-2.ensures.front in
-    put_behind g.O.KeyOrder.bytes_of c.args.slab.now c.args.to count number (before list c.args.stands) (before list place) (key_seen g.O.KeyOrder.bytes_of c.args.key.now) numbers run timers (items list) (items c.insert_in_block.new.self) c.split_at-2.result.0.now
+    put_run_after g.O.KeyOrder.bytes_of c.args.slab.now c.args.to count number (before list c.args.stands) (before list place) (key_seen g.O.KeyOrder.bytes_of c.args.key.now) numbers run timers (items list) (items c.insert_in_block.new.self) c.split_at-2.result.0.now
     c.count_ascending-count.ensures.ascend long known kept (c.item_has_a_place.ensures list c.args.stands c.requires).1 c.next-place.ensures.before here
     (λ d w. c.ends_later.ensures d c.if-not-ends_later.false w) row c.in-Some.ensures.some.0
 
