@@ -12,7 +12,7 @@ use Rattle.pim_files.specs.Opening.{file_names, IsUnopened}
 use Rattle.pim_files.specs.Table.{IsTable}
 use Rattle.pim_form.specs.Messages.{Writing as MessageWriting}
 use Rattle.pim_form.specs.Seen.{writing_seen}
-use Rattle.pim_merge.specs.Next.{MergeState}
+use Rattle.pim_merge.specs.Next.{MergeState, IsUntaken}
 use Rattle.pim_router.specs.Seen.{setup_seen}
 use Rattle.pim_router.specs.State.{Setup}
 use Rattle.pim_words.specs.declared.fault.Side.{Side}
@@ -52,14 +52,14 @@ module _ {A R : Type 0} (family : AddressFamily) (bytes_of : A → List ℕ) (re
 
   -- The result is so over a table and the captures of one router. They are those of its ports'
   -- files, in their order, each by the link of its port, and nothing of them was read before all
-  -- were open.
+  -- were open. `merge'` is what the run leaves of them.
   pub record OverOne (Answers : RouteTable → MergeState → MergeState → Type 0) : Type 0 where
     pub table : RouteTable
     pub is_table : IsTable family bytes_of remaining failures known.files captures upstream table
     pub merge : MergeState
     pub merge' : MergeState
     pub each : length merge.lanes ≡ length captures.ports.items
-    pub untaken : merge.clock ≡ None
+    pub untaken : IsUntaken merge
     pub held : HoldFiles known.files captures.ports.items merge.lanes
     pub asked : AsksFor known known' (file_names captures)
     pub answers : Answers table merge merge'
@@ -75,8 +75,8 @@ module _ {A R : Type 0} (family : AddressFamily) (bytes_of : A → List ℕ) (re
       pub other' : MergeState
       pub each_of_a : length merge.lanes ≡ length (filter (is_of side.A) captures.ports.items)
       pub each_of_b : length other.lanes ≡ length (filter (is_of side.B) captures.ports.items)
-      pub untaken_of_a : merge.clock ≡ None
-      pub untaken_of_b : other.clock ≡ None
+      pub untaken_of_a : IsUntaken merge
+      pub untaken_of_b : IsUntaken other
       pub held_of_a : HoldFiles known.files (filter (is_of side.A) captures.ports.items) merge.lanes
       pub held_of_b : HoldFiles known.files (filter (is_of side.B) captures.ports.items) other.lanes
       pub asked : AsksFor known known' (file_names captures)

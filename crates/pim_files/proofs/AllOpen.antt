@@ -3,7 +3,7 @@ use Rattle.std.proofs.Common.{◌≡◌, ◌∙◌, inr, sym, ap, subst, ℕ, Li
 use Rattle.std.specs.List.{filter}
 use Rattle.pim_addr.specs.declared.family.AddressFamily.{AddressFamily}
 use Rattle.pim_addr.specs.Routes.{RouteTable}
-use Rattle.pim_merge.specs.Next.{MergeState}
+use Rattle.pim_merge.specs.Next.{MergeState, IsUntaken}
 use Rattle.pim_words.specs.declared.fault.Side.TheVariants.{A as of_a, B as of_b}
 use Rattle.pim_words.specs.declared.task.Captures.{Captures}
 use Rattle.pim_words.specs.declared.task.Port.{Port}
@@ -61,7 +61,7 @@ module _ {A R : Type 0} (family : AddressFamily) (bytes_of : A → List ℕ) (re
   -- the captures of one router are open
   pub is_open : (table : RouteTable) (merge : MergeState) (ports : List (Port A)) → ports ≡ captures.ports.items
       → IsTable family bytes_of remaining failures known.files captures upstream table → AsksFor known middle (table_names captures)
-      → length merge.lanes ≡ length ports → merge.clock ≡ None → HoldFiles middle.files ports merge.lanes → AsksFor middle last (map file_name ports)
+      → length merge.lanes ≡ length ports → IsUntaken merge → HoldFiles middle.files ports merge.lanes → AsksFor middle last (map file_name ports)
       → IsOpen family bytes_of remaining failures known last captures upstream table merge
   is_open table merge ports same is_table named each untaken held asked = record {
     is_table = is_table;
@@ -74,7 +74,7 @@ module _ {A R : Type 0} (family : AddressFamily) (bytes_of : A → List ℕ) (re
   -- the captures of two routers are open
   pub are_open : (table : RouteTable) (merge other : MergeState) (ports : List (Port A))
       → ports ≡ captures.ports.items → IsTable family bytes_of remaining failures known.files captures upstream table → AsksFor known middle (table_names captures)
-      → length merge.lanes ≡ length (filter (is_of of_a) ports) → length other.lanes ≡ length (filter (is_of of_b) ports) → merge.clock ≡ None → other.clock ≡ None
+      → length merge.lanes ≡ length (filter (is_of of_a) ports) → length other.lanes ≡ length (filter (is_of of_b) ports) → IsUntaken merge → IsUntaken other
       → HoldFiles middle.files (filter (is_of of_a) ports) merge.lanes → HoldFiles middle.files (filter (is_of of_b) ports) other.lanes → AsksFor middle last (map file_name ports)
       → AreOpen family bytes_of remaining failures known last captures upstream table merge other
   are_open table merge other ports same is_table named each_of_a each_of_b untaken_of_a untaken_of_b held_of_a held_of_b asked = record {

@@ -1,19 +1,48 @@
 -- Captures that are opened one by one.
 use Rattle.std.proofs.Common.{◌≡◌, ◌∙◌, ◌+◌, sym, ap, subst, refl, arith, ℕ, suc, ◌<◌, Bool, cond, true, false, List, [], ◌∷◌, ◌++◌, length, take, drop, get_or, map, option_map, Option, None, Some, append-nil, take-suc, drop-cons}
 use Rattle.std.specs.Prelude.{IsSome, IfSome}
-use Rattle.std.specs.List.{filter}
+use Rattle.std.specs.List.{filter, AllByRecursion}
 use Rattle.std.proofs.lemmas.List.{take-append-drop, map-append, length-map, length-append}
 use Rattle.std.proofs.lemmas.List.Elements.{filter-append}
 use Rattle.std.proofs.lemmas.Bool.{false≢true}
 use Rattle.pim_capture.specs.Capture.{Answer}
-use Rattle.pim_merge.specs.Lane.{LaneState, coming_on}
+use Rattle.pim_merge.specs.declared.tally.Tally.{Tally}
+use Rattle.pim_merge.specs.Lane.{LaneState, coming_on, tallies_of}
+use Rattle.pim_merge.specs.Next.{MergeState, IsUntaken}
+use Rattle.pim_merge.specs.Tally.{no_tally}
 use Rattle.pim_words.specs.declared.fault.Side.{Side}
 use Rattle.pim_words.specs.declared.task.Port.{Port}
 use Rattle.pim_words.specs.Faults.{is_side}
 use Rattle.pim_files.specs.declared.fault.OpenFault.{OpenFault}
 use Rattle.pim_files.specs.Files.{Files, Known, AsksFor}
-use Rattle.pim_files.specs.Captures.{file_name, IsPortFault, AreContents, CanOpen, results_by, results_of, AreFiles, HoldFiles, StopsAtPort, is_of, one_of, AddsLane}
+use Rattle.pim_files.specs.Captures.{file_name, IsPortFault, AreContents, CanOpen, results_by, results_of, AreFiles, HoldFiles, StopsAtPort, is_of, one_of, AddsLane, AddsUntaken}
 use Rattle.pim_files.proofs.Asked.{asks_more}
+
+-- ---- what was taken
+
+-- of none
+pub new_untaken : (merge : MergeState) → merge.lanes ≡ [] → merge.clock ≡ None → IsUntaken merge
+new_untaken merge none clock = (clock, subst (λ (lanes : List LaneState). AllByRecursion (λ tally. tally ≡ no_tally) (tallies_of lanes)) (sym none) tt)
+
+all_untaken : (tallies : List Tally) → AllByRecursion (λ tally. tally ≡ no_tally) tallies → AllByRecursion (λ tally. tally ≡ no_tally) (tallies ++ no_tally ∷ [])
+all_untaken [] all = (refl, tt)
+all_untaken (tally ∷ tallies) all = (all.0, all_untaken tallies all.1)
+
+-- of one capture more
+pub one_untaken : (old new : MergeState) → IsUntaken old → new.clock ≡ old.clock → tallies_of new.lanes ≡ tallies_of old.lanes ++ no_tally ∷ [] → IsUntaken new
+one_untaken old new none clock more =
+    (clock ∙ none.0, subst (λ (l : List Tally). AllByRecursion (λ tally. tally ≡ no_tally) l) (sym more) (all_untaken (tallies_of old.lanes) none.1))
+
+same_untaken : (old new : MergeState) → IsUntaken old → new.clock ≡ old.clock → tallies_of new.lanes ≡ tallies_of old.lanes → IsUntaken new
+same_untaken old new none clock same = (clock ∙ none.0, subst (λ (l : List Tally). AllByRecursion (λ tally. tally ≡ no_tally) l) (sym same) none.1)
+
+more_if : (b : Bool) (old new : MergeState) → IsUntaken old → new.clock ≡ old.clock → tallies_of new.lanes ≡ tallies_of old.lanes ++ cond b (no_tally ∷ []) [] → IsUntaken new
+more_if true old new none clock more = one_untaken old new none clock more
+more_if false old new none clock more = same_untaken old new none clock (more ∙ append-nil (tallies_of old.lanes))
+
+-- of one more, if it is one of this router
+pub untaken_if : (side other : Side) (old new : MergeState) → IsUntaken old → new.clock ≡ old.clock → AddsUntaken side other old.lanes new.lanes → IsUntaken new
+untaken_if side other old new none clock more = more_if (is_side side other) old new none clock more
 
 -- no captures of no ports
 pub none_held : (A : Type 0) (known : Option Files) (lanes : List LaneState) → lanes ≡ [] → HoldFiles {A = A} known [] lanes

@@ -3,7 +3,8 @@ use Rattle.std.specs.Prelude.{◌≡◌, ⊤, ℕ, Bool, cond, true, List, [], �
 use Rattle.std.specs.Prelude.{Option, None, Some, IsSome, IfSome, is_some, option_map}
 use Rattle.pim_capture.specs.Capture.{Answer, answers}
 use Rattle.pim_container.specs.declared.choice.Choice.{Choice}
-use Rattle.pim_merge.specs.Lane.{LaneState, IsComing, coming_on}
+use Rattle.pim_merge.specs.Lane.{LaneState, IsComing, coming_on, tallies_of}
+use Rattle.pim_merge.specs.Tally.{no_tally}
 use Rattle.pim_merge.specs.Chosen.{answers_by}
 use Rattle.pim_words.specs.declared.fault.Side.{Side}
 use Rattle.pim_words.specs.declared.task.Link.{Link}
@@ -102,3 +103,8 @@ one_of side other = cond (is_side side other) 1 0
 abbrev pub AddsLane : Side → Side → Option Link → Option (List ℕ) → List LaneState → List LaneState → Type 0
 AddsLane side other link remaining old new = map coming_on new
     ≡ map coming_on old ++ cond (is_side side other) (option_map (results_by link) remaining ∷ []) []
+
+-- Nothing was taken of that capture.
+abbrev pub AddsUntaken : Side → Side → List LaneState → List LaneState → Type 0
+AddsUntaken side other old new =
+    tallies_of new ≡ tallies_of old ++ cond (is_side side other) (no_tally ∷ []) []

@@ -3,7 +3,7 @@
 use Rattle.std.specs.Prelude.{◌≡◌, ◌⊎◌, ℕ, List, ◌++◌, length, map, filter, Option, None}
 use Rattle.pim_addr.specs.declared.family.AddressFamily.{AddressFamily}
 use Rattle.pim_addr.specs.Routes.{RouteTable}
-use Rattle.pim_merge.specs.Next.{MergeState}
+use Rattle.pim_merge.specs.Next.{MergeState, IsUntaken}
 use Rattle.pim_words.specs.declared.fault.Side.TheVariants as side
 use Rattle.pim_words.specs.declared.task.Captures.{Captures}
 use Rattle.pim_files.specs.declared.fault.OpenFault.{OpenFault}
@@ -30,7 +30,7 @@ module _ {A R : Type 0} (family : AddressFamily) (bytes_of : A → List ℕ) (re
   pub record IsOpen (merge : MergeState) : Type 0 where
     pub is_table : IsTable family bytes_of remaining failures known.files captures upstream table
     pub each : length merge.lanes ≡ length captures.ports.items
-    pub untaken : merge.clock ≡ None
+    pub untaken : IsUntaken merge
     pub held : HoldFiles known.files captures.ports.items merge.lanes
     pub asked : AsksFor known known' (file_names captures)
 
@@ -39,8 +39,8 @@ module _ {A R : Type 0} (family : AddressFamily) (bytes_of : A → List ℕ) (re
     pub is_table : IsTable family bytes_of remaining failures known.files captures upstream table
     pub each_of_a : length merge.lanes ≡ length (filter (is_of side.A) captures.ports.items)
     pub each_of_b : length other.lanes ≡ length (filter (is_of side.B) captures.ports.items)
-    pub untaken_of_a : merge.clock ≡ None
-    pub untaken_of_b : other.clock ≡ None
+    pub untaken_of_a : IsUntaken merge
+    pub untaken_of_b : IsUntaken other
     pub held_of_a : HoldFiles known.files (filter (is_of side.A) captures.ports.items) merge.lanes
     pub held_of_b : HoldFiles known.files (filter (is_of side.B) captures.ports.items) other.lanes
     pub asked : AsksFor known known' (file_names captures)

@@ -1,8 +1,10 @@
 //! The captures of a router.
 
-ghost use Rattle.std.specs.Prelude.{◌≡◌, [], ◌∷◌, ◌++◌, length, map, None, IfOk, IfErr, MatchResult};
+ghost use Rattle.std.specs.Prelude.{◌≡◌, [], ◌∷◌, ◌++◌, length, map, IfOk, IfErr, MatchResult};
 ghost use Rattle.std.specs.Prelude.{option_map};
-ghost use Rattle.pim_merge.specs.Lane.{coming_on};
+ghost use Rattle.pim_merge.specs.Lane.{coming_on, tallies_of};
+ghost use Rattle.pim_merge.specs.Next.{IsUntaken};
+ghost use Rattle.pim_merge.specs.Tally.{no_tally};
 ghost use Rattle.pim_files.specs.Files.{AsksFor, AsksAll};
 ghost use Rattle.pim_files.specs.Captures.{file_name, IsReaderOf, IsPortFault};
 ghost use Rattle.pim_files.specs.Captures.{HoldFiles, StopsAtPort, choice_of, results_by};
@@ -73,6 +75,8 @@ pub fn add_by<R: Feed + Drop>(
 ) -> Result<(), AllocError>
     ensures coming { IfOk result (λ _. map coming_on merge.new.lanes ≡
         map coming_on merge.old.lanes ++ option_map (results_by link) (R.remaining reader) ∷ []) }
+    ensures tallies { IfOk result (λ _. tallies_of merge.new.lanes ≡
+        tallies_of merge.old.lanes ++ no_tally ∷ []) }
     ensures clock { merge.new.clock ≡ merge.old.clock }
 {
     match link {
@@ -92,7 +96,7 @@ pub fn open_all<'a, A, O: Opener>(
     ports: &[Port<'a, A>],
 ) -> Result<Merge<O::Reader>, OpenFault<'a>>
     ensures each { IfOk result (λ merge. length merge.lanes ≡ length ports.now) }
-    ensures untaken { IfOk result (λ merge. merge.clock ≡ None) }
+    ensures untaken { IfOk result IsUntaken }
     ensures opened { IfOk result (λ merge.
         HoldFiles (O.known opener.old).files ports.now merge.lanes) }
     ensures fault { IfErr result (StopsAtPort (O.known opener.old).files ports.now) }

@@ -1,9 +1,10 @@
 //! The captures of two routers.
 
-ghost use Rattle.std.specs.Prelude.{◌≡◌, ◌+◌, length, map, filter, None, IfOk, IfErr};
+ghost use Rattle.std.specs.Prelude.{◌≡◌, ◌+◌, length, map, filter, IfOk, IfErr};
+ghost use Rattle.pim_merge.specs.Next.{IsUntaken};
 ghost use Rattle.pim_files.specs.Files.{AsksAll};
 ghost use Rattle.pim_files.specs.Captures.{file_name, is_of, one_of};
-ghost use Rattle.pim_files.specs.Captures.{HoldFiles, StopsAtPort, AddsLane};
+ghost use Rattle.pim_files.specs.Captures.{HoldFiles, StopsAtPort, AddsLane, AddsUntaken};
 
 use crate::captures::{add_by, open_port};
 use crate::fault::OpenFault;
@@ -39,6 +40,10 @@ pub fn add_to<R: Feed + Drop>(
         AddsLane Side.A side link (R.remaining reader) pair.old.a.lanes pair.new.a.lanes) }
     ensures lanes_of_b { IfOk result (λ done.
         AddsLane Side.B side link (R.remaining reader) pair.old.b.lanes pair.new.b.lanes) }
+    ensures tallies_of_a { IfOk result (λ done.
+        AddsUntaken Side.A side pair.old.a.lanes pair.new.a.lanes) }
+    ensures tallies_of_b { IfOk result (λ done.
+        AddsUntaken Side.B side pair.old.b.lanes pair.new.b.lanes) }
     ensures clock_of_a { pair.new.a.clock ≡ pair.old.a.clock }
     ensures clock_of_b { pair.new.b.clock ≡ pair.old.b.clock }
 {
@@ -62,8 +67,8 @@ pub fn open_both<'a, A, O: Opener>(
         length pair.a.lanes ≡ length (filter (is_of Side.A) ports.now)) }
     ensures b { IfOk result (λ pair.
         length pair.b.lanes ≡ length (filter (is_of Side.B) ports.now)) }
-    ensures untaken_of_a { IfOk result (λ pair. pair.a.clock ≡ None) }
-    ensures untaken_of_b { IfOk result (λ pair. pair.b.clock ≡ None) }
+    ensures untaken_of_a { IfOk result (λ pair. IsUntaken pair.a) }
+    ensures untaken_of_b { IfOk result (λ pair. IsUntaken pair.b) }
     ensures opened_of_a { IfOk result (λ pair.
         HoldFiles (O.known opener.old).files (filter (is_of Side.A) ports.now) pair.a.lanes) }
     ensures opened_of_b { IfOk result (λ pair.

@@ -1,6 +1,7 @@
 -- What a call of `Merge::next` or `Merge::next_by` returns and leaves.
 use Rattle.std.specs.Prelude.{◌≡◌, ◌≤◌, ◌⊎◌, ⊤, ℕ, List, [], ◌∷◌, length, slice_set}
 use Rattle.std.specs.Prelude.{Option, None, Some, Result, Ok, Err}
+use Rattle.std.specs.List.{AllByRecursion}
 use Rattle.pim_capture.specs.declared.fault.CaptureFault.TheVariants as fault
 use Rattle.pim_capture.specs.Capture.{Told, Answer, most_captured}
 use Rattle.pim_capture.specs.Next.{event_seen, PayloadLiesIn, IsRefusal, CountsReads, OnMemory}
@@ -12,12 +13,16 @@ use Rattle.pim_merge.specs.Merge.{turn, turn_by, fails, takes, ends, after_turn,
 use Rattle.pim_merge.specs.Lane.{LaneState, IsComing, lane_at, failures_of, records_to_come}
 use Rattle.pim_merge.specs.Lane.{LacksHeadRoom, HadAll, tallies_of}
 use Rattle.pim_merge.specs.declared.tally.Tally.{Tally}
-use Rattle.pim_merge.specs.Tally.{tallies_with, next_number}
+use Rattle.pim_merge.specs.Tally.{no_tally, tallies_with, next_number}
 
 -- A merge: its captures, and the clock of the records that were taken.
 pub record MergeState : Type 0 where
   pub lanes : List LaneState
   pub clock : Option Clock
+
+-- Nothing was taken of the captures.
+abbrev pub IsUntaken : MergeState → Type 0
+IsUntaken merge = (merge.clock ≡ None) × AllByRecursion (λ tally. tally ≡ no_tally) (tallies_of merge.lanes)
 
 -- The bytes of the record that was read last of this capture.
 abbrev pub bytes_at : ℕ → MergeState → List ℕ

@@ -59,6 +59,13 @@ Advances end start taken merge (Ok None) =
 Advances end start taken merge (Ok (Some next)) = HasTaken end start (taken ++ taken_by merge next ∷ []) merge
 Advances end start taken merge (Err told) = StopsAfter end start taken merge told
 
+-- All turns of a run over the merge `start` were taken, which ends without a fault. The tallies of
+-- `merge` count these.
+pub record CountsAll (end : End) (start merge : MergeState) : Type 0 where
+  pub taken : List Taken
+  pub are : AreAll end start None taken
+  pub tallies : tallies_of merge.lanes ≡ tallies_after (tallies_of start.lanes) taken
+
 -- Some first turns of a run over the merge `start` were taken, and the tallies of `merge` count these.
 pub record IsTallied (end : End) (start merge : MergeState) : Type 0 where
   pub taken : List Taken

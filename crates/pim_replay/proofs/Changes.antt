@@ -1,5 +1,5 @@
 -- The parts of a change between two replays.
-use Rattle.std.proofs.Common.{◌≡◌, ℕ, List, Option, None, Some, Ok, Err, refl, sym, ap, subst, ◌∙◌}
+use Rattle.std.proofs.Common.{◌≡◌, ℕ, List, Option, None, Some, Ok, Err, inl, refl, sym, ap, subst, ◌∙◌}
 use Rattle.std.specs.Io.KnownBytes.{Appends}
 use Rattle.std.proofs.KnownBytes.{Appends-trans}
 use Rattle.pim_addr.specs.declared.family.AddressFamily.{AddressFamily}
@@ -19,12 +19,21 @@ use Rattle.pim_moving.specs.Laws.{ChangeFits}
 use Rattle.pim_router.specs.Canonical.{asked, IsAskedBy, IsTooBig}
 use Rattle.pim_router.specs.Change.{IsTooBigToTell}
 use Rattle.pim_router.specs.State.{Setup, RouterState, setup_of}
+use Rattle.pim_merge.specs.declared.end.End.{End}
+use Rattle.pim_merge.specs.Next.{MergeState}
+use Rattle.pim_merge.specs.Run.{IsTallied}
 use Rattle.pim_replay.specs.declared.mirror_text.MirrorTextFault.{MirrorTextFault}
+use Rattle.pim_replay.specs.declared.mirror_text.MirrorTextFault.TheVariants.{Replay, Second, TooBig, Full}
+use Rattle.pim_replay.specs.declared.replay.ReplayFault.{ReplayFault}
+use Rattle.pim_replay.specs.declared.replay.ReplayFault.TheVariants.{Capture, Output, Memory}
 use Rattle.pim_replay.specs.ChangeHearing.{AreTold, MovedAgain}
-use Rattle.pim_replay.specs.ChangeText.{IsChangeBetween, TellsMove}
+use Rattle.pim_replay.specs.ChangeText.{IsChangeBetween, TellsBetween, TellsChange, TellsMove}
 use Rattle.pim_report.specs.MessageText.{messages_text}
 use Rattle.pim_replay.specs.MirrorText.{Judges, agrees_line, agreed_text, of_mirror}
+use Rattle.pim_replay.specs.Quiet.{RunsQuietly}
+use Rattle.pim_replay.proofs.Ending.{untaken}
 use Rattle.pim_replay.proofs.FreshHearings.{one_of, sent_by}
+use Rattle.pim_replay.proofs.Told.{keeps_same}
 use Rattle.pim_replay.proofs.Written.{front-more}
 
 -- where each star of the second fits, so does the change
@@ -84,3 +93,22 @@ module _ (family : AddressFamily) (table : RouteTable) (writing : Writing) (limi
       → Appends old middle (messages_text changes) → Appends middle new line → TellsMove family table writing limit before changes {F = F} {A = A} {N = N} old new (Ok 0)
   all_agreed F A N again line old middle new moved judged text rest =
       (refl, moved.0, Appends-trans old middle new (messages_text changes) agrees_line text (subst (λ l. Appends middle new l) (agreed again line moved.1 judged) rest))
+
+-- the first replay stopped, so nothing of the second router was taken
+pub first_stopped : (F A N : Type 0) (bytes_of : A → List ℕ) (family : AddressFamily) (end : End) (writing : Writing) (limit : ℕ) (merge merge' : MergeState) (state after : RouterState) (other : MergeState) (state_of : RouterState)
+    (fault : ReplayFault) (old : Option (List ℕ)) → RunsQuietly family end merge merge' state after {A = Unit {0}} (Err fault)
+    → TellsChange family end writing limit merge merge' state after other other state_of state_of {F = F} {N = N} bytes_of old old (Err (Replay fault))
+first_stopped F A N bytes_of family end writing limit merge merge' state after other state_of (Capture told) old stops = (stops, refl, keeps_same old)
+first_stopped F A N bytes_of family end writing limit merge merge' state after other state_of Output old stops = absurd stops
+first_stopped F A N bytes_of family end writing limit merge merge' state after other state_of Memory old tallied = inl (keeps_same old, tallied, untaken end other)
+
+-- there was no memory for the messages of the change
+pub not_between : {F A N : Type 0} (bytes_of : A → List ℕ) (family : AddressFamily) (end : End) (writing : Writing) (limit : ℕ) (merge merge' : MergeState) (state after : RouterState) (other other' : MergeState)
+    (state_of after_of : RouterState) (fault : MirrorTextFault F A N) (old : Option (List ℕ)) → TellsBetween family writing after after_of (Err fault) → IsTallied end merge merge' → IsTallied end other other'
+    → TellsChange family end writing limit merge merge' state after other other' state_of after_of {F = F} {N = N} bytes_of old old (Err fault)
+not_between bytes_of family end writing limit merge merge' state after other other' state_of after_of (TooBig group) old is one two = absurd is
+not_between bytes_of family end writing limit merge merge' state after other other' state_of after_of (Full needed) old is one two = absurd is
+not_between bytes_of family end writing limit merge merge' state after other other' state_of after_of (Second told) old is one two = absurd is
+not_between bytes_of family end writing limit merge merge' state after other other' state_of after_of (Replay (Capture told)) old is one two = absurd is
+not_between bytes_of family end writing limit merge merge' state after other other' state_of after_of (Replay Output) old is one two = absurd is
+not_between bytes_of family end writing limit merge merge' state after other other' state_of after_of (Replay Memory) old is one two = inl (keeps_same old, one, two)

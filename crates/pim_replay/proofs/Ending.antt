@@ -6,7 +6,9 @@ use Rattle.pim_addr.specs.declared.family.AddressFamily.{AddressFamily}
 use Rattle.pim_device.specs.Device.{AppendsFront}
 use Rattle.pim_merge.specs.declared.end.End.{End}
 use Rattle.pim_merge.specs.Next.{MergeState}
-use Rattle.pim_merge.specs.Ends.{end_moment, clock_of}
+use Rattle.pim_merge.specs.Run.{CountsAll, IsTallied}
+use Rattle.pim_merge.specs.Ends.{end_moment, clock_of, Takes}
+use Rattle.pim_merge.specs.Tally.{tallies_after}
 use Rattle.pim_router.specs.State.{RouterState}
 use Rattle.pim_replay.specs.declared.replay.ReplayFault.{ReplayFault}
 use Rattle.pim_replay.specs.declared.replay.ReplayFault.TheVariants.{Capture, Output, Memory}
@@ -23,12 +25,24 @@ use Rattle.pim_replay.specs.Underway.{of_text, HasEnded, HasAll, Steps}
 use Rattle.pim_replay.proofs.Told.{nothing_last, both, none_is_front, told_more, begun_more}
 use Rattle.pim_replay.proofs.Written.{front-more}
 
+-- no turn was taken
+pub untaken : (end : End) (start : MergeState) → IsTallied end start start
+unfolding Takes tallies_after
+untaken end start = record {
+  taken = [];
+  first = λ captures coming. record { clock_then = start.clock; rest = captures; takes_them = (refl, refl); is_rest = tt };
+  tallies = refl;
+}
+
 -- ---- the time after the last turn
 
 module _ (line : Event → List ℕ) (family : AddressFamily) (end : End) (start : MergeState) (state : RouterState) (old : Option (List ℕ)) where
   pub no_more : (counts : Counts) (merge : MergeState) (now : RouterState) (new : Option (List ℕ)) (next : Option Counts) → next ≡ None → Steps line family end start state old counts merge now new (Ok next)
       → HasAll line family end start state old merge now new counts
   no_more counts merge now new next none steps = subst (λ (n : Option Counts). Steps line family end start state old counts merge now new (Ok n)) none steps
+
+  pub counts_all : (merge : MergeState) (now : RouterState) (new : Option (List ℕ)) (counts : Counts) → HasAll line family end start state old merge now new counts → CountsAll end start merge
+  counts_all merge now new counts h = record { taken = h.tells.taken; are = h.tells.are; tallies = h.tells.tallies }
 
   module _ (merge : MergeState) (now : RouterState) (new newer : Option (List ℕ)) (counts : Counts) (h : HasAll line family end start state old merge now new counts) (moment : ℕ)
       (is_end : moment ≡ end_moment end merge.clock now.machines.moment) where
@@ -53,19 +67,19 @@ module _ (line : Event → List ℕ) (family : AddressFamily) (end : End) (start
 -- ---- the run of a replay that writes nothing
 
 pub quiet : (family : AddressFamily) (end : End) (start merge : MergeState) (state after : RouterState) (fault : ReplayFault) → Stops (λ event. []) family end start state (Some []) (Some []) merge fault
-    → 0 ≡ failures_of_device {A = ℕ} 0 (Err fault) → RunsQuietly family end start merge state after {A = Unit {0}} (Err fault)
-quiet family end start merge state after (Capture told) stops none = stops.0
-quiet family end start merge state after Output stops none = absurd (omega (arith, none))
-quiet family end start merge state after Memory stops none = tt
+    → 0 ≡ failures_of_device {A = ℕ} 0 (Err fault) → IsTallied end start merge → RunsQuietly family end start merge state after {A = Unit {0}} (Err fault)
+quiet family end start merge state after (Capture told) stops none tallied = stops.0
+quiet family end start merge state after Output stops none tallied = absurd (omega (arith, none))
+quiet family end start merge state after Memory stops none tallied = tallied
 
 -- ---- the state
 
 module _ (family : AddressFamily) (end : End) (start : MergeState) (state : RouterState) (old : Option (List ℕ)) (tells_via : Bool) where
   pub cut_short : (merge : MergeState) (after : RouterState) (new : Option (List ℕ)) (fault : ReplayFault) → Stops (event_line family) family end start state old new merge fault
-      → Replays family tells_via end start merge state after old new (Err fault)
-  cut_short merge after new (Capture told) stops = stops
-  cut_short merge after new Output stops = inl stops
-  cut_short merge after new Memory stops = inl stops
+      → IsTallied end start merge → Replays family tells_via end start merge state after old new (Err fault)
+  cut_short merge after new (Capture told) stops tallied = stops
+  cut_short merge after new Output stops tallied = (inl stops, tallied)
+  cut_short merge after new Memory stops tallied = (inl stops, tallied)
 
   module _ (after : RouterState) (new newer : Option (List ℕ)) (counts : Counts) (h : HasTold (event_line family) (TellsAll family end start state) after old new none_yet counts) where
     abbrev lines : List ℕ
@@ -83,13 +97,17 @@ module _ (family : AddressFamily) (end : End) (start : MergeState) (state : Rout
     reported told = ends_with (Appends new newer) (Appends old newer) (λ text p. Appends-trans old new newer lines text h.written p) told
 
     by_text : (merge : MergeState) (fault : TextFault) → WritesState family tells_via after counts new newer (Err fault)
-        → Replays family tells_via end start merge state after old newer (Err (of_text fault))
-    by_text merge text.Output told =
-        inr (after, ends_with (AppendsFront new newer) (AppendsFront old newer) (λ text p. front-more old new newer lines text h.written p) told)
-    by_text merge text.Memory keeps =
-        inl (inr (begun_more (event_line family) (TellsAll family end start state) (TellsAll family end start state) after old new newer none_yet counts h nothing after
-        (subst (λ (a : Account). TellsAll family end start state a after) (sym (nothing_last h.account)) h.tells) (none_is_front new newer [] keeps)))
+        → IsTallied end start merge → Replays family tells_via end start merge state after old newer (Err (of_text fault))
+    by_text merge text.Output told tallied = (
+      inr (after, ends_with (AppendsFront new newer) (AppendsFront old newer) (λ text p. front-more old new newer lines text h.written p) told),
+      tallied,
+    )
+    by_text merge text.Memory keeps tallied = (
+      inl (inr (begun_more (event_line family) (TellsAll family end start state) (TellsAll family end start state) after old new newer none_yet counts h nothing after
+          (subst (λ (a : Account). TellsAll family end start state a after) (sym (nothing_last h.account)) h.tells) (none_is_front new newer [] keeps))),
+      tallied,
+    )
 
     pub not_told : (merge : MergeState) (fault : TextFault) (answer : ReplayFault) → answer ≡ of_text fault → WritesState family tells_via after counts new newer (Err fault)
-        → Replays family tells_via end start merge state after old newer (Err answer)
-    not_told merge fault answer is told = subst (λ a. Replays family tells_via end start merge state after old newer (Err a)) (sym is) (by_text merge fault told)
+        → IsTallied end start merge → Replays family tells_via end start merge state after old newer (Err answer)
+    not_told merge fault answer is told tallied = subst (λ a. Replays family tells_via end start merge state after old newer (Err a)) (sym is) (by_text merge fault told tallied)

@@ -77,7 +77,7 @@ module _ (line : Event → List ℕ) (family : AddressFamily) (end : End) (start
     pub ended : (next : Option Turn) (merge' : MergeState) → next ≡ None → Advances end start w.tells.taken merge' (Ok next) → HasAll line family end start state old merge' now new counts
     ended next merge' none advances =
         let all = subst (λ (n : Option Turn). Advances end start w.tells.taken merge' (Ok n)) none advances in
-        told_as line (Come merge) (HasEnded family end start state merge') now old new none_yet counts w (record { taken = w.tells.taken; are = all.0; clock = all.1; tells = w.tells.tells })
+        told_as line (Come merge) (HasEnded family end start state merge') now old new none_yet counts w (record { taken = w.tells.taken; are = all.0; clock = all.1; tallies = all.2; tells = w.tells.tells })
 
     -- ---- a capture's fault
 

@@ -10,6 +10,7 @@ use Rattle.pim_form.specs.Messages.{Writing}
 use Rattle.pim_form.specs.NormalForm.{GroupForm, IsFormOf}
 use Rattle.pim_merge.specs.declared.end.End.{End}
 use Rattle.pim_merge.specs.Next.{MergeState}
+use Rattle.pim_merge.specs.Run.{IsTallied}
 use Rattle.pim_router.specs.Canonical.{asked, IsAskedBy, IsFirstTooBig}
 use Rattle.pim_router.specs.Change.{IsToldOf}
 use Rattle.pim_router.specs.State.{RouterState}
@@ -35,7 +36,7 @@ module _ (family : AddressFamily) (end : End) (writing : Writing) (limit : ℕ) 
     (state after : RouterState) (other other' : MergeState) (state_of after_of : RouterState) where
   -- Both replays ended without a fault, and this fact holds.
   abbrev pub Both : Type 0 → Type 0
-  Both fact = RunsAll family end merge state after × RunsAll family end other state_of after_of × fact
+  Both fact = RunsAll family end merge merge' state after × RunsAll family end other other' state_of after_of × fact
 
   -- The canonical messages of the first router, and the messages of the change to the second one.
   -- `IsWritten` holds for the two lists.
@@ -46,11 +47,13 @@ module _ (family : AddressFamily) (end : End) (writing : Writing) (limit : ℕ) 
     pub between : IsChangeBetween family writing after after_of change
     pub written : IsWritten before change
 
-  -- What `change_into` returns and writes. A fault of a capture is one of the first router. Or it is
-  -- one of the second, and named so, if the first replay ended without a fault. A star that is too big is one of the
-  -- first router, or else of the second. `Full` means that the fresh router has no room for the
-  -- first router's messages or for the change. It comes after the messages of the change were
-  -- written. When memory is refused, the text ends before these messages or after them.
+  -- What `change_into` returns and writes. A fault of a capture is one of the first router, and then
+  -- nothing of the second was taken. Or it is one of the second, and named so, if the first replay
+  -- ended without a fault. A star that is too big is one of the first router, or else of the second.
+  -- `Full` means that the fresh router has no room for the first router's messages or for the change.
+  -- It comes after the messages of the change were written. When memory is refused, the text ends
+  -- before these messages or after them. The tallies of `merge'` and `other'` count all turns, or
+  -- those before the fault of a capture. Where memory is refused, they count some first ones.
   abbrev pub TellsChange : {F A N : Type 0} → (A → List ℕ) → Option (List ℕ) → Option (List ℕ) →
       Result ℕ (MirrorTextFault F A N) → Type 0
   TellsChange bytes_of old new (Ok status) = (status ≡ 0)
@@ -62,13 +65,14 @@ module _ (family : AddressFamily) (end : End) (writing : Writing) (limit : ℕ) 
       Both (Changes (λ before change. HasNoRoom family after.routes writing limit before change needed
       × Appends old new (messages_text change)))
   TellsChange bytes_of old new (Err (Replay (Capture told))) =
-      StopsAt family end merge state merge' told × Keeps old new
+      StopsAt family end merge state merge' told × (other' ≡ other) × Keeps old new
   TellsChange bytes_of old new (Err (Second told)) =
-      RunsAll family end merge state after × StopsAt family end other state_of other' told × Keeps old new
+      RunsAll family end merge merge' state after × StopsAt family end other state_of other' told × Keeps old new
   TellsChange bytes_of old new (Err (Replay Output)) =
       Both (Changes (λ before change. AppendsFront old new (agreed_text change)))
   TellsChange bytes_of old new (Err (Replay Memory)) =
-      Keeps old new ⊎ Both (Changes (λ before change. Appends old new (messages_text change)))
+      (Keeps old new × IsTallied end merge merge' × IsTallied end other other')
+      ⊎ Both (Changes (λ before change. Appends old new (messages_text change)))
 
 -- ---- used by private functions only
 

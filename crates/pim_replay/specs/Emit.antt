@@ -8,6 +8,7 @@ use Rattle.pim_emit.specs.Written.{HaveGoneOut, HasGoneOut, IsTooBig}
 use Rattle.pim_form.specs.Messages.{Writing}
 use Rattle.pim_merge.specs.declared.end.End.{End}
 use Rattle.pim_merge.specs.Next.{MergeState}
+use Rattle.pim_merge.specs.Run.{IsTallied}
 use Rattle.pim_router.specs.State.{RouterState}
 use Rattle.pim_replay.specs.declared.emit.EmitFault.{EmitFault}
 use Rattle.pim_replay.specs.declared.emit.EmitFault.TheVariants.{Replay, TooBig}
@@ -39,18 +40,19 @@ module _ (family : AddressFamily) (end : End) (writing : Writing) (merge merge' 
     (state after : RouterState) where
   -- What `emit_into` returns and writes. Nothing is written if a capture has a fault, a star is too
   -- big or memory is refused. Otherwise the messages are written, or a prefix of them if the device
-  -- fails.
+  -- fails. The tallies of `merge'` count all turns; where a capture has a fault those before it, and
+  -- where memory is refused some first ones.
   abbrev pub Emits : {F A N : Type 0} → (A → List ℕ) → Option (List ℕ) → Option (List ℕ) →
       Result ℕ (EmitFault F A N) → Type 0
   Emits bytes_of old new (Ok status) =
-      (status ≡ 0) × RunsAll family end merge state after × AllWentOut family writing after old new
-  Emits bytes_of old new (Err (TooBig group)) = RunsAll family end merge state after
+      (status ≡ 0) × RunsAll family end merge merge' state after × AllWentOut family writing after old new
+  Emits bytes_of old new (Err (TooBig group)) = RunsAll family end merge merge' state after
       × IsTooBigThen family writing after (Some (bytes_of group)) × Keeps old new
   Emits bytes_of old new (Err (Replay (Capture told))) =
       StopsAt family end merge state merge' told × Keeps old new
   Emits bytes_of old new (Err (Replay Output)) =
-      RunsAll family end merge state after × FrontWentOut family writing after old new
-  Emits bytes_of old new (Err (Replay Memory)) = Keeps old new
+      RunsAll family end merge merge' state after × FrontWentOut family writing after old new
+  Emits bytes_of old new (Err (Replay Memory)) = Keeps old new × IsTallied end merge merge'
 
 -- How often the device has failed after the call: once more if the result is `Output`, otherwise as
 -- often as before it.

@@ -8,6 +8,7 @@ use Rattle.pim_device.specs.Device.{AppendsFront, top_count}
 use Rattle.pim_form.specs.Messages.{Writing}
 use Rattle.pim_merge.specs.declared.end.End.{End}
 use Rattle.pim_merge.specs.Next.{MergeState}
+use Rattle.pim_merge.specs.Run.{IsTallied}
 use Rattle.pim_mirror.specs.declared.mirroring.MirrorFault.{MirrorFault}
 use Rattle.pim_mirror.specs.declared.mirroring.MirrorFault.TheVariants as mirror
 use Rattle.pim_router.specs.Canonical.{IsAskedBy, IsTooBig}
@@ -43,19 +44,20 @@ module _ (family : AddressFamily) (end : End) (writing : Writing) (limit : ℕ) 
   -- The replay ended without a fault. These are the canonical messages of its router's demand
   -- toward the writer's upstream neighbour, and `IsWritten` holds for them.
   pub record Asks (IsWritten : List (List ℕ) → Type 0) : Type 0 where
-    pub runs : RunsAll family end merge state after
+    pub runs : RunsAll family end merge merge' state after
     pub messages : List (List ℕ)
     pub asked : IsAskedBy family writing after messages
     pub written : IsWritten messages
 
   -- What `mirror_into` returns and writes. `Full` means that the fresh router has no room for all
   -- messages. It comes after their lines were written. When memory is refused, the text ends before
-  -- these lines or after them.
+  -- these lines or after them. The tallies of `merge'` count all turns; where a capture has a fault
+  -- those before it, and where memory is refused some first ones.
   abbrev pub TellsMirror : {F A N : Type 0} → (A → List ℕ) → Option (List ℕ) → Option (List ℕ) →
       Result ℕ (MirrorTextFault F A N) → Type 0
   TellsMirror bytes_of old new (Ok status) = (status ≡ 0)
       × Asks (λ messages. HaveRoom family after.routes writing limit messages × Appends old new (agreed_text messages))
-  TellsMirror bytes_of old new (Err (TooBig group)) = RunsAll family end merge state after
+  TellsMirror bytes_of old new (Err (TooBig group)) = RunsAll family end merge merge' state after
       × IsTooBig family writing after (Some (bytes_of group)) × Keeps old new
   TellsMirror bytes_of old new (Err (Full needed)) =
       Asks (λ messages. IsFull family after.routes writing limit messages needed
@@ -65,7 +67,7 @@ module _ (family : AddressFamily) (end : End) (writing : Writing) (limit : ℕ) 
       StopsAt family end merge state merge' told × Keeps old new
   TellsMirror bytes_of old new (Err (Replay Output)) = Asks (λ messages. AppendsFront old new (agreed_text messages))
   TellsMirror bytes_of old new (Err (Replay Memory)) =
-      Keeps old new ⊎ Asks (λ messages. Appends old new (messages_text messages))
+      (Keeps old new × IsTallied end merge merge') ⊎ Asks (λ messages. Appends old new (messages_text messages))
 
 -- How often the device has failed after the call: once more if the result is `Output`, otherwise as
 -- often as before it.

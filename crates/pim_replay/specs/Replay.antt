@@ -12,6 +12,7 @@ use Rattle.pim_merge.specs.declared.merge.MergeFault.{MergeFault}
 use Rattle.pim_merge.specs.Merge.{Taken}
 use Rattle.pim_merge.specs.Lane.{lane_at, tallies_of}
 use Rattle.pim_merge.specs.Next.{MergeState, IsNumbered}
+use Rattle.pim_merge.specs.Run.{CountsAll}
 use Rattle.pim_merge.specs.Tally.{tallies_after}
 use Rattle.pim_merge.specs.Ends.{AreAll, AreFirst, AreBefore, end_moment, clock_of}
 use Rattle.pim_report.specs.declared.state_text.Counts.{Counts}
@@ -87,11 +88,12 @@ module _ (line : Event → List ℕ) (family : AddressFamily) (end : End) (merge
   Stops merge' Output = Begins
   Stops merge' Memory = Begins
 
--- What `replay_for` returns and writes. At Ok it has written all events and returns the counts.
+-- What `replay_for` returns and writes. At Ok it has written all events and returns the counts, and
+-- the tallies of `merge'` count all turns.
 abbrev pub Hears : (Event → List ℕ) → AddressFamily → End → MergeState → MergeState → RouterState → RouterState →
     Option (List ℕ) → Option (List ℕ) → Result Counts ReplayFault → Type 0
 Hears line family end merge merge' state after old new (Ok counts) =
-    HasTold line (TellsAll family end merge state) after old new none_yet counts
+    HasTold line (TellsAll family end merge state) after old new none_yet counts × CountsAll end merge merge'
 Hears line family end merge merge' state after old new (Err fault) =
     Stops line family end merge state old new merge' fault
 

@@ -7,6 +7,7 @@ use Rattle.pim_addr.specs.declared.family.AddressFamily.{AddressFamily}
 use Rattle.pim_device.specs.Device.{AppendsFront}
 use Rattle.pim_merge.specs.declared.end.End.{End}
 use Rattle.pim_merge.specs.Next.{MergeState}
+use Rattle.pim_merge.specs.Run.{CountsAll, IsTallied}
 use Rattle.pim_form.specs.NormalForm.{GroupForm, IsFormOf}
 use Rattle.pim_form.specs.Wants.{wants}
 use Rattle.pim_router.specs.State.{RouterState}
@@ -58,14 +59,15 @@ BeginsReport family tells_via end merge state old new =
 
 -- What `replay_into` returns and writes. At Ok the status is 0 and the whole report was written.
 -- After a fault of a capture, the lines of the turns before it were. After any other fault, a
--- prefix of the report was.
+-- prefix of the report was. The tallies of `merge'` count the turns: all at Ok, those before the
+-- fault of a capture, or some first ones.
 abbrev pub Replays : AddressFamily → Bool → End → MergeState → MergeState → RouterState → RouterState →
     Option (List ℕ) → Option (List ℕ) → Result ℕ ReplayFault → Type 0
 Replays family tells_via end merge merge' state after old new (Ok status) =
-    (status ≡ 0) × Reports family tells_via end merge state after (Appends old new)
+    (status ≡ 0) × Reports family tells_via end merge state after (Appends old new) × CountsAll end merge merge'
 Replays family tells_via end merge merge' state after old new (Err (Capture told)) =
     (stop : StopsAt family end merge state merge' told) × Appends old new (lines_of family stop.account.events)
 Replays family tells_via end merge merge' state after old new (Err Output) =
-    BeginsReport family tells_via end merge state old new
+    BeginsReport family tells_via end merge state old new × IsTallied end merge merge'
 Replays family tells_via end merge merge' state after old new (Err Memory) =
-    BeginsReport family tells_via end merge state old new
+    BeginsReport family tells_via end merge state old new × IsTallied end merge merge'

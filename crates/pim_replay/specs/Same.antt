@@ -10,6 +10,7 @@ use Rattle.pim_form.specs.declared.fault.FormFault.{FormFault}
 use Rattle.pim_form.specs.declared.fault.FormFault.TheVariants as form
 use Rattle.pim_merge.specs.declared.end.End.{End}
 use Rattle.pim_merge.specs.Next.{MergeState}
+use Rattle.pim_merge.specs.Run.{IsTallied}
 use Rattle.pim_router.specs.Canonical.{asked, IsFirstTooBig}
 use Rattle.pim_router.specs.State.{RouterState}
 use Rattle.pim_replay.specs.declared.replay.ReplayFault.{ReplayFault}
@@ -47,11 +48,13 @@ module _ (family : AddressFamily) (end : End) (writing : Writing) (merge merge' 
     (state after : RouterState) (other other' : MergeState) (state_of after_of : RouterState) where
   -- Both replays ended without a fault, and this fact holds.
   abbrev pub Both : Type 0 → Type 0
-  Both fact = RunsAll family end merge state after × RunsAll family end other state_of after_of × fact
+  Both fact = RunsAll family end merge merge' state after × RunsAll family end other other' state_of after_of × fact
 
-  -- What `same_into` returns and writes. A fault of a capture is one of the first router. Or it is
-  -- one of the second, and named so, if the first replay ended without a fault. A star that is too big is one of the first
-  -- router, or else of the second.
+  -- What `same_into` returns and writes. A fault of a capture is one of the first router, and then
+  -- nothing of the second was taken. Or it is one of the second, and named so, if the first replay
+  -- ended without a fault. A star that is too big is one of the first router, or else of the second.
+  -- The tallies of `merge'` and `other'` count all turns, or those before the fault of a capture.
+  -- Where memory is refused, they count some first ones.
   abbrev pub Compares : {F A N : Type 0} → (A → List ℕ) → Option (List ℕ) → Option (List ℕ) →
       Result ℕ (SameFault F A N) → Type 0
   Compares bytes_of old new (Ok status) =
@@ -60,12 +63,12 @@ module _ (family : AddressFamily) (end : End) (writing : Writing) (merge merge' 
   Compares bytes_of old new (Err (TooBig group)) =
       Both (IsFirstTooBig family writing after after_of (Some (bytes_of group))) × Keeps old new
   Compares bytes_of old new (Err (Replay (Capture told))) =
-      StopsAt family end merge state merge' told × Keeps old new
+      StopsAt family end merge state merge' told × (other' ≡ other) × Keeps old new
   Compares bytes_of old new (Err (Second told)) =
-      RunsAll family end merge state after × StopsAt family end other state_of other' told × Keeps old new
+      RunsAll family end merge merge' state after × StopsAt family end other state_of other' told × Keeps old new
   Compares bytes_of old new (Err (Replay Output)) =
       Both (Answers family writing after after_of (λ same. AppendsFront old new (answer_line same)))
-  Compares bytes_of old new (Err (Replay Memory)) = Keeps old new
+  Compares bytes_of old new (Err (Replay Memory)) = IsTallied end merge merge' × IsTallied end other other' × Keeps old new
 
 -- How often the device has failed after the call: once more if the result is `Output`, otherwise as
 -- often as before it.

@@ -5,10 +5,12 @@ use Rattle.pim_capture.specs.declared.fault.CaptureFault.{CaptureFault}
 use Rattle.pim_capture.specs.declared.fault.CaptureFault.TheVariants as fault
 use Rattle.pim_merge.specs.declared.end.End.{End}
 use Rattle.pim_merge.specs.declared.merge.MergeFault.{MergeFault}
+use Rattle.pim_merge.specs.Lane.{tallies_of}
 use Rattle.pim_merge.specs.Merge.{Taken}
 use Rattle.pim_merge.specs.Next.{MergeState}
 use Rattle.pim_merge.specs.Ends.{clock_of, AreAll}
 use Rattle.pim_merge.specs.Run.{HasTaken}
+use Rattle.pim_merge.specs.Tally.{tallies_after}
 use Rattle.pim_router.specs.State.{RouterState}
 use Rattle.pim_replay.specs.declared.replay.ReplayFault.{ReplayFault}
 use Rattle.pim_replay.specs.declared.replay.ReplayFault.TheVariants.{Capture, Output, Memory}
@@ -41,11 +43,12 @@ module _ (family : AddressFamily) (end : End) (merge : MergeState) (state : Rout
     pub run : HasTaken end merge taken merge'
     pub tells : TellsTurns family taken state account after
 
-  -- All turns of the merge up to the end of the run were taken.
+  -- All turns of the merge up to the end of the run were taken. The tallies of `merge'` count these.
   pub record HasEnded : Type 0 where
     pub taken : List Taken
     pub are : AreAll end merge None taken
     pub clock : merge'.clock ≡ clock_of merge.clock taken
+    pub tallies : tallies_of merge'.lanes ≡ tallies_after (tallies_of merge.lanes) taken
     pub tells : TellsTurns family taken state account after
 
 module _ (line : Event → List ℕ) (family : AddressFamily) (end : End) (merge : MergeState) (state : RouterState)

@@ -139,7 +139,10 @@ pub fn same_into<F: Family, R: Feed + Drop, W: Drain>(
         F.bytes_of (W.contents writer.old) (W.contents writer.new) result }
     ensures count { W.failures writer.new ≡ failures_of_answer (W.failures writer.old) result }
 {
-    replay_quietly::<F, R>(merge_a, router_a, end)?;
+    match replay_quietly::<F, R>(merge_a, router_a, end) {
+        Ok(()) => {}
+        Err(fault) => return Err(SameFault::Replay(fault)),
+    }
     match replay_quietly::<F, R>(merge_b, router_b, end) {
         Ok(()) => {}
         Err(fault) => return Err(of_second(fault)),

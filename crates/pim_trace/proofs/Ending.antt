@@ -4,6 +4,7 @@ use Rattle.pim_addr.specs.declared.family.AddressFamily.{AddressFamily}
 use Rattle.pim_merge.specs.declared.end.End.{End}
 use Rattle.pim_merge.specs.Ends.{end_moment, clock_of, Takes}
 use Rattle.pim_merge.specs.Next.{MergeState}
+use Rattle.pim_merge.specs.Run.{CountsAll, IsTallied}
 use Rattle.pim_router.specs.State.{RouterState}
 use Rattle.std.specs.Io.KnownBytes.{Appends}
 use Rattle.pim_device.specs.Device.{AppendsFront}
@@ -53,10 +54,13 @@ module _ (line : Occurrence → List ℕ) (family : AddressFamily) (end : End) (
 
   -- the turns ended the trace
   pub turns_end_it : (merge : MergeState) (ledger : Ledger) (now after : RouterState) (new : Option (List ℕ)) (fault : TraceFault) → RunsTurns line family end start state old {A = Unit {0}} merge ledger now new (Err fault)
-      → Traces {A = Unit {0}} line family end start merge state after old new (Err fault)
-  turns_end_it merge ledger now after new (Capture told) p = p
-  turns_end_it merge ledger now after new Output p = inl p
-  turns_end_it merge ledger now after new Memory p = inl p
+      → IsTallied end start merge → Traces {A = Unit {0}} line family end start merge state after old new (Err fault)
+  turns_end_it merge ledger now after new (Capture told) p tallied = p
+  turns_end_it merge ledger now after new Output p tallied = (inl p, tallied)
+  turns_end_it merge ledger now after new Memory p tallied = (inl p, tallied)
+
+  pub counts_all : (merge : MergeState) (ledger : Ledger) (now : RouterState) (new : Option (List ℕ)) → HasAll line family end start state old merge ledger now new → CountsAll end start merge
+  counts_all merge ledger now new h = record { taken = h.taken; are = h.are; tallies = h.tallies }
 
   module _ (merge : MergeState) (ledger_then : Ledger) (between : RouterState) (new : Option (List ℕ)) (h : HasAll line family end start state old merge ledger_then between new) (moment : ℕ)
       (is_end : moment ≡ end_moment end merge.clock between.machines.moment) where

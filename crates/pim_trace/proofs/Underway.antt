@@ -113,7 +113,7 @@ module _ (line : Occurrence → List ℕ) (family : AddressFamily) (end : End) (
     pub ended : (next : Option Turn) (merge' : MergeState) → next ≡ None → Advances end start w.taken merge' (Ok next) → HasAll line family end start state old merge' ledger now new
     ended next merge' none advances =
         let all = subst (λ (n : Option Turn). Advances end start w.taken merge' (Ok n)) none advances in
-        record { taken = w.taken; events = w.events; are = all.0; clock = all.1; tells = w.tells; written = w.written }
+        record { taken = w.taken; events = w.events; are = all.0; clock = all.1; tallies = all.2; tells = w.tells; written = w.written }
 
     -- ---- a capture's fault
 

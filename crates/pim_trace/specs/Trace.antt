@@ -16,6 +16,7 @@ use Rattle.pim_merge.specs.Merge.{Taken}
 use Rattle.pim_merge.specs.Lane.{lane_at, tallies_of}
 use Rattle.pim_merge.specs.Tally.{tallies_after}
 use Rattle.pim_merge.specs.Next.{MergeState, IsNumbered}
+use Rattle.pim_merge.specs.Run.{CountsAll, IsTallied}
 use Rattle.pim_router.specs.State.{RouterState}
 use Rattle.pim_events.specs.Events.{Occurrence, run_ended}
 use Rattle.pim_trace.specs.declared.trace.TraceFault.{TraceFault}
@@ -138,14 +139,18 @@ module _ (line : Occurrence → List ℕ) (family : AddressFamily) (end : End) (
 
 -- What `trace_into` returns and writes. At Ok the whole trace was written. After a fault of a
 -- capture, the events of the turns before it were. After any other fault, a front of the trace was.
+-- The tallies of `merge'` count the turns: all at Ok, those before the fault of a capture, or some
+-- first ones.
 abbrev pub Traces : {A : Type 0} → (Occurrence → List ℕ) → AddressFamily → End → MergeState → MergeState →
     RouterState → RouterState → Option (List ℕ) → Option (List ℕ) → Result A TraceFault → Type 0
 Traces line family end merge merge' state after old new (Ok done) =
-    HasTrace line family end merge state after (Wrote line old new)
+    HasTrace line family end merge state after (Wrote line old new) × CountsAll end merge merge'
 Traces line family end merge merge' state after old new (Err (Capture told)) =
     StopsAt line family end merge state merge' told old new
-Traces line family end merge merge' state after old new (Err Output) = BeginsTrace line family end merge state old new
-Traces line family end merge merge' state after old new (Err Memory) = BeginsTrace line family end merge state old new
+Traces line family end merge merge' state after old new (Err Output) =
+    BeginsTrace line family end merge state old new × IsTallied end merge merge'
+Traces line family end merge merge' state after old new (Err Memory) =
+    BeginsTrace line family end merge state old new × IsTallied end merge merge'
 
 -- How often the device has failed after a trace with this result: once more if the result is `Output`,
 -- otherwise as often as before it. The count stops at 2^64 - 1.

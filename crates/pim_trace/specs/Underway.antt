@@ -7,9 +7,11 @@ use Rattle.pim_capture.specs.Next.{latest_moment}
 use Rattle.pim_merge.specs.declared.end.End.{End}
 use Rattle.pim_merge.specs.declared.merge.MergeFault.{MergeFault}
 use Rattle.pim_merge.specs.Ends.{clock_of, AreAll}
+use Rattle.pim_merge.specs.Lane.{tallies_of}
 use Rattle.pim_merge.specs.Merge.{Taken}
 use Rattle.pim_merge.specs.Next.{MergeState}
 use Rattle.pim_merge.specs.Run.{HasTaken}
+use Rattle.pim_merge.specs.Tally.{tallies_after}
 use Rattle.pim_router.specs.State.{RouterState}
 use Rattle.pim_events.specs.Events.{Occurrence}
 use Rattle.pim_trace.specs.declared.telling.TellFault.{TellFault}
@@ -52,13 +54,15 @@ module _ (line : Occurrence → List ℕ) (family : AddressFamily) (end : End) (
     pub tells : TellsTurns family taken (ledger_for state) state events ledger now
     pub written : Wrote line old new events
 
-  -- All turns of the merge up to the end of the run were taken, and their events were written.
+  -- All turns of the merge up to the end of the run were taken, and their events were written. The
+  -- tallies of `merge'` count these turns.
   pub record HasAll (merge' : MergeState) (ledger : Ledger) (now : RouterState) (new : Option (List ℕ))
       : Type 0 where
     pub taken : List Taken
     pub events : List Occurrence
     pub are : AreAll end merge None taken
     pub clock : merge'.clock ≡ clock_of merge.clock taken
+    pub tallies : tallies_of merge'.lanes ≡ tallies_after (tallies_of merge.lanes) taken
     pub tells : TellsTurns family taken (ledger_for state) state events ledger now
     pub written : Wrote line old new events
 

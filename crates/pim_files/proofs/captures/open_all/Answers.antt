@@ -5,13 +5,13 @@ use Rattle.pim_words.specs.declared.task.Port.{Port}
 use Rattle.pim_files.specs.Files.{AsksFor}
 use Rattle.pim_files.specs.Captures.{file_name, HoldFiles}
 use Rattle.pim_files.proofs.Asked.{asks_none, some_in_front}
-use Rattle.pim_files.proofs.Opened.{lanes_more, one_more_name, none_held, one_more_lane, none_present, one_more_present, stops_after}
+use Rattle.pim_files.proofs.Opened.{new_untaken, one_untaken, lanes_more, one_more_name, none_held, one_more_lane, none_present, one_more_present, stops_after}
 use Rattle.pim_files.proofs.captures.open_all.Goals as goal
 
 pub loop-port-init : goal.loop-port-init
 loop-port-init g c = record {
   each = omega (arith, ap length c.new-merge.ensures.lanes);
-  untaken = c.new-merge.ensures.clock;
+  untaken = new_untaken c.new-merge.result c.new-merge.ensures.lanes c.new-merge.ensures.clock;
   asked = asks_none (g.O.Opener.known c.args.opener.now);
   present = none_present g.row.A.Denot (g.O.Opener.known c.args.opener.now).files;
   held = none_held g.row.A.Denot (g.O.Opener.known c.args.opener.now).files c.new-merge.result.lanes c.new-merge.ensures.lanes;
@@ -27,7 +27,7 @@ loop-port-preserved g c = record {
     c.loop-port.invariant.each,
     c.loop-port-test.true,
   );
-  untaken = c.in-Ok.ensures.clock ∙ c.loop-port.invariant.untaken;
+  untaken = one_untaken c.loop-port.merge c.add_by.new.merge c.loop-port.invariant.untaken c.in-Ok.ensures.clock c.in-Ok.ensures.tallies;
   asked = one_more_name (g.O.Opener.known c.args.opener.now) (g.O.Opener.known c.loop-port.opener) (g.O.Opener.known c.open_port.new.opener) c.args.ports.now
       c.loop-port.port-index (c.loop-port.port-index + 1) c.port-item.result (omega arith) c.loop-port-test.true c.port-item.is c.loop-port.invariant.asked c.in_ok-reader.ensures.asked;
   present = one_more_present (g.O.Opener.known c.args.opener.now).files (g.O.Opener.known c.loop-port.opener).files c.args.ports.now

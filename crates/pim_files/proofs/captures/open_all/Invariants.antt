@@ -1,4 +1,5 @@
-use Rattle.std.proofs.Common.{◌≡◌, ◌+◌, drop, take, map, length, None}
+use Rattle.std.proofs.Common.{◌≡◌, ◌+◌, drop, take, map, length}
+use Rattle.pim_merge.specs.Next.{IsUntaken}
 use Rattle.pim_files.specs.Files.{AsksFor}
 use Rattle.pim_files.specs.Captures.{file_name, CanOpen, HoldFiles}
 use Rattle.pim_files.proofs.captures.open_all.Given as goal
@@ -7,7 +8,7 @@ use Rattle.pim_files.proofs.captures.open_all.Given as goal
 abbrev pub invariant-loop-port : goal.invariant-loop-port
 invariant-loop-port g l = record {
   each : length l.merge.lanes + length (drop l.port-index l.ports) ≡ length l.ports;
-  untaken : l.merge.clock ≡ None;
+  untaken : IsUntaken l.merge;
   asked : AsksFor (g.O.Opener.known l.initial.opener) (g.O.Opener.known l.opener) (map file_name (take l.port-index l.ports));
   present : CanOpen (g.O.Opener.known l.initial.opener).files (take l.port-index l.ports);
   held : HoldFiles (g.O.Opener.known l.initial.opener).files (take l.port-index l.ports) l.merge.lanes;

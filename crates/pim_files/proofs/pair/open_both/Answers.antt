@@ -7,15 +7,15 @@ use Rattle.pim_words.specs.declared.fault.Side.TheVariants.{A, B}
 use Rattle.pim_files.specs.Files.{AsksFor}
 use Rattle.pim_files.specs.Captures.{file_name, is_of, HoldFiles}
 use Rattle.pim_files.proofs.Asked.{asks_none, some_in_front}
-use Rattle.pim_files.proofs.Opened.{one_less_of, one_more_name, none_held, one_more_of, none_present, one_more_present, stops_after}
+use Rattle.pim_files.proofs.Opened.{new_untaken, untaken_if, one_less_of, one_more_name, none_held, one_more_of, none_present, one_more_present, stops_after}
 use Rattle.pim_files.proofs.pair.open_both.Goals as goal
 
 pub loop-port-init : goal.loop-port-init
 loop-port-init g c = record {
   each_of_a = omega (arith, ap length c.new.ensures.lanes);
   each_of_b = omega (arith, ap length c.new-2.ensures.lanes);
-  untaken_of_a = c.new.ensures.clock;
-  untaken_of_b = c.new-2.ensures.clock;
+  untaken_of_a = new_untaken c.new.result c.new.ensures.lanes c.new.ensures.clock;
+  untaken_of_b = new_untaken c.new-2.result c.new-2.ensures.lanes c.new-2.ensures.clock;
   asked = asks_none (g.O.Opener.known c.args.opener.now);
   present = none_present g.row.A.Denot (g.O.Opener.known c.args.opener.now).files;
   held_of_a = none_held g.row.A.Denot (g.O.Opener.known c.args.opener.now).files c.new.result.lanes c.new.ensures.lanes;
@@ -36,8 +36,8 @@ loop-port-preserved g c = record {
     c.in-Ok.ensures.b,
     c.loop-port.invariant.each_of_b,
   );
-  untaken_of_a = c.add_to.ensures.clock_of_a ∙ c.loop-port.invariant.untaken_of_a;
-  untaken_of_b = c.add_to.ensures.clock_of_b ∙ c.loop-port.invariant.untaken_of_b;
+  untaken_of_a = untaken_if A c.port-item.result.side c.loop-port.pair.a c.add_to.new.pair.a c.loop-port.invariant.untaken_of_a c.add_to.ensures.clock_of_a c.in-Ok.ensures.tallies_of_a;
+  untaken_of_b = untaken_if B c.port-item.result.side c.loop-port.pair.b c.add_to.new.pair.b c.loop-port.invariant.untaken_of_b c.add_to.ensures.clock_of_b c.in-Ok.ensures.tallies_of_b;
   asked = one_more_name (g.O.Opener.known c.args.opener.now) (g.O.Opener.known c.loop-port.opener) (g.O.Opener.known c.open_port.new.opener) c.args.ports.now
       c.loop-port.port-index (c.loop-port.port-index + 1) c.port-item.result (omega arith) c.loop-port-test.true c.port-item.is c.loop-port.invariant.asked c.in_ok-reader.ensures.asked;
   present = one_more_present (g.O.Opener.known c.args.opener.now).files (g.O.Opener.known c.loop-port.opener).files c.args.ports.now

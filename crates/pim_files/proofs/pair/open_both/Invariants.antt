@@ -1,4 +1,5 @@
-use Rattle.std.proofs.Common.{◌≡◌, ◌+◌, drop, take, map, length, None}
+use Rattle.std.proofs.Common.{◌≡◌, ◌+◌, drop, take, map, length}
+use Rattle.pim_merge.specs.Next.{IsUntaken}
 use Rattle.std.specs.List.{filter}
 use Rattle.pim_words.specs.declared.fault.Side.TheVariants.{A, B}
 use Rattle.pim_files.specs.Files.{AsksFor}
@@ -10,8 +11,8 @@ abbrev pub invariant-loop-port : goal.invariant-loop-port
 invariant-loop-port g l = record {
   each_of_a : length l.pair.a.lanes + length (filter (is_of A) (drop l.port-index l.ports)) ≡ length (filter (is_of A) l.ports);
   each_of_b : length l.pair.b.lanes + length (filter (is_of B) (drop l.port-index l.ports)) ≡ length (filter (is_of B) l.ports);
-  untaken_of_a : l.pair.a.clock ≡ None;
-  untaken_of_b : l.pair.b.clock ≡ None;
+  untaken_of_a : IsUntaken l.pair.a;
+  untaken_of_b : IsUntaken l.pair.b;
   asked : AsksFor (g.O.Opener.known l.initial.opener) (g.O.Opener.known l.opener) (map file_name (take l.port-index l.ports));
   present : CanOpen (g.O.Opener.known l.initial.opener).files (take l.port-index l.ports);
   held_of_a : HoldFiles (g.O.Opener.known l.initial.opener).files (filter (is_of A) (take l.port-index l.ports)) l.pair.a.lanes;
