@@ -25,6 +25,13 @@ pub trait Feed {
         ensures bound { IfOk result (λ n. n ≤ length buffer.new) }
         ensures bytes { ReadConsumes (remaining self.old) (remaining self.new) result buffer.new }
         ensures count { failures self.new ≡ failures_after (failures self.old) result };
+
+    /// A record of its bytes was passed on. It changes nothing that is given. A device that counts
+    /// no records leaves this method out.
+    fn pass_record(&mut self)
+        ensures bytes { remaining self.new ≡ remaining self.old }
+        ensures count { failures self.new ≡ failures self.old }
+    {}
 }
 
 /// A device that takes bytes.

@@ -3,6 +3,8 @@
 //! - A successful `read` or `write` moves the number of bytes that it returns, and a failed one
 //!   moves none. Clauses on bytes hold where the contents of the device are known. Each failed call
 //!   raises the count of failures by one, up to 2^64 - 1, and no other call changes it.
+//! - By `pass_record` a device can count the records of its bytes that were passed on, to show the
+//!   progress of a program. It changes neither the bytes nor the count of failures.
 //! - A write that takes none of some bytes is a failure, so that no loop over writes is endless.
 //! - `write_all` writes all bytes at Ok, some front of them at Err. `read_up_to` fills a buffer
 //!   until it is full or the device is at its end. Both stop at the first failure.
