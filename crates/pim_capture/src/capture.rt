@@ -114,4 +114,14 @@ impl<R: Feed> Capture<R> {
         };
         Ok(event)
     }
+
+    /// Calls `pass_record` of the reader. The capture stays as it is.
+    pub fn pass_record(&mut self)
+        ensures coming { coming R.remaining self.new ≡ coming R.remaining self.old }
+        ensures named { named R.remaining self.new ≡ named R.remaining self.old }
+        ensures failures { R.failures (reader_of self.new) ≡ R.failures (reader_of self.old) }
+        ensures state { state_of self.new ≡ state_of self.old }
+    {
+        self.reader.pass_record();
+    }
 }

@@ -252,4 +252,13 @@ impl<R: Feed> Reader<R> {
         self.state = step.state;
         Ok(step.event)
     }
+
+    /// Calls `pass_record` of the device. The reader stays as it is.
+    pub fn pass_record(&mut self)
+        ensures coming { coming R.remaining self.new ≡ coming R.remaining self.old }
+        ensures failures { R.failures (device_of self.new) ≡ R.failures (device_of self.old) }
+        ensures state { state_of self.new ≡ state_of self.old }
+    {
+        self.device.pass_record();
+    }
 }
