@@ -314,4 +314,16 @@ impl<R: Feed> Chosen<R> {
         self.is_over = result.is_err();
         result
     }
+
+    /// Calls `pass_record` of the device.
+    pub(crate) fn pass_record(&mut self)
+        ensures coming { chosen_coming R.remaining self.new
+            ≡ chosen_coming R.remaining self.old }
+        ensures failures { chosen_failures R.failures self.new
+            ≡ chosen_failures R.failures self.old }
+        ensures left { chosen_left self.new ≡ chosen_left self.old }
+        ensures over { chosen_is_over self.new ≡ chosen_is_over self.old }
+    {
+        self.reader.pass_record();
+    }
 }

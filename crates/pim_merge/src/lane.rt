@@ -193,7 +193,7 @@ impl<R: Feed + Drop> Lane<R> {
         one_more(self.tally.records)
     }
 
-    /// Takes the head, if it was read.
+    /// Takes the head, if it was read. The reader can then count a record.
     pub(crate) fn take(&mut self) -> Option<Event>
         ensures head { option_map (event_seen self.new.bytes) result ≡ self.old.head }
         ensures rest { self.new ≡ without_head self.old }
@@ -201,7 +201,11 @@ impl<R: Feed + Drop> Lane<R> {
         ensures moment { IfSome result (IsBy latest_moment) }
     {
         self.tally = self.next_tally();
-        self.head.take()
+        let event = self.head.take();
+        if event.is_some() {
+            self.source.pass_record();
+        }
+        event
     }
 
     /// The bytes of the record that was read last.

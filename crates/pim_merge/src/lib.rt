@@ -14,7 +14,8 @@
 //! `Merge::add` appends a capture, or leaves the merge unchanged where memory is refused.
 //! `Merge::add_any` appends one of any container, with a choice of its packets. What the container
 //! gives is then cut down to the records of a capture (`specs/Chosen.antt`). `Merge::tally` counts
-//! what was taken of a capture (`specs/Tally.antt`).
+//! what was taken of a capture (`specs/Tally.antt`). Each turn calls `pass_record` of the reader of
+//! its capture.
 //!
 //! A head is read when the next turn is asked for, not when the one before is taken. So the bytes
 //! of a turn stay until the next call, and a fault comes after all turns before it. A time that

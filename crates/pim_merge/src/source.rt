@@ -1,7 +1,7 @@
 //! What the records of a lane are read from.
 
 ghost use Rattle.std.specs.Prelude.{◌≡◌, ◌+◌, ◌≤◌, ◌⊎◌, IfOk, IfErr, max, vec_len, vec_capacity};
-ghost use Rattle.std.specs.Prelude.{true};
+ghost use Rattle.std.specs.Prelude.{true, ℕ};
 ghost use Rattle.pim_capture.specs.Capture.{most_captured};
 ghost use Rattle.pim_capture.specs.Next.{seen, PayloadLiesIn, IsBy, latest_moment, LacksRoom};
 ghost use Rattle.pim_capture.specs.Next.{IsNext, IsRefusal, CountsReads, OnMemory};
@@ -51,6 +51,22 @@ impl<R: Feed> Source<R> {
         match self {
             Source::Classic(capture) => capture.next(buffer),
             Source::Any(chosen) => chosen.next(buffer),
+        }
+    }
+
+    /// Calls `pass_record` of the reader.
+    pub(crate) fn pass_record(&mut self)
+        ensures coming { coming R.remaining self.new ≡ coming R.remaining self.old }
+        ensures failures { failures_in R.failures self.new ≡ failures_in R.failures self.old }
+        ensures left { left_in self.new ≡ left_in self.old }
+        ensures passes { passes_over self.new ≡ passes_over self.old }
+        ensures room { (capacity : ℕ) → room_in self.new capacity ≡ room_in self.old capacity }
+        ensures over { is_over_in self.new ≡ is_over_in self.old }
+        ensures size { size_in R.remaining self.new ≡ size_in R.remaining self.old }
+    {
+        match self {
+            Source::Classic(capture) => capture.pass_record(),
+            Source::Any(chosen) => chosen.pass_record(),
         }
     }
 }
