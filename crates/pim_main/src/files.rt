@@ -2,32 +2,15 @@
 
 ghost use Rattle.pim_files.specs.Files.{nothing_known};
 
-use pim_addr::Counted;
+use crate::progress::{Line, Progress, Watched};
+use crate::source::Source;
 use pim_files::{FileCause, Opener, Unopened};
 use std::alloc::Global;
 use std::fs::{File, metadata};
-use std::io::{self, BufReader, ErrorKind, Read, Stdin};
+use std::io::{BufReader, ErrorKind};
 
 /// The name of standard input among those of files.
 pub const STANDARD_INPUT: &str = "-";
-
-/// What a capture is read from.
-#[derive(Drop)]
-pub enum Source {
-    /// A file of the system.
-    File(File),
-    /// Standard input.
-    Input(Stdin),
-}
-
-impl Read for Source {
-    fn read(&mut self, buffer: &mut [u8]) -> io::Result<usize> {
-        match self {
-            Source::File(file) => file.read(buffer),
-            Source::Input(input) => input.read(buffer),
-        }
-    }
-}
 
 /// Why the system doesn't open a file.
 fn cause_of(kind: ErrorKind) -> FileCause {
@@ -43,6 +26,8 @@ fn cause_of(kind: ErrorKind) -> FileCause {
 #[derive(Drop)]
 pub struct SystemFiles<'r> {
     rt: &'r HostRuntime,
+    /// Where the progress of large captures is shown.
+    line: &'r Line,
     /// Whether captures are of any container. Then `-` names standard input.
     reads_any: bool,
     /// The name of the file of routes.
@@ -52,11 +37,17 @@ pub struct SystemFiles<'r> {
 }
 
 impl<'r> SystemFiles<'r> {
-    /// Returns the opener of this process for a file of routes and captures. Where they are of any
-    /// container, `-` names standard input.
-    pub fn new(rt: &'r HostRuntime, reads_any: bool, routes: Option<&'r str>) -> Self {
+    /// Returns the opener of this process for a file of routes and captures, whose progress is
+    /// shown on a line. Where they are of any container, `-` names standard input.
+    pub fn new(
+        rt: &'r HostRuntime,
+        line: &'r Line,
+        reads_any: bool,
+        routes: Option<&'r str>,
+    ) -> Self {
         SystemFiles {
             rt,
+            line,
             reads_any,
             routes,
             is_lent: false,
@@ -79,7 +70,7 @@ impl<'r> SystemFiles<'r> {
         if self.refuses(name) {
             return Err(FileCause::Directory);
         }
-        Ok(Source::File(file))
+        Ok(Source::of_file(file))
     }
 
     /// Opens the file of this name, or standard input.
@@ -91,12 +82,12 @@ impl<'r> SystemFiles<'r> {
             return Err(FileCause::Other);
         }
         self.is_lent = true;
-        Ok(Source::Input(self.rt.stdin()))
+        Ok(Source::of_input(self.rt.stdin()))
     }
 }
 
 impl<'r> Opener for SystemFiles<'r> {
-    type Reader = Counted<BufReader<Source>>;
+    type Reader = Watched<'r>;
 
     ghost known = { λ _. nothing_known };
 
@@ -105,8 +96,9 @@ impl<'r> Opener for SystemFiles<'r> {
             Ok(source) => source,
             Err(cause) => return Err(Unopened::File(cause)),
         };
+        let progress = Progress::of(self.rt, self.line, name, source.size());
         match BufReader::new(alloc, source) {
-            Ok(reader) => Ok(Counted::new(reader)),
+            Ok(reader) => Ok(Watched::new(reader, progress)),
             Err(_) => Err(Unopened::Memory),
         }
     }

@@ -7,17 +7,20 @@
 
 mod files;
 mod output;
+mod progress;
+mod source;
 
 ghost use Rattle.pim_words.specs.Plan.{IsInRange};
 
 use crate::files::SystemFiles;
 use crate::output::{Output, Replies, is_live, reads_any, routes_of};
+use crate::progress::{Clearing, Line};
 use pim_addr::{Counted, Family, V4, V6};
 use pim_commands::{FAULTY, Fault, run_task, tell_into};
 use pim_items::{Answers, Items, Stopped};
 use pim_session::session_into;
 use pim_words::{Plan, Task, plan};
-use std::io::Write;
+use std::io::{IsTerminal, Write};
 use std::process::ExitCode;
 use std::{env, io};
 
@@ -56,13 +59,16 @@ fn run_session(rt: &HostRuntime) -> Result<u8, Fault<'static>> {
 fn run_on_system<'a, F: Family>(rt: &HostRuntime, task: &Task<'a, F::Addr>) -> Result<u8, Fault<'a>>
     requires { IsInRange task.now }
 {
-    let Ok(output) = Output::new(rt.alloc(), io::writer(rt), is_live(rt, task)) else {
+    let line = Line::new();
+    let shared = rt.stdout().is_terminal().then_some(&line);
+    let writer = Clearing::new(rt, shared, io::writer(rt));
+    let Ok(output) = Output::new(rt.alloc(), writer, is_live(rt, task)) else {
         return Err(Fault::Memory);
     };
     let mut output = Counted::new(output);
-    let mut files = SystemFiles::new(rt, reads_any(task), routes_of(task));
+    let mut files = SystemFiles::new(rt, &line, reads_any(task), routes_of(task));
     let mut input = Counted::new(rt.stdin());
-    let mut errors = Counted::new(rt.stderr());
+    let mut errors = Counted::new(Clearing::new(rt, Some(&line), rt.stderr()));
     let alloc = rt.alloc();
     let status = run_task::<F, _, _, _, _>(
         alloc,
@@ -72,6 +78,7 @@ fn run_on_system<'a, F: Family>(rt: &HostRuntime, task: &Task<'a, F::Addr>) -> R
         &mut output,
         &mut errors,
     );
+    line.clear(rt);
     match output.into_inner().flush() {
         Err(_) if status.is_ok() => Err(Fault::Output),
         _ => status,

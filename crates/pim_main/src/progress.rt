@@ -1,0 +1,183 @@
+//! The progress of large captures, as a line on standard error where that is a terminal.
+//!
+//! A reader counts its bytes, and its records that are passed on. Once a second it shows what it
+//! counted, in place of the line before. Where another text is written to the same terminal, the
+//! line is cleared first. No contract speaks of a terminal, nor of time.
+
+ghost use Rattle.std.specs.Prelude.{None};
+ghost use Rattle.pim_device.specs.Device.{counted_failures};
+
+use crate::source::Source;
+use pim_addr::{Counted, Failed, Feed};
+use std::cell::Cell;
+use std::io::{self, BufReader, IsTerminal, Write};
+use std::time::Instant;
+
+/// The length of a file, in bytes, above which its progress is shown.
+const LARGE: u64 = 67_108_864;
+
+/// The number of records after which a reader looks at the clock.
+const RECORDS_A_LOOK: u64 = 256;
+
+/// The last line of the terminal, as far as it shows a progress.
+#[derive(Drop)]
+pub struct Line {
+    /// The number of its columns; 0 if it shows none.
+    width: Cell<usize>,
+}
+
+impl Line {
+    /// Returns a line that shows nothing.
+    pub fn new() -> Self {
+        Line {
+            width: Cell::new(0),
+        }
+    }
+
+    /// Shows a text in place of the one that it shows.
+    fn show(&self, rt: &HostRuntime, text: &str) {
+        let width = self.width.get().max(text.chars().count());
+        self.width.set(width);
+        let _ = eprint!(rt; "\r{text:width$}");
+    }
+
+    /// Clears the line, if it shows a progress.
+    pub fn clear(&self, rt: &HostRuntime) {
+        let width = self.width.get();
+        if width == 0 {
+            return;
+        }
+        self.width.set(0);
+        let _ = eprint!(rt; "\r{:width$}\r", "");
+    }
+}
+
+/// A writer that clears a line before it writes, if it writes to the same terminal.
+#[derive(Drop)]
+pub struct Clearing<'r, W> {
+    rt: &'r HostRuntime,
+    line: Option<&'r Line>,
+    inner: W,
+}
+
+impl<'r, W> Clearing<'r, W> {
+    /// Returns such a writer over another one.
+    pub fn new(rt: &'r HostRuntime, line: Option<&'r Line>, inner: W) -> Self {
+        Clearing { rt, line, inner }
+    }
+}
+
+impl<W: Write> Write for Clearing<'_, W> {
+    fn write(&mut self, bytes: &[u8]) -> io::Result<usize> {
+        if let Some(line) = self.line {
+            line.clear(self.rt);
+        }
+        self.inner.write(bytes)
+    }
+
+    fn flush(&mut self) -> io::Result<()> {
+        self.inner.flush()
+    }
+}
+
+/// The progress of a file.
+#[derive(Drop)]
+pub struct Progress<'r> {
+    rt: &'r HostRuntime,
+    line: &'r Line,
+    /// The name of the file.
+    name: String,
+    /// The length of the file in bytes.
+    size: u64,
+    /// The time when it was shown last, or began.
+    shown: Instant,
+    /// The number of records at that time.
+    records: u64,
+}
+
+impl<'r> Progress<'r> {
+    /// Returns the progress of a file of this length, if it is to be shown. Where memory or the
+    /// clock is refused, it isn't.
+    pub fn of(rt: &'r HostRuntime, line: &'r Line, name: &str, size: u64) -> Option<Self> {
+        if size <= LARGE || !rt.stderr().is_terminal() {
+            return None;
+        }
+        Some(Progress {
+            rt,
+            line,
+            name: String::from_str(rt.alloc(), name).ok()?,
+            size,
+            shown: Instant::now(rt).ok()?,
+            records: 0,
+        })
+    }
+
+    /// Shows that these bytes were read and these records passed on, as many a second as `rate`.
+    fn show(&self, bytes: u64, records: u64, rate: u128) {
+        let name = &self.name;
+        // A file that grows may have more bytes than its length was.
+        let percent = (bytes / (self.size / 100).max(1)).min(100);
+        if let Ok(text) = format!(in self.rt.alloc();
+            "pimtree: {name}: {percent} %, {records} packets, {rate} packets/s"
+        ) {
+            self.line.show(self.rt, text.as_str());
+        }
+    }
+
+    /// Shows these numbers of bytes and records if a second has passed since the last time.
+    fn look(&mut self, bytes: u64, records: u64) {
+        let Ok(now) = Instant::now(self.rt) else {
+            return;
+        };
+        let elapsed = now.duration_since(self.shown);
+        if elapsed.as_secs() == 0 {
+            return;
+        }
+        let passed = u128::from(records.saturating_sub(self.records));
+        self.show(bytes, records, passed * 1_000 / elapsed.as_millis().max(1));
+        self.shown = now;
+        self.records = records;
+    }
+}
+
+/// A reader of the system, with its progress if that is shown. No contract can say what it holds.
+#[derive(Drop)]
+pub struct Watched<'r> {
+    device: Counted<BufReader<Source>>,
+    /// The number of records that were passed on.
+    records: u64,
+    progress: Option<Progress<'r>>,
+}
+
+impl<'r> Watched<'r> {
+    /// Returns a device over a reader that has not failed.
+    pub fn new(reader: BufReader<Source>, progress: Option<Progress<'r>>) -> Self {
+        Watched {
+            device: Counted::new(reader),
+            records: 0,
+            progress,
+        }
+    }
+}
+
+impl Feed for Watched<'_> {
+    ghost remaining = { λ _. None };
+
+    ghost failures = { λ watched. counted_failures watched.device };
+
+    fn read(&mut self, buffer: &mut [u8]) -> Result<usize, Failed> {
+        self.device.read(buffer)
+    }
+
+    fn pass_record(&mut self) {
+        let records = self.records.saturating_add(1);
+        self.records = records;
+        if records % RECORDS_A_LOOK != 0 {
+            return;
+        }
+        let bytes = self.device.get_ref().get_ref().bytes();
+        if let Some(progress) = &mut self.progress {
+            progress.look(bytes, records);
+        }
+    }
+}
