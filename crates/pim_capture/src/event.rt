@@ -66,6 +66,9 @@ pub enum Why {
     NotChosen,
     /// Its file ends inside it. Its time counts as 0. `Capture` never returns it.
     CutShort,
+    /// The capture goes on with its next file. It is no record of a file. Its time counts as 0.
+    /// `Capture` never returns it.
+    NextFile,
 }
 
 /// What a record of a capture holds.

@@ -1,5 +1,6 @@
 -- The warnings on the captures of a router after its run, by what was taken of each.
 use Rattle.std.specs.Prelude.{ℕ, suc, Bool, nat_lt, cond, is_some, List, [], ◌∷◌, ◌++◌, Option, None, Some}
+use Rattle.pim_merge.specs.declared.tally.Place.{Place}
 use Rattle.pim_merge.specs.declared.tally.Tally.{Tally}
 use Rattle.pim_merge.specs.Lane.{tallies_of}
 use Rattle.pim_merge.specs.Next.{MergeState}
@@ -18,16 +19,21 @@ warned warning file (Some number) = warning_text warning file number
 abbrev pub number_if : Bool → ℕ → Option ℕ
 number_if holds number = cond holds (Some number) None
 
--- The warnings on counts: that the file ends inside its last record, and how many packets are
--- fragments or cut.
+-- The number of the record at this place in its file, if there is one.
+abbrev pub record_of : Option Place → Option ℕ
+record_of None = None
+record_of (Some place) = Some place.«record»
+
+-- The warnings on counts: inside which record a file ends, and how many packets are fragments or cut.
 unfoldable pub count_warnings : List ℕ → Tally → List ℕ
-count_warnings file tally = warned CutShort file (number_if tally.cut_short tally.records)
+count_warnings file tally = warned CutShort file (record_of tally.cut_short)
     ++ warned Fragments file (number_if (nat_lt 0 tally.fragments) tally.fragments)
     ++ warned CutFrames file (number_if (nat_lt 0 tally.cut_frames) tally.cut_frames)
 
 -- The warnings on times: where one runs back, and where one jumps.
 unfoldable pub time_warnings : List ℕ → Tally → List ℕ
-time_warnings file tally = warned RunsBack file tally.ran_back ++ warned Jumps file tally.jumped
+time_warnings file tally =
+    warned RunsBack file (record_of tally.ran_back) ++ warned Jumps file (record_of tally.jumped)
 
 -- The warnings on the capture of a port. There are none on that of a port without a link.
 abbrev pub port_warnings : {A : Type 0} → Port A → Tally → List ℕ

@@ -8,14 +8,15 @@ ghost use Rattle.pim_files.specs.Captures.{is_of};
 ghost use Rattle.pim_check.specs.Telling.{IsTold};
 ghost use Rattle.pim_check.specs.declared.warning.Warning.TheVariants.{CutShort, Fragments, CutFrames};
 ghost use Rattle.pim_commands.specs.Naming.{is_in, ports_of};
-ghost use Rattle.pim_commands.specs.Warnings.{warned, number_if, count_warnings, time_warnings};
-ghost use Rattle.pim_commands.specs.Warnings.{port_warnings, warnings_from, warnings_text};
+ghost use Rattle.pim_commands.specs.Warnings.{warned, number_if, record_of, count_warnings};
+ghost use Rattle.pim_commands.specs.Warnings.{time_warnings, port_warnings, warnings_from};
+ghost use Rattle.pim_commands.specs.Warnings.{warnings_text};
 
 use crate::naming::is_in;
 use pim_addr::{Drain, Failed, Feed};
 use pim_check::{Warning, warning_line};
 use pim_files::Pair;
-use pim_merge::{Merge, Tally};
+use pim_merge::{Merge, Place, Tally};
 use pim_words::{Captures, Port, Side};
 
 /// The number, if this holds.
@@ -23,6 +24,16 @@ fn number_if(holds: bool, number: u64) -> Option<u64>
     ensures { result ≡ number_if holds number }
 {
     if holds { Some(number) } else { None }
+}
+
+/// The number of the record at this place in its file, if there is one.
+fn record_of(place: Option<Place>) -> Option<u64>
+    ensures { result ≡ record_of place }
+{
+    match place {
+        Some(place) => Some(place.record),
+        None => None,
+    }
 }
 
 /// Writes the line of a warning with this number, if there is one.
@@ -77,7 +88,7 @@ fn warn_of_counts<W: Drain>(writer: &mut W, file: &str, tally: Tally) -> Result<
     warn_of_numbers(
         writer,
         file,
-        number_if(tally.cut_short, tally.records),
+        record_of(tally.cut_short),
         some_count(tally.fragments),
         some_count(tally.cut_frames),
     )
@@ -90,8 +101,8 @@ fn warn_of_times<W: Drain>(writer: &mut W, file: &str, tally: Tally) -> Result<(
         (time_warnings file.now tally) }
     ensures count { W.failures writer.new ≡ failures_after (W.failures writer.old) result }
 {
-    warn_of(writer, Warning::RunsBack, file, tally.ran_back)?;
-    warn_of(writer, Warning::Jumps, file, tally.jumped)
+    warn_of(writer, Warning::RunsBack, file, record_of(tally.ran_back))?;
+    warn_of(writer, Warning::Jumps, file, record_of(tally.jumped))
 }
 
 /// Writes the warnings on the capture in a file.
@@ -124,10 +135,11 @@ fn tally_of<R: Feed + Drop>(merge: &Merge<R>, number: usize) -> Tally
         return merge.tally(number);
     }
     Tally {
+        file: 0,
         records: 0,
         fragments: 0,
         cut_frames: 0,
-        cut_short: false,
+        cut_short: None,
         last: None,
         ran_back: None,
         jumped: None,

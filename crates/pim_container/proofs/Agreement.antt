@@ -7,7 +7,7 @@ use Rattle.byteorder.specs.Endian.{big_number}
 use Rattle.pim_addr.specs.declared.family.AddressFamily.{AddressFamily}
 use Rattle.pim_addr.specs.Faults.{fault_if, judged}
 use Rattle.pim_capture.specs.declared.event.Why.{Why}
-use Rattle.pim_capture.specs.declared.event.Why.TheVariants.{Cut, NotIp, BadHeader, NotPim, Fragment, NoTime, LinkType, NotChosen, CutShort}
+use Rattle.pim_capture.specs.declared.event.Why.TheVariants.{Cut, NotIp, BadHeader, NotPim, Fragment, NoTime, LinkType, NotChosen, CutShort, NextFile}
 use Rattle.pim_capture.specs.declared.fault.CaptureFault.{CaptureFault}
 use Rattle.pim_capture.specs.declared.fault.CaptureFault.TheVariants as theirs
 use Rattle.pim_capture.specs.declared.header.Format as format
@@ -88,6 +88,7 @@ same_packet millis bytes origin (Err NoTime) = refl
 same_packet millis bytes origin (Err LinkType) = refl
 same_packet millis bytes origin (Err NotChosen) = refl
 same_packet millis bytes origin (Err CutShort) = refl
+same_packet millis bytes origin (Err NextFile) = refl
 
 same_raw : (millis : ℕ) (bytes : List ℕ) (cut : Bool) (family : Option AddressFamily)
     → SameTold (capture.told_of millis bytes (if cut then Err Cut else judge_packet family bytes)) (placed_told millis 0 bytes (if cut then Err Cut else untagged_place family 0))

@@ -4,7 +4,8 @@
 //! The events are a function of the bytes of the file, however the device cuts them (`answers` in
 //! `specs/Pieces.antt`). The file is cut into pieces, which are records or blocks, and each piece
 //! gives one event. Only a failed read and refused memory don't follow from the bytes. After the
-//! end each call returns `End`, and after a fault `Failed`.
+//! end each call returns `End`, and after a fault `Failed`. `Reader::exchange` goes on with another
+//! device, as with the next file of a capture.
 //!
 //! - Links: Ethernet, raw IP, Linux cooked captures of both versions and BSD loopbacks, with at
 //!   most two VLAN tags (`place_of` in `specs/Link.antt`). A packet has the link on which it was

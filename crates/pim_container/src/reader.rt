@@ -23,6 +23,7 @@ use crate::link::Endianness;
 use crate::piece::{read_after, take_piece};
 use pim_addr::{Feed, read_up_to};
 use std::alloc::Global;
+use std::mem::swap;
 
 /// The greatest number of records or blocks that are read of a file.
 const MOST_PIECES: u32 = 4_294_967_295;
@@ -204,6 +205,18 @@ impl<R: Feed> Reader<R> {
             state: State::Unbegun,
             interfaces: Vec::new(alloc),
         }
+    }
+
+    /// Takes this device in place of its own, which the caller gets. Of the new one nothing was
+    /// read, whatever was read of the old one. No memory is taken.
+    pub fn exchange(&mut self, device: &mut R)
+        ensures device { device_of self.new ≡ device.old }
+        ensures given { device.new ≡ device_of self.old }
+        ensures state { state_of self.new ≡ Unbegun }
+        ensures coming { coming R.remaining self.new ≡ option_map answers (R.remaining device.old) }
+    {
+        swap(&mut self.device, device);
+        self.state = State::Unbegun;
     }
 
     /// Reads the next event. After a packet the buffer holds its bytes.

@@ -4,7 +4,7 @@ use Rattle.std.specs.Prelude.{ℕ, Bool, true, false, List, [], ◌++◌, Option
 use Rattle.pim_addr.specs.declared.family.AddressFamily.{AddressFamily}
 use Rattle.pim_capture.specs.declared.event.Why.{Why}
 use Rattle.pim_capture.specs.declared.event.Why.TheVariants.{Cut, NotIp, BadHeader, NotPim, Fragment}
-use Rattle.pim_capture.specs.declared.event.Why.TheVariants.{NoTime, LinkType, NotChosen, CutShort}
+use Rattle.pim_capture.specs.declared.event.Why.TheVariants.{NoTime, LinkType, NotChosen, CutShort, NextFile}
 use Rattle.pim_down.specs.declared.machines.key.What.{What}
 use Rattle.pim_down.specs.declared.machines.key.What.TheVariants.{Star, Source, Rpt}
 use Rattle.pim_down.specs.declared.machines.machine.Machine.{Machine}
@@ -113,6 +113,7 @@ skip_word (NoPacket NoTime) = codes "no-time"
 skip_word (NoPacket LinkType) = codes "link-type"
 skip_word (NoPacket NotChosen) = codes "not-chosen"
 skip_word (NoPacket CutShort) = codes "cut-short"
+skip_word (NoPacket NextFile) = codes "next-file"
 skip_word OtherFamily = codes "family"
 
 -- A timer.

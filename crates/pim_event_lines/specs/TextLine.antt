@@ -4,7 +4,7 @@ use Rattle.std.specs.Prelude.{slice_index_or, codes, decimal}
 use Rattle.pim_addr.specs.declared.family.AddressFamily.{AddressFamily}
 use Rattle.pim_capture.specs.declared.event.Why.{Why}
 use Rattle.pim_capture.specs.declared.event.Why.TheVariants.{Cut, NotIp, BadHeader, NotPim, Fragment}
-use Rattle.pim_capture.specs.declared.event.Why.TheVariants.{NoTime, LinkType, NotChosen, CutShort}
+use Rattle.pim_capture.specs.declared.event.Why.TheVariants.{NoTime, LinkType, NotChosen, CutShort, NextFile}
 use Rattle.pim_down.specs.declared.machines.key.What.{What}
 use Rattle.pim_down.specs.declared.machines.key.What.TheVariants.{Star, Source, Rpt}
 use Rattle.pim_down.specs.declared.machines.machine.Machine.{Machine}
@@ -68,6 +68,7 @@ skip_words (NoPacket NoTime) = codes "without a time"
 skip_words (NoPacket LinkType) = codes "a link type that is not read"
 skip_words (NoPacket NotChosen) = codes "of another link than the chosen one"
 skip_words (NoPacket CutShort) = codes "cut short by the end of its file"
+skip_words (NoPacket NextFile) = codes "the capture goes on with its next file"
 skip_words (NoPacket Cut) = codes "fewer bytes captured than its lengths say"
 skip_words (NoPacket NotIp) = codes "not IPv4 or IPv6"
 skip_words (NoPacket BadHeader) = codes "a bad IP header"

@@ -104,6 +104,7 @@ fn reason_words(why: &Why) -> &[u8]
         Why::LinkType => b"a link type that is not read",
         Why::NotChosen => b"of another link than the chosen one",
         Why::CutShort => b"cut short by the end of its file",
+        Why::NextFile => b"the capture goes on with its next file",
     }
 }
 
@@ -131,6 +132,7 @@ fn reason_word(why: &Why) -> &[u8]
         Why::LinkType => b"link-type",
         Why::NotChosen => b"not-chosen",
         Why::CutShort => b"cut-short",
+        Why::NextFile => b"next-file",
     }
 }
 

@@ -12,7 +12,8 @@ use Rattle.pim_merge.specs.declared.merge.MergeFault.{MergeFault}
 use Rattle.pim_merge.specs.declared.merge.Turn.{Turn}
 use Rattle.pim_merge.specs.Ends.{last_of, clock_of, Takes, AreAll}
 use Rattle.pim_merge.specs.Lane.{LaneState, IsComing, lane_at, failures_of, tallies_of}
-use Rattle.pim_merge.specs.Tally.{tallies_with, next_number}
+use Rattle.pim_merge.specs.declared.tally.Place.{Place}
+use Rattle.pim_merge.specs.Tally.{tallies_with, place_next}
 use Rattle.pim_merge.proofs.Tallies.{tallies_more}
 use Rattle.pim_merge.specs.Merge.{Taken, Outcome, IsMergeBy, turn, turn_by, until, takes, fails, ending, after_turn}
 use Rattle.pim_merge.specs.Merge.{clock_after, moment_of, time_told}
@@ -111,7 +112,9 @@ module _ (end : End) (start : MergeState) (taken : List Taken) (merge merge' : M
         };
     cause = by cause;
     tallies = tallies ∙ has.tallies;
-    numbered = numbered ∙ ap (next_number told.capture) (sym tallies);
+    numbered =
+        let same = ap (place_next told.capture) (sym tallies) in
+        (numbered.0 ∙ ap (λ (p : Place). p.file) same, numbered.1 ∙ ap (λ (p : Place). p.«record») same);
   }
     where
       by : IsCause merge.lanes merge'.lanes told →

@@ -10,5 +10,7 @@ pub mod Until
 pub mod Contents
 pub mod Advancing
 pub mod Choosing
+pub mod Failures
+pub mod Following
 pub mod Clocks
 pub mod Repeating

@@ -6,6 +6,7 @@ use Rattle.std.proofs.lemmas.Bool.{cases_lt, false≢true}
 use Rattle.std.proofs.lemmas.List.{get_or_past, length-drop, take_at}
 use Rattle.pim_capture.specs.declared.fault.CaptureFault.{CaptureFault}
 use Rattle.pim_capture.specs.Capture.{Told}
+use Rattle.pim_merge.specs.declared.tally.Place.{Place}
 use Rattle.pim_merge.specs.Lane.{LaneState, IsLooked, HasFailed, FailsAt, lane_at, no_lane, IsFailedHead}
 use Rattle.pim_merge.specs.Next.{IsFailed}
 use Rattle.pim_merge.proofs.Looking.{as_before, IsLookedUpTo}
@@ -42,8 +43,8 @@ module _ (number : ℕ) (old now : List LaneState) (d : LaneState) (below : numb
       omega (arith, below, one, length-drop number now, length-drop number old)
 
   -- this head could not be read, so the capture that failed before is this one
-  pub failed_again : (fault : CaptureFault) (at n : ℕ) → (get_or now number d).head ≡ None → (HasFailed (get_or now number d) → IsFailedHead {A = ⊤} (Err fault)) → FailsAt n old
-      → IsFailed {A = ⊤} n (Err (record { capture = number; «record» = at; fault = fault }))
+  pub failed_again : (fault : CaptureFault) (at : Place) (n : ℕ) → (get_or now number d).head ≡ None → (HasFailed (get_or now number d) → IsFailedHead {A = ⊤} (Err fault)) → FailsAt n old
+      → IsFailed {A = ⊤} n (Err (record { capture = number; file = at.file; «record» = at.«record»; fault = fault }))
   failed_again fault at n none repeated fails = (same, repeated (subst HasFailed (sym (lane_before ∙ ap (λ k. lane_at k old) same)) fails.1))
     where
       later : number < n → ⊥

@@ -2,11 +2,11 @@
 use Rattle.std.proofs.Common.{◌≡◌, ◌<◌, ◌≤◌, ◌∙◌, [], ℕ, List, Option, None, Some, Ok, length, get_or, set, map, refl, sym, ap, subst, arith}
 use Rattle.std.specs.List.{AllByRecursion}
 use Rattle.std.specs.Option.{option_map, IfSome}
-use Rattle.std.proofs.lemmas.List.{map-set, set-get_or, get_or-map, get_or-set_same, length-set}
+use Rattle.std.proofs.lemmas.List.{map-set, set-get_or, get_or-map, get_or-set_same, get_or_default, length-set}
 use Rattle.pim_capture.specs.declared.event.Event.{Event}
 use Rattle.pim_capture.specs.declared.event.Event.TheVariants.{Packet, Skipped, End}
 use Rattle.pim_capture.specs.declared.event.Why.{Why}
-use Rattle.pim_capture.specs.declared.event.Why.TheVariants.{Cut, NotIp, BadHeader, NotPim, Fragment, NoTime, LinkType, NotChosen, CutShort}
+use Rattle.pim_capture.specs.declared.event.Why.TheVariants.{Cut, NotIp, BadHeader, NotPim, Fragment, NoTime, LinkType, NotChosen, CutShort, NextFile}
 use Rattle.pim_capture.specs.Capture.{Told, packet, skipped, ended, Answer}
 use Rattle.pim_capture.specs.Next.{in_front, event_seen, IsBy}
 use Rattle.pim_merge.specs.Merge.{behind_head, time_told, time_by, rank_told, earliest_from, taken, turn, takes, ends, after_turn}
@@ -44,6 +44,7 @@ skipped_by NoTime millis latest by = tt
 skipped_by LinkType millis latest by = by
 skipped_by NotChosen millis latest by = tt
 skipped_by CutShort millis latest by = tt
+skipped_by NextFile millis latest by = tt
 
 -- the time of a record is within the bound of its event
 pub by_then : (event : Event) (bytes : List ℕ) (time : Option ℕ) (latest : ℕ) → time ≡ time_told (event_seen bytes event) → IsBy latest event → IfSome time (λ it. it ≤ latest)
@@ -110,3 +111,21 @@ module _ (lanes : List LaneState) (capture time : ℕ) (found : Some (capture, t
 
     pub keeps_rooms : (old : List LaneState) → KeepRooms old lanes → KeepRooms old new
     keeps_rooms old rooms = subst (KeepRooms old) (sym is) (set_keeps old lanes capture (without_head (lane_at capture lanes)) found_within rooms (rooms capture))
+
+-- ---- the head of a lane that was taken
+
+pub lane_there : (inside lanes : List LaneState) (number : ℕ) (lane : LaneState) → number < length lanes →
+    lane ≡ get_or inside number lane → inside ≡ lanes → lane ≡ lane_at number lanes
+lane_there inside lanes number lane below is same =
+    is ∙ ap (λ l. get_or l number lane) same ∙ get_or_default lanes number lane no_lane below
+
+pub bytes_of_lane : (there lane taken : LaneState) → lane ≡ there → taken ≡ without_head lane → taken.bytes ≡ there.bytes
+bytes_of_lane there lane taken same rest =
+    ap (λ (l : LaneState). l.bytes) rest ∙ ap (λ (l : LaneState). l.bytes) same
+
+pub head_of_lane : (there lane taken : LaneState) (result : Option Event) → lane ≡ there →
+    option_map (event_seen taken.bytes) result ≡ lane.head → taken ≡ without_head lane →
+    option_map (event_seen there.bytes) result ≡ there.head
+head_of_lane there lane taken result same head rest =
+    ap (λ b. option_map (event_seen b) result) (sym (bytes_of_lane there lane taken same rest)) ∙ head
+    ∙ ap (λ (l : LaneState). l.head) same

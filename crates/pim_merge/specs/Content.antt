@@ -3,6 +3,7 @@ use Rattle.std.specs.Prelude.{ℕ, if◌then◌else◌, List, Option, None, Some
 use Rattle.pim_addr.specs.declared.family.AddressFamily.{AddressFamily}
 use Rattle.pim_addr.specs.Families.{is_same}
 use Rattle.pim_capture.specs.declared.event.Why.{Why}
+use Rattle.pim_capture.specs.declared.event.Why.TheVariants.{NextFile}
 use Rattle.pim_capture.specs.Capture.{Told, packet, skipped, ended}
 use Rattle.pim_capture.specs.Frame.{Datagram}
 use Rattle.pim_merge.specs.declared.content.Content.{Content as Given}
@@ -11,7 +12,8 @@ use Rattle.pim_merge.specs.declared.content.Datagram.{Datagram as Carried}
 use Rattle.pim_merge.specs.declared.content.Ends.{Ends}
 
 -- A record holds a packet of the family with this source, destination and PIM message; one of the
--- other family; no packet, for this reason; or it is no record, but the end of its capture.
+-- other family; no packet, for this reason; or it is no record, but the end of its capture or the
+-- beginning of its next file.
 pub data Content : Type 0 where
   holds : List ℕ → List ℕ → List ℕ → Content
   of_other_family : Content
@@ -24,10 +26,15 @@ datagram_in family datagram =
     if is_same family datagram.family then holds datagram.source datagram.destination datagram.payload
     else of_other_family
 
+-- What a record holds that is skipped for this reason.
+abbrev pub skipped_in : Why → Content
+skipped_in NextFile = no_record
+skipped_in why = without_packet why
+
 -- What a record holds.
 abbrev pub content_in : AddressFamily → Told → Content
 content_in family (packet millis frame datagram) = datagram_in family datagram
-content_in family (skipped millis why) = without_packet why
+content_in family (skipped millis why) = skipped_in why
 content_in family ended = no_record
 
 -- ---- the values of the code as these

@@ -6,7 +6,7 @@ use Rattle.pim_time.specs.declared.reading.Time.{Time}
 use Rattle.pim_time.specs.declared.reading.Time.TheVariants.{Moment, Epoch}
 use Rattle.pim_capture.specs.declared.fault.CaptureFault.{CaptureFault}
 use Rattle.pim_capture.specs.declared.event.Why.{Why}
-use Rattle.pim_capture.specs.declared.event.Why.TheVariants.{NoTime, NotChosen, CutShort}
+use Rattle.pim_capture.specs.declared.event.Why.TheVariants.{NoTime, NotChosen, CutShort, NextFile}
 use Rattle.pim_capture.specs.Capture.{Told, packet, skipped, ended, Answer}
 use Rattle.pim_merge.specs.declared.clock.Clock.{Clock}
 
@@ -23,11 +23,13 @@ behind_head [] = []
 behind_head (answer ∷ later) = later
 
 -- The time of a record that is skipped for this reason, in milliseconds since 1970. One that isn't
--- chosen has none here: a run over chosen packets begins and ends with these.
+-- chosen has none here: a run over chosen packets begins and ends with these. The beginning of the next
+-- file is no record, and has none.
 abbrev pub time_by : Why → ℕ → Option ℕ
 time_by NoTime millis = None
 time_by NotChosen millis = None
 time_by CutShort millis = None
+time_by NextFile millis = None
 time_by _ millis = Some millis
 
 -- The time of a record, in milliseconds since 1970. The end, and a record without a time, have none.

@@ -13,7 +13,7 @@ use Rattle.pim_merge.specs.Merge.{turn, turn_by, fails, takes, ends, after_turn,
 use Rattle.pim_merge.specs.Lane.{LaneState, IsComing, lane_at, failures_of, records_to_come}
 use Rattle.pim_merge.specs.Lane.{LacksHeadRoom, HadAll, tallies_of}
 use Rattle.pim_merge.specs.declared.tally.Tally.{Tally}
-use Rattle.pim_merge.specs.Tally.{no_tally, tallies_with, next_number}
+use Rattle.pim_merge.specs.Tally.{no_tally, tallies_with, place_next}
 
 -- A merge: its captures, and the clock of the records that were taken.
 pub record MergeState : Type 0 where
@@ -97,9 +97,11 @@ KeepsTallies tallies (Ok (Some next)) new =
 KeepsTallies tallies (Ok None) new = tallies_of new.lanes ≡ tallies
 KeepsTallies tallies (Err told) new = tallies_of new.lanes ≡ tallies
 
--- The fault has the number of the record that its capture gives next.
+-- The fault has the place of the record that its capture gives next.
 abbrev pub IsNumbered : List Tally → MergeFault → Type 0
-IsNumbered tallies told = told.record ≡ next_number told.capture tallies
+IsNumbered tallies told =
+    (told.file ≡ (place_next told.capture tallies).file)
+    × (told.«record» ≡ (place_next told.capture tallies).«record»)
 
 -- The fact holds of the turn, if one was taken.
 abbrev pub IfTaken : Result (Option Turn) MergeFault → (Turn → Type 0) → Type 0

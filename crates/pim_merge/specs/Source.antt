@@ -1,6 +1,6 @@
 -- What contracts see of the source of a lane: a classic capture, or any container with a choice.
-use Rattle.std.specs.Prelude.{◌≡◌, ◌+◌, ◌⊎◌, ⊤, ℕ, Bool, true, false, List, [], ◌∷◌, Option, None, Some, Result, Ok}
-use Rattle.std.specs.Prelude.{Err}
+use Rattle.std.specs.Prelude.{◌≡◌, ◌+◌, ◌*◌, ◌⊎◌, ⊤, ℕ, Bool, true, false, List, [], ◌∷◌, Option, None, Some, Result, Ok}
+use Rattle.std.specs.Prelude.{Err, drop, length}
 use Rattle.std.specs.Option.{option_map, IfSome}
 use Rattle.pim_capture.specs.declared.fault.CaptureFault.{CaptureFault}
 use Rattle.pim_capture.specs.declared.fault.CaptureFault.TheVariants as fault
@@ -17,18 +17,50 @@ use Rattle.pim_container.specs.declared.fault.Fault.{Fault}
 use Rattle.pim_merge.specs.declared.chosen.Chosen.{Chosen}
 use Rattle.pim_merge.specs.declared.source.Source.{Source}
 use Rattle.pim_merge.specs.declared.source.Source.TheVariants.{Classic, Any}
-use Rattle.pim_merge.specs.Chosen.{chosen, fault_of}
+use Rattle.pim_container.specs.Pieces as pieces
+use Rattle.pim_container.specs.declared.event.Event as piece
+use Rattle.pim_container.specs.declared.event.Event.TheVariants as piece_kind
+use Rattle.pim_container.specs.declared.event.Origin.{Origin}
+use Rattle.pim_container.specs.declared.choice.Choice.{Choice}
+use Rattle.pim_merge.specs.Chosen.{chosen, next_files, all_known, all_failures, fault_of}
 
--- These results, unless the file ended inside a piece. Then the end is left.
-abbrev pub coming_uncut : Bool → Option (List Answer) → Option (List Answer)
-coming_uncut false all = all
-coming_uncut true all = Some (Ok ended ∷ [])
+-- The results of the container that are left of the file that is read: these, or none if it ended
+-- inside a piece.
+abbrev pub unless_cut : Bool → Option (List pieces.Answer) → Option (List pieces.Answer)
+unless_cut false all = all
+unless_cut true all = Some []
+
+-- What is left of the file that is read, if its bytes are known.
+abbrev pub left_of_file : {R : Type 0} → (R → Option (List ℕ)) → Chosen R → Option (List pieces.Answer)
+left_of_file remaining it = unless_cut it.is_cut (any.coming remaining it.reader)
+
+-- The devices of the files after the one that is read.
+abbrev pub later_of : {R : Type 0} → Chosen R → List R
+later_of it = drop it.files_read it.others.items
+
+-- The results for what is left of a file, and for the files after it, if both are known.
+abbrev pub chosen_known : Choice → Bool → Option Origin → Option (List pieces.Answer) → Option (List (List ℕ)) →
+    Option (List Answer)
+chosen_known choice begun first None files = None
+chosen_known choice begun first (Some left) None = None
+chosen_known choice begun first (Some left) (Some files) =
+    Some (chosen choice (next_files choice files) begun first left)
 
 -- The results that a container has to return for its choice, as long as it returned no fault, if the
--- bytes of its device are known.
+-- bytes of its devices are known.
 abbrev pub read_coming : {R : Type 0} → (R → Option (List ℕ)) → Chosen R → Option (List Answer)
-read_coming remaining it = coming_uncut it.is_cut
-    (option_map (chosen (choice_of it.chooser) it.is_begun (first_of it.chooser)) (any.coming remaining it.reader))
+read_coming remaining it = chosen_known (choice_of it.chooser) it.is_begun (first_of it.chooser)
+    (left_of_file remaining it) (all_known remaining (later_of it))
+
+-- Nothing is left, where that is known.
+abbrev pub none_left : Option (List pieces.Answer) → Option (List pieces.Answer)
+none_left None = None
+none_left (Some left) = Some []
+
+-- The same at the end of the file that is read.
+abbrev pub coming_at_end : {R : Type 0} → (R → Option (List ℕ)) → Chosen R → Option (List Answer)
+coming_at_end remaining it = chosen_known (choice_of it.chooser) it.is_begun (first_of it.chooser)
+    (none_left (left_of_file remaining it)) (all_known remaining (later_of it))
 
 -- A call returned a fault.
 abbrev pub chosen_is_over : {R : Type 0} → Chosen R → Bool
@@ -43,18 +75,19 @@ coming_unless true all = Some (Err fault.Failed ∷ [])
 abbrev pub chosen_coming : {R : Type 0} → (R → Option (List ℕ)) → Chosen R → Option (List Answer)
 chosen_coming remaining it = coming_unless (chosen_is_over it) (read_coming remaining it)
 
--- The device's count of failures.
+-- The count of failures of all its devices.
 abbrev pub chosen_failures : {R : Type 0} → (R → ℕ) → Chosen R → ℕ
-chosen_failures failures it = failures (any.device_of it.reader)
+chosen_failures failures it = all_failures failures (any.device_of it.reader ∷ it.others.items)
 
 -- 1 for the record inside which the file may end, unless it has ended so.
 abbrev pub cut_left : Bool → ℕ
 cut_left false = 1
 cut_left true = 0
 
--- The number of pieces that may still be read.
+-- The number of pieces that may still be read. A further file has 4294967297, one for a record inside
+-- which it ends, and one for its beginning.
 abbrev pub chosen_left : {R : Type 0} → Chosen R → ℕ
-chosen_left it = any.pieces_left (any.state_of it.reader) + cut_left it.is_cut
+chosen_left it = any.pieces_left (any.state_of it.reader) + cut_left it.is_cut + length (later_of it) * 4294967298
 
 -- ---- either
 
@@ -145,6 +178,11 @@ step_count (Ok None) = 1
 step_count (Ok (Some End)) = 0
 step_count (Ok (Some event)) = 1
 step_count (Err fault) = 0
+
+-- The event is the end of the file.
+abbrev pub is_end : piece.Event → Bool
+is_end piece_kind.End = true
+is_end _ = false
 
 -- ---- a fault of a container
 

@@ -1,19 +1,22 @@
--- What was taken of a capture, counted record by record.
+-- What was taken of a capture, counted record by record. A record has a place: the number of its file,
+-- from 0, and its number in this file, from 1.
 use Rattle.std.specs.Prelude.{ℕ, ◌+◌, ◌-◌, min, nat_lt, Bool, true, false, List, [], ◌∷◌, slice_set, slice_index_or}
 use Rattle.std.specs.Prelude.{Option, None, Some}
 use Rattle.pim_capture.specs.declared.event.Why.{Why}
-use Rattle.pim_capture.specs.declared.event.Why.TheVariants.{Fragment, Cut, CutShort}
+use Rattle.pim_capture.specs.declared.event.Why.TheVariants.{Fragment, Cut, CutShort, NextFile}
 use Rattle.pim_capture.specs.Capture.{Told, packet, skipped, ended}
+use Rattle.pim_merge.specs.declared.tally.Place.{Place}
 use Rattle.pim_merge.specs.declared.tally.Tally.{Tally}
 use Rattle.pim_merge.specs.Merge.{Taken, time_told}
 
 -- That of a capture of which nothing was taken.
 abbrev pub no_tally : Tally
 no_tally = record {
+  file = 0;
   records = 0;
   fragments = 0;
   cut_frames = 0;
-  cut_short = false;
+  cut_short = None;
   last = None;
   ran_back = None;
   jumped = None;
@@ -28,11 +31,15 @@ abbrev pub counted_if : Bool → ℕ → ℕ
 counted_if true count = one_more count
 counted_if false count = count
 
--- The number of the first record of which something holds, after one more record with this number.
-abbrev pub first_number : Option ℕ → Bool → ℕ → Option ℕ
-first_number (Some first) holds number = Some first
-first_number None true number = Some number
-first_number None false number = None
+-- The place of the record that is taken next.
+abbrev pub next_place : Tally → Place
+next_place tally = record { file = tally.file; «record» = one_more tally.records }
+
+-- The place of the first record of which something holds, after one more record at this place.
+abbrev pub first_place : Option Place → Bool → Place → Option Place
+first_place (Some first) holds place = Some first
+first_place None true place = Some place
+first_place None false place = None
 
 -- The time is more than a second before the time before it.
 abbrev pub runs_back : Option ℕ → Option ℕ → Bool
@@ -66,19 +73,39 @@ is_cut_short why = false
 -- The tally after one more record of this time that is skipped for this reason, if there is one.
 abbrev pub tally_by : Tally → Option Why → Option ℕ → Tally
 tally_by tally why time = record {
+  file = tally.file;
   records = one_more tally.records;
   fragments = counted_if (is_fragment why) tally.fragments;
   cut_frames = counted_if (is_cut_frame why) tally.cut_frames;
-  cut_short = is_cut_short why;
+  cut_short = first_place tally.cut_short (is_cut_short why) (next_place tally);
   last = last_time tally.last time;
-  ran_back = first_number tally.ran_back (runs_back tally.last time) (one_more tally.records);
-  jumped = first_number tally.jumped (jumps tally.last time) (one_more tally.records);
+  ran_back = first_place tally.ran_back (runs_back tally.last time) (next_place tally);
+  jumped = first_place tally.jumped (jumps tally.last time) (next_place tally);
 }
+
+-- The tally when the capture goes on with its next file: of that no record was taken.
+abbrev pub in_next_file : Tally → Tally
+in_next_file tally = record {
+  file = one_more tally.file;
+  records = 0;
+  fragments = tally.fragments;
+  cut_frames = tally.cut_frames;
+  cut_short = tally.cut_short;
+  last = tally.last;
+  ran_back = tally.ran_back;
+  jumped = tally.jumped;
+}
+
+-- The tally after one more result of this time that is skipped for this reason. The beginning of the
+-- next file is no record.
+abbrev pub tally_skipped : Tally → Why → Option ℕ → Tally
+tally_skipped tally NextFile time = in_next_file tally
+tally_skipped tally why time = tally_by tally (Some why) time
 
 -- The tally after one more result of the capture. The end leaves it.
 abbrev pub tally_after : Tally → Told → Tally
 tally_after tally (packet millis frame datagram) = tally_by tally None (Some millis)
-tally_after tally (skipped millis why) = tally_by tally (Some why) (time_told (skipped millis why))
+tally_after tally (skipped millis why) = tally_skipped tally why (time_told (skipped millis why))
 tally_after tally ended = tally
 
 -- The tally after a head is taken, if there is one.
@@ -92,9 +119,9 @@ tally_taken tally (Some told) = tally_after tally told
 abbrev pub tally_at : ℕ → List Tally → Tally
 tally_at number tallies = slice_index_or tallies number no_tally
 
--- The number of the record that this capture gives next, from 1.
-abbrev pub next_number : ℕ → List Tally → ℕ
-next_number capture tallies = one_more (tally_at capture tallies).records
+-- The place of the record that this capture gives next.
+abbrev pub place_next : ℕ → List Tally → Place
+place_next capture tallies = next_place (tally_at capture tallies)
 
 -- The tallies after this record of this capture.
 abbrev pub tallies_with : ℕ → Told → List Tally → List Tally

@@ -1,27 +1,29 @@
-//! Reads the records of any container, by a choice of packets.
+//! Reads the records of any container in one or several files, by a choice of packets.
 //!
 //! Each packet gives one event, so that who counts events has the numbers of packets in the file.
 //! Packets that aren't taken are skipped, and so is a record inside which the file ends. Sections,
 //! interfaces and blocks of other types give nothing. Of a packet that is taken the message alone
 //! is kept, so that the bytes of a record are no more than those of a classic one.
+//!
+//! At the end of a file the next one is read, whose beginning is an event of its own. The devices of
+//! all files stay, so that no failure of a read is forgotten.
 
 ghost use Rattle.std.specs.Prelude.{◌≡◌, ◌+◌, ◌≤◌, ◌⊎◌, ⊤, Some, Ok, Err, IfOk, option_map};
-ghost use Rattle.std.specs.Prelude.{vec_len, is_err, true, false};
+ghost use Rattle.std.specs.Prelude.{vec_len, is_err, true, false, List, ℕ, ◌∷◌, ◌*◌};
 ghost use Rattle.std.specs.Option.{IfSome};
 ghost use Rattle.pim_addr.specs.Faults.{Answers};
-ghost use Rattle.pim_capture.specs.declared.event.Event.TheVariants.{End};
 ghost use Rattle.pim_capture.specs.declared.fault.CaptureFault.TheVariants.{Memory};
 ghost use Rattle.pim_capture.specs.Capture.{packet, most_captured};
 ghost use Rattle.pim_capture.specs.Next.{event_seen, seen, PayloadLiesIn, IsBy, latest_moment};
 ghost use Rattle.pim_capture.specs.Next.{IsNext, IsRefusal, CountsReads};
 ghost use Rattle.pim_capture.specs.Seen.{ip_seen, LiesIn, IsShort};
-ghost use Rattle.pim_container.specs.declared.event.Event.TheVariants as any_event;
 ghost use Rattle.pim_container.specs.Choice.{choice_of, first_of, judge_origin, first_after};
 ghost use Rattle.pim_container.specs.Told as any;
 ghost use Rattle.pim_merge.specs.Chosen.{fault_of, is_cut, mixed_fault, told_given, first_then};
-ghost use Rattle.pim_merge.specs.Chosen.{packet_given, answers_by};
+ghost use Rattle.pim_merge.specs.Chosen.{packet_given, answers_of_files, all_known, all_failures};
 ghost use Rattle.pim_merge.specs.Source.{chosen_coming, chosen_failures, chosen_left, IsGiven};
 ghost use Rattle.pim_merge.specs.Source.{Steps, step_count, count_of, read_coming};
+ghost use Rattle.pim_merge.specs.Source.{coming_at_end, is_end};
 ghost use Rattle.pim_merge.specs.Source.{chosen_is_over, IsRepeatedIf, failed};
 
 use pim_addr::Feed;
@@ -29,14 +31,19 @@ use pim_capture::{CaptureFault, Event, Ip, Why};
 use pim_container::{Choice, Chooser, Event as Piece, Fault, Mixed, Origin, Reader};
 use std::alloc::Global;
 
-/// Any container, of which packets are taken by a choice.
+/// Any container in one or several files, of which packets are taken by a choice.
 #[derive(Drop)]
 pub(crate) struct Chosen<R> {
+    /// The file that is read.
     reader: Reader<R>,
+    /// The devices of the other files: those that were read, and then those after the present one.
+    others: Vec<R>,
+    /// The number of files that were read.
+    files_read: usize,
     chooser: Chooser,
     /// The piece that was read last.
     piece: Vec<u8>,
-    /// A piece was read.
+    /// A piece of the file was read.
     is_begun: bool,
     /// The file ended inside a piece.
     is_cut: bool,
@@ -180,7 +187,17 @@ fn packet_of(
     keep_message(millis, ip, piece, buffer)
 }
 
-/// The event of a piece, if it is a packet or the end.
+/// Whether an event is the end of its file.
+fn is_end(event: &Piece) -> bool
+    ensures { result ≡ is_end event.now }
+{
+    match event {
+        Piece::End => true,
+        _ => false,
+    }
+}
+
+/// The event of a piece, if it is a packet.
 fn event_of(
     piece_event: Piece,
     chooser: &mut Chooser,
@@ -198,7 +215,6 @@ fn event_of(
     ensures payload { IfOk result (λ it. IfSome it (PayloadLiesIn buffer.new.items)) }
     ensures moment { IfOk result (λ it. IfSome it (IsBy latest_moment)) }
     ensures length { vec_len buffer.new ≤ most_captured }
-    ensures end { piece_event ≡ any_event.End → result ≡ Ok (Some End) }
 {
     match piece_event {
         Piece::Packet { millis, origin, ip } => {
@@ -210,22 +226,24 @@ fn event_of(
             millis: 0,
             why: Why::NoTime,
         })),
-        Piece::End => Ok(Some(Event::End)),
         _ => Ok(None),
     }
 }
 
 impl<R: Feed> Chosen<R> {
-    /// The container of a device, of which nothing was read.
-    pub(crate) fn new(alloc: Global, device: R, choice: Choice) -> Self
-        ensures coming { chosen_coming R.remaining result
-            ≡ option_map (answers_by choice) (R.remaining device) }
-        ensures failures { chosen_failures R.failures result ≡ R.failures device }
-        ensures left { chosen_left result ≡ 4294967297 }
+    /// The container of a device and of those after it, of which nothing was read.
+    pub(crate) fn new(alloc: Global, device: R, others: Vec<R>, choice: Choice) -> Self
+        ensures coming { chosen_coming R.remaining result ≡ option_map (answers_of_files choice)
+            (all_known R.remaining (device ∷ others.items)) }
+        ensures failures { chosen_failures R.failures result
+            ≡ all_failures R.failures (device ∷ others.items) }
+        ensures left { chosen_left result ≡ 4294967297 + vec_len others * 4294967298 }
         ensures over { chosen_is_over result ≡ false }
     {
         Chosen {
             reader: Reader::new(alloc, device),
+            others,
+            files_read: 0,
             chooser: Chooser::new(choice),
             piece: Vec::new(alloc),
             is_begun: false,
@@ -234,8 +252,30 @@ impl<R: Feed> Chosen<R> {
         }
     }
 
-    /// Reads one piece. Returns its event, if it is a packet or the end. A file that ends inside a
-    /// piece after its first one has a last record that is skipped, and then its end.
+    /// Goes on with the next file. Without one the event is the end.
+    fn go_on(&mut self) -> Event
+        ensures answer { (bytes : List ℕ) → IsNext (coming_at_end R.remaining self.old)
+            (Ok (event_seen bytes result)) (read_coming R.remaining self.new) }
+        ensures reads { chosen_failures R.failures self.new ≡ chosen_failures R.failures self.old }
+        ensures left { chosen_left self.new + step_count (Ok (Some result)) ≤ chosen_left self.old }
+        ensures payload { (bytes : List ℕ) → PayloadLiesIn bytes result }
+        ensures moment { IsBy latest_moment result }
+    {
+        if self.others.len() <= self.files_read {
+            return Event::End;
+        }
+        self.reader.exchange(&mut self.others[self.files_read]);
+        self.files_read += 1;
+        self.is_begun = false;
+        self.is_cut = false;
+        Event::Skipped {
+            millis: 0,
+            why: Why::NextFile,
+        }
+    }
+
+    /// Reads one piece. Returns its event, if it is a packet or the end of a file. A file that ends
+    /// inside a piece after its first one has a last record that is skipped, and then its end.
     fn step(&mut self, buffer: &mut Vec<u8>) -> Result<Option<Event>, CaptureFault>
         requires length { vec_len buffer.old ≤ most_captured }
         ensures answer { Steps (chosen_failures R.failures self.old)
@@ -249,7 +289,7 @@ impl<R: Feed> Chosen<R> {
         ensures length { vec_len buffer.new ≤ most_captured }
     {
         if self.is_cut {
-            return Ok(Some(Event::End));
+            return Ok(Some(self.go_on()));
         }
         let event = match self.reader.next(&mut self.piece) {
             Ok(event) => event,
@@ -260,10 +300,13 @@ impl<R: Feed> Chosen<R> {
             }
         };
         self.is_begun = true;
+        if is_end(&event) {
+            return Ok(Some(self.go_on()));
+        }
         event_of(event, &mut self.chooser, self.piece.as_slice(), buffer)
     }
 
-    /// Reads up to the next packet, or the end.
+    /// Reads up to the next packet, or the end of a file.
     ///
     /// # Errors
     /// The first fault of the container, or packets of more than one link where none is chosen.
@@ -286,7 +329,8 @@ impl<R: Feed> Chosen<R> {
             }
         }
     }
-    /// Reads up to the next packet, or the end. After a fault it reads nothing.
+
+    /// Reads up to the next packet, or the end of a file. After a fault it reads nothing.
     ///
     /// # Errors
     /// The first fault of the container, or packets of more than one link where none is chosen.

@@ -8,7 +8,7 @@ ghost use Rattle.pim_capture.specs.Capture.{most_captured};
 ghost use Rattle.pim_capture.specs.Next.{PayloadLiesIn, event_seen};
 ghost use Rattle.pim_capture.specs.Seen.{ip_seen, LiesIn};
 ghost use Rattle.pim_merge.specs.Content.{ends_seen, ends_in, content_seen, datagram_in};
-ghost use Rattle.pim_merge.specs.Content.{content_in, IfDatagram};
+ghost use Rattle.pim_merge.specs.Content.{content_in, skipped_in, IfDatagram};
 
 use crate::merge::Turn;
 use pim_addr::{AddressFamily, Family};
@@ -34,7 +34,7 @@ pub enum Content<'a, A> {
     OtherFamily,
     /// No packet, for this reason.
     Skipped(Why),
-    /// It is no record, but the end of its capture.
+    /// It is no record, but the end of its capture or the beginning of its next file.
     End,
 }
 
@@ -113,6 +113,17 @@ fn datagram_in<'a, F: Family>(ip: &Ip, bytes: &'a [u8]) -> Content<'a, F::Addr>
     })
 }
 
+/// What a record holds that is skipped for this reason.
+fn skipped_in<'a, A>(why: Why) -> Content<'a, A>
+    ensures content { (bytes_of : A → List ℕ) → content_seen bytes_of result ≡ skipped_in why }
+    ensures bytes { IfDatagram result (λ datagram. length datagram.payload.now < 2 ^ 32) }
+{
+    match why {
+        Why::NextFile => Content::End,
+        _ => Content::Skipped(why),
+    }
+}
+
 impl Turn {
     /// What its record holds for a router of this family. `bytes` are those of the record.
     pub fn content<'a, F: Family>(&self, bytes: &'a [u8]) -> Content<'a, F::Addr>
@@ -124,7 +135,7 @@ impl Turn {
     {
         match &self.event {
             Event::Packet { ip, .. } => datagram_in::<F>(ip, bytes),
-            Event::Skipped { why, .. } => Content::Skipped(*why),
+            Event::Skipped { why, .. } => skipped_in(*why),
             Event::End => Content::End,
         }
     }

@@ -1,7 +1,7 @@
 //! A capture of a merge, with its head.
 
 ghost use Rattle.std.specs.Prelude.{◌≡◌, ◌≤◌, ◌⊎◌, ℕ, List, length, None, Some, Err, IfOk, IfErr};
-ghost use Rattle.std.specs.Prelude.{true, false};
+ghost use Rattle.std.specs.Prelude.{true, false, ◌∷◌};
 ghost use Rattle.std.specs.Prelude.{IsSome};
 ghost use Rattle.std.specs.Option.{option_map, IfSome};
 ghost use Rattle.pim_capture.specs.Capture.{answers, most_captured, most_records, Answer};
@@ -13,13 +13,13 @@ ghost use Rattle.pim_merge.specs.Lane.{coming_on, without_head, IsLooked, head_t
 ghost use Rattle.pim_merge.specs.Lane.{LacksHeadRoom, KeepsRoom, HadAll, HasFailed};
 ghost use Rattle.pim_merge.specs.Lane.{IsFailedHead, head_rank};
 ghost use Rattle.pim_merge.specs.Merge.{time_told, time_by};
-ghost use Rattle.pim_merge.specs.Chosen.{answers_by};
+ghost use Rattle.pim_merge.specs.Chosen.{answers_by, answers_of_files, all_known, all_failures};
 ghost use Rattle.pim_merge.specs.Looks.{StillComes, IsToldOrRefused};
-ghost use Rattle.pim_merge.specs.Tally.{no_tally, one_more, tally_taken};
+ghost use Rattle.pim_merge.specs.Tally.{no_tally, next_place, tally_taken};
 
 use crate::chosen::Chosen;
 use crate::source::Source;
-use crate::tally::{Tally, one_more};
+use crate::tally::{Place, Tally};
 use pim_addr::Feed;
 use pim_capture::{Capture, CaptureFault, Event, Why};
 use pim_container::Choice;
@@ -65,7 +65,7 @@ fn time_by(why: Why, millis: u64) -> Option<u64>
     ensures { result ≡ time_by why millis }
 {
     match why {
-        Why::NoTime | Why::NotChosen | Why::CutShort => None,
+        Why::NoTime | Why::NotChosen | Why::CutShort | Why::NextFile => None,
         _ => Some(millis),
     }
 }
@@ -112,8 +112,23 @@ impl<R: Feed + Drop> Lane<R> {
         ensures size { result.size ≡ None }
         ensures tally { result.tally ≡ no_tally }
     {
+        Lane::of_files(alloc, reader, Vec::new(alloc), choice)
+    }
+
+    /// Any container of a reader and of those after it, of which nothing was read, with a choice of
+    /// its packets.
+    pub(crate) fn of_files(alloc: Global, reader: R, others: Vec<R>, choice: Choice) -> Self
+        ensures head { result.head ≡ None }
+        ensures coming { result.behind ≡ option_map (answers_of_files choice)
+            (all_known R.remaining (reader ∷ others.items)) }
+        ensures failures { result.failures ≡ all_failures R.failures (reader ∷ others.items) }
+        ensures passes { result.passes ≡ true }
+        ensures room { result.room ≡ 0 }
+        ensures size { result.size ≡ None }
+        ensures tally { result.tally ≡ no_tally }
+    {
         Lane {
-            source: Source::Any(Chosen::new(alloc, reader, choice)),
+            source: Source::Any(Chosen::new(alloc, reader, others, choice)),
             head: None,
             buffer: Vec::new(alloc),
             tally: Tally::new(),
@@ -186,11 +201,11 @@ impl<R: Feed + Drop> Lane<R> {
         self.tally
     }
 
-    /// The number of the record that is taken next, from 1.
-    pub(crate) fn number(&self) -> u64
-        ensures { result ≡ one_more self.now.tally.records }
+    /// The place of the record that is taken next.
+    pub(crate) fn next_place(&self) -> Place
+        ensures { result ≡ next_place self.now.tally }
     {
-        one_more(self.tally.records)
+        self.tally.next_place()
     }
 
     /// Takes the head, if it was read. The reader can then count a record.

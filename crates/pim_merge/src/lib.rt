@@ -13,9 +13,10 @@
 //! `Turn::content` says what its record holds for a router of one address family.
 //! `Merge::add` appends a capture, or leaves the merge unchanged where memory is refused.
 //! `Merge::add_any` appends one of any container, with a choice of its packets. What the container
-//! gives is then cut down to the records of a capture (`specs/Chosen.antt`). `Merge::tally` counts
-//! what was taken of a capture (`specs/Tally.antt`). Each turn calls `pass_record` of the reader of
-//! its capture.
+//! gives is then cut down to the records of a capture (`specs/Chosen.antt`). `Merge::add_files`
+//! appends one that consists of several files, each of which goes on where the one before it ended.
+//! `Merge::tally` counts what was taken of a capture (`specs/Tally.antt`). Each turn calls
+//! `pass_record` of the reader of its capture.
 //!
 //! A head is read when the next turn is asked for, not when the one before is taken. So the bytes
 //! of a turn stay until the next call, and a fault comes after all turns before it. A time that
@@ -43,4 +44,4 @@ pub use content::{Content, Datagram};
 pub use end::End;
 pub use laws::{merge_by_has_one_end, merge_has_one_end};
 pub use merge::{Merge, MergeFault, Turn};
-pub use tally::Tally;
+pub use tally::{Place, Tally};

@@ -4,7 +4,7 @@ ghost use Rattle.std.specs.Prelude.{◌≡◌, ◌<◌, ◌≤◌, ℕ, [], ◌�
 ghost use Rattle.std.specs.Prelude.{Some};
 ghost use Rattle.std.specs.Prelude.{IfOk, IfErr, OnErr};
 ghost use Rattle.std.specs.Prelude.{false};
-ghost use Rattle.std.specs.Prelude.{slice_set};
+ghost use Rattle.std.specs.Prelude.{slice_set, vec_len};
 ghost use Rattle.std.specs.Option.{option_map, IfSome};
 ghost use Rattle.std.specs.List.{AllByRecursion};
 ghost use Rattle.pim_capture.specs.Capture.{answers, most_captured, most_records, Answer};
@@ -21,7 +21,7 @@ ghost use Rattle.pim_merge.specs.Next.{HoldsRecord, turns_left};
 ghost use Rattle.pim_merge.specs.Next.{TellsTurnBy, IsFailed};
 ghost use Rattle.pim_merge.specs.Next.{bytes_at, with_fault, LacksMemory};
 ghost use Rattle.pim_merge.specs.Next.{KeepsTallies, IsNumbered};
-ghost use Rattle.pim_merge.specs.Chosen.{answers_by};
+ghost use Rattle.pim_merge.specs.Chosen.{answers_by, answers_of_files, all_known, all_failures};
 ghost use Rattle.pim_merge.specs.Lane.{tallies_of};
 ghost use Rattle.pim_merge.specs.Tally.{no_tally, tally_at};
 
@@ -43,7 +43,9 @@ use thiserror::Error;
 pub struct MergeFault {
     /// The number of the capture, counted from 0.
     pub capture: usize,
-    /// The number of the record at which it failed, counted from 1.
+    /// The number of the file in which it failed, counted from 0.
+    pub file: u64,
+    /// The number of the record of this file at which it failed, counted from 1.
     pub record: u64,
     /// The fault that the capture has in place of its head.
     pub fault: CaptureFault,
@@ -146,6 +148,39 @@ impl<R: Feed + Drop> Merge<R> {
         ensures unchanged { OnErr result (self.new ≡ self.old) }
     {
         self.lanes.push(Lane::of_any(alloc, reader, choice))?;
+        Ok(())
+    }
+
+    /// Appends any container in several files, of which each goes on where the one before it ended,
+    /// with a choice of its packets. Nothing of it is read.
+    ///
+    /// # Errors
+    /// If memory is refused. Then nothing changes.
+    pub fn add_files(
+        &mut self,
+        alloc: Global,
+        readers: Vec<R>,
+        choice: Choice,
+    ) -> Result<(), AllocError>
+        requires { 0 < vec_len readers }
+        ensures coming { IfOk result (λ _. map coming_on self.new.lanes ≡
+            map coming_on self.old.lanes
+            ++ option_map (answers_of_files choice) (all_known R.remaining readers.items) ∷ []) }
+        ensures failures { IfOk result (λ _. failures_of self.new.lanes ≡
+            failures_of self.old.lanes ++ all_failures R.failures readers.items ∷ []) }
+        ensures rooms { IfOk result (λ _. rooms_of self.new.lanes ≡
+            rooms_of self.old.lanes ++ 0 ∷ []) }
+        ensures sizes { IfOk result (λ _. sizes_of self.new.lanes ≡
+            sizes_of self.old.lanes ++ None ∷ []) }
+        ensures tallies { IfOk result (λ _. tallies_of self.new.lanes ≡
+            tallies_of self.old.lanes ++ no_tally ∷ []) }
+        ensures clock { self.new.clock ≡ self.old.clock }
+        ensures unchanged { OnErr result (self.new ≡ self.old) }
+    {
+        let mut others = readers;
+        let reader = others.remove(0);
+        let lane = Lane::of_files(alloc, reader, others, choice);
+        self.lanes.push(lane)?;
         Ok(())
     }
 

@@ -38,9 +38,11 @@ pub(crate) fn look_at_all<R: Feed + Drop>(lanes: &mut [Lane<R>]) -> Result<(), M
 {
     for (capture, lane) in lanes.iter_mut().enumerate() {
         if let Err(fault) = lane.look() {
+            let place = lane.next_place();
             return Err(MergeFault {
                 capture,
-                record: lane.number(),
+                file: place.file,
+                record: place.record,
                 fault,
             });
         }

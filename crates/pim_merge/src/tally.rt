@@ -1,32 +1,44 @@
-//! Counts of the records that were taken of a capture.
+//! Counts of the records that were taken of a capture, and their places in its files.
 
 ghost use Rattle.std.specs.Prelude.{◌≡◌, ℕ, List};
 ghost use Rattle.pim_capture.specs.Next.{event_seen};
-ghost use Rattle.pim_merge.specs.Tally.{no_tally, one_more, counted_if, first_number, runs_back};
+ghost use Rattle.pim_merge.specs.Tally.{no_tally, one_more, counted_if, first_place, runs_back};
 ghost use Rattle.pim_merge.specs.Tally.{jumps, last_time, is_fragment, is_cut_frame, is_cut_short};
-ghost use Rattle.pim_merge.specs.Tally.{tally_by, tally_after};
+ghost use Rattle.pim_merge.specs.Tally.{next_place, tally_by, in_next_file, tally_skipped};
+ghost use Rattle.pim_merge.specs.Tally.{tally_after};
 
 use crate::lane::time_of;
 use pim_capture::{Event, Why};
 
-/// What was taken of a capture. Each count stops at 2^64 - 1. Records are numbered from 1.
+/// The place of a record in a capture.
+#[derive(Clone, Copy, Debug, PartialEq, Eq)]
+pub struct Place {
+    /// The number of its file, counted from 0.
+    pub file: u64,
+    /// Its number in this file, counted from 1.
+    pub record: u64,
+}
+
+/// What was taken of a capture. Each count stops at 2^64 - 1.
 #[derive(Clone, Copy, Debug, PartialEq, Eq)]
 pub struct Tally {
-    /// The number of records, also of those that are skipped.
+    /// The number of the file of the next record, counted from 0.
+    pub file: u64,
+    /// The number of records of this file, also of those that are skipped.
     pub records: u64,
     /// The number of records that are skipped as fragments.
     pub fragments: u64,
     /// The number of records that are skipped because fewer bytes were captured than their headers
     /// name.
     pub cut_frames: u64,
-    /// Whether the file ended inside the last record.
-    pub cut_short: bool,
+    /// The place of the first record inside which its file ended.
+    pub cut_short: Option<Place>,
     /// The time of the last record with a time, in milliseconds since 1970.
     pub last: Option<u64>,
-    /// The number of the first record whose time is more than a second before `last`.
-    pub ran_back: Option<u64>,
-    /// The number of the first record whose time is more than a day after `last`.
-    pub jumped: Option<u64>,
+    /// The place of the first record whose time is more than a second before `last`.
+    pub ran_back: Option<Place>,
+    /// The place of the first record whose time is more than a day after `last`.
+    pub jumped: Option<Place>,
 }
 
 /// One more. The count stops at 2^64 - 1.
@@ -43,13 +55,13 @@ fn counted_if(holds: bool, count: u64) -> u64
     if holds { one_more(count) } else { count }
 }
 
-/// The number of the first record of which something holds, after one more.
-fn first_number(first: Option<u64>, holds: bool, number: u64) -> Option<u64>
-    ensures { result ≡ first_number first holds number }
+/// The place of the first record of which something holds, after one more.
+fn first_place(first: Option<Place>, holds: bool, place: Place) -> Option<Place>
+    ensures { result ≡ first_place first holds place }
 {
     match first {
         Some(first) => Some(first),
-        None => { if holds { Some(number) } else { None } }
+        None => { if holds { Some(place) } else { None } }
     }
 }
 
@@ -119,13 +131,24 @@ impl Tally {
         ensures { result ≡ no_tally }
     {
         Tally {
+            file: 0,
             records: 0,
             fragments: 0,
             cut_frames: 0,
-            cut_short: false,
+            cut_short: None,
             last: None,
             ran_back: None,
             jumped: None,
+        }
+    }
+
+    /// The place of the record that is taken next.
+    pub(crate) fn next_place(self) -> Place
+        ensures { result ≡ next_place self }
+    {
+        Place {
+            file: self.file,
+            record: one_more(self.records),
         }
     }
 
@@ -133,15 +156,38 @@ impl Tally {
     fn by(self, why: Option<Why>, time: Option<u64>) -> Tally
         ensures { result ≡ tally_by self why time }
     {
-        let number = one_more(self.records);
+        let place = self.next_place();
         Tally {
-            records: number,
+            file: place.file,
+            records: place.record,
             fragments: counted_if(is_fragment(why), self.fragments),
             cut_frames: counted_if(is_cut_frame(why), self.cut_frames),
-            cut_short: is_cut_short(why),
+            cut_short: first_place(self.cut_short, is_cut_short(why), place),
             last: last_time(self.last, time),
-            ran_back: first_number(self.ran_back, runs_back(self.last, time), number),
-            jumped: first_number(self.jumped, jumps(self.last, time), number),
+            ran_back: first_place(self.ran_back, runs_back(self.last, time), place),
+            jumped: first_place(self.jumped, jumps(self.last, time), place),
+        }
+    }
+
+    /// The tally when its capture goes on with its next file.
+    fn in_next_file(self) -> Tally
+        ensures { result ≡ in_next_file self }
+    {
+        Tally {
+            file: one_more(self.file),
+            records: 0,
+            ..self
+        }
+    }
+
+    /// The tally after a record of this time that is skipped for this reason. The beginning of a
+    /// file is no record.
+    fn skipped(self, why: Why, time: Option<u64>) -> Tally
+        ensures { result ≡ tally_skipped self why time }
+    {
+        match why {
+            Why::NextFile => self.in_next_file(),
+            _ => self.by(Some(why), time),
         }
     }
 
@@ -151,7 +197,7 @@ impl Tally {
     {
         match event {
             Event::Packet { .. } => self.by(None, time_of(event)),
-            Event::Skipped { why, .. } => self.by(Some(*why), time_of(event)),
+            Event::Skipped { why, .. } => self.skipped(*why, time_of(event)),
             Event::End => self,
         }
     }

@@ -15,8 +15,8 @@ use Rattle.pim_router.specs.Packets.{Packet, received, unless, causes, body_take
 use Rattle.pim_router.specs.State.{RouterState}
 use Rattle.pim_report.specs.declared.state_text.Counts.{Counts}
 use Rattle.pim_replay.specs.declared.event.ReplayEvent.TheVariants as event
-use Rattle.pim_replay.specs.Events.{Event, Account, of_event, one_skipped, HasTold, HasBegun}
-use Rattle.pim_replay.specs.Turn.{packet_on, passed_over, taken_as, taking, TakesRecord}
+use Rattle.pim_replay.specs.Events.{Event, Account, of_event, HasTold, HasBegun}
+use Rattle.pim_replay.specs.Turn.{packet_on, skips_in, taken_as, taking, TakesRecord}
 use Rattle.pim_replay.proofs.Told.{made_counts, same_counts, text, one_text, keeps_same, none_is_front}
 
 -- ---- a packet leaves the moment
@@ -37,8 +37,12 @@ packet_stays family sent state after said is =
 
 -- ---- a record, by what it holds
 
+-- the account of this number of skipped records
+abbrev pub of_skips : ℕ → Account
+of_skips count = record { events = []; refreshes = 0; skips = count }
+
 pub not_held : {A : Type 0} (bytes_of : A → List ℕ) (held : Given A) → ((sent : Carried A) → held ≡ given.Datagram sent → ⊥) → (family : AddressFamily) (port : ℕ) (state : RouterState)
-    → taken_as family port (content_seen bytes_of held) state ≡ passed_over state
+    → taken_as family port (content_seen bytes_of held) state ≡ (of_skips (skips_in (content_seen bytes_of held)), state)
 not_held bytes_of (given.Datagram sent) none family port state = absurd (none sent refl)
 not_held bytes_of given.OtherFamily none family port state = refl
 not_held bytes_of (given.Skipped why) none family port state = refl
@@ -59,11 +63,11 @@ module _ (line : Event → List ℕ) (family : AddressFamily) (turn : Taken) (st
     takes account after p = p ∙ ap (λ h. taken_as family turn.capture h state) is
 
     -- it holds no packet of the family
-    pub skipped : taken_as family turn.capture holding state ≡ passed_over state → (old : Option (List ℕ)) (counts : Counts) (more : ℕ) → counts.refreshes ≤ top_count → more ≡ min (counts.skipped + 1) top_count
+    pub skipped : (count : ℕ) → taken_as family turn.capture holding state ≡ (of_skips count, state) → (old : Option (List ℕ)) (counts : Counts) (more : ℕ) → counts.refreshes ≤ top_count → more ≡ min (counts.skipped + count) top_count
         → HasTold line Takes state old old counts (made_counts more counts.refreshes)
-    skipped skips old counts more small counts_it = record {
-      account = one_skipped;
-      tells = takes one_skipped state (sym skips);
+    skipped count skips old counts more small counts_it = record {
+      account = of_skips count;
+      tells = takes (of_skips count) state (sym skips);
       written = Appends-nil old;
       is_counted = same_counts _ _ _ _ counts_it (omega (arith, small));
     }

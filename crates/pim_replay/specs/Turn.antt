@@ -4,14 +4,14 @@ use Rattle.std.specs.Prelude.{◌≡◌, ℕ, ◌+◌, min, List, Result, Ok, Er
 use Rattle.pim_addr.specs.declared.family.AddressFamily.{AddressFamily}
 use Rattle.pim_device.specs.Device.{top_count}
 use Rattle.pim_capture.specs.Capture.{Told}
-use Rattle.pim_merge.specs.Content.{Content, holds, content_in}
+use Rattle.pim_merge.specs.Content.{Content, holds, no_record, content_in}
 use Rattle.pim_merge.specs.Merge.{Taken}
 use Rattle.pim_router.specs.Packets.{Packet, received}
 use Rattle.pim_router.specs.State.{RouterState}
 use Rattle.pim_report.specs.declared.state_text.TextFault.{TextFault}
 use Rattle.pim_report.specs.declared.state_text.TextFault.TheVariants.{Output, Memory}
 use Rattle.pim_replay.specs.declared.event.ReplayEvent.TheVariants as event
-use Rattle.pim_replay.specs.Events.{Account, of_event, one_skipped, Follows}
+use Rattle.pim_replay.specs.Events.{Account, nothing, of_event, one_skipped, Follows}
 use Rattle.pim_replay.specs.Passing.{PassesTime}
 
 -- ---- taking a record
@@ -33,11 +33,17 @@ heard family sent state = (
 abbrev pub passed_over : RouterState → Account × RouterState
 passed_over state = (one_skipped, state)
 
+-- What is no record reports nothing, and leaves the router unchanged.
+abbrev pub rested : RouterState → Account × RouterState
+rested state = (nothing, state)
+
 -- The account of what a record holds, and the router after it. A packet of the router's family goes
--- to the port with the number of its capture; any other record is skipped.
+-- to the port with the number of its capture. What is no record, as the beginning of a capture's next
+-- file, reports nothing. Any other record is skipped.
 abbrev pub taken_as : AddressFamily → ℕ → Content → RouterState → Account × RouterState
 taken_as family port (holds source destination payload) state =
     heard family (packet_on port source destination payload) state
+taken_as family port no_record state = rested state
 taken_as family port other state = passed_over state
 
 -- The account of a record, and the router after it.
@@ -53,6 +59,13 @@ TakesRecord family turn state account after = (account, after) ≡ taking family
 -- The router runs to the moment of the record, then its port takes the record.
 abbrev pub TellsTurn : AddressFamily → Taken → RouterState → Account → RouterState → Type 0
 TellsTurn family turn state = Follows (PassesTime turn.moment state) (TakesRecord family turn)
+
+-- ---- used by private functions only
+
+-- The number of records that are skipped of what holds no packet of the router's family.
+abbrev pub skips_in : Content → ℕ
+skips_in no_record = 0
+skips_in other = 1
 
 -- How often the device has failed after the call: once more if the result is `Output`, otherwise as
 -- often as before it.

@@ -1,13 +1,14 @@
 //! A turn of a replay: the router runs to the moment of a record, then the port of its capture
 //! takes the record.
 
-ghost use Rattle.std.specs.Prelude.{◌≡◌, ◌<◌, ◌≤◌, ◌^◌, length, max, OnOk};
+ghost use Rattle.std.specs.Prelude.{◌≡◌, ◌<◌, ◌≤◌, ◌^◌, ℕ, List, length, max, OnOk};
 ghost use Rattle.pim_capture.specs.Capture.{most_captured};
 ghost use Rattle.pim_capture.specs.Next.{PayloadLiesIn};
+ghost use Rattle.pim_merge.specs.Content.{content_seen};
 ghost use Rattle.pim_merge.specs.Run.{turn_seen};
 ghost use Rattle.pim_router.specs.State.{setup_of};
 ghost use Rattle.pim_replay.specs.Events.{Tells};
-ghost use Rattle.pim_replay.specs.Turn.{TakesRecord, TellsTurn, failures_by};
+ghost use Rattle.pim_replay.specs.Turn.{TakesRecord, TellsTurn, failures_by, skips_in};
 
 use crate::event::ReplayEvent;
 use crate::listener::Listener;
@@ -16,6 +17,17 @@ use pim_addr::Family;
 use pim_merge::{Content, Turn};
 use pim_report::{Counts, TextFault};
 use pim_router::Router;
+
+/// The number of records that are skipped of what holds no packet of the router's family: none of
+/// what is no record.
+fn skips_in<A>(content: &Content<'_, A>) -> u64
+    ensures { (bytes_of : A → List ℕ) → result ≡ skips_in (content_seen bytes_of content.now) }
+{
+    match content {
+        Content::End => 0,
+        _ => 1,
+    }
+}
 
 /// Lets a port take the record of a turn. The listener hears the packet with its verdict. A record
 /// without a packet of the router's family is counted as skipped. Returns the counts.
@@ -37,9 +49,10 @@ fn take_record<F: Family, W, L: Listener<F, W>>(
     ensures moment { OnOk result (router.new.machines.moment ≡ router.old.machines.moment) }
     ensures setup { setup_of router.new ≡ setup_of router.old }
 {
-    let Content::Datagram(sent) = turn.content::<F>(bytes) else {
+    let content = turn.content::<F>(bytes);
+    let Content::Datagram(sent) = content else {
         return Ok(Counts {
-            skipped: counts.skipped.saturating_add(1),
+            skipped: counts.skipped.saturating_add(skips_in(&content)),
             refreshes: counts.refreshes,
         });
     };

@@ -5,8 +5,10 @@ use Rattle.std.specs.Prelude.{slice_index_or, Option, None, Some, unwrap_or, opt
 use Rattle.std.specs.Option.{option_eq}
 use Rattle.std.specs.Cmp.Lexicographic.{pointwise}
 use Rattle.pim_device.specs.Device.{top_count}
+use Rattle.pim_capture.specs.declared.event.Why.{Why}
 use Rattle.pim_capture.specs.declared.event.Why.TheVariants.{Cut, NotIp, BadHeader, NotPim, Fragment}
-use Rattle.pim_capture.specs.declared.event.Why.TheVariants.{NoTime, LinkType, NotChosen, CutShort}
+use Rattle.pim_capture.specs.declared.event.Why.TheVariants.{NoTime, LinkType, NotChosen, CutShort, NextFile}
+use Rattle.pim_capture.specs.Capture as record_of
 use Rattle.pim_down.specs.declared.machines.key.Key.{Key}
 use Rattle.pim_down.specs.declared.machines.machine.Machine.{Machine}
 use Rattle.pim_down.specs.declared.machines.machine.Pending.{Pending}
@@ -106,9 +108,20 @@ sent_or_none sent = unwrap_or sent (record { frame = 0; ms = 0 })
 abbrev pub one_more : ℕ → ℕ
 one_more count = min (count + 1) top_count
 
--- The number of the last record of this capture that was taken.
+-- The number of the last record that was taken of the file of this capture that is read.
 abbrev pub frame_of : ℕ → Ledger → ℕ
 frame_of capture ledger = slice_index_or ledger.frames capture 0
+
+-- The number of the last record that was taken of a file, after what is skipped for this reason. The
+-- beginning of the next file is no record.
+abbrev pub frame_by : Why → ℕ → ℕ
+frame_by NextFile frame = 0
+frame_by why frame = one_more frame
+
+-- The number of the last record that was taken of a file, after this result of its capture.
+abbrev pub frame_after : record_of.Told → ℕ → ℕ
+frame_after (record_of.skipped millis why) frame = frame_by why frame
+frame_after told frame = one_more frame
 
 -- The time of the first record that has one, where the record that is taken now has this time, in
 -- milliseconds since 1970.
@@ -116,10 +129,10 @@ abbrev pub begun : Option ℕ → Option ℕ → Option ℕ
 begun None time = time
 begun (Some begin) time = Some begin
 
--- The ledger when a record of this capture with this time, if it has one, is taken.
-abbrev pub opened : ℕ → Option ℕ → Ledger → Ledger
-opened capture time ledger = record {
-  frames = slice_set ledger.frames capture (one_more (frame_of capture ledger));
+-- The ledger when a record of this capture with this number and this time, if it has one, is taken.
+abbrev pub opened : ℕ → ℕ → Option ℕ → Ledger → Ledger
+opened capture frame time ledger = record {
+  frames = slice_set ledger.frames capture frame;
   begin = begun ledger.begin time;
   own = ledger.own;
   hellos = ledger.hellos;
@@ -139,6 +152,7 @@ counted (NoPacket NoTime) counts = counts
 counted (NoPacket LinkType) counts = counts
 counted (NoPacket NotChosen) counts = counts
 counted (NoPacket CutShort) counts = counts
+counted (NoPacket NextFile) counts = counts
 counted OtherFamily counts = record (counts) { family = one_more counts.family }
 
 -- The ledger after a record is skipped.

@@ -10,7 +10,7 @@ use Rattle.pim_router.specs.State.{RouterState}
 use Rattle.pim_events.specs.declared.event.Skip.TheVariants.{NoPacket, OtherFamily}
 use Rattle.pim_events.specs.declared.event.Skipping.{Skipping}
 use Rattle.pim_events.specs.Events.{Occurrence, record_skipped}
-use Rattle.pim_trace.specs.Ledger.{Ledger, frame_of, opened, with_skip}
+use Rattle.pim_trace.specs.Ledger.{Ledger, frame_of, frame_after, opened, with_skip}
 use Rattle.pim_trace.specs.Heard.{event_on, HearsPacket}
 use Rattle.pim_trace.specs.Passing.{PassesTime}
 
@@ -50,7 +50,8 @@ TakesRecord family port told ledger = TakesContent family port (frame_of port le
 
 -- The ledger when the record of a turn is counted.
 abbrev pub counting : Taken → Ledger → Ledger
-counting turn ledger = opened turn.capture (time_told turn.told) ledger
+counting turn ledger =
+    opened turn.capture (frame_after turn.told (frame_of turn.capture ledger)) (time_told turn.told) ledger
 
 -- The events of a turn: first those of the time up to its moment, then those of its record.
 pub record TellsTurn (family : AddressFamily) (turn : Taken) (ledger : Ledger) (state : RouterState)

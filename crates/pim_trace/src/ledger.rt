@@ -6,6 +6,7 @@
 
 ghost use Rattle.std.specs.Prelude.{◌≡◌, ◌<◌, ℕ, List, None, Some, IfOk, OnOk, OnErr, length};
 ghost use Rattle.std.specs.Prelude.{replicate, slice_index_or};
+ghost use Rattle.pim_capture.specs.Next.{event_seen};
 ghost use Rattle.pim_down.specs.Records.{state_of_machine};
 ghost use Rattle.pim_down.specs.Seen.{key_seen};
 ghost use Rattle.pim_events.specs.Events.{cause_seen};
@@ -13,7 +14,8 @@ ghost use Rattle.pim_transitions.specs.Named.{transition_seen};
 ghost use Rattle.pim_trace.specs.Heard.{is_pending, overridden};
 ghost use Rattle.pim_trace.specs.Kept.{causes_seen, ledger_seen};
 ghost use Rattle.pim_trace.specs.Ledger.{no_cause, both_by, pending_left, moved_by, causes_of};
-ghost use Rattle.pim_trace.specs.Ledger.{new_ledger, one_more, frame_of, opened, counted};
+ghost use Rattle.pim_trace.specs.Ledger.{new_ledger, one_more, frame_of, frame_by};
+ghost use Rattle.pim_trace.specs.Ledger.{frame_after, opened, counted};
 ghost use Rattle.pim_trace.specs.Ledger.{with_skip, with_own, with_hello, sent_or_none, epoch_of};
 ghost use Rattle.pim_trace.specs.Ledger.{caused, with_change, forgetting};
 ghost use Rattle.pim_trace.specs.Machines.{IsPlaceFor};
@@ -21,7 +23,7 @@ ghost use Rattle.pim_trace.specs.Passing.{cause_of};
 
 use crate::by_machine::ByMachine;
 use pim_addr::Family;
-use pim_capture::Why;
+use pim_capture::{Event, Why};
 use pim_down::{Key, Machine, Pending, State, Timer};
 use pim_events::{Cause, Skip, SkipCounts};
 use pim_transitions::Transition;
@@ -137,6 +139,26 @@ fn one_more(count: u64) -> u64
     count.saturating_add(1)
 }
 
+/// The number of the last record of a file, after what is skipped for this reason.
+fn frame_by(why: Why, frame: u64) -> u64
+    ensures { result ≡ frame_by why frame }
+{
+    match why {
+        Why::NextFile => 0,
+        _ => one_more(frame),
+    }
+}
+
+/// The number of the last record of a file, after this one. The beginning of a file is no record.
+pub(crate) fn frame_after(event: &Event, frame: u64) -> u64
+    ensures { (bytes : List ℕ) → result ≡ frame_after (event_seen bytes event.now) frame }
+{
+    match event {
+        Event::Skipped { why, .. } => frame_by(*why, frame),
+        _ => one_more(frame),
+    }
+}
+
 /// The counts after a record that holds no packet.
 fn without_packet(why: Why, counts: SkipCounts) -> SkipCounts
     ensures { result ≡ counted (Skip.NoPacket why) counts }
@@ -148,7 +170,7 @@ fn without_packet(why: Why, counts: SkipCounts) -> SkipCounts
         Why::BadHeader => counts.bad_header = one_more(counts.bad_header),
         Why::NotPim => counts.not_pim = one_more(counts.not_pim),
         Why::Fragment => counts.fragment = one_more(counts.fragment),
-        Why::NoTime | Why::LinkType | Why::NotChosen | Why::CutShort => {}
+        Why::NoTime | Why::LinkType | Why::NotChosen | Why::CutShort | Why::NextFile => {}
     }
     counts
 }
@@ -201,19 +223,19 @@ impl<F: Family> Ledger<F> {
         self.skipped
     }
 
-    /// Takes a record of this capture with this time, in milliseconds since 1970.
-    pub(crate) fn open(&mut self, capture: usize, time: Option<u64>)
+    /// Takes a record of this capture with this number and time, in milliseconds since 1970.
+    pub(crate) fn open(&mut self, capture: usize, frame: u64, time: Option<u64>)
         requires { capture < length self.old.frames.items }
         ensures { ledger_seen F.bytes_of self.new
-            ≡ opened capture time (ledger_seen F.bytes_of self.old) }
+            ≡ opened capture frame time (ledger_seen F.bytes_of self.old) }
     {
         if self.begin.is_none() {
             self.begin = time;
         }
-        self.frames[capture] = one_more(self.frames[capture]);
+        self.frames[capture] = frame;
     }
 
-    /// The number of the last record of this capture that was taken.
+    /// The number of the last record that was taken of the file of this capture that is read.
     pub(crate) fn frame(&self, capture: usize) -> u64
         requires { capture < length self.now.frames.items }
         ensures { result ≡ frame_of capture (ledger_seen F.bytes_of self.now) }

@@ -11,7 +11,7 @@ ghost use Rattle.pim_trace.specs.Telling.{Tells, failures_by};
 ghost use Rattle.pim_trace.specs.Turn.{Skips, TakesRecord, TellsTurn};
 
 use crate::hearing::{Packet, hear_packet};
-use crate::ledger::Ledger;
+use crate::ledger::{Ledger, frame_after};
 use crate::passing::pass_time;
 use crate::telling::{TellFault, tell_on};
 use pim_addr::Family;
@@ -128,7 +128,8 @@ pub(crate) fn take_turn<F: Family, W, T: Teller<F, W>>(
     ensures own { length ledger.new.own.items ≡ length ledger.old.own.items }
 {
     transitions_are_there();
-    ledger.open(turn.capture, turn.time());
+    let frame = frame_after(&turn.event, ledger.frame(turn.capture));
+    ledger.open(turn.capture, frame, turn.time());
     let Ok(()) = pass_time(teller, device, router, ledger, turn.moment) else {
         return Err(TellFault::Output);
     };

@@ -3,8 +3,17 @@
 use super::{CAPTURE, NEVER};
 use pim_addr::ScriptedFeed;
 use pim_capture::CaptureFault;
-use pim_merge::{Merge, MergeFault, Tally, Turn};
+use pim_container::Choice;
+use pim_merge::{Merge, MergeFault, Place, Tally, Turn};
 use std::alloc::Global;
+
+/// All packets that the host didn't send itself.
+const EACH: Choice = Choice {
+    vlan: None,
+    interface: None,
+    index: None,
+    sent: false,
+};
 
 /// The capture and the moment of a turn, or why there is none.
 type Told = Result<Option<(usize, u64)>, MergeFault>;
@@ -31,6 +40,7 @@ fn end_of(record: u64, fault: Option<CaptureFault>) -> Told {
     match fault {
         Some(fault) => Err(MergeFault {
             capture: 0,
+            file: 0,
             record,
             fault,
         }),
@@ -130,13 +140,48 @@ fn tally_of(alloc: Global) -> Option<Tally> {
 #[test]
 fn tally_of_two_records(rt: HostRuntime) {
     let tally = Tally {
+        file: 0,
         records: 2,
         fragments: 0,
         cut_frames: 0,
-        cut_short: false,
+        cut_short: None,
         last: Some(100_005),
         ran_back: None,
         jumped: None,
     };
     assert_eq!(rt; tally_of(rt.alloc()), Some(tally));
+}
+
+/// What a merge of a capture of two files counts, of which the first ends inside its second record.
+fn tally_of_files(alloc: Global) -> Option<Tally> {
+    let (front, _) = CAPTURE.split_at(120);
+    let first = ScriptedFeed::new(front, 7, NEVER);
+    let second = ScriptedFeed::new(&CAPTURE, 64, NEVER);
+    let Ok(files) = Vec::from_array(alloc, [first, second]) else {
+        return None;
+    };
+    let mut merge = Merge::new(alloc);
+    let Ok(()) = merge.add_files(alloc, files, EACH) else {
+        return None;
+    };
+    let turns = [(0, 0), (0, 0), (0, 0), (0, 0), (0, 5)];
+    if !goes(&mut merge, &turns, None) || merge.count() == 0 {
+        return None;
+    }
+    Some(merge.tally(0))
+}
+
+#[test]
+fn tally_of_two_files(rt: HostRuntime) {
+    let tally = Tally {
+        file: 1,
+        records: 2,
+        fragments: 0,
+        cut_frames: 0,
+        cut_short: Some(Place { file: 0, record: 2 }),
+        last: Some(100_005),
+        ran_back: None,
+        jumped: None,
+    };
+    assert_eq!(rt; tally_of_files(rt.alloc()), Some(tally));
 }

@@ -13,37 +13,37 @@ loop-capture-preserved g c =
 
 pub returns-in-Err-clause-fault : goal.returns-in-Err-clause-fault
 returns-in-Err-clause-fault g c =
-    stopped_turn c.loop-capture.capture _ c.loop-capture.lanes c.look.new.self c.index-lanes-capture.result c.in-Err.fault c.number.result (rw c.loop-capture.auto.lanes c.loop-capture-test.true) c.loop-capture.invariant
+    stopped_turn c.loop-capture.capture _ c.loop-capture.lanes c.look.new.self c.index-lanes-capture.result c.in-Err.fault c.next_place-place.result (rw c.loop-capture.auto.lanes c.loop-capture-test.true) c.loop-capture.invariant
 
 pub returns-in-Err-clause-cause : goal.returns-in-Err-clause-cause
 returns-in-Err-clause-cause g c =
-    stopped_cause c.loop-capture.capture _ c.loop-capture.lanes c.look.new.self c.index-lanes-capture.result c.in-Err.fault c.number.result (rw c.loop-capture.auto.lanes c.loop-capture-test.true) c.loop-capture.invariant
+    stopped_cause c.loop-capture.capture _ c.loop-capture.lanes c.look.new.self c.index-lanes-capture.result c.in-Err.fault c.next_place-place.result (rw c.loop-capture.auto.lanes c.loop-capture-test.true) c.loop-capture.invariant
     c.in-Err.ensures.fault
 
 pub returns-in-Err-clause-left : goal.returns-in-Err-clause-left
 returns-in-Err-clause-left g c =
-    stopped_left c.loop-capture.capture _ c.loop-capture.lanes c.look.new.self c.index-lanes-capture.result c.in-Err.fault c.number.result (rw c.loop-capture.auto.lanes c.loop-capture-test.true) c.loop-capture.invariant
+    stopped_left c.loop-capture.capture _ c.loop-capture.lanes c.look.new.self c.index-lanes-capture.result c.in-Err.fault c.next_place-place.result (rw c.loop-capture.auto.lanes c.loop-capture-test.true) c.loop-capture.invariant
     c.look.ensures.left
 
 pub returns-in-Err-clause-reads : goal.returns-in-Err-clause-reads
 returns-in-Err-clause-reads g c =
-    stopped_reads c.loop-capture.capture _ c.loop-capture.lanes c.look.new.self c.index-lanes-capture.result c.in-Err.fault c.number.result (rw c.loop-capture.auto.lanes c.loop-capture-test.true) c.loop-capture.invariant
+    stopped_reads c.loop-capture.capture _ c.loop-capture.lanes c.look.new.self c.index-lanes-capture.result c.in-Err.fault c.next_place-place.result (rw c.loop-capture.auto.lanes c.loop-capture-test.true) c.loop-capture.invariant
     c.in-Err.ensures.reads
 
 pub returns-in-Err-clause-memory : goal.returns-in-Err-clause-memory
 returns-in-Err-clause-memory g c =
-    stopped_memory c.loop-capture.capture _ c.loop-capture.lanes c.look.new.self c.index-lanes-capture.result c.in-Err.fault c.number.result (rw c.loop-capture.auto.lanes c.loop-capture-test.true) c.loop-capture.invariant
+    stopped_memory c.loop-capture.capture _ c.loop-capture.lanes c.look.new.self c.index-lanes-capture.result c.in-Err.fault c.next_place-place.result (rw c.loop-capture.auto.lanes c.loop-capture-test.true) c.loop-capture.invariant
     c.in-Err.ensures.memory
 
 pub returns-in-Err-clause-rooms : goal.returns-in-Err-clause-rooms
 returns-in-Err-clause-rooms g c =
-    stopped_rooms c.loop-capture.capture _ c.loop-capture.lanes c.look.new.self c.index-lanes-capture.result c.in-Err.fault c.number.result (rw c.loop-capture.auto.lanes c.loop-capture-test.true) c.loop-capture.invariant
+    stopped_rooms c.loop-capture.capture _ c.loop-capture.lanes c.look.new.self c.index-lanes-capture.result c.in-Err.fault c.next_place-place.result (rw c.loop-capture.auto.lanes c.loop-capture-test.true) c.loop-capture.invariant
     c.look.ensures.room
 
 pub returns-in-Err-clause-repeated : goal.returns-in-Err-clause-repeated
 returns-in-Err-clause-repeated g c number fails =
     failed_again c.loop-capture.capture _ c.loop-capture.lanes c.index-lanes-capture.result (rw c.loop-capture.auto.lanes c.loop-capture-test.true) c.loop-capture.invariant
-    c.in-Err.fault c.number.result number c.in-Err.ensures.unlooked c.in-Err.ensures.repeated fails
+    c.in-Err.fault c.next_place-place.result number c.in-Err.ensures.unlooked c.in-Err.ensures.repeated fails
 
 pub returns-clause-repeated : goal.returns-clause-repeated
 returns-clause-repeated g c number fails =
@@ -51,13 +51,13 @@ returns-clause-repeated g c number fails =
 
 pub returns-in-Err-clause-tallies : goal.returns-in-Err-clause-tallies
 returns-in-Err-clause-tallies g c =
-    stopped_tallies c.loop-capture.capture _ c.loop-capture.lanes c.look.new.self c.index-lanes-capture.result c.in-Err.fault c.number.result (rw c.loop-capture.auto.lanes c.loop-capture-test.true) c.loop-capture.invariant
+    stopped_tallies c.loop-capture.capture _ c.loop-capture.lanes c.look.new.self c.index-lanes-capture.result c.in-Err.fault c.next_place-place.result (rw c.loop-capture.auto.lanes c.loop-capture-test.true) c.loop-capture.invariant
     c.look.ensures.tally
 
 pub returns-in-Err-clause-record : goal.returns-in-Err-clause-record
 returns-in-Err-clause-record g c =
-    stopped_record c.loop-capture.capture _ c.loop-capture.lanes c.look.new.self c.index-lanes-capture.result c.in-Err.fault c.number.result (rw c.loop-capture.auto.lanes c.loop-capture-test.true) c.loop-capture.invariant
-    c.number.ensures c.look.ensures.tally
+    stopped_record c.loop-capture.capture _ c.loop-capture.lanes c.look.new.self c.index-lanes-capture.result c.in-Err.fault c.next_place-place.result (rw c.loop-capture.auto.lanes c.loop-capture-test.true) c.loop-capture.invariant
+    c.next_place-place.ensures c.look.ensures.tally
 
 pub returns-clause-tallies : goal.returns-clause-tallies
 returns-clause-tallies g c = c.loop-capture.invariant.tallies

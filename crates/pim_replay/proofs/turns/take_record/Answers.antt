@@ -1,4 +1,6 @@
-use Rattle.std.proofs.Common.{rules, refl, ap}
+use Rattle.std.proofs.Common.{rules, refl, ap, ◌∙◌, ◌+◌, min}
+use Rattle.pim_device.specs.Device.{top_count}
+use Rattle.pim_replay.specs.Turn.{skips_in}
 use Rattle.pim_merge.specs.Content.{content_seen}
 use Rattle.pim_merge.specs.Run.{turn_seen}
 use Rattle.pim_router.specs.Seen.{packet_seen}
@@ -7,9 +9,11 @@ use Rattle.pim_replay.proofs.turns.take_record.Goals as goal
 
 pub returns-in_default : goal.returns-in_default
 returns-in_default g c = record {
-  told = skipped (g.L.Listener.line c.args.listener.now) g.F.Family.family (turn_seen c.args.bytes.now c.args.turn.now) c.args.router.now (content_seen g.F.Family.bytes_of c.content.result) c.content.ensures.content
-      (not_held g.F.Family.bytes_of c.content.result c.in_default.not-Datagram g.F.Family.family c.args.turn.now.capture c.args.router.now) (g.L.Listener.contents c.args.device.now) c.args.counts
-      c.saturating_add.result (search rules) c.saturating_add.ensures;
+  told = skipped (g.L.Listener.line c.args.listener.now) g.F.Family.family (turn_seen c.args.bytes.now c.args.turn.now) c.args.router.now (content_seen g.F.Family.bytes_of c.content-content.result) c.content-content.ensures.content
+      (skips_in (content_seen g.F.Family.bytes_of c.content-content.result))
+      (not_held g.F.Family.bytes_of c.content-content.result c.in_default.not-Datagram g.F.Family.family c.args.turn.now.capture c.args.router.now) (g.L.Listener.contents c.args.device.now) c.args.counts
+      c.saturating_add.result (search rules)
+      (c.saturating_add.ensures ∙ ap (λ n. min (c.args.counts.skipped + n) top_count) (c.skips_in.ensures g.F.Family.bytes_of));
   count = refl;
   moment = refl;
   setup = refl;
@@ -21,13 +25,13 @@ returns-in_default-take_packet-clause-told g c =
 
 pub returns-in_default-hear-clause-told : goal.returns-in_default-hear-clause-told
 returns-in_default-hear-clause-told g c =
-    packet_begun (g.L.Listener.line c.args.listener.now) g.F.Family.family (turn_seen c.args.bytes.now c.args.turn.now) c.args.router.now (content_seen g.F.Family.bytes_of c.content.result) c.content.ensures.content
+    packet_begun (g.L.Listener.line c.args.listener.now) g.F.Family.family (turn_seen c.args.bytes.now c.args.turn.now) c.args.router.now (content_seen g.F.Family.bytes_of c.content-content.result) c.content-content.ensures.content
     (g.F.Family.bytes_of c.in-Datagram.sent.source) (g.F.Family.bytes_of c.in-Datagram.sent.destination) c.in-Datagram.sent.payload.now (ap (content_seen g.F.Family.bytes_of) c.in-Datagram.is)
     c.now-moment.result c.now-moment.ensures c.in-Ok.verdict c.take_packet.new.self c.in-Ok.ensures.told (g.L.Listener.contents c.args.device.now) (g.L.Listener.contents c.hear.new.device) c.in_default-hear.ensures.bytes
 
 pub returns-clause-told : goal.returns-clause-told
 returns-clause-told g c =
-    packet_told (g.L.Listener.line c.args.listener.now) g.F.Family.family (turn_seen c.args.bytes.now c.args.turn.now) c.args.router.now (content_seen g.F.Family.bytes_of c.content.result) c.content.ensures.content
+    packet_told (g.L.Listener.line c.args.listener.now) g.F.Family.family (turn_seen c.args.bytes.now c.args.turn.now) c.args.router.now (content_seen g.F.Family.bytes_of c.content-content.result) c.content-content.ensures.content
     (g.F.Family.bytes_of c.in-Datagram.sent.source) (g.F.Family.bytes_of c.in-Datagram.sent.destination) c.in-Datagram.sent.payload.now (ap (content_seen g.F.Family.bytes_of) c.in-Datagram.is)
     c.now-moment.result c.now-moment.ensures c.in-Ok.verdict c.take_packet.new.self c.in-Ok.ensures.told (g.L.Listener.contents c.args.device.now) (g.L.Listener.contents c.hear.new.device)
     c.args.counts (search rules) (search rules) c.in-Ok-hear.ensures.bytes

@@ -1,29 +1,40 @@
-use Rattle.std.proofs.Common.{◌⊎◌, List, ℕ, Ok, sym, subst, ap}
+use Rattle.std.proofs.Common.{◌≡◌, ◌∙◌, ◌+◌, ◌≤◌, ◌*◌, ◌⊎◌, List, ℕ, Ok, length, sym, ap, subst, arith}
 use Rattle.pim_container.specs.Choice.{choice_of, first_of}
 use Rattle.pim_container.specs.Next.{coming, IsNext, pieces_left}
 use Rattle.pim_container.specs.Told.{event_seen}
-use Rattle.pim_merge.proofs.Choosing.{stepped, at_end, fails, fails_reads, fails_left, fails_payload, fails_moment}
+use Rattle.pim_merge.specs.Chosen.{all_known}
+use Rattle.pim_merge.specs.Source.{later_of}
+use Rattle.pim_merge.proofs.Failures.{moves}
+use Rattle.pim_merge.proofs.Choosing.{stepped, after_cut, after_end, fails, fails_reads, fails_left, fails_payload, fails_moment, no_reads, stepped_left, ended_left}
 use Rattle.pim_merge.proofs.chosen.Chosen.step.Goals as goal
 
 pub returns-then-self-clause-answer : goal.returns-then-self-clause-answer
-returns-then-self-clause-answer g c = at_end (g.R.Feed.failures c.args.self.now.reader.device) _ _ _ c.args.buffer.now.items c.if-self.true
+returns-then-self-clause-answer g c =
+    let self = c.args.self.now in
+    after_cut (choice_of self.chooser) self.is_begun self.is_cut (first_of self.chooser) (coming g.R.Feed.remaining self.reader)
+    (all_known g.R.Feed.remaining (later_of self)) _ _ c.if-self.true (c.go_on.ensures.answer c.args.buffer.now.items)
 
 pub returns-in-Err-clause-answer : goal.returns-in-Err-clause-answer
 returns-in-Err-clause-answer g c =
-    let chooser = c.args.self.now.chooser in
-    rw (c.failed.ensures) (fails (g.R.Feed.failures c.args.self.now.reader.device) (g.R.Feed.failures c.next.new.self.device)
-    c.args.self.now.is_cut c.is_cut-cut.result c.args.self.now.is_begun
-    (choice_of chooser) (first_of chooser) (coming g.R.Feed.remaining c.args.self.now.reader) (coming g.R.Feed.remaining c.next.new.self)
-    c.in-Err.fault c.args.buffer.now.items c.if-self.false (sym c.is_cut-cut.ensures) c.in-Err.ensures.answer)
+    let self = c.args.self.now in
+    rw (c.failed.ensures) (fails (g.R.Feed.failures self.reader.device) (g.R.Feed.failures c.next.new.self.device) _ _
+    self.is_cut c.is_cut-cut.result self.is_begun
+    (choice_of self.chooser) (first_of self.chooser) (coming g.R.Feed.remaining self.reader) (coming g.R.Feed.remaining c.next.new.self)
+    (all_known g.R.Feed.remaining (later_of self))
+    c.in-Err.fault c.args.buffer.now.items c.if-self.false (sym c.is_cut-cut.ensures)
+    (moves g.R.Feed.failures self.reader.device c.next.new.self.device self.others.items) c.in-Err.ensures.answer)
 
 pub returns-in-Err-clause-reads : goal.returns-in-Err-clause-reads
 returns-in-Err-clause-reads g c =
-    rw (c.failed.ensures) (fails_reads _ _ _ c.is_cut-cut.result c.args.self.now.is_begun c.in-Err.fault (sym c.is_cut-cut.ensures) c.in-Err.ensures.reads)
+    let self = c.args.self.now in
+    rw (c.failed.ensures) (fails_reads _ _ _ _ _ c.is_cut-cut.result self.is_begun c.in-Err.fault (sym c.is_cut-cut.ensures)
+    (moves g.R.Feed.failures self.reader.device c.next.new.self.device self.others.items) c.in-Err.ensures.reads)
 
 pub returns-in-Err-clause-left : goal.returns-in-Err-clause-left
 returns-in-Err-clause-left g c =
-    rw (c.failed.ensures) (fails_left (pieces_left c.args.self.now.reader.state) (pieces_left c.next.new.self.state) c.args.self.now.is_cut c.is_cut-cut.result c.in-Err.fault
-    c.if-self.false (ap pieces_left c.in-Err.ensures.over))
+    let self = c.args.self.now in
+    rw (c.failed.ensures) (fails_left (pieces_left self.reader.state) (pieces_left c.next.new.self.state) (length (later_of self) * 4294967298)
+    self.is_cut c.is_cut-cut.result c.in-Err.fault c.if-self.false (ap pieces_left c.in-Err.ensures.over))
 
 pub returns-in-Err-clause-payload : goal.returns-in-Err-clause-payload
 returns-in-Err-clause-payload g c = rw (c.failed.ensures) (fails_payload c.is_cut-cut.result c.in-Err.fault _)
@@ -31,15 +42,52 @@ returns-in-Err-clause-payload g c = rw (c.failed.ensures) (fails_payload c.is_cu
 pub returns-in-Err-clause-moment : goal.returns-in-Err-clause-moment
 returns-in-Err-clause-moment g c = rw (c.failed.ensures) (fails_moment c.is_cut-cut.result c.in-Err.fault)
 
+pub returns-then-is_end-clause-answer : goal.returns-then-is_end-clause-answer
+returns-then-is_end-clause-answer g c =
+    let self = c.args.self.now in
+    after_end (choice_of self.chooser) self.is_begun self.is_cut (first_of self.chooser) (coming g.R.Feed.remaining self.reader)
+    (coming g.R.Feed.remaining c.next.new.self) (all_known g.R.Feed.remaining (later_of self)) c.in-Ok.event c.next.new.buffer.items _ _
+    c.if-self.false (sym c.is_end.ensures ∙ c.if-is_end.true) c.in-Ok.ensures.answer (c.go_on-then-is_end.ensures.answer c.args.buffer.now.items)
+
+pub returns-then-is_end-clause-reads : goal.returns-then-is_end-clause-reads
+returns-then-is_end-clause-reads g c =
+    let self = c.args.self.now in
+    c.go_on-then-is_end.ensures.reads
+    ∙ (moves g.R.Feed.failures self.reader.device c.next.new.self.device self.others.items).stays c.in-Ok.ensures.reads
+
+pub returns-then-is_end-clause-left : goal.returns-then-is_end-clause-left
+returns-then-is_end-clause-left g c =
+    let none = ended_left c.next.new.self.state c.in-Ok.event (pieces_left c.args.self.now.reader.state)
+    (sym c.is_end.ensures ∙ c.if-is_end.true) c.in-Ok.ensures.over in
+    omega (arith, none, c.go_on-then-is_end.ensures.left)
+
+pub returns-then-is_end-clause-payload : goal.returns-then-is_end-clause-payload
+returns-then-is_end-clause-payload g c = c.go_on-then-is_end.ensures.payload c.args.buffer.now.items
+
+pub returns-then-self-clause-payload : goal.returns-then-self-clause-payload
+returns-then-self-clause-payload g c = c.go_on.ensures.payload c.args.buffer.now.items
+
 pub returns-clause-answer : goal.returns-clause-answer
 returns-clause-answer g c =
-    let chooser = c.args.self.now.chooser in
-    let old = coming g.R.Feed.remaining c.args.self.now.reader in
+    let self = c.args.self.now in
+    let old = coming g.R.Feed.remaining self.reader in
     let new = coming g.R.Feed.remaining c.next.new.self in
     let P : List ℕ → Type 0 = λ bytes. ⊥ ⊎ IsNext old (Ok (event_seen bytes c.in-Ok.event)) new in
-    stepped (g.R.Feed.failures c.args.self.now.reader.device) (g.R.Feed.failures c.next.new.self.device)
-    c.args.self.now.is_cut c.args.self.now.is_begun
-    (choice_of chooser) (choice_of c.event_of.new.chooser) (first_of chooser) (first_of c.event_of.new.chooser) old new
-    (event_seen c.as_slice.result.now c.in-Ok.event) c.event_of.new.buffer.items c.event_of.result c.if-self.false
+    stepped _ _ self.is_cut self.is_begun
+    (choice_of self.chooser) (choice_of c.event_of.new.chooser) (first_of self.chooser) (first_of c.event_of.new.chooser)
+    (coming g.R.Feed.remaining self.reader) (coming g.R.Feed.remaining c.next.new.self)
+    (all_known g.R.Feed.remaining (later_of self)) c.in-Ok.event c.as_slice.result.now c.event_of.new.buffer.items c.event_of.result c.if-self.false
+    (sym c.is_end.ensures ∙ c.if-is_end.false)
     (subst P (sym c.as_slice.ensures.value) c.in-Ok.ensures.answer)
     c.event_of.ensures.choice c.event_of.ensures.first c.event_of.ensures.answer
+
+pub returns-clause-reads : goal.returns-clause-reads
+returns-clause-reads g c =
+    let self = c.args.self.now in
+    no_reads _ _ c.event_of.result ((moves g.R.Feed.failures self.reader.device c.next.new.self.device self.others.items).stays c.in-Ok.ensures.reads)
+
+pub returns-clause-left : goal.returns-clause-left
+returns-clause-left g c =
+    let self = c.args.self.now in
+    stepped_left (pieces_left self.reader.state) (pieces_left c.next.new.self.state) (length (later_of self) * 4294967298)
+    self.is_cut c.in-Ok.event c.event_of.result (sym c.is_end.ensures ∙ c.if-is_end.false) c.in-Ok.ensures.fewer

@@ -1,0 +1,28 @@
+use Rattle.std.proofs.Common.{◌≡◌, ◌∙◌, ◌≤◌, ◌<◌, ◌+◌, Some, sym, ap, arith, drop, length}
+use Rattle.pim_container.specs.Choice.{choice_of, first_of}
+use Rattle.pim_container.specs.Next.{coming}
+use Rattle.pim_merge.specs.Chosen.{all_known, known_too}
+use Rattle.pim_merge.specs.Source.{later_of, left_of_file}
+use Rattle.pim_merge.proofs.Choosing.{no_file, next_file}
+use Rattle.pim_merge.proofs.Following.{none_follow, one_follows, others_follow}
+use Rattle.pim_merge.proofs.chosen.Chosen.go_on.Goals as goal
+
+pub returns-then-len-self-clause-answer : goal.returns-then-len-self-clause-answer
+returns-then-len-self-clause-answer g c bytes =
+    let self = c.args.self.now in
+    no_file (choice_of self.chooser) self.is_begun (first_of self.chooser) (left_of_file g.R.Feed.remaining self)
+    (all_known g.R.Feed.remaining (later_of self)) (none_follow g.R.Feed.remaining self.others.items self.files_read (omega arith))
+
+pub returns-clause-answer : goal.returns-clause-answer
+returns-clause-answer g c bytes =
+    let self = c.args.self.now in
+    let device = c.index_mut.result.now in
+    let below : self.files_read < length self.others.items = omega arith in
+    next_file (choice_of self.chooser) self.is_begun (first_of self.chooser) (left_of_file g.R.Feed.remaining self)
+    (coming g.R.Feed.remaining c.exchange.new.self) (g.R.Feed.remaining device)
+    (all_known g.R.Feed.remaining (drop (self.files_read + 1) self.others.items)) _
+    (all_known g.R.Feed.remaining (later_of self)) c.exchange.ensures.coming
+    (others_follow g.R.Feed.remaining self.others.items self.files_read c.exchange.new.device)
+    (one_follows g.R.Feed.remaining self.others.items self.files_read device below
+    ∙ ap (λ d. known_too (g.R.Feed.remaining d) (all_known g.R.Feed.remaining (drop (self.files_read + 1) self.others.items)))
+    (sym c.index_mut.ensures.value))
