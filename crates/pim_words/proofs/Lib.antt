@@ -1,6 +1,5 @@
 pub mod Choosing
 pub mod FirstWrong
-pub mod Further
 pub mod Labelling
 pub mod Linking
 pub mod Numbers

@@ -1,9 +1,8 @@
 //! What a case can't say of the program: loops over spoilt input and failing devices, refused
-//! memory, faults on devices that fail, the width of help, and the further files of a plan.
+//! memory, faults on devices that fail, and the width of help.
 
 mod failing;
 mod faults;
-mod further;
 mod help;
 mod messages;
 mod refused;
