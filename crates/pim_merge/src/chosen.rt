@@ -5,8 +5,8 @@
 //! interfaces and blocks of other types give nothing. Of a packet that is taken the message alone
 //! is kept, so that the bytes of a record are no more than those of a classic one.
 //!
-//! At the end of a file the next one is read, whose beginning is an event of its own. The devices of
-//! all files stay, so that no failure of a read is forgotten.
+//! At the end of a file the next one is read, whose beginning is an event of its own. The devices
+//! of all files stay, so that no failure of a read is forgotten.
 
 ghost use Rattle.std.specs.Prelude.{◌≡◌, ◌+◌, ◌≤◌, ◌⊎◌, ⊤, Some, Ok, Err, IfOk, option_map};
 ghost use Rattle.std.specs.Prelude.{vec_len, is_err, true, false, List, ℕ, ◌∷◌, ◌*◌};
