@@ -11,7 +11,7 @@ use Rattle.pim_words.specs.Addresses.{Names}
 use Rattle.pim_words.specs.Reading.{IsUnreadText}
 use Rattle.pim_words.specs.Seen.{OrMemory}
 use Rattle.pim_words.specs.Shown.{AreShownAddresses, IsUnreadChoice, IsWrongChoice}
-use Rattle.pim_words.proofs.FirstWrong.{texts}
+use Rattle.pim_words.proofs.Further.{texts}
 use Rattle.pim_words.proofs.Orders.{or_memory}
 
 -- These addresses are those of the values before the ones that are left.

@@ -1,51 +1,99 @@
--- The ports of words, read one by one.
-use Rattle.std.proofs.Common.{◌≡◌, sym, ap, subst, inr, ℕ, ◌+◌, ◌<◌, ◌≤◌, Bool, List, [], ◌∷◌, ◌++◌, length, drop, get_or, map, append_assoc, append-nil, Result, Ok, Err, false}
-use Rattle.std.specs.Prelude.{is_ok, is_err, if◌then◌else◌}
+-- The ports and further files of words, read one by one.
+use Rattle.std.proofs.Common.{◌≡◌, sym, ap, subst, inl, inr, ℕ, ◌+◌, ◌<◌, ◌≤◌, Bool, true, List, [], ◌∷◌, ◌++◌, length, drop, get_or, append_assoc, append-nil, Result, Ok, Err, false}
+use Rattle.std.specs.Prelude.{is_ok, is_err, if◌then◌else◌, ◌⊎◌}
 use Rattle.std.specs.List.{AllZip}
 use Rattle.std.specs.Borrow.{Bor}
-use Rattle.std.proofs.lemmas.List.{drop_all, drop_more}
+use Rattle.std.proofs.lemmas.List.{drop_all, drop_more, length-append}
 use Rattle.clap.specs.Words.{Text}
 use Rattle.pim_words.specs.declared.addresses.Address.{Address}
 use Rattle.pim_words.specs.declared.fault.Fault.{Fault}
+use Rattle.pim_words.specs.declared.task.More.{More}
 use Rattle.pim_words.specs.declared.task.Port.{Port}
-use Rattle.pim_words.specs.Ports.{IsPort, IsFirstWrongOf}
+use Rattle.pim_words.specs.Ports.{AreMore, IsFirstWrongOf, IsMore, IsPort, IsRightMore, IsWrongMore, IsWrongWord, is_more, port_words}
+use Rattle.pim_words.specs.Seen.{OrMemory}
+use Rattle.pim_words.proofs.Further.{AreSoFar, all_of_them, of_more, of_port, past_more, past_port, ports_with, ports_without, texts}
+use Rattle.pim_words.proofs.Orders.{or_memory}
 
-abbrev pub texts : List (Bor Text) → List Text
-texts words = map (λ w. w.now) words
+module _ (is_sided is_any : Bool) where
+  abbrev ArePortsOf : List Text → List (Port Address) → Type 0
+  ArePortsOf words ports = AllZip (IsPort is_sided) (port_words is_any words) ports
 
-module _ (is_sided : Bool) where
-  -- These ports are those of the words before the ones that are left.
-  pub record IsLeft (all left : List Text) (ports : List (Port Address)) : Type 0 where
-    pub goes_on : (more : List (Port Address)) → AllZip (IsPort is_sided) left more → AllZip (IsPort is_sided) all (ports ++ more)
-    pub told : (fault : Fault) → IsFirstWrongOf is_sided left fault → IsFirstWrongOf is_sided all fault
+  -- These ports and further files are those of the words before the ones that are left.
+  pub record IsLeft (all left : List Text) (ports : List (Port Address)) (more : List More) : Type 0 where
+    pub goes_on : (later : List (Port Address)) → ArePortsOf left later → ArePortsOf all (ports ++ later)
+    pub further : AreSoFar is_any (length ports) all left more
+    pub told : (fault : Fault) → IsFirstWrongOf is_sided is_any (length ports) (length more) left fault → IsFirstWrongOf is_sided is_any 0 0 all fault
 
-  pub begin : (all : List Text) → IsLeft all all []
-  begin all = record { goes_on = λ more zip. zip; told = λ fault is. is }
+  module _ (all left : List Text) (ports : List (Port Address)) (more : List More) (word : Text) (is : IsLeft all (word ∷ left) ports more) where
+    abbrev MoreFirst : Fault → Type 0
+    MoreFirst fault = IsWrongMore (length ports) (length more) word fault
+        ⊎ (IsRightMore (length ports) (length more) word × IsFirstWrongOf is_sided is_any (length ports) (length more + 1) left fault)
 
-  step : (all left : List Text) (ports : List (Port Address)) (word : Text) (port : Port Address) → IsLeft all (word ∷ left) ports → IsPort is_sided word port → IsLeft all left (ports ++ port ∷ [])
-  step all left ports word port is named = record {
-    goes_on = λ more zip. subst (λ l. AllZip (IsPort is_sided) all l) (sym (append_assoc ports (port ∷ []) more)) (is.goes_on (port ∷ more) (named, zip));
-    told = λ fault wrong. is.told fault (inr ((port, named), wrong));
-  }
+    abbrev PortFirst : Fault → Type 0
+    PortFirst fault = IsWrongWord is_sided word fault
+        ⊎ (((port : Port Address) × IsPort is_sided word port) × IsFirstWrongOf is_sided is_any (length ports + 1) (length more) left fault)
 
-  end : (all : List Text) (ports : List (Port Address)) → IsLeft all [] ports → AllZip (IsPort is_sided) all ports
-  end all ports is = subst (λ l. AllZip (IsPort is_sided) all l) (append-nil ports) (is.goes_on [] tt)
+    step_port : (port : Port Address) → is_more is_any word ≡ false → IsPort is_sided word port → IsLeft all left (ports ++ port ∷ []) more
+    step_port port kind named = record {
+      goes_on = λ later zip. subst (λ l. ArePortsOf all l) (sym (append_assoc ports (port ∷ []) later))
+          (is.goes_on (port ∷ later) (ports_with (λ l. AllZip (IsPort is_sided) l (port ∷ later)) (is_more is_any word) word (port_words is_any left) kind (named, zip)));
+      further = subst (λ (n : ℕ). AreSoFar is_any n all left more) (sym (length-append ports (port ∷ []))) (past_port is_any (length ports) all left more word is.further kind);
+      told = λ fault wrong.
+          is.told fault (of_port (is_more is_any word) (MoreFirst fault) (PortFirst fault) kind
+          (inr ((port, named), subst (λ (n : ℕ). IsFirstWrongOf is_sided is_any n (length more) left fault) (length-append ports (port ∷ [])) wrong)));
+    }
 
-  module _ (words : List (Bor Text)) (i : ℕ) (past : Bor Text) (inside : i < length words) where
+    step_more : (one : More) → is_more is_any word ≡ true → IsMore (length ports) word one → length more < 4096 → IsLeft all left ports (more ++ one ∷ [])
+    step_more one kind named room = record {
+      goes_on = λ later zip. is.goes_on later (ports_without (λ l. AllZip (IsPort is_sided) l later) (is_more is_any word) word (port_words is_any left) kind zip);
+      further = past_more is_any (length ports) all left more word one is.further kind named room;
+      told = λ fault wrong.
+          is.told fault (of_more (is_more is_any word) (MoreFirst fault) (PortFirst fault) kind
+          (inr (((one, named), room), subst (λ (n : ℕ). IsFirstWrongOf is_sided is_any (length ports) n left fault) (length-append more (one ∷ [])) wrong)));
+    }
+
+    wrong_port : (fault : Fault) → is_more is_any word ≡ false → IsWrongWord is_sided word fault → IsFirstWrongOf is_sided is_any 0 0 all fault
+    wrong_port fault kind wrong = is.told fault (of_port (is_more is_any word) (MoreFirst fault) (PortFirst fault) kind (inl wrong))
+
+    wrong_more : (fault : Fault) → is_more is_any word ≡ true → IsWrongMore (length ports) (length more) word fault → IsFirstWrongOf is_sided is_any 0 0 all fault
+    wrong_more fault kind wrong = is.told fault (of_more (is_more is_any word) (MoreFirst fault) (PortFirst fault) kind (inl wrong))
+
+  end : (all : List Text) (ports : List (Port Address)) (more : List More) → IsLeft all [] ports more → ArePortsOf all ports × AreMore is_any all more
+  end all ports more is = (subst (λ l. ArePortsOf all l) (append-nil ports) (is.goes_on [] tt), all_of_them is_any (length ports) all more is.further)
+
+  module _ (words : List (Bor Text)) (i : ℕ) (past : Bor Text) (inside : i < length words) (ports : List (Port Address)) (more : List More)
+      (is : IsLeft (texts words) (texts (drop i words)) ports more) where
     abbrev word : Text
     word = (get_or words i past).now
 
-    next : texts (drop i words) ≡ word ∷ texts (drop (i + 1) words)
-    next = ap texts (drop_more words i past inside)
+    abbrev left : List Text
+    left = texts (drop (i + 1) words)
 
-    pub one_more : (ports more : List (Port Address)) (port : Port Address) → IsLeft (texts words) (texts (drop i words)) ports → IsPort is_sided word port → more ≡ ports ++ port ∷ []
-        → IsLeft (texts words) (texts (drop (i + 1) words)) more
-    one_more ports more port is named pushed =
-        subst (λ l. IsLeft (texts words) (texts (drop (i + 1) words)) l) (sym pushed)
-        (step (texts words) (texts (drop (i + 1) words)) ports word port (subst (λ l. IsLeft (texts words) l ports) next is) named)
+    here : IsLeft (texts words) (word ∷ left) ports more
+    here = subst (λ l. IsLeft (texts words) l ports more) (ap texts (drop_more words i past inside)) is
 
-  pub all_read : (words : List (Bor Text)) (i : ℕ) (ports : List (Port Address)) → length words ≤ i → IsLeft (texts words) (texts (drop i words)) ports → AllZip (IsPort is_sided) (texts words) ports
-  all_read words i ports past is = end (texts words) ports (subst (λ l. IsLeft (texts words) (texts l) ports) (drop_all i words past) is)
+    pub one_more : (new : List (Port Address)) (port : Port Address) → is_more is_any word ≡ false → IsPort is_sided word port → new ≡ ports ++ port ∷ [] → IsLeft (texts words) left new more
+    one_more new port kind named pushed = subst (λ l. IsLeft (texts words) left l more) (sym pushed) (step_port (texts words) left ports more word here port kind named)
+
+    pub one_further : (new : List More) (one : More) (named_ports count : ℕ) → named_ports ≡ length ports → count ≡ length more → is_more is_any word ≡ true → IsMore named_ports word one → count < 4096
+        → new ≡ more ++ one ∷ [] → IsLeft (texts words) left ports new
+    one_further new one named_ports count all_ports all_more kind named room pushed =
+        subst (λ l. IsLeft (texts words) left ports l) (sym pushed)
+        (step_more (texts words) left ports more word here one kind (subst (λ (n : ℕ). IsMore n word one) all_ports named) (subst (λ (n : ℕ). n < 4096) all_more room))
+
+    pub no_port : (fault : Fault) → is_more is_any word ≡ false → IsWrongWord is_sided word fault → OrMemory (IsFirstWrongOf is_sided is_any 0 0 (texts words)) fault
+    no_port fault kind wrong = or_memory (IsFirstWrongOf is_sided is_any 0 0 (texts words)) fault (wrong_port (texts words) left ports more word here fault kind wrong)
+
+    pub no_further : (fault : Fault) (named_ports count : ℕ) → named_ports ≡ length ports → count ≡ length more → is_more is_any word ≡ true → IsWrongMore named_ports count word fault
+        → OrMemory (IsFirstWrongOf is_sided is_any 0 0 (texts words)) fault
+    no_further fault named_ports count all_ports all_more kind wrong =
+        or_memory (IsFirstWrongOf is_sided is_any 0 0 (texts words)) fault
+        (wrong_more (texts words) left ports more word here fault kind
+        (subst (λ (n : ℕ). IsWrongMore (length ports) n word fault) all_more (subst (λ (n : ℕ). IsWrongMore n count word fault) all_ports wrong)))
+
+  pub all_read : (words : List (Bor Text)) (i : ℕ) (ports : List (Port Address)) (more : List More) → length words ≤ i → IsLeft (texts words) (texts (drop i words)) ports more
+      → ArePortsOf (texts words) ports × AreMore is_any (texts words) more
+  all_read words i ports more past is = end (texts words) ports more (subst (λ l. IsLeft (texts words) (texts l) ports more) (drop_all i words past) is)
 
 -- a push that wasn't refused
 pub accepted : {E X : Type 0} (r : Result (Unit {0}) E) (new pushed old : X) → new ≡ (if is_ok r then pushed else old) → is_err r ≡ false → new ≡ pushed

@@ -1,5 +1,6 @@
 pub mod Choosing
 pub mod FirstWrong
+pub mod Further
 pub mod Labelling
 pub mod Linking
 pub mod Numbers

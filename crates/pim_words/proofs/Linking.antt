@@ -1,19 +1,18 @@
 -- Ports that get the links of their numbers.
-use Rattle.std.proofs.Common.{◌≡◌, ◌∙◌, sym, ap, subst, refl, ℕ, ◌+◌, Bool, true, List, [], ◌∷◌, ◌++◌, Option, Result, Ok, Err, MatchResult}
+use Rattle.std.proofs.Common.{◌≡◌, ◌∙◌, sym, ap, subst, refl, ℕ, ◌+◌, Bool, true, List, [], ◌∷◌, ◌++◌, Option}
 use Rattle.std.specs.Borrow.{Bor}
 use Rattle.std.specs.List.{AllZip}
 use Rattle.clap.specs.Words.{Row, Text}
 use Rattle.pim_words.specs.declared.addresses.Address.{Address}
-use Rattle.pim_words.specs.declared.fault.Fault.{Fault}
-use Rattle.pim_words.specs.declared.fault.Fault.TheVariants.{Memory}
 use Rattle.pim_words.specs.declared.links.Links.{Links}
+use Rattle.pim_words.specs.declared.task.More.{More}
 use Rattle.pim_words.specs.declared.task.Port.{Port}
 use Rattle.pim_words.specs.Given.{words_of}
 use Rattle.pim_words.specs.Labels.{AreLabelled, AreLabelledAfter}
 use Rattle.pim_words.specs.Links.{AreLinks, AreChosenLinks, AreLinkedFrom}
-use Rattle.pim_words.specs.Ports.{IsPort}
-use Rattle.pim_words.specs.Reading.{ArePorts, AreWrongPorts, AreNamedPorts}
-use Rattle.pim_words.specs.Seen.{OrMemory, with_links}
+use Rattle.pim_words.specs.Ports.{AreMore, IsPort, port_words}
+use Rattle.pim_words.specs.Reading.{ArePorts, AreNamedPorts}
+use Rattle.pim_words.specs.Seen.{with_links}
 
 linked_from : (links : Links) (number : ℕ) (ports : List (Port Address)) → AreLinkedFrom links number (with_links links number ports)
 linked_from links number [] = tt
@@ -48,23 +47,24 @@ labelled_with earlier links number (word ∷ words) (port ∷ ports) (name ∷ n
 labelled_with earlier links number words ports names are = absurd are
 
 module _ (rows : List Row) (links : Links) (ports seen : List (Port Address)) (same : seen ≡ ports) where
-  pub linked_ports : {V : Type 0} (items : V → List (Port Address)) (is_sided : Bool) (r : Result V Fault) → AreChosenLinks rows links → AllZip (IsPort is_sided) (words_of rows) ports
-      → MatchResult r (λ made. items made ≡ with_links links 0 seen) (λ fault. fault ≡ Memory) → MatchResult r (λ made. ArePorts is_sided rows (items made)) (OrMemory (AreWrongPorts is_sided rows))
-  linked_ports items is_sided (Ok made) chosen named is =
-      subst (λ (l : List (Port Address)). ArePorts is_sided rows l) (sym (is ∙ ap (with_links links 0) same)) (record {
+  pub linked_ports : (is_sided : Bool) (made : List (Port Address)) (more : List More) → AreChosenLinks rows links
+      → AllZip (IsPort is_sided) (port_words links.is_any (words_of rows)) ports × AreMore links.is_any (words_of rows) more → made ≡ with_links links 0 seen → ArePorts is_sided rows made more
+  linked_ports is_sided made more chosen named is =
+      subst (λ (l : List (Port Address)). ArePorts is_sided rows l more) (sym (is ∙ ap (with_links links 0) same)) (record {
         links = links;
         chosen = chosen;
-        named = named_with is_sided links 0 (words_of rows) ports named;
+        named = named_with is_sided links 0 (port_words links.is_any (words_of rows)) ports named.0;
         linked = linked_from links 0 ports;
+        further = named.1;
       })
-  linked_ports items is_sided (Err fault) chosen named is = subst (OrMemory (AreWrongPorts is_sided rows)) (sym is) tt
 
-  pub linked_names : (made : List (Port Address)) (names : List (Option (Bor Text))) → AreLinks true rows links → AreLabelled (words_of rows) ports names → made ≡ with_links links 0 seen
-      → AreNamedPorts rows made names
-  linked_names made names chosen labelled is =
-      subst (λ (l : List (Port Address)). AreNamedPorts rows l names) (sym (is ∙ ap (with_links links 0) same)) (record {
+  pub linked_names : (made : List (Port Address)) (more : List More) (names : List (Option (Bor Text))) → AreLinks true rows links
+      → AreLabelled (port_words true (words_of rows)) ports names × AreMore true (words_of rows) more → made ≡ with_links links 0 seen → AreNamedPorts rows made more names
+  linked_names made more names chosen labelled is =
+      subst (λ (l : List (Port Address)). AreNamedPorts rows l more names) (sym (is ∙ ap (with_links links 0) same)) (record {
         links = links;
         chosen = chosen;
-        labelled = labelled_with [] links 0 (words_of rows) ports names labelled;
+        labelled = labelled_with [] links 0 (port_words true (words_of rows)) ports names labelled.0;
         linked = linked_from links 0 ports;
+        further = labelled.1;
       })

@@ -1,8 +1,8 @@
 -- What the answer of `clap` says of the words.
-use Rattle.std.proofs.Common.{◌≡◌, ◌∙◌, ◌≤◌, inl, inr, ℕ, suc, Bool, true, false, not, cond, List, [], ◌∷◌, ◌++◌, length, Option, None, Some, refl, sym, ap, subst, option_map, Result, Ok, Err, MatchResult, IfOk}
+use Rattle.std.proofs.Common.{◌≡◌, ◌∙◌, ◌≤◌, ◌<◌, inl, inr, ℕ, suc, Bool, true, false, not, cond, List, [], ◌∷◌, ◌++◌, length, Option, None, Some, refl, sym, ap, subst, option_map, Result, Ok, Err, MatchResult, IfOk}
 use Rattle.std.specs.Prelude.{find, IfSome, IsSomeAnd}
 use Rattle.std.specs.Borrow.{Bor}
-use Rattle.std.specs.List.{AllByRecursion}
+use Rattle.std.specs.List.{AllByRecursion, AllZip}
 use Rattle.clap.specs.Words.{App, Row, Text, built, fault_of, subcommand_of}
 use Rattle.clap.specs.Walk.{answers_to, stop_after}
 use Rattle.clap.specs.Simple.{Shape, argument_words, entered, label_of, names_of, rows_at}
@@ -14,6 +14,7 @@ use Rattle.pim_addr.specs.declared.family.AddressFamily.TheVariants.{Ipv4, Ipv6}
 use Rattle.pim_words.specs.declared.addresses.Address.{Address}
 use Rattle.pim_words.specs.declared.fault.Fault.{Fault}
 use Rattle.pim_words.specs.declared.task.Captures.{Captures}
+use Rattle.pim_words.specs.declared.task.More.{More}
 use Rattle.pim_words.specs.declared.task.Kind.{Kind}
 use Rattle.pim_words.specs.declared.task.Kind.TheVariants.{Check, Build, Replay, Trace, Same, Mirror, Emit, Change}
 use Rattle.pim_words.specs.declared.task.Tracing.{Tracing}
@@ -25,12 +26,14 @@ use Rattle.pim_words.specs.declared.task.Task.TheVariants as task
 use Rattle.pim_words.specs.declared.task.Writing.{Writing}
 use Rattle.pim_words.specs.CommandLine.{pimtree}
 use Rattle.pim_words.specs.Ends.{IsEarly}
-use Rattle.pim_words.specs.Given.{IsKnown, words_of}
+use Rattle.pim_words.specs.Given.{IsKnown, is_sided, words_of}
 use Rattle.pim_words.specs.Labels.{AreLabelled, AreLabelledAfter, has_name, is_fresh, is_name}
-use Rattle.pim_words.specs.Plan.{AreNames, HasCause, IsBounded, IsLimited, IsWritable, IsInRange, IsPlanInRange, IsTaskOf, IsPlanOfTask, IsPlanOf, Plans}
-use Rattle.pim_words.specs.Reading.{IsTask, IsWriting}
+use Rattle.pim_words.specs.Plan.{AreFurther, AreNames, HasCause, IsBounded, IsLimited, IsWritable, IsInRange, IsPlanInRange, IsTaskOf, IsPlanOfTask, IsPlanOf, Plans}
+use Rattle.pim_words.specs.Ports.{IsPort, port_words}
+use Rattle.pim_words.specs.Reading.{AreNamedPorts, ArePorts, IsTask, IsWriting}
 use Rattle.pim_words.specs.Seen.{IsGiven, IsOffered}
 use Rattle.pim_words.specs.Typed.{IsPlanFor, SameCaptures, SameTask, SameTracing, SameWriting, port_seen}
+use Rattle.pim_words.proofs.Further.{below_ports}
 use Rattle.pim_words.proofs.Numbers.{has_numbers}
 
 -- ---- the command line
@@ -92,6 +95,27 @@ given_names : (words : List Text) (ports : List (Port Address)) (names : List (O
     → (length names ≡ length ports) × AllByRecursion (λ name. IfSome name (λ text. is_name text.now ≡ true)) names
 given_names words ports names are = names_after [] words ports names are
 
+all_ports : (is_sided : Bool) (words : List Text) (ports : List (Port Address)) → AllZip (IsPort is_sided) words ports → length ports ≡ length words
+all_ports is_sided [] [] are = refl
+all_ports is_sided [] (port ∷ ports) are = absurd are
+all_ports is_sided (word ∷ words) [] are = absurd are
+all_ports is_sided (word ∷ words) (port ∷ ports) are = ap suc (all_ports is_sided words ports are.1)
+
+all_labelled : (earlier : List (Option (Bor Text))) (words : List Text) (ports : List (Port Address)) (names : List (Option (Bor Text))) → AreLabelledAfter earlier words ports names → length ports ≡ length words
+all_labelled earlier [] [] [] are = refl
+all_labelled earlier (word ∷ words) (port ∷ ports) (name ∷ names) are = ap suc (all_labelled (earlier ++ name ∷ []) words ports names are.1)
+all_labelled earlier words ports names are = absurd are
+
+further_of : (is_sided : Bool) (rows : List Row) (captures : Captures Address) → ArePorts is_sided rows captures.ports.items captures.more.items → AreFurther captures
+further_of is_sided rows captures are =
+    below_ports are.links.is_any (words_of rows) (length captures.ports.items) captures.more.items are.further
+    (all_ports is_sided (port_words are.links.is_any (words_of rows)) captures.ports.items are.named)
+
+further_of_names : (rows : List Row) (captures : Captures Address) (names : List (Option (Bor Text))) → AreNamedPorts rows captures.ports.items captures.more.items names → AreFurther captures
+further_of_names rows captures names are =
+    below_ports true (words_of rows) (length captures.ports.items) captures.more.items are.further
+    (all_labelled [] (port_words true (words_of rows)) captures.ports.items names are.labelled)
+
 writable : (rows : List Row) (writing : Writing Address) → IsWriting rows writing → IsWritable writing
 writable rows writing is = (is.holdtime.least, is.budget.least, is.budget.most)
 
@@ -100,18 +124,27 @@ task_in_range Check rows (task.Check source destination) is = tt
 task_in_range Check rows other is = absurd is
 task_in_range Build rows (task.Build source destination) is = tt
 task_in_range Build rows other is = absurd is
-task_in_range Replay rows (task.Replay captures) is = ((is.1.run.after.most, is.1.run.early), (is.1.run.limit.least, is.1.run.limit.most))
+task_in_range Replay rows (task.Replay captures) is =
+    ((is.1.run.after.most, is.1.run.early), (is.1.run.limit.least, is.1.run.limit.most), further_of (is_sided Replay) rows captures is.1.ports)
 task_in_range Replay rows other is = absurd is
-task_in_range Trace rows (task.Trace captures tracing) is =
-    ((is.1.run.after.most, is.1.run.early), (is.1.run.limit.least, is.1.run.limit.most), given_names (words_of rows) captures.ports.items tracing.names.items is.1.ports.labelled)
+task_in_range Trace rows (task.Trace captures tracing) is = (
+  (is.1.run.after.most, is.1.run.early),
+  (is.1.run.limit.least, is.1.run.limit.most),
+  given_names (port_words true (words_of rows)) captures.ports.items tracing.names.items is.1.ports.labelled,
+  further_of_names rows captures tracing.names.items is.1.ports,
+)
 task_in_range Trace rows other is = absurd is
-task_in_range Same rows (task.Same captures writing) is = ((is.0.1.run.after.most, is.0.1.run.early), (is.0.1.run.limit.least, is.0.1.run.limit.most), writable rows writing is.1)
+task_in_range Same rows (task.Same captures writing) is =
+    ((is.0.1.run.after.most, is.0.1.run.early), (is.0.1.run.limit.least, is.0.1.run.limit.most), writable rows writing is.1, further_of (is_sided Same) rows captures is.0.1.ports)
 task_in_range Same rows other is = absurd is
-task_in_range Mirror rows (task.Mirror captures writing) is = ((is.0.1.run.after.most, is.0.1.run.early), (is.0.1.run.limit.least, is.0.1.run.limit.most), writable rows writing is.1)
+task_in_range Mirror rows (task.Mirror captures writing) is =
+    ((is.0.1.run.after.most, is.0.1.run.early), (is.0.1.run.limit.least, is.0.1.run.limit.most), writable rows writing is.1, further_of (is_sided Mirror) rows captures is.0.1.ports)
 task_in_range Mirror rows other is = absurd is
-task_in_range Emit rows (task.Emit captures writing) is = ((is.0.1.run.after.most, is.0.1.run.early), (is.0.1.run.limit.least, is.0.1.run.limit.most), writable rows writing is.1)
+task_in_range Emit rows (task.Emit captures writing) is =
+    ((is.0.1.run.after.most, is.0.1.run.early), (is.0.1.run.limit.least, is.0.1.run.limit.most), writable rows writing is.1, further_of (is_sided Emit) rows captures is.0.1.ports)
 task_in_range Emit rows other is = absurd is
-task_in_range Change rows (task.Change captures writing) is = ((is.0.1.run.after.most, is.0.1.run.early), (is.0.1.run.limit.least, is.0.1.run.limit.most), writable rows writing is.1)
+task_in_range Change rows (task.Change captures writing) is =
+    ((is.0.1.run.after.most, is.0.1.run.early), (is.0.1.run.limit.least, is.0.1.run.limit.most), writable rows writing is.1, further_of (is_sided Change) rows captures is.0.1.ports)
 task_in_range Change rows other is = absurd is
 
 module _ {A : Type 0} (family : AddressFamily) (bytes_of : A → List ℕ) where
@@ -134,25 +167,33 @@ module _ {A : Type 0} (family : AddressFamily) (bytes_of : A → List ℕ) where
     subst (λ l. AllByRecursion (λ name. IfSome name (λ text. is_name text.now ≡ true)) l) (sym shown.names) are.1,
   )
 
+  same_further : (typed : Captures A) (asked : Captures Address) → AreFurther asked → SameCaptures family bytes_of typed asked → AreFurther typed
+  same_further typed asked are same =
+      let count : length asked.ports.items ≡ length typed.ports.items = sym (ap length same.ports) ∙ length-map typed.ports.items (port_seen family bytes_of) in (
+        subst (λ (l : List More). length l ≤ 4096) (sym same.more) are.0,
+        subst (λ (n : ℕ). AllByRecursion (λ (one : More). one.port < n) typed.more.items) count
+            (subst (λ (l : List More). AllByRecursion (λ (one : More). one.port < length asked.ports.items) l) (sym same.more) are.1),
+      )
+
   same_in_range : (typed : Task A) (asked : Task Address) → IsInRange asked → SameTask family bytes_of typed asked → IsInRange typed
   same_in_range (task.Check a b) asked is same = tt
   same_in_range (task.Build a b) asked is same = tt
-  same_in_range (task.Replay typed) (task.Replay captures) is same = (same_bounded typed captures is.0 same, same_limited typed captures is.1 same)
+  same_in_range (task.Replay typed) (task.Replay captures) is same = (same_bounded typed captures is.0 same, same_limited typed captures is.1 same, same_further typed captures is.2 same)
   same_in_range (task.Replay typed) other is same = absurd same
   same_in_range (task.Trace typed how) (task.Trace captures tracing) is same =
-      (same_bounded typed captures is.0 same.0, same_limited typed captures is.1 same.0, same_names typed captures how tracing is.2 same.0 same.1)
+      (same_bounded typed captures is.0 same.0, same_limited typed captures is.1 same.0, same_names typed captures how tracing is.2 same.0 same.1, same_further typed captures is.3 same.0)
   same_in_range (task.Trace typed how) other is same = absurd same
   same_in_range (task.Same typed how) (task.Same captures writing) is same =
-      (same_bounded typed captures is.0 same.0, same_limited typed captures is.1 same.0, same_writable how writing is.2 same.1)
+      (same_bounded typed captures is.0 same.0, same_limited typed captures is.1 same.0, same_writable how writing is.2 same.1, same_further typed captures is.3 same.0)
   same_in_range (task.Same typed how) other is same = absurd same
   same_in_range (task.Mirror typed how) (task.Mirror captures writing) is same =
-      (same_bounded typed captures is.0 same.0, same_limited typed captures is.1 same.0, same_writable how writing is.2 same.1)
+      (same_bounded typed captures is.0 same.0, same_limited typed captures is.1 same.0, same_writable how writing is.2 same.1, same_further typed captures is.3 same.0)
   same_in_range (task.Mirror typed how) other is same = absurd same
   same_in_range (task.Emit typed how) (task.Emit captures writing) is same =
-      (same_bounded typed captures is.0 same.0, same_limited typed captures is.1 same.0, same_writable how writing is.2 same.1)
+      (same_bounded typed captures is.0 same.0, same_limited typed captures is.1 same.0, same_writable how writing is.2 same.1, same_further typed captures is.3 same.0)
   same_in_range (task.Emit typed how) other is same = absurd same
   same_in_range (task.Change typed how) (task.Change captures writing) is same =
-      (same_bounded typed captures is.0 same.0, same_limited typed captures is.1 same.0, same_writable how writing is.2 same.1)
+      (same_bounded typed captures is.0 same.0, same_limited typed captures is.1 same.0, same_writable how writing is.2 same.1, same_further typed captures is.3 same.0)
   same_in_range (task.Change typed how) other is same = absurd same
 
 plan_in_range : (plan : Plan) (asked : Task Address) → IsInRange asked → IsPlanFor plan asked → IsPlanInRange plan

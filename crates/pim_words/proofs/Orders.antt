@@ -32,16 +32,16 @@ timely (Some text) (Some time) is = (time, is)
 -- ---- the words of a run
 
 module _ (is_sided : Bool) (rows : List Row) where
-  pub wrong_words_of : (links : Links) (fault : Fault) → AreChosenLinks rows links → OrMemory (IsFirstWrongOf is_sided (words_of rows)) fault → OrMemory (AreWrongPorts is_sided rows) fault
-  wrong_words_of links fault are is = or_more (IsFirstWrongOf is_sided (words_of rows)) (AreWrongPorts is_sided rows) (λ f e. inr ((links, are), e)) fault is
+  pub wrong_words_of : (links : Links) (fault : Fault) → AreChosenLinks rows links → OrMemory (IsFirstWrongOf is_sided links.is_any 0 0 (words_of rows)) fault → OrMemory (AreWrongPorts is_sided rows) fault
+  wrong_words_of links fault are is = or_more (IsFirstWrongOf is_sided links.is_any 0 0 (words_of rows)) (AreWrongPorts is_sided rows) (λ f e. inr (links, are, e)) fault is
 
   pub wrong_ports : (at : Option Time) (fault : Fault) → IsTimed (time_text rows) at → OrMemory (AreWrongPorts is_sided rows) fault → OrMemory (IsWrongRun is_sided rows) fault
   wrong_ports at fault timed is = or_more (AreWrongPorts is_sided rows) (IsWrongRun is_sided rows) (λ f e. inr (timely (time_text rows) at timed, e)) fault is
 
 -- ---- the words of a trace
 
-pub wrong_labelled : (rows : List Row) (links : Links) (fault : Fault) → AreLinks true rows links → OrMemory (IsFirstWrongLabelled [] (words_of rows)) fault → OrMemory (AreWrongNamedPorts rows) fault
-wrong_labelled rows links fault are is = or_more (IsFirstWrongLabelled [] (words_of rows)) (AreWrongNamedPorts rows) (λ f e. inr ((links, are), e)) fault is
+pub wrong_labelled : (rows : List Row) (links : Links) (fault : Fault) → AreLinks true rows links → OrMemory (IsFirstWrongLabelled [] 0 (words_of rows)) fault → OrMemory (AreWrongNamedPorts rows) fault
+wrong_labelled rows links fault are is = or_more (IsFirstWrongLabelled [] 0 (words_of rows)) (AreWrongNamedPorts rows) (λ f e. inr ((links, are), e)) fault is
 
 module _ (rows : List Row) (at : Option Time) (timed : IsTimed (time_text rows) at) where
   pub wrong_shown : (fault : Fault) → OrMemory (IsWrongShown rows) fault → OrMemory (IsWrongTrace rows) fault

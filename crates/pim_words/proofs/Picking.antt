@@ -14,7 +14,7 @@ use Rattle.pim_words.specs.declared.task.Link.{Link}
 use Rattle.pim_words.specs.Given.{IsNumber, IsNoNumber}
 use Rattle.pim_words.specs.Labels.{LacksEqualSign}
 use Rattle.pim_words.specs.Links.{IsPortNumber, IsNoPortNumber, IsTarget, IsNoTarget, LacksPoint, IsNoVlan, IsLinkText, IsNoLink, is_same_port, pick_for, IsPick, IsNoPick, ArePicks, ArePicksAfter, IsFirstWrongPick}
-use Rattle.pim_words.proofs.FirstWrong.{texts}
+use Rattle.pim_words.proofs.Further.{texts}
 
 module _ (chosen : Part) (is_any : Bool) (count : ℕ) where
   -- These picks are those of the values before the ones that are left.

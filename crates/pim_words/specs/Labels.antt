@@ -1,5 +1,5 @@
 -- The words of a trace: ports with names.
-use Rattle.std.specs.Prelude.{◌≡◌, ◌≢◌, ◌<◌, ◌⊎◌, ⊤, ℕ, Bool, true, false, not, ◌&&◌, ◌||◌, ◌==◌, nat_le}
+use Rattle.std.specs.Prelude.{◌≡◌, ◌≢◌, ◌<◌, ◌⊎◌, ◌+◌, ⊤, ℕ, Bool, true, false, not, ◌&&◌, ◌||◌, ◌==◌, nat_le}
 use Rattle.std.specs.Prelude.{List, [], ◌∷◌, ◌++◌, length, get_or, Option, None, Some}
 use Rattle.std.specs.Borrow.{Bor}
 use Rattle.std.specs.Char.{is_ascii_alphabetic, is_ascii_alphanumeric}
@@ -13,7 +13,7 @@ use Rattle.pim_words.specs.declared.fault.Side.TheVariants.{A}
 use Rattle.pim_words.specs.declared.label.Label.{Label}
 use Rattle.pim_words.specs.declared.task.Port.{Port}
 use Rattle.pim_words.specs.Addresses.{Names, IsUnread}
-use Rattle.pim_words.specs.Ports.{IsCut, LacksAtSign}
+use Rattle.pim_words.specs.Ports.{ByKind, IsCut, IsRightMore, IsWrongMore, LacksAtSign, is_more}
 
 -- ---- names
 
@@ -100,7 +100,8 @@ IsWrongLabelled earlier word other = ⊥
 
 -- ---- all words
 
--- The words name these ports with these names, after ports with the earlier names.
+-- These words, none of which is one for a further file, name these ports with these names, after
+-- ports with the earlier names.
 abbrev pub AreLabelledAfter : List (Option (Bor Text)) → List Text → List (Port Address) → List (Option (Bor Text)) →
     Type 0
 AreLabelledAfter earlier [] [] [] = ⊤
@@ -108,14 +109,17 @@ AreLabelledAfter earlier (word ∷ words) (port ∷ ports) (name ∷ names) =
     IsLabelled earlier word port name × AreLabelledAfter (earlier ++ name ∷ []) words ports names
 AreLabelledAfter earlier words ports names = ⊥
 
--- The words name these ports with these names.
+-- These words name these ports with these names.
 abbrev pub AreLabelled : List Text → List (Port Address) → List (Option (Bor Text)) → Type 0
 AreLabelled words ports names = AreLabelledAfter [] words ports names
 
--- The fault is that of the first wrong word, after ports with the earlier names.
-abbrev pub IsFirstWrongLabelled : List (Option (Bor Text)) → List Text → Fault → Type 0
-IsFirstWrongLabelled earlier [] fault = ⊥
-IsFirstWrongLabelled earlier (word ∷ words) fault =
-    IsWrongLabelled earlier word fault
+-- The fault is that of the first wrong word, after ports with the earlier names and this number of
+-- further files.
+abbrev pub IsFirstWrongLabelled : List (Option (Bor Text)) → ℕ → List Text → Fault → Type 0
+IsFirstWrongLabelled earlier count [] fault = ⊥
+IsFirstWrongLabelled earlier count (word ∷ words) fault = ByKind (is_more true word)
+    (IsWrongMore (length earlier) count word fault
+    ⊎ (IsRightMore (length earlier) count word × IsFirstWrongLabelled earlier (count + 1) words fault))
+    (IsWrongLabelled earlier word fault
     ⊎ ((port : Port Address) × (name : Option (Bor Text)) × IsLabelled earlier word port name
-    × IsFirstWrongLabelled (earlier ++ name ∷ []) words fault)
+    × IsFirstWrongLabelled (earlier ++ name ∷ []) count words fault))

@@ -16,6 +16,7 @@ use Rattle.pim_words.specs.declared.task.Link.{Link}
 use Rattle.pim_words.specs.declared.task.Port.{Port}
 use Rattle.pim_words.specs.Given.{IsNumber, option_or, words_of}
 use Rattle.pim_words.specs.Labels.{LacksEqualSign}
+use Rattle.pim_words.specs.Ports.{port_words}
 use Rattle.pim_words.specs.Shown.{values_of}
 
 -- ---- a VLAN
@@ -159,23 +160,23 @@ IsFirstWrongPick chosen is_any count earlier (value ∷ values) fault =
 
 -- ---- the links of all ports
 
--- The number of the words, each of which names a port.
-abbrev pub word_count : List Row → ℕ
-word_count rows = length (words_of rows)
+-- The number of the words that name ports, where any container is read or not.
+abbrev pub word_count : Bool → List Row → ℕ
+word_count is_any rows = length (port_words is_any (words_of rows))
 
 -- The values of `--vlan` and `--interface` pick these links, where any container is read or not.
 pub record AreLinks (is_any : Bool) (rows : List Row) (links : Links) : Type 0 where
   pub any : links.is_any ≡ is_any
-  pub vlans : ArePicks part.Vlan is_any (word_count rows) (values_of (codes "vlan") rows) links.vlans.items
+  pub vlans : ArePicks part.Vlan is_any (word_count is_any rows) (values_of (codes "vlan") rows) links.vlans.items
   pub interfaces :
-      ArePicks part.Interface is_any (word_count rows) (values_of (codes "interface") rows) links.interfaces.items
+      ArePicks part.Interface is_any (word_count is_any rows) (values_of (codes "interface") rows) links.interfaces.items
 
 -- The fault of the first wrong value: of `--vlan`, otherwise of `--interface`.
 abbrev pub IsWrongLinks : Bool → List Row → Fault → Type 0
 IsWrongLinks is_any rows fault =
-    IsFirstWrongPick part.Vlan is_any (word_count rows) [] (values_of (codes "vlan") rows) fault
-    ⊎ (ArePickable part.Vlan is_any (word_count rows) (values_of (codes "vlan") rows)
-    × IsFirstWrongPick part.Interface is_any (word_count rows) [] (values_of (codes "interface") rows) fault)
+    IsFirstWrongPick part.Vlan is_any (word_count is_any rows) [] (values_of (codes "vlan") rows) fault
+    ⊎ (ArePickable part.Vlan is_any (word_count is_any rows) (values_of (codes "vlan") rows)
+    × IsFirstWrongPick part.Interface is_any (word_count is_any rows) [] (values_of (codes "interface") rows) fault)
 
 -- Each of these values is right.
 abbrev pub AreLinkable : Bool → List Row → Type 0
@@ -217,10 +218,6 @@ IsWrongInput text fault = ⊥
 -- The options give these links.
 abbrev pub AreChosenLinks : List Row → Links → Type 0
 AreChosenLinks rows links = (input_text rows ≡ input_name links.is_any) × AreLinks links.is_any rows links
-
--- The options give some links.
-abbrev pub AreChoosableLinks : List Row → Type 0
-AreChoosableLinks rows = (links : Links) × AreChosenLinks rows links
 
 -- The fault of the first wrong value: of `--input`, otherwise of `--vlan`, otherwise of `--interface`.
 abbrev pub AreWrongChoices : List Row → Fault → Type 0

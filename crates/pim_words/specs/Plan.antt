@@ -1,5 +1,5 @@
 -- What is to be done, by the words of the command line.
-use Rattle.std.specs.Prelude.{◌≡◌, ◌≤◌, ◌⊎◌, List, [], ◌∷◌, length, ⊤, true, IfSome, IsSomeAnd, Result, Ok, Err}
+use Rattle.std.specs.Prelude.{◌≡◌, ◌≤◌, ◌<◌, ◌⊎◌, List, [], ◌∷◌, length, ⊤, true, IfSome, IsSomeAnd, Result, Ok, Err}
 use Rattle.std.specs.List.{AllByRecursion}
 use Rattle.std.specs.declared.alloc.AllocError.{AllocError}
 use Rattle.std.specs.declared.alloc.Global.{Global}
@@ -16,6 +16,7 @@ use Rattle.pim_words.specs.declared.task.Plan.TheVariants.{V4, V6, Session}
 use Rattle.pim_words.specs.declared.task.Task.{Task}
 use Rattle.pim_words.specs.declared.task.Task.TheVariants.{Check, Build, Replay, Trace, Same, Mirror, Emit, Change}
 use Rattle.pim_words.specs.declared.task.Captures.{Captures}
+use Rattle.pim_words.specs.declared.task.More.{More}
 use Rattle.pim_words.specs.declared.task.Tracing.{Tracing}
 use Rattle.pim_words.specs.declared.task.Writing.{Writing}
 use Rattle.pim_words.specs.Ends.{IsEarly}
@@ -100,6 +101,11 @@ IsBounded captures = (captures.after_ms ≤ 1000000000) × IsEarly captures.at
 abbrev pub IsLimited : {A : Type 0} → Captures A → Type 0
 IsLimited captures = (1 ≤ captures.limit) × (captures.limit ≤ 100000)
 
+-- There are at most 4,096 further files, each of one of the ports.
+abbrev pub AreFurther : {A : Type 0} → Captures A → Type 0
+AreFurther captures = (length captures.more.items ≤ 4096)
+    × AllByRecursion (λ (more : More). more.port < length captures.ports.items) captures.more.items
+
 -- The holdtime is at least 99 seconds, and the budget is 70 to 65,000 bytes.
 abbrev pub IsWritable : {A : Type 0} → Writing A → Type 0
 IsWritable writing = (99 ≤ writing.holdtime) × (70 ≤ writing.budget) × (writing.budget ≤ 65000)
@@ -113,12 +119,17 @@ AreNames captures tracing = (length tracing.names.items ≡ length captures.port
 abbrev pub IsInRange : {A : Type 0} → Task A → Type 0
 IsInRange (Check source destination) = ⊤
 IsInRange (Build source destination) = ⊤
-IsInRange (Replay captures) = IsBounded captures × IsLimited captures
-IsInRange (Trace captures tracing) = IsBounded captures × IsLimited captures × AreNames captures tracing
-IsInRange (Same captures writing) = IsBounded captures × IsLimited captures × IsWritable writing
-IsInRange (Mirror captures writing) = IsBounded captures × IsLimited captures × IsWritable writing
-IsInRange (Emit captures writing) = IsBounded captures × IsLimited captures × IsWritable writing
-IsInRange (Change captures writing) = IsBounded captures × IsLimited captures × IsWritable writing
+IsInRange (Replay captures) = IsBounded captures × IsLimited captures × AreFurther captures
+IsInRange (Trace captures tracing) =
+    IsBounded captures × IsLimited captures × AreNames captures tracing × AreFurther captures
+IsInRange (Same captures writing) =
+    IsBounded captures × IsLimited captures × IsWritable writing × AreFurther captures
+IsInRange (Mirror captures writing) =
+    IsBounded captures × IsLimited captures × IsWritable writing × AreFurther captures
+IsInRange (Emit captures writing) =
+    IsBounded captures × IsLimited captures × IsWritable writing × AreFurther captures
+IsInRange (Change captures writing) =
+    IsBounded captures × IsLimited captures × IsWritable writing × AreFurther captures
 
 -- The numbers of the plan are in their ranges.
 abbrev pub IsPlanInRange : Plan → Type 0

@@ -1,11 +1,14 @@
--- The words that name ports.
-use Rattle.std.specs.Prelude.{◌≡◌, ◌≢◌, ◌<◌, ◌⊎◌, ℕ, Bool, true, false, List, [], ◌∷◌, ◌++◌, length, get_or, codes}
+-- The words that name ports, and those that name further files of them.
+use Rattle.std.specs.Prelude.{◌≡◌, ◌≢◌, ◌<◌, ◌≤◌, ◌⊎◌, ◌==◌, ◌&&◌, ◌+◌, not, cond, filter, ℕ, Bool, true, false}
+use Rattle.std.specs.Prelude.{List, [], ◌∷◌, ◌++◌, length, get_or, codes}
+use Rattle.std.specs.List.{AllZip}
 use Rattle.clap.specs.Words.{Text}
 use Rattle.pim_words.specs.declared.addresses.Address.{Address}
 use Rattle.pim_words.specs.declared.fault.Fault.{Fault}
 use Rattle.pim_words.specs.declared.fault.Fault.TheVariants as cause
 use Rattle.pim_words.specs.declared.fault.Side.{Side}
 use Rattle.pim_words.specs.declared.fault.Side.TheVariants.{A, B}
+use Rattle.pim_words.specs.declared.task.More.{More}
 use Rattle.pim_words.specs.declared.task.Port.{Port}
 use Rattle.pim_words.specs.Addresses.{Names, IsUnread}
 
@@ -58,9 +61,59 @@ IsWrongWord is_sided word (cause.Word told) = (told.now ≡ word) × IsUncutWord
 IsWrongWord is_sided word (cause.Address told) = (told.now ≡ word) × HasBadAddress is_sided word
 IsWrongWord is_sided word other = ⊥
 
--- The fault is that of the first wrong word; all words before it name ports.
-abbrev pub IsFirstWrongOf : Bool → List Text → Fault → Type 0
-IsFirstWrongOf is_sided [] fault = ⊥
-IsFirstWrongOf is_sided (word ∷ words) fault =
-    IsWrongWord is_sided word fault
-    ⊎ (((port : Port Address) × IsPort is_sided word port) × IsFirstWrongOf is_sided words fault)
+-- ---- the words for further files
+
+-- Whether the word is one for a further file: any container is read, and the word begins with `+`.
+abbrev pub is_more : Bool → Text → Bool
+is_more is_any word = is_any && (get_or word 0 0 == 43)
+
+-- The other words. Each names a port.
+abbrev pub port_words : Bool → List Text → List Text
+port_words is_any words = filter (λ word. not (is_more is_any word)) words
+
+-- The words for further files, each with the number of the ports that are named before it, which
+-- counts from this one.
+abbrev pub more_words : Bool → ℕ → List Text → List (ℕ × Text)
+more_words is_any ports [] = []
+more_words is_any ports (word ∷ words) =
+    cond (is_more is_any word) ((ports, word) ∷ more_words is_any ports words) (more_words is_any (ports + 1) words)
+
+-- The word is `+FILE`, with the name of this file. It goes on with the last of the ports before it,
+-- so there must be one.
+pub record IsMore (ports : ℕ) (word : Text) (more : More) : Type 0 where
+  pub cut : word ≡ codes "+" ++ more.file.now
+  pub named : more.file.now ≢ []
+  pub last : more.port + 1 ≡ ports
+  pub whole : more.word.now ≡ word
+
+-- The words name these further files, at most 4,096.
+pub record AreMore (is_any : Bool) (words : List Text) (more : List More) : Type 0 where
+  pub named : AllZip (λ (at : ℕ × Text) one. IsMore at.0 at.1 one) (more_words is_any 0 words) more
+  pub few : length more ≤ 4096
+
+-- After these numbers of ports and further files, the word names one more.
+abbrev pub IsRightMore : ℕ → ℕ → Text → Type 0
+IsRightMore ports count word = ((more : More) × IsMore ports word more) × (count < 4096)
+
+-- The fault of a word that names none, or one too many.
+abbrev pub IsWrongMore : ℕ → ℕ → Text → Fault → Type 0
+IsWrongMore ports count word (cause.Word text) = (text.now ≡ word) × (IsRightMore ports count word → ⊥)
+IsWrongMore ports count word other = ⊥
+
+-- ---- all words
+
+-- The first of two facts for a word that names a further file, the second for one that names a port.
+abbrev pub ByKind : Bool → Type 0 → Type 0 → Type 0
+ByKind true first second = first
+ByKind false first second = second
+
+-- The fault is that of the first wrong word, after these numbers of ports and further files. All
+-- words before it name ports or further files.
+abbrev pub IsFirstWrongOf : Bool → Bool → ℕ → ℕ → List Text → Fault → Type 0
+IsFirstWrongOf is_sided is_any ports count [] fault = ⊥
+IsFirstWrongOf is_sided is_any ports count (word ∷ words) fault = ByKind (is_more is_any word)
+    (IsWrongMore ports count word fault
+    ⊎ (IsRightMore ports count word × IsFirstWrongOf is_sided is_any ports (count + 1) words fault))
+    (IsWrongWord is_sided word fault
+    ⊎ (((port : Port Address) × IsPort is_sided word port)
+    × IsFirstWrongOf is_sided is_any (ports + 1) count words fault))

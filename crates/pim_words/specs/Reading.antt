@@ -10,6 +10,7 @@ use Rattle.pim_words.specs.declared.fault.Fault.{Fault}
 use Rattle.pim_words.specs.declared.fault.Fault.TheVariants as cause
 use Rattle.pim_words.specs.declared.links.Links.{Links}
 use Rattle.pim_words.specs.declared.task.Captures.{Captures}
+use Rattle.pim_words.specs.declared.task.More.{More}
 use Rattle.pim_words.specs.declared.task.Port.{Port}
 use Rattle.pim_words.specs.declared.task.Tracing.{Tracing}
 use Rattle.pim_words.specs.declared.task.Writing.{Writing}
@@ -23,8 +24,8 @@ use Rattle.pim_words.specs.Given.{IsNumber, address_texts, is_flag, is_sided, op
 use Rattle.pim_words.specs.Given.{source_text, destination_text}
 use Rattle.pim_words.specs.Labels.{AreLabelled, IsFirstWrongLabelled}
 use Rattle.pim_words.specs.Links.{AreLinks, AreLinkable, AreLinkedFrom, IsWrongLinks}
-use Rattle.pim_words.specs.Links.{AreChosenLinks, AreChoosableLinks, AreWrongChoices}
-use Rattle.pim_words.specs.Ports.{IsPort, IsFirstWrongOf}
+use Rattle.pim_words.specs.Links.{AreChosenLinks, AreWrongChoices}
+use Rattle.pim_words.specs.Ports.{AreMore, IsPort, IsFirstWrongOf, port_words}
 use Rattle.pim_words.specs.Shown.{IsShown, IsShowable, IsWrongShown, shown_of}
 
 -- ---- what is read
@@ -44,33 +45,36 @@ pub record IsRun (rows : List Row) (captures : Captures Address) : Type 0 where
   pub early : IsEarly captures.at
   pub one_end : are_both_given rows ≡ false
 
--- The words name these ports, with the links that the options choose.
-pub record ArePorts (is_sided : Bool) (rows : List Row) (ports : List (Port Address)) : Type 0 where
+-- The words name these ports, with the links that the options choose, and these further files.
+pub record ArePorts (is_sided : Bool) (rows : List Row) (ports : List (Port Address)) (more : List More) : Type 0 where
   pub links : Links
   pub chosen : AreChosenLinks rows links
-  pub named : AllZip (IsPort is_sided) (words_of rows) ports
+  pub named : AllZip (IsPort is_sided) (port_words links.is_any (words_of rows)) ports
   pub linked : AreLinkedFrom links 0 ports
+  pub further : AreMore links.is_any (words_of rows) more
 
--- The words of a trace name these ports so, with the links that the options choose.
-pub record AreNamedPorts (rows : List Row) (ports : List (Port Address))
+-- The words of a trace name these ports so, with the links that the options choose, and these further
+-- files.
+pub record AreNamedPorts (rows : List Row) (ports : List (Port Address)) (more : List More)
     (names : List (Option (Bor Text))) : Type 0 where
   pub links : Links
   pub chosen : AreLinks true rows links
-  pub labelled : AreLabelled (words_of rows) ports names
+  pub labelled : AreLabelled (port_words true (words_of rows)) ports names
   pub linked : AreLinkedFrom links 0 ports
+  pub further : AreMore true (words_of rows) more
 
--- The options of a run other than the RP, and the ports that the words name.
+-- The options of a run other than the RP, and the ports and further files that the words name.
 pub record AreCaptures (is_sided : Bool) (rows : List Row) (captures : Captures Address) : Type 0 where
   pub run : IsRun rows captures
-  pub ports : ArePorts is_sided rows captures.ports.items
+  pub ports : ArePorts is_sided rows captures.ports.items captures.more.items
 
--- The options of a trace, and the ports with their names.
+-- The options of a trace, and the ports with their names and further files.
 pub record AreTraced (rows : List Row) (captures : Captures Address) (tracing : Tracing Address) : Type 0 where
   pub run : IsRun rows captures
   pub shown : IsShown rows (shown_of tracing)
   pub all : tracing.all ≡ is_flag (codes "all") rows
   pub json : tracing.json ≡ is_flag (codes "json") rows
-  pub ports : AreNamedPorts rows captures.ports.items tracing.names.items
+  pub ports : AreNamedPorts rows captures.ports.items captures.more.items tracing.names.items
 
 -- The task of a trace with this RP.
 abbrev pub IsTraced : List Row → Option Address → Task Address → Type 0
@@ -128,12 +132,13 @@ AreRead (value ∷ values) = IfSome value IsRead × AreRead values
 -- The fault of ports: of a value that chooses their links, otherwise of a word.
 abbrev pub AreWrongPorts : Bool → List Row → Fault → Type 0
 AreWrongPorts is_sided rows fault =
-    AreWrongChoices rows fault ⊎ (AreChoosableLinks rows × IsFirstWrongOf is_sided (words_of rows) fault)
+    AreWrongChoices rows fault
+    ⊎ ((links : Links) × AreChosenLinks rows links × IsFirstWrongOf is_sided links.is_any 0 0 (words_of rows) fault)
 
 -- The same of a trace.
 abbrev pub AreWrongNamedPorts : List Row → Fault → Type 0
 AreWrongNamedPorts rows fault =
-    IsWrongLinks true rows fault ⊎ (AreLinkable true rows × IsFirstWrongLabelled [] (words_of rows) fault)
+    IsWrongLinks true rows fault ⊎ (AreLinkable true rows × IsFirstWrongLabelled [] 0 (words_of rows) fault)
 
 -- The fault of a run's words: its time can't be read, or else it is a fault of the ports.
 abbrev pub IsWrongRun : Bool → List Row → Fault → Type 0

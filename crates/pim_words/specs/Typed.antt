@@ -34,7 +34,7 @@ module _ {A : Type 0} (family : AddressFamily) (bytes_of : A → List ℕ) where
     link = port.link;
   }
 
-  -- The two have the same RP, file of routes, limit, times and ports.
+  -- The two have the same RP, file of routes, limit, times, ports and further files.
   pub record SameCaptures (typed : Captures A) (captures : Captures Address) : Type 0 where
     pub rp : option_map address_seen typed.rp ≡ captures.rp
     pub routes : typed.routes ≡ captures.routes
@@ -42,6 +42,7 @@ module _ {A : Type 0} (family : AddressFamily) (bytes_of : A → List ℕ) where
     pub after : typed.after_ms ≡ captures.after_ms
     pub at : typed.at ≡ captures.at
     pub ports : map port_seen typed.ports.items ≡ captures.ports.items
+    pub more : typed.more.items ≡ captures.more.items
 
   -- The two show the same: the time from which they show, groups, sources, form, all or not, JSON or not, and names.
   pub record SameTracing (typed : Tracing A) (tracing : Tracing Address) : Type 0 where

@@ -407,6 +407,7 @@ const REPLAY: Offer<'static> = Offer {
 those that `pimtree trace --help` names. P is the place of a port's word, from
 0. A FIFO, /dev/stdin and <(zcat x.pcap.gz) work as FILE, too; each line is then
 written as soon as it is complete. `pimtree --help` explains faults.
+With `--input any` +FILE goes on with the port before it; P doesn't count it.
 
 Each PIM packet has a line `MS port P from A VERDICT`. MS is milliseconds since
 the first record, P the place of the port's word, from 0. VERDICT is
@@ -458,6 +459,7 @@ these are faults:
   capture vlans 5,7       PIM packets of two VLANs, here 5 and 7
   capture interfaces 0,1  PIM packets of two interfaces
 --vlan and --interface choose one. P is the place of a port's word, from 0.
+A word +FILE goes on with the port of the word before it; P doesn't count it.
 
 A machine is `star G` for (*,G), `source S G` or `rpt S G`. Its states are
 no-info, join, prune-pending and prune. A packet that changes one has a line
@@ -512,6 +514,7 @@ const SAME: Offer<'static> = Offer {
     after_help: "Prints `same`, with status 0, where both routers ask the upstream neighbour for
 the same traffic at the end, or `different`, with status 1.
 `pimtree replay --help` explains what a FILE is.
+With `--input any` a word +FILE goes on with the port of the word before it.
 
 Example, at the top of the repository:
   pimtree same --rp 10.9.9.9 --upstream 10.0.0.3 --own 10.0.0.1 \\
@@ -527,6 +530,7 @@ const MIRROR: Offer<'static> = Offer {
     after_help: "Prints `message N HEX` for each Join/Prune message, N bytes long, then
 `messages N`, and `agrees` where a fresh router that hears them writes the same.
 `pimtree replay --help` explains what a FILE is.
+With `--input any` a word +FILE goes on with the port of the word before it.
 
 Example, at the top of the repository:
   pimtree mirror --rp 10.9.9.9 --upstream 10.0.0.3 --own 10.0.0.1 \\
@@ -542,6 +546,7 @@ const EMIT: Offer<'static> = Offer {
     after_help: "Writes the Join/Prune messages as bytes, each after its length, which is two
 bytes, big-endian. Nothing else is written.
 `pimtree replay --help` explains what a FILE is.
+With `--input any` a word +FILE goes on with the port of the word before it.
 
 Example, at the top of the repository:
   pimtree emit --rp 10.9.9.9 --upstream 10.0.0.3 --own 10.0.0.1 \\
@@ -558,6 +563,7 @@ const CHANGE: Offer<'static> = Offer {
 `messages N`, and `agrees` where a fresh router that wants what a wants, and
 then hears them, wants what b wants.
 `pimtree replay --help` explains what a FILE is.
+With `--input any` a word +FILE goes on with the port of the word before it.
 
 Example, at the top of the repository:
   pimtree change --rp 10.9.9.9 --upstream 10.0.0.3 --own 10.0.0.1 \\

@@ -50,11 +50,12 @@ pub enum Fault<'a> {
     /// The words give both `--after` and `--at`.
     TwoEnds,
     /// The word isn't `ADDRESS@FILE`, or with two routers `a=ADDRESS@FILE` or `b=ADDRESS@FILE`.
-    /// Or its name isn't one of a port, or is that of a port before it. Or it is the value of
-    /// `--at` or `--from` and names no time. Or it is that of `--time` or `--input` and names no
-    /// form or input, or the 65th value of `--group` or `--source`. Or it is a value of `--vlan` or
-    /// `--interface` that picks no link: any container isn't read, it has another form, it names a
-    /// port that isn't there, or an earlier value is for the same ports.
+    /// Or its name isn't one of a port, or is that of a port before it. Or it is `+FILE` where any
+    /// container is read: FILE is empty, no port is before it, or it is the 4,097th. Or it is the
+    /// value of `--at` or `--from` and names no time. Or it is that of `--time` or `--input` and
+    /// names no form or input, or the 65th value of `--group` or `--source`. Or it is a value of
+    /// `--vlan` or `--interface` that picks no link: any container isn't read, it has another form,
+    /// it names a port that isn't there, or an earlier value is for the same ports.
     Word(&'a str),
     /// The addresses of the command aren't all of one family.
     Family,

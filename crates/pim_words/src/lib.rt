@@ -11,6 +11,8 @@
 //! - A port has a link where its file is read as any container: in a trace, and by `--input any`.
 //!   The link has the VLAN and the interface that `--vlan` and `--interface` choose for the port
 //!   (`specs/Links.antt`).
+//! - Where files are read so, a word `+FILE` names a further file of the port of the word before
+//!   it. A command has at most 4,096 further files, each of one of its ports.
 //!
 //! Otherwise it returns a fault whose cause exists, the first in the order that `plan` lists, or
 //! `Memory`. A request for help or the version is a fault too (`Clap`). Faults that name a word,
@@ -35,6 +37,7 @@ mod given;
 mod judging;
 mod label;
 mod links;
+mod more;
 mod named;
 mod picks;
 mod planning;
@@ -50,4 +53,4 @@ pub use fault::{ConfigCause, Fault, Refusal, Side};
 pub use pim_capture::Vlan;
 pub use planning::plan;
 pub use table::given_table;
-pub use task::{Captures, Kind, Link, Plan, Port, Task, TimeForm, Tracing, Writing};
+pub use task::{Captures, Kind, Link, More, Plan, Port, Task, TimeForm, Tracing, Writing};

@@ -13,6 +13,7 @@ ghost use Rattle.pim_words.specs.declared.fault.Fault.TheVariants.{Memory};
 use crate::addresses::Address;
 use crate::fault::Fault;
 use crate::given::option_or;
+use crate::more::count_ports;
 use crate::picks::{Part, Pick, chosen_for, read_picks};
 use crate::task::{Link, Port};
 use clap::ArgMatches;
@@ -29,12 +30,12 @@ pub(crate) struct Links {
     pub interfaces: Vec<Pick>,
 }
 
-/// The number of the words, each of which names a port.
-fn word_count(options: &ArgMatches<'_>) -> usize
-    ensures { result ≡ word_count (rows_of (found_of options.now)) }
+/// The number of the words that name ports, where any container is read or not.
+fn word_count(is_any: bool, options: &ArgMatches<'_>) -> usize
+    ensures { result ≡ word_count is_any (rows_of (found_of options.now)) }
 {
     match options.get_raw("words") {
-        Some(words) => words.len(),
+        Some(words) => count_ports(is_any, words),
         None => 0,
     }
 }
@@ -48,12 +49,13 @@ fn read_part<'a>(
     options: &ArgMatches<'a>,
 ) -> Result<Vec<Pick>, Fault<'a>>
     ensures { MatchResult result
-        (λ picks. ArePicks part is_any (word_count (rows_of (found_of options.now)))
+        (λ picks. ArePicks part is_any (word_count is_any (rows_of (found_of options.now)))
         (values_of name.now (rows_of (found_of options.now))) picks.items)
-        (OrMemory (IsFirstWrongPick part is_any (word_count (rows_of (found_of options.now))) []
+        (OrMemory (IsFirstWrongPick part is_any
+        (word_count is_any (rows_of (found_of options.now))) []
         (values_of name.now (rows_of (found_of options.now))))) }
 {
-    let count = word_count(options);
+    let count = word_count(is_any, options);
     match options.get_raw(name) {
         Some(values) => read_picks(alloc, part, is_any, count, values),
         None => Ok(Vec::new(alloc)),

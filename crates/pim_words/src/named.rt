@@ -1,17 +1,19 @@
-//! The ports that the words of a trace name, with their names.
+//! The ports that the words of a trace name, with their names and their further files.
 //!
-//! A word is `ADDRESS@FILE`, or `NAME=ADDRESS@FILE`.
+//! A word is `ADDRESS@FILE`, `NAME=ADDRESS@FILE`, or `+FILE`.
 
-ghost use Rattle.std.specs.Prelude.{◌≡◌, MatchResult, [], map};
+ghost use Rattle.std.specs.Prelude.{◌≡◌, MatchResult, [], map, true};
 ghost use Rattle.pim_words.specs.Labels.{IsLabelled, IsWrongLabelled, AreLabelled};
 ghost use Rattle.pim_words.specs.Labels.{IsFirstWrongLabelled};
+ghost use Rattle.pim_words.specs.Ports.{port_words, AreMore};
 ghost use Rattle.pim_words.specs.Seen.{OrMemory};
 
 use crate::addresses::{Address, read_address};
 use crate::fault::{Fault, Side};
 use crate::label::{is_fresh, label_of};
+use crate::more::{is_more, read_more};
 use crate::port::cut_text;
-use crate::task::Port;
+use crate::task::{More, Port};
 use std::alloc::Global;
 
 /// A port and its name, if it has one.
@@ -21,13 +23,15 @@ struct Named<'a> {
     name: Option<&'a str>,
 }
 
-/// The ports of a trace, and the name of each if it has one.
+/// The ports of a trace, the name of each if it has one, and their further files.
 #[derive(Drop)]
 pub(crate) struct Labelled<'a> {
     /// The ports, in the order of the words.
     pub ports: Vec<Port<'a, Address>>,
     /// Their names, in the same order.
     pub names: Vec<Option<&'a str>>,
+    /// The further files of ports, in the order of the words.
+    pub more: Vec<More<'a>>,
 }
 
 impl<'a> Labelled<'a> {
@@ -35,10 +39,12 @@ impl<'a> Labelled<'a> {
     pub fn none(alloc: Global) -> Labelled<'a>
         ensures ports { result.ports.items ≡ [] }
         ensures names { result.names.items ≡ [] }
+        ensures more { result.more.items ≡ [] }
     {
         Labelled {
             ports: Vec::new(alloc),
             names: Vec::new(alloc),
+            more: Vec::new(alloc),
         }
     }
 }
@@ -72,15 +78,24 @@ fn read_named<'a>(earlier: &[Option<&'a str>], word: &'a str) -> Result<Named<'a
     })
 }
 
-/// The ports that the words name, in order, with their names. Or the fault of the first wrong word.
+/// The ports that the words name, in order, with their names and further files. Or the fault of the
+/// first wrong word.
 pub(crate) fn read_labelled<'a>(alloc: Global, words: &[&'a str]) -> Result<Labelled<'a>, Fault<'a>>
     ensures { MatchResult result
-        (λ labelled. AreLabelled (map (λ w. w.now) words.now) labelled.ports.items
-        labelled.names.items)
-        (OrMemory (IsFirstWrongLabelled [] (map (λ w. w.now) words.now))) }
+        (λ labelled. AreLabelled (port_words true (map (λ w. w.now) words.now))
+        labelled.ports.items labelled.names.items
+        × AreMore true (map (λ w. w.now) words.now) labelled.more.items)
+        (OrMemory (IsFirstWrongLabelled [] 0 (map (λ w. w.now) words.now))) }
 {
     let mut labelled = Labelled::none(alloc);
     for word in words {
+        if is_more(true, word) {
+            let more = read_more(labelled.names.len(), labelled.more.len(), word)?;
+            if labelled.more.push(more).is_err() {
+                return Err(Fault::Memory);
+            }
+            continue;
+        }
         let named = read_named(&labelled.names, word)?;
         if labelled.ports.push(named.port).is_err() {
             return Err(Fault::Memory);

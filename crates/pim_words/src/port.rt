@@ -1,17 +1,18 @@
-//! The ports that words name.
+//! The ports that words name, and their further files.
 //!
 //! In a command with one router, each port is one of router a. So one type of port serves all
 //! commands.
 
-ghost use Rattle.std.specs.Prelude.{◌≡◌, MatchOption, MatchResult, map, true};
+ghost use Rattle.std.specs.Prelude.{◌≡◌, MatchOption, MatchResult, [], map, true};
 ghost use Rattle.std.specs.List.{AllZip};
 ghost use Rattle.pim_words.specs.Ports.{LacksAtSign, IsCutWord, IsUncutWord, IsPort, IsWrongWord};
-ghost use Rattle.pim_words.specs.Ports.{IsFirstWrongOf};
+ghost use Rattle.pim_words.specs.Ports.{port_words, AreMore, IsFirstWrongOf};
 ghost use Rattle.pim_words.specs.Seen.{IsCutFor, IsCutOf, OrMemory};
 
 use crate::addresses::{Address, read_address};
 use crate::fault::{Fault, Side};
-use crate::task::Port;
+use crate::more::{is_more, read_more};
+use crate::task::{More, Port};
 use std::alloc::Global;
 
 /// A word that is cut into its parts.
@@ -23,6 +24,28 @@ pub(crate) struct Cut<'a> {
     pub address: &'a str,
     /// The name of the file.
     pub file: &'a str,
+}
+
+/// What the words of a command name.
+#[derive(Drop)]
+pub(crate) struct Found<'a> {
+    /// The ports, in the order of the words.
+    pub ports: Vec<Port<'a, Address>>,
+    /// The further files of ports, in the order of the words.
+    pub more: Vec<More<'a>>,
+}
+
+impl<'a> Found<'a> {
+    /// No ports.
+    pub fn none(alloc: Global) -> Found<'a>
+        ensures ports { result.ports.items ≡ [] }
+        ensures more { result.more.items ≡ [] }
+    {
+        Found {
+            ports: Vec::new(alloc),
+            more: Vec::new(alloc),
+        }
+    }
 }
 
 /// Cuts `ADDRESS@FILE` at its first `@`. `None` if there is none.
@@ -82,22 +105,33 @@ fn read_port<'a>(is_sided: bool, word: &'a str) -> Result<Port<'a, Address>, Fau
     })
 }
 
-/// The ports that the words name, in order, or the fault of the first wrong word.
+/// The ports and further files that the words name, in order, where any container is read or not.
+/// Or the fault of the first wrong word.
 pub(crate) fn read_ports<'a>(
     alloc: Global,
     is_sided: bool,
+    is_any: bool,
     words: &[&'a str],
-) -> Result<Vec<Port<'a, Address>>, Fault<'a>>
+) -> Result<Found<'a>, Fault<'a>>
     ensures { MatchResult result
-        (λ ports. AllZip (IsPort is_sided) (map (λ w. w.now) words.now) ports.items)
-        (OrMemory (IsFirstWrongOf is_sided (map (λ w. w.now) words.now))) }
+        (λ found. AllZip (IsPort is_sided) (port_words is_any (map (λ w. w.now) words.now))
+        found.ports.items
+        × AreMore is_any (map (λ w. w.now) words.now) found.more.items)
+        (OrMemory (IsFirstWrongOf is_sided is_any 0 0 (map (λ w. w.now) words.now))) }
 {
-    let mut ports = Vec::new(alloc);
+    let mut found = Found::none(alloc);
     for word in words {
+        if is_more(is_any, word) {
+            let more = read_more(found.ports.len(), found.more.len(), word)?;
+            if found.more.push(more).is_err() {
+                return Err(Fault::Memory);
+            }
+            continue;
+        }
         let port = read_port(is_sided, word)?;
-        if ports.push(port).is_err() {
+        if found.ports.push(port).is_err() {
             return Err(Fault::Memory);
         }
     }
-    Ok(ports)
+    Ok(found)
 }

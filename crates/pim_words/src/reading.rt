@@ -12,7 +12,7 @@ ghost use Rattle.pim_words.specs.Ends.{are_both_given, time_text, IsTimed, IsEar
 ghost use Rattle.pim_words.specs.declared.fault.Fault.TheVariants.{TwoEnds};
 ghost use Rattle.pim_words.specs.Given.{words_of, required, address_texts, is_sided};
 ghost use Rattle.pim_words.specs.Labels.{AreLabelled, IsFirstWrongLabelled};
-ghost use Rattle.pim_words.specs.Ports.{IsPort, IsFirstWrongOf};
+ghost use Rattle.pim_words.specs.Ports.{port_words, IsPort, AreMore, IsFirstWrongOf};
 ghost use Rattle.pim_words.specs.Reading.{IsNamed, IsUnreadText, IsUnreadValue, IsFirstUnread};
 ghost use Rattle.pim_words.specs.Reading.{ArePorts, AreWrongPorts, AreNamedPorts};
 ghost use Rattle.pim_words.specs.Reading.{AreWrongNamedPorts, IsRun, AreCaptures};
@@ -25,9 +25,9 @@ use crate::fault::Fault;
 use crate::given::{is_flag, number_of, option_of, option_or};
 use crate::links::{linked, read_chosen_links, read_links};
 use crate::named::{Labelled, read_labelled};
-use crate::port::read_ports;
+use crate::port::{Found, read_ports};
 use crate::shown::read_shown;
-use crate::task::{Captures, Kind, Port, Task, Tracing, Writing};
+use crate::task::{Captures, Kind, More, Port, Task, Tracing, Writing};
 use clap::ArgMatches;
 use pim_time::{Time, read_time};
 use std::alloc::Global;
@@ -89,42 +89,54 @@ fn judge_end(options: &ArgMatches<'_>) -> Result<(), Fault<'static>>
     Ok(())
 }
 
-/// The ports that the words of a command name.
+/// The ports and further files that the words of a command name, where any container is read or
+/// not.
 fn read_words<'a>(
     alloc: Global,
     is_sided: bool,
+    is_any: bool,
     options: &ArgMatches<'a>,
-) -> Result<Vec<Port<'a, Address>>, Fault<'a>>
+) -> Result<Found<'a>, Fault<'a>>
     ensures { MatchResult result
-        (λ ports. AllZip (IsPort is_sided) (words_of (rows_of (found_of options.now))) ports.items)
-        (OrMemory (IsFirstWrongOf is_sided (words_of (rows_of (found_of options.now))))) }
+        (λ found. AllZip (IsPort is_sided)
+        (port_words is_any (words_of (rows_of (found_of options.now)))) found.ports.items
+        × AreMore is_any (words_of (rows_of (found_of options.now))) found.more.items)
+        (OrMemory (IsFirstWrongOf is_sided is_any 0 0
+        (words_of (rows_of (found_of options.now))))) }
 {
     match options.get_raw("words") {
-        Some(words) => read_ports(alloc, is_sided, words),
-        None => Ok(Vec::new(alloc)),
+        Some(words) => read_ports(alloc, is_sided, is_any, words),
+        None => Ok(Found::none(alloc)),
     }
 }
 
-/// The ports that the words of a command name, with their links.
+/// The ports that the words of a command name, with their links and further files.
 fn read_linked<'a>(
     alloc: Global,
     is_sided: bool,
     options: &ArgMatches<'a>,
-) -> Result<Vec<Port<'a, Address>>, Fault<'a>>
+) -> Result<Found<'a>, Fault<'a>>
     ensures { MatchResult result
-        (λ ports. ArePorts is_sided (rows_of (found_of options.now)) ports.items)
+        (λ found. ArePorts is_sided (rows_of (found_of options.now)) found.ports.items
+        found.more.items)
         (OrMemory (AreWrongPorts is_sided (rows_of (found_of options.now)))) }
 {
     let links = read_chosen_links(alloc, options)?;
-    let ports = read_words(alloc, is_sided, options)?;
-    linked(alloc, &links, &ports)
+    let found = read_words(alloc, is_sided, links.is_any, options)?;
+    let ports = linked(alloc, &links, &found.ports)?;
+    Ok(Found {
+        ports,
+        more: found.more,
+    })
 }
 
-/// The captures of these ports with this RP and this time, and the other options of their run.
+/// The captures of these ports and further files with this RP and this time, and the other options
+/// of their run.
 fn captures_of<'a>(
     rp: Option<Address>,
     at: Option<Time>,
     ports: Vec<Port<'a, Address>>,
+    more: Vec<More<'a>>,
     options: &ArgMatches<'a>,
 ) -> Captures<'a, Address>
     requires numbers { HasNumbers (rows_of (found_of options.now)) }
@@ -133,6 +145,7 @@ fn captures_of<'a>(
     requires early { IsEarly at }
     ensures rp { result.rp ≡ rp }
     ensures ports { result.ports ≡ ports.entry }
+    ensures more { result.more ≡ more.entry }
     ensures run { IsRun (rows_of (found_of options.now)) result }
 {
     let limit = number_of(options, "limit", "100000", 1, 100_000);
@@ -144,6 +157,7 @@ fn captures_of<'a>(
         after_ms,
         at,
         ports,
+        more,
     }
 }
 
@@ -161,8 +175,8 @@ fn read_captures<'a>(
     ensures told { IfErr result (OrMemory (IsWrongRun is_sided (rows_of (found_of options.now)))) }
 {
     let at = read_at(option_of(options, "at"))?;
-    let ports = read_linked(alloc, is_sided, options)?;
-    Ok(captures_of(rp, at, ports, options))
+    let found = read_linked(alloc, is_sided, options)?;
+    Ok(captures_of(rp, at, found.ports, found.more, options))
 }
 
 /// The addresses of a command on one message.
@@ -220,15 +234,16 @@ fn read_replay<'a>(alloc: Global, options: &ArgMatches<'a>) -> Result<Task<'a, A
     Ok(Task::Replay(captures))
 }
 
-/// The ports that the words of a trace name, with their names.
+/// The ports that the words of a trace name, with their names and further files.
 fn read_labelled_words<'a>(
     alloc: Global,
     options: &ArgMatches<'a>,
 ) -> Result<Labelled<'a>, Fault<'a>>
     ensures { MatchResult result
-        (λ labelled. AreLabelled (words_of (rows_of (found_of options.now))) labelled.ports.items
-        labelled.names.items)
-        (OrMemory (IsFirstWrongLabelled [] (words_of (rows_of (found_of options.now))))) }
+        (λ labelled. AreLabelled (port_words true (words_of (rows_of (found_of options.now))))
+        labelled.ports.items labelled.names.items
+        × AreMore true (words_of (rows_of (found_of options.now))) labelled.more.items)
+        (OrMemory (IsFirstWrongLabelled [] 0 (words_of (rows_of (found_of options.now))))) }
 {
     match options.get_raw("words") {
         Some(words) => read_labelled(alloc, words),
@@ -236,11 +251,11 @@ fn read_labelled_words<'a>(
     }
 }
 
-/// The ports that the words of a trace name, with their names and links.
+/// The ports that the words of a trace name, with their names, links and further files.
 fn read_named_ports<'a>(alloc: Global, options: &ArgMatches<'a>) -> Result<Labelled<'a>, Fault<'a>>
     ensures { MatchResult result
         (λ labelled. AreNamedPorts (rows_of (found_of options.now)) labelled.ports.items
-        labelled.names.items)
+        labelled.more.items labelled.names.items)
         (OrMemory (AreWrongNamedPorts (rows_of (found_of options.now)))) }
 {
     let links = read_links(alloc, true, options)?;
@@ -249,6 +264,7 @@ fn read_named_ports<'a>(alloc: Global, options: &ArgMatches<'a>) -> Result<Label
     Ok(Labelled {
         ports,
         names: labelled.names,
+        more: labelled.more,
     })
 }
 
@@ -266,7 +282,7 @@ fn read_traced<'a>(
     let end = read_at(option_of(options, "at"))?;
     let shown = read_shown(alloc, options)?;
     let labelled = read_named_ports(alloc, options)?;
-    let captures = captures_of(rp, end, labelled.ports, options);
+    let captures = captures_of(rp, end, labelled.ports, labelled.more, options);
     let tracing = Tracing {
         from: shown.from,
         groups: shown.groups,

@@ -32,6 +32,17 @@ pub struct Port<'a, A> {
     pub link: Option<Link>,
 }
 
+/// A further file of a port: its capture goes on in it.
+#[derive(Clone, Copy, Debug, PartialEq, Eq)]
+pub struct More<'a> {
+    /// The number of its port among the ports, from 0.
+    pub port: usize,
+    /// The name of the file.
+    pub file: &'a str,
+    /// The whole word.
+    pub word: &'a str,
+}
+
 /// The routers of a command with captures, and how they run.
 #[derive(Debug, Drop)]
 pub struct Captures<'a, A> {
@@ -48,6 +59,8 @@ pub struct Captures<'a, A> {
     pub at: Option<Time>,
     /// The ports of one or both routers, in the order of the words.
     pub ports: Vec<Port<'a, A>>,
+    /// The further files of ports, in the order of the words: at most 4,096.
+    pub more: Vec<More<'a>>,
 }
 
 /// The writer of Join/Prune messages.

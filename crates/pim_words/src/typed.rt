@@ -88,6 +88,17 @@ fn ports_in_family<'a, F: Family>(
     Ok(typed)
 }
 
+/// A copy of these values.
+fn copied<T: Copy>(alloc: Global, values: &[T]) -> Result<Vec<T>, Fault<'static>>
+    ensures { MatchResult result (λ copied. copied.items ≡ values.now) (λ fault. fault ≡ Memory) }
+{
+    let mut copied = Vec::new(alloc);
+    match copied.extend_from_slice(values) {
+        Ok(()) => Ok(copied),
+        Err(_) => Err(Fault::Memory),
+    }
+}
+
 /// The captures, if all their addresses are of this family.
 fn captures_in_family<'a, F: Family>(
     alloc: Global,
@@ -100,6 +111,7 @@ fn captures_in_family<'a, F: Family>(
 {
     let rp = rp_in_family::<F>(captures.rp)?;
     let ports = ports_in_family::<F>(alloc, &captures.ports)?;
+    let more = copied(alloc, &captures.more)?;
     Ok(Captures {
         rp,
         routes: captures.routes,
@@ -107,6 +119,7 @@ fn captures_in_family<'a, F: Family>(
         after_ms: captures.after_ms,
         at: captures.at,
         ports,
+        more,
     })
 }
 
@@ -128,22 +141,6 @@ fn all_in_family<F: Family>(
         }
     }
     Ok(typed)
-}
-
-/// A copy of the names.
-fn copied<'a>(
-    alloc: Global,
-    names: &[Option<&'a str>],
-) -> Result<Vec<Option<&'a str>>, Fault<'static>>
-    ensures { MatchResult result (λ copied. copied.items ≡ names.now) (λ fault. fault ≡ Memory) }
-{
-    let mut copied = Vec::new(alloc);
-    for name in names {
-        if copied.push(*name).is_err() {
-            return Err(Fault::Memory);
-        }
-    }
-    Ok(copied)
 }
 
 /// What a trace shows, if all its groups and sources are of this family.

@@ -1,8 +1,9 @@
 //! What a case can't say of the program: loops over spoilt input and failing devices, refused
-//! memory, faults on devices that fail, and the width of help.
+//! memory, faults on devices that fail, the width of help, and the further files of a plan.
 
 mod failing;
 mod faults;
+mod further;
 mod help;
 mod messages;
 mod refused;

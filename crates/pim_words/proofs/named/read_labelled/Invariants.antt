@@ -1,7 +1,8 @@
 use Rattle.std.proofs.Common.{drop}
-use Rattle.pim_words.proofs.FirstWrong.{texts}
+use Rattle.pim_words.proofs.Further.{texts}
 use Rattle.pim_words.proofs.Labelling.{IsLeft}
 use Rattle.pim_words.proofs.named.read_labelled.Given as goal
 
 abbrev pub invariant-loop-word : goal.invariant-loop-word
-invariant-loop-word l = IsLeft (texts l.words) (texts (drop l.word-index l.words)) l.labelled.ports.items l.labelled.names.items
+invariant-loop-word l =
+    IsLeft (texts l.words) (texts (drop l.word-index l.words)) l.labelled.ports.items l.labelled.names.items l.labelled.more.items

@@ -1,5 +1,5 @@
 use Rattle.std.proofs.Common.{drop}
-use Rattle.pim_words.proofs.FirstWrong.{texts}
+use Rattle.pim_words.proofs.Further.{texts}
 use Rattle.pim_words.proofs.Picking.{IsLeft}
 use Rattle.pim_words.proofs.picks.read_picks.Given as goal
 

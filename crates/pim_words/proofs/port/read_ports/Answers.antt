@@ -1,11 +1,37 @@
-use Rattle.std.proofs.Common.{sym, ◌∙◌}
-use Rattle.pim_words.proofs.FirstWrong.{accepted, all_read, one_more}
+use Rattle.std.proofs.Common.{◌≡◌, arith, length, sym, ◌∙◌}
+use Rattle.std.proofs.lemmas.Result.{err_from_is_err_and}
+use Rattle.pim_words.proofs.FirstWrong.{accepted, all_read, no_further, no_port, one_further, one_more}
 use Rattle.pim_words.proofs.port.read_ports.Goals as goal
+
+pub returns-in_err-more : goal.returns-in_err-more
+returns-in_err-more c =
+    let all_ports : c.len.result ≡ length c.loop-word.found.ports.items = omega arith in
+    let all_more : c.len-then-is_more.result ≡ length c.loop-word.found.more.items = omega arith in
+    let p = err_from_is_err_and c.from_residual.result c.from_residual.ensures.1 in
+    rw (p.1, p.2)
+    (no_further c.args.is_sided c.args.is_any c.args.words.now c.loop-word.word-index _ c.loop-word-test.true c.loop-word.found.ports.items c.loop-word.found.more.items c.loop-word.invariant
+    _ _ _ all_ports all_more (sym c.is_more.ensures ∙ c.if-is_more.true) c.in_err-more.ensures)
+
+pub returns-in_err-port : goal.returns-in_err-port
+returns-in_err-port c =
+    let p = err_from_is_err_and c.from_residual-in_err-port.result c.from_residual-in_err-port.ensures.1 in
+    rw (p.1, p.2)
+    (no_port c.args.is_sided c.args.is_any c.args.words.now c.loop-word.word-index _ c.loop-word-test.true c.loop-word.found.ports.items c.loop-word.found.more.items c.loop-word.invariant
+    _ (sym c.is_more.ensures ∙ c.if-is_more.false) c.in_err-port.ensures)
+
+pub loop-word-preserved-then-is_more : goal.loop-word-preserved-then-is_more
+loop-word-preserved-then-is_more c =
+    let all_ports : c.len.result ≡ length c.loop-word.found.ports.items = omega arith in
+    let all_more : c.len-then-is_more.result ≡ length c.loop-word.found.more.items = omega arith in
+    one_further c.args.is_sided c.args.is_any c.args.words.now c.loop-word.word-index _ c.loop-word-test.true c.loop-word.found.ports.items c.loop-word.found.more.items c.loop-word.invariant
+    c.push.new.self.items c.in_ok-more.more _ _ all_ports all_more (sym c.is_more.ensures ∙ c.if-is_more.true) c.in_ok-more.ensures.0 c.in_ok-more.ensures.1
+    (accepted c.push.result _ _ _ c.push.ensures.items (sym c.is_err.ensures.value ∙ c.if-is_err.false))
 
 pub loop-word-preserved : goal.loop-word-preserved
 loop-word-preserved c =
-    one_more c.args.is_sided c.args.words.now c.loop-word.word-index _ c.loop-word-test.true c.loop-word.ports.items c.push.new.self.items c.in_ok-port.port c.loop-word.invariant
-    c.in_ok-port.ensures (accepted c.push.result _ _ _ c.push.ensures.items (sym c.is_err.ensures.value ∙ c.if-is_err.false))
+    one_more c.args.is_sided c.args.is_any c.args.words.now c.loop-word.word-index _ c.loop-word-test.true c.loop-word.found.ports.items c.loop-word.found.more.items c.loop-word.invariant
+    c.push-in-loop-word.new.self.items c.in_ok-port.port (sym c.is_more.ensures ∙ c.if-is_more.false) c.in_ok-port.ensures
+    (accepted c.push-in-loop-word.result _ _ _ c.push-in-loop-word.ensures.items (sym c.is_err-in-loop-word.ensures.value ∙ c.if-is_err-2.false))
 
 pub returns : goal.returns
-returns c = all_read c.args.is_sided c.args.words.now c.loop-word.word-index c.loop-word.ports.items c.loop-word-test.false c.loop-word.invariant
+returns c = all_read c.args.is_sided c.args.is_any c.args.words.now c.loop-word.word-index c.loop-word.found.ports.items c.loop-word.found.more.items c.loop-word-test.false c.loop-word.invariant

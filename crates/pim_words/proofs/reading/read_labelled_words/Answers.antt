@@ -1,7 +1,8 @@
-use Rattle.std.proofs.Common.{◌∙◌, [], codes, subst, List, MatchResult}
+use Rattle.std.proofs.Common.{◌∙◌, [], arith, codes, subst, true, List, MatchResult}
 use Rattle.clap.specs.Words.{Text, found_of, rows_of}
 use Rattle.clap.proofs.WalkLemmas.{raw_values-rows}
 use Rattle.pim_words.specs.Labels.{AreLabelled, IsFirstWrongLabelled}
+use Rattle.pim_words.specs.Ports.{AreMore, port_words}
 use Rattle.pim_words.specs.Seen.{OrMemory}
 use Rattle.pim_words.proofs.Values.{no_values, values_are}
 use Rattle.pim_words.proofs.reading.read_labelled_words.Goals as goal
@@ -10,10 +11,13 @@ pub returns-in-Some : goal.returns-in-Some
 returns-in-Some c =
     let rows = rows_of (found_of c.args.options.now) in
     let found = c.get_raw.ensures ∙ raw_values-rows (found_of c.args.options.now) (codes "words") in
-    subst (λ (words : List Text). MatchResult c.read_labelled.result (λ labelled. AreLabelled words labelled.ports.items labelled.names.items) (OrMemory (IsFirstWrongLabelled [] words)))
+    subst
+    (λ (words : List Text). MatchResult c.read_labelled.result (λ labelled. AreLabelled (port_words true words) labelled.ports.items labelled.names.items × AreMore true words labelled.more.items)
+    (OrMemory (IsFirstWrongLabelled [] 0 words)))
     (values_are (codes "words") rows c.get_raw.result found c.in-Some.words c.in-Some.is) c.read_labelled.ensures
 
 pub returns-in-None : goal.returns-in-None
 returns-in-None c =
     let found = c.get_raw.ensures ∙ raw_values-rows (found_of c.args.options.now) (codes "words") in
-    rw (no_values (codes "words") (rows_of (found_of c.args.options.now)) c.get_raw.result found c.in-None.is, c.none.ensures.ports, c.none.ensures.names) tt
+    rw (no_values (codes "words") (rows_of (found_of c.args.options.now)) c.get_raw.result found c.in-None.is, c.none.ensures.ports, c.none.ensures.names, c.none.ensures.more)
+    (tt, record { named = tt; few = omega arith })

@@ -12,4 +12,4 @@ returns-in_err-labelled c =
 pub returns : goal.returns
 returns c =
     linked_names (rows_of (found_of c.args.options.now)) c.in_ok-links.links c.in_ok-labelled.labelled.ports.items c.deref.result.now c.deref.ensures.value
-    c.in_ok-ports.ports.items c.in_ok-labelled.labelled.names.items c.in_ok-links.ensures c.in_ok-labelled.ensures c.in_ok-ports.ensures
+    c.in_ok-ports.ports.items c.in_ok-labelled.labelled.more.items c.in_ok-labelled.labelled.names.items c.in_ok-links.ensures c.in_ok-labelled.ensures c.in_ok-ports.ensures
