@@ -9,7 +9,7 @@ use Rattle.pim_replay.specs.declared.mirror_text.MirrorTextFault.TheVariants as 
 use Rattle.pim_replay.specs.declared.replay.ReplayFault.TheVariants as of_replay
 use Rattle.pim_replay.specs.ChangeText.{TellsChange}
 use Rattle.pim_router.specs.State.{RouterState, Setup, new_router}
-use Rattle.pim_words.specs.declared.task.Port.{Port}
+use Rattle.pim_files.specs.Captures.{PortFiles}
 use Rattle.pim_check.specs.declared.fault.Fault.{Fault}
 use Rattle.pim_commands.specs.Changing.{IsChanged, ChangesNew}
 use Rattle.pim_commands.specs.Mirroring.{mirrored, MirrorAnswer}
@@ -24,7 +24,7 @@ made_so family bytes_of end limit merge merge' other other' old new by writing a
     (subst (λ (s : RouterState). TellsChange family end by limit merge merge' s after other other' (new_router b) after_of bytes_of old new told) made
     (subst (λ (s : RouterState). TellsChange family end by limit merge merge' router after other other' s after_of bytes_of old new told) made_of is))
 
-module _ {F A N : Type 0} (family : AddressFamily) (bytes_of : A → List ℕ) (end : End) (limit : ℕ) (merge merge' other other' : MergeState) (old new : Option (List ℕ)) (ports others : List (Port A)) where
+module _ {F A N : Type 0} (family : AddressFamily) (bytes_of : A → List ℕ) (end : End) (limit : ℕ) (merge merge' other other' : MergeState) (old new : Option (List ℕ)) (ports others : List (PortFiles A)) where
   changes_retold : (writing : Writing) (router after router_of after_of : RouterState) (told : Result ℕ (MirrorTextFault F A N))
       → TellsChange family end writing limit merge merge' router after other other' router_of after_of bytes_of old new told
       → TellsChange family end writing limit merge merge' router after other other' router_of after_of bytes_of old new (retold told)

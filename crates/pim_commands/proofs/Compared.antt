@@ -12,7 +12,7 @@ use Rattle.pim_replay.specs.Same.{Compares, failures_of_answer}
 use Rattle.pim_router.specs.declared.config.ConfigFault.{ConfigFault}
 use Rattle.pim_router.specs.Config.{config_faults}
 use Rattle.pim_router.specs.State.{RouterState, Setup, new_router}
-use Rattle.pim_words.specs.declared.task.Port.{Port}
+use Rattle.pim_files.specs.Captures.{PortFiles}
 use Rattle.pim_check.specs.declared.fault.Fault.{Fault}
 use Rattle.pim_check.specs.declared.fault.Fault.TheVariants as of_run
 use Rattle.pim_commands.specs.Replaying.{config_fault, IsUnmade, IsFirstCause}
@@ -61,7 +61,7 @@ made_so family bytes_of end writing merge merge' other other' old new a b router
     (subst (λ (s : RouterState). Compares family end writing merge merge' router after other other' s after_of bytes_of old new told) made_of is)
 
 module _ {F A N : Type 0} (family : AddressFamily) (bytes_of : A → List ℕ) (end : End) (writing : Writing) (merge merge' other other' : MergeState)
-    (old new : Option (List ℕ)) (ports others : List (Port A)) where
+    (old new : Option (List ℕ)) (ports others : List (PortFiles A)) where
   same_told : (told : Result ℕ (SameFault F A N)) → compared ports others family bytes_of told ≡ compared ports others family bytes_of (retold told)
   same_told (Ok status) = refl
   same_told (Err (of_same.Replay told)) = refl
@@ -110,7 +110,7 @@ module _ {F A N : Type 0} (family : AddressFamily) (bytes_of : A → List ℕ) (
       (by_writer by router after router_of after_of (Err fault) same_by is)))
 
 -- the device's failures are those that are told
-pub failures_compared : {A F N P : Type 0} (ports others : List (Port P)) (family : AddressFamily) (bytes_of : A → List ℕ) (before : ℕ) (told : Result ℕ (SameFault F A N))
+pub failures_compared : {A F N P : Type 0} (ports others : List (PortFiles P)) (family : AddressFamily) (bytes_of : A → List ℕ) (before : ℕ) (told : Result ℕ (SameFault F A N))
     → failures_of_answer before told ≡ write_failures_after before (compared ports others family bytes_of told)
 failures_compared ports others family bytes_of before (Ok status) = refl
 failures_compared ports others family bytes_of before (Err (of_same.TooBig group)) = refl

@@ -9,7 +9,7 @@ use Rattle.pim_replay.specs.declared.emit.EmitFault.TheVariants as of_emission
 use Rattle.pim_replay.specs.declared.replay.ReplayFault.TheVariants as of_replay
 use Rattle.pim_replay.specs.Emit.{Emits, failures_of_emission}
 use Rattle.pim_router.specs.State.{RouterState, Setup, new_router}
-use Rattle.pim_words.specs.declared.task.Port.{Port}
+use Rattle.pim_files.specs.Captures.{PortFiles}
 use Rattle.pim_check.specs.declared.fault.Fault.{Fault}
 use Rattle.pim_commands.specs.Emitting.{emitted, EmissionAnswer, IsEmitted, EmitsNew}
 use Rattle.pim_check.specs.Report.{write_failures_after}
@@ -29,7 +29,7 @@ made_so family bytes_of end merge merge' old new by writing setup router after t
     subst (λ (w : Writing). Emits family end w merge merge' (new_router setup) after bytes_of old new told) same
     (subst (λ (s : RouterState). Emits family end by merge merge' s after bytes_of old new told) made is)
 
-module _ {F A N : Type 0} (family : AddressFamily) (bytes_of : A → List ℕ) (end : End) (merge merge' : MergeState) (old new : Option (List ℕ)) (ports : List (Port A)) where
+module _ {F A N : Type 0} (family : AddressFamily) (bytes_of : A → List ℕ) (end : End) (merge merge' : MergeState) (old new : Option (List ℕ)) (ports : List (PortFiles A)) where
   pub same_told : (told : Result ℕ (EmitFault F A N)) → emitted ports family bytes_of told ≡ emitted ports family bytes_of (retold told)
   same_told (Ok status) = refl
   same_told (Err (of_emission.Replay told)) = refl
@@ -63,7 +63,7 @@ module _ {F A N : Type 0} (family : AddressFamily) (bytes_of : A → List ℕ) (
       rw (answer) (inr (is_emitted by writing wanted router after (Err fault) same_by (made ∙ ap new_router same) is))
 
 -- the device's failures are those that are told
-pub failures_emitted : {F A N P : Type 0} (ports : List (Port P)) (family : AddressFamily) (bytes_of : A → List ℕ) (before : ℕ) (told : Result ℕ (EmitFault F A N))
+pub failures_emitted : {F A N P : Type 0} (ports : List (PortFiles P)) (family : AddressFamily) (bytes_of : A → List ℕ) (before : ℕ) (told : Result ℕ (EmitFault F A N))
     → failures_of_emission before told ≡ write_failures_after before (emitted ports family bytes_of told)
 failures_emitted ports family bytes_of before (Ok status) = refl
 failures_emitted ports family bytes_of before (Err (of_emission.TooBig group)) = refl

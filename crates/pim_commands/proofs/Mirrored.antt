@@ -11,7 +11,7 @@ use Rattle.pim_replay.specs.declared.replay.ReplayFault.TheVariants as of_replay
 use Rattle.pim_replay.specs.MirrorText.{TellsMirror, failures_of_mirror}
 use Rattle.pim_router.specs.Config.{config_faults}
 use Rattle.pim_router.specs.State.{RouterState, Setup, new_router}
-use Rattle.pim_words.specs.declared.task.Port.{Port}
+use Rattle.pim_files.specs.Captures.{PortFiles}
 use Rattle.pim_check.specs.declared.fault.Fault.{Fault}
 use Rattle.pim_commands.specs.Mirroring.{mirrored, mirror_causes, MirrorAnswer, IsMirrored, MirrorsNew}
 use Rattle.pim_commands.specs.Replaying.{IsUnmade, IsFirstCause}
@@ -46,7 +46,7 @@ made_so family bytes_of end limit merge merge' old new by writing setup router a
     subst (λ (w : Writing). TellsMirror family end w limit merge merge' (new_router setup) after bytes_of old new told) same
     (subst (λ (s : RouterState). TellsMirror family end by limit merge merge' s after bytes_of old new told) made is)
 
-module _ {F A N P : Type 0} (ports others : List (Port P)) (family : AddressFamily) (bytes_of : A → List ℕ) where
+module _ {F A N P : Type 0} (ports others : List (PortFiles P)) (family : AddressFamily) (bytes_of : A → List ℕ) where
   pub same_told : (told : Result ℕ (MirrorTextFault F A N)) → mirrored ports others family bytes_of told ≡ mirrored ports others family bytes_of (retold told)
   same_told (Ok status) = refl
   same_told (Err (of_mirror.Replay told)) = refl
@@ -54,7 +54,7 @@ module _ {F A N P : Type 0} (ports others : List (Port P)) (family : AddressFami
   same_told (Err (of_mirror.TooBig group)) = refl
   same_told (Err (of_mirror.Full needed)) = refl
 
-module _ {F A N : Type 0} (ports : List (Port A)) (family : AddressFamily) (bytes_of : A → List ℕ) (end : End) (limit : ℕ) (merge merge' : MergeState) (old new : Option (List ℕ)) where
+module _ {F A N : Type 0} (ports : List (PortFiles A)) (family : AddressFamily) (bytes_of : A → List ℕ) (end : End) (limit : ℕ) (merge merge' : MergeState) (old new : Option (List ℕ)) where
   mirrors_retold : (writing : Writing) (router after : RouterState) (told : Result ℕ (MirrorTextFault F A N))
       → TellsMirror family end writing limit merge merge' router after bytes_of old new told
       → TellsMirror family end writing limit merge merge' router after bytes_of old new (retold told)
@@ -85,7 +85,7 @@ module _ {F A N : Type 0} (ports : List (Port A)) (family : AddressFamily) (byte
       rw (answer) (inr (is_mirrored by writing wanted router after (Err fault) same_by (made ∙ ap new_router same) is))
 
 -- the device's failures are those that are told
-pub failures_mirrored : {F A N P : Type 0} (ports others : List (Port P)) (family : AddressFamily) (bytes_of : A → List ℕ) (before : ℕ) (told : Result ℕ (MirrorTextFault F A N))
+pub failures_mirrored : {F A N P : Type 0} (ports others : List (PortFiles P)) (family : AddressFamily) (bytes_of : A → List ℕ) (before : ℕ) (told : Result ℕ (MirrorTextFault F A N))
     → failures_of_mirror before told ≡ write_failures_after before (mirrored ports others family bytes_of told)
 failures_mirrored ports others family bytes_of before (Ok status) = refl
 failures_mirrored ports others family bytes_of before (Err (of_mirror.TooBig group)) = refl

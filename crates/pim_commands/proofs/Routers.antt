@@ -18,6 +18,7 @@ use Rattle.pim_router.specs.declared.config.PortConfig.{PortConfig}
 use Rattle.pim_router.specs.Config.{IsMadeUnless, config_faults}
 use Rattle.pim_router.specs.Seen.{port_seen, setup_seen}
 use Rattle.pim_router.specs.State.{RouterState, Setup, new_router}
+use Rattle.pim_files.specs.Captures.{PortFiles}
 use Rattle.pim_words.specs.declared.task.Port.{Port}
 use Rattle.pim_check.specs.declared.causes.CaptureCause.{CaptureCause}
 use Rattle.pim_check.specs.declared.fault.Fault.{Fault}
@@ -45,11 +46,11 @@ unmade_is (first ∷ others) value told is = let same : told ≡ first = cc in r
 -- ---- what is answered of a new router's replay
 
 -- there is none
-pub unmade : {A : Type 0} (ports : List (Port A)) (family : AddressFamily) (via : Bool) (end : End) (merge : MergeState) (setup wanted : Setup) (written : Option (List ℕ)) (fault : Fault) → setup ≡ wanted
+pub unmade : {A : Type 0} (ports : List (PortFiles A)) (family : AddressFamily) (via : Bool) (end : End) (merge : MergeState) (setup wanted : Setup) (written : Option (List ℕ)) (fault : Fault) → setup ≡ wanted
     → IsUnmade (config_faults family setup) fault → ReplaysNew ports family via end merge merge wanted written written (Err fault)
 unmade ports family via end merge setup wanted written fault same is = inl (subst (λ (s : Setup). IsUnmade (config_faults family s) fault) same is, refl, refl)
 
-pub replayed : {A : Type 0} (ports : List (Port A)) (family : AddressFamily) (via : Bool) (end : End) (merge merge' : MergeState) (setup wanted : Setup) (router after : RouterState) (old new : Option (List ℕ))
+pub replayed : {A : Type 0} (ports : List (PortFiles A)) (family : AddressFamily) (via : Bool) (end : End) (merge merge' : MergeState) (setup wanted : Setup) (router after : RouterState) (old new : Option (List ℕ))
     (told : Result ℕ ReplayFault) (result : Result ℕ Fault) → setup ≡ wanted → router ≡ new_router setup → Replays family via end merge merge' router after old new told
     → result ≡ answer_of ports told → ReplaysNew ports family via end merge merge' wanted old new result
 replayed ports family via end merge merge' setup wanted router after old new (Ok status) result same made is answer =
@@ -76,11 +77,11 @@ told_is_read : (before : ℕ) (file : Option (Bor (List ℕ))) (number : ℕ) (c
 told_is_read before file number None = refl
 told_is_read before file number (Some cause) = cause_is_read before file number cause
 
-pub capture_is_read : {A : Type 0} (before : ℕ) (ports : List (Port A)) (told : MergeFault) → write_failures_after {A = ℕ} before (Err (port_fault ports told)) ≡ before
-capture_is_read before ports told = told_is_read before (file_at ports told.capture) told.«record» (cause_of told.fault)
+pub capture_is_read : {A : Type 0} (before : ℕ) (ports : List (PortFiles A)) (told : MergeFault) → write_failures_after {A = ℕ} before (Err (port_fault ports told)) ≡ before
+capture_is_read before ports told = told_is_read before (file_at ports told.capture told.file) told.«record» (cause_of told.fault)
 
 -- the device's failures are those that are told
-pub failures_are_told : {A : Type 0} (before : ℕ) (ports : List (Port A)) (told : Result ℕ ReplayFault) → failures_of_device before told ≡ write_failures_after before (answer_of ports told)
+pub failures_are_told : {A : Type 0} (before : ℕ) (ports : List (PortFiles A)) (told : Result ℕ ReplayFault) → failures_of_device before told ≡ write_failures_after before (answer_of ports told)
 failures_are_told before ports (Ok status) = refl
 failures_are_told before ports (Err (of_replay.Capture told)) = sym (capture_is_read before ports told)
 failures_are_told before ports (Err of_replay.Output) = refl

@@ -8,11 +8,13 @@ use Rattle.pim_device.specs.Device.{AppendsFront, AppendsAll, failures_after}
 use Rattle.pim_merge.specs.declared.tally.Tally.{Tally}
 use Rattle.pim_merge.specs.Tally.{tally_at}
 use Rattle.pim_words.specs.declared.fault.Side.{Side}
+use Rattle.pim_files.specs.Captures.{files_from, with_more}
+use Rattle.pim_words.specs.declared.task.More.{More}
 use Rattle.pim_words.specs.declared.task.Port.{Port}
 use Rattle.pim_check.specs.Telling.{IsTold}
-use Rattle.pim_commands.specs.Naming.{is_in}
+use Rattle.pim_commands.specs.Naming.{is_in, are_in}
 use Rattle.pim_commands.specs.Warnings.{port_warnings, warnings_from}
-use Rattle.pim_commands.proofs.Named.{one_port}
+use Rattle.pim_commands.proofs.Named.{left_from, one_port}
 
 -- nothing was written
 pub nothing_told : (old : Option (List ℕ)) (failures : ℕ) → IsTold [] old old failures failures
@@ -69,32 +71,33 @@ stopped old new (Err x) text e p = p
 
 -- ---- the ports of a router
 
-module _ {A : Type 0} (side : Option Side) (tallies : List Tally) (ports : List (Port A)) (place number : ℕ) (port : Port A) (below : place < length ports) (here : port ≡ get_or ports place port) where
+module _ {A : Type 0} (side : Option Side) (tallies : List Tally) (further : List More) (ports : List (Port A)) (at next place number : ℕ) (port : Port A) (more : next ≡ suc at) (below : place < length ports)
+    (here : port ≡ get_or ports place port) where
   -- what is left before this port and after it
-  left_at : (b : Bool) → is_in side port ≡ b → warnings_from number (filter (is_in side) (drop place ports)) tallies
-      ≡ warnings_from number (cond b (port ∷ filter (is_in side) (drop (place + 1) ports)) (filter (is_in side) (drop (place + 1) ports))) tallies
-  left_at b is = ap (λ l. warnings_from number l tallies) (one_port side ports place port b below is here)
+  left_at : (b : Bool) → is_in side port ≡ b → warnings_from number (left_from side further at place ports) tallies
+      ≡ warnings_from number (cond b (with_more at further port ∷ left_from side further next (place + 1) ports) (left_from side further next (place + 1) ports)) tallies
+  left_at b is = ap (λ l. warnings_from number l tallies) (one_port side further ports at next place port b more below is here)
 
-  pub port_passed : (old now : Option (List ℕ)) (all : List ℕ) → is_in side port ≡ false → IsLeft old now (warnings_from number (filter (is_in side) (drop place ports)) tallies) all
-      → IsLeft old now (warnings_from number (filter (is_in side) (drop (place + 1) ports)) tallies) all
+  pub port_passed : (old now : Option (List ℕ)) (all : List ℕ) → is_in side port ≡ false → IsLeft old now (warnings_from number (left_from side further at place ports) tallies) all
+      → IsLeft old now (warnings_from number (left_from side further next (place + 1) ports) tallies) all
   port_passed old now all is w = subst (λ l. IsLeft old now l all) (left_at false is) w
 
-  pub port_warned : (old now new : Option (List ℕ)) (all : List ℕ) (next : ℕ) → next ≡ suc number → is_in side port ≡ true
-      → IsLeft old now (warnings_from number (filter (is_in side) (drop place ports)) tallies) all → Appends now new (port_warnings port (tally_at number tallies))
-      → IsLeft old new (warnings_from next (filter (is_in side) (drop (place + 1) ports)) tallies) all
-  port_warned old now new all next more is w p =
-      subst (λ n. IsLeft old new (warnings_from n (filter (is_in side) (drop (place + 1) ports)) tallies) all) (sym more)
-      (left_less old now new (port_warnings port (tally_at number tallies)) (warnings_from (suc number) (filter (is_in side) (drop (place + 1) ports)) tallies) all
+  pub port_warned : (old now new : Option (List ℕ)) (all : List ℕ) (later : ℕ) → later ≡ suc number → is_in side port ≡ true
+      → IsLeft old now (warnings_from number (left_from side further at place ports) tallies) all → Appends now new (port_warnings (with_more at further port) (tally_at number tallies))
+      → IsLeft old new (warnings_from later (left_from side further next (place + 1) ports) tallies) all
+  port_warned old now new all later one is w p =
+      subst (λ n. IsLeft old new (warnings_from n (left_from side further next (place + 1) ports) tallies) all) (sym one)
+      (left_less old now new (port_warnings (with_more at further port) (tally_at number tallies)) (warnings_from (suc number) (left_from side further next (place + 1) ports) tallies) all
       (subst (λ l. IsLeft old now l all) (left_at true is) w) p)
 
   pub port_stopped : (old now new : Option (List ℕ)) (all : List ℕ) → is_in side port ≡ true
-      → IsLeft old now (warnings_from number (filter (is_in side) (drop place ports)) tallies) all → AppendsFront now new (port_warnings port (tally_at number tallies))
-      → AppendsFront old new all
+      → IsLeft old now (warnings_from number (left_from side further at place ports) tallies) all
+      → AppendsFront now new (port_warnings (with_more at further port) (tally_at number tallies)) → AppendsFront old new all
   port_stopped old now new all is w p =
-      left_stopped old now new (port_warnings port (tally_at number tallies)) (warnings_from (suc number) (filter (is_in side) (drop (place + 1) ports)) tallies) all
+      left_stopped old now new (port_warnings (with_more at further port) (tally_at number tallies)) (warnings_from (suc number) (left_from side further next (place + 1) ports) tallies) all
       (subst (λ l. IsLeft old now l all) (left_at true is) w) p
 
-pub ports_warned : {A : Type 0} (side : Option Side) (tallies : List Tally) (ports : List (Port A)) (place number : ℕ) (old now : Option (List ℕ)) (all : List ℕ) → length ports ≤ place
-    → IsLeft old now (warnings_from number (filter (is_in side) (drop place ports)) tallies) all → Appends old now all
-ports_warned side tallies ports place number old now all over w =
-    left_none old now all (subst (λ l. IsLeft old now l all) (ap (λ l. warnings_from number (filter (is_in side) l) tallies) (drop_all place ports over)) w)
+pub ports_warned : {A : Type 0} (side : Option Side) (tallies : List Tally) (further : List More) (ports : List (Port A)) (at place number : ℕ) (old now : Option (List ℕ)) (all : List ℕ) → length ports ≤ place
+    → IsLeft old now (warnings_from number (left_from side further at place ports) tallies) all → Appends old now all
+ports_warned side tallies further ports at place number old now all over w =
+    left_none old now all (subst (λ l. IsLeft old now l all) (ap (λ l. warnings_from number (filter (are_in side) (files_from at further l)) tallies) (drop_all place ports over)) w)

@@ -7,7 +7,7 @@ use Rattle.pim_merge.specs.declared.end.End.{End}
 use Rattle.pim_merge.specs.Next.{MergeState}
 use Rattle.pim_replay.specs.ChangeText.{TellsChange}
 use Rattle.pim_router.specs.State.{Setup, RouterState, new_router}
-use Rattle.pim_words.specs.declared.task.Port.{Port}
+use Rattle.pim_files.specs.Captures.{PortFiles}
 use Rattle.pim_check.specs.declared.fault.Fault.{Fault}
 use Rattle.pim_commands.specs.Comparing.{causes}
 use Rattle.pim_commands.specs.Mirroring.{mirrored, MirrorAnswer}
@@ -15,7 +15,7 @@ use Rattle.pim_commands.specs.Replaying.{IsFirstCause}
 
 -- New routers of these set-ups are replayed and the messages of the change between them are
 -- written. This is the program's result for that of the engine.
-pub record IsChanged {A : Type 0} (ports others : List (Port A)) (family : AddressFamily) (bytes_of : A → List ℕ)
+pub record IsChanged {A : Type 0} (ports others : List (PortFiles A)) (family : AddressFamily) (bytes_of : A → List ℕ)
     (end : End) (limit : ℕ) (writing : Writing) (merge merge' other other' : MergeState) (a b : Setup)
     (old new : Option (List ℕ)) (result : Result ℕ Fault) : Type 0 where
   pub after : RouterState
@@ -26,7 +26,7 @@ pub record IsChanged {A : Type 0} (ports others : List (Port A)) (family : Addre
   pub answer : result ≡ mirrored ports others family bytes_of told
 
 -- The change is written, or there is no writer or no router and nothing is written.
-abbrev pub ChangesNew : {A : Type 0} → List (Port A) → List (Port A) → AddressFamily → (A → List ℕ) → End → ℕ →
+abbrev pub ChangesNew : {A : Type 0} → List (PortFiles A) → List (PortFiles A) → AddressFamily → (A → List ℕ) → End → ℕ →
     Writing → MergeState → MergeState → MergeState → MergeState → Setup → Setup → Option (List ℕ) → Option (List ℕ) → Result ℕ Fault → Type 0
 ChangesNew ports others family bytes_of end limit writing merge merge' other other' a b old new (Ok status) =
     IsChanged ports others family bytes_of end limit writing merge merge' other other' a b old new (Ok status)

@@ -3,7 +3,7 @@
 use Rattle.std.specs.Prelude.{◌≡◌, ◌⊎◌, ℕ, List, ◌++◌, map, filter, Option, Result, Ok, Err}
 use Rattle.pim_addr.specs.Routes.{RouteTable}
 use Rattle.pim_addr.specs.declared.family.AddressFamily.{AddressFamily}
-use Rattle.pim_files.specs.Captures.{is_of}
+use Rattle.pim_files.specs.Captures.{PortFiles, is_of}
 use Rattle.pim_form.specs.Messages.{Writing}
 use Rattle.pim_form.specs.Writer.{has_bad_address}
 use Rattle.pim_merge.specs.declared.end.End.{End}
@@ -31,7 +31,7 @@ side_setup bytes_of side ports routes limit =
 -- ---- faults of the program
 
 -- The two routers have these ports.
-module _ {F A N P : Type 0} (ports others : List (Port P)) (family : AddressFamily) (bytes_of : A → List ℕ) where
+module _ {F A N P : Type 0} (ports others : List (PortFiles P)) (family : AddressFamily) (bytes_of : A → List ℕ) where
   -- The program's fault for a fault of the comparison.
   abbrev pub same_fault : SameFault F A N → Fault
   same_fault (of_same.Replay told) = replay_fault ports told
@@ -57,7 +57,7 @@ ComparisonAnswer A = Result ℕ (SameFault (Unit {0}) A (Unit {0}))
 
 -- New routers of these set-ups are compared, and this is the program's result for that of the
 -- engine.
-pub record IsCompared {A : Type 0} (ports others : List (Port A)) (family : AddressFamily) (bytes_of : A → List ℕ)
+pub record IsCompared {A : Type 0} (ports others : List (PortFiles A)) (family : AddressFamily) (bytes_of : A → List ℕ)
     (end : End) (writing : Writing) (merge merge' other other' : MergeState) (a b : Setup)
     (old new : Option (List ℕ)) (result : Result ℕ Fault) : Type 0 where
   pub after : RouterState
@@ -68,7 +68,7 @@ pub record IsCompared {A : Type 0} (ports others : List (Port A)) (family : Addr
   pub answer : result ≡ compared ports others family bytes_of told
 
 -- New routers are compared, or there is no writer or no router and nothing is written.
-abbrev pub ComparesNew : {A : Type 0} → List (Port A) → List (Port A) → AddressFamily → (A → List ℕ) → End → Writing →
+abbrev pub ComparesNew : {A : Type 0} → List (PortFiles A) → List (PortFiles A) → AddressFamily → (A → List ℕ) → End → Writing →
     MergeState → MergeState → MergeState → MergeState → Setup → Setup → Option (List ℕ) → Option (List ℕ) → Result ℕ Fault → Type 0
 ComparesNew ports others family bytes_of end writing merge merge' other other' a b old new (Ok status) =
     IsCompared ports others family bytes_of end writing merge merge' other other' a b old new (Ok status)

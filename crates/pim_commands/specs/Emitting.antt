@@ -9,7 +9,7 @@ use Rattle.pim_replay.specs.declared.emit.EmitFault.{EmitFault}
 use Rattle.pim_replay.specs.declared.emit.EmitFault.TheVariants as of_emission
 use Rattle.pim_replay.specs.Emit.{Emits}
 use Rattle.pim_router.specs.State.{Setup, RouterState, new_router}
-use Rattle.pim_words.specs.declared.task.Port.{Port}
+use Rattle.pim_files.specs.Captures.{PortFiles}
 use Rattle.pim_words.specs.Typed.{address_in}
 use Rattle.pim_check.specs.declared.fault.Fault.{Fault}
 use Rattle.pim_check.specs.declared.fault.Fault.TheVariants.{TooBig}
@@ -19,7 +19,7 @@ use Rattle.pim_commands.specs.Replaying.{replay_fault, IsFirstCause}
 -- ---- faults of the program
 
 -- The router has these ports.
-module _ {F A N P : Type 0} (ports : List (Port P)) (family : AddressFamily) (bytes_of : A → List ℕ) where
+module _ {F A N P : Type 0} (ports : List (PortFiles P)) (family : AddressFamily) (bytes_of : A → List ℕ) where
   -- The program's fault for a fault of the messages.
   abbrev pub emit_fault : EmitFault F A N → Fault
   emit_fault (of_emission.Replay told) = replay_fault ports told
@@ -38,7 +38,7 @@ EmissionAnswer A = Result ℕ (EmitFault (Unit {0}) A (Unit {0}))
 
 -- A new router of this set-up is replayed and its messages are written. This is the program's
 -- result for that of the engine.
-pub record IsEmitted {A : Type 0} (ports : List (Port A)) (family : AddressFamily) (bytes_of : A → List ℕ)
+pub record IsEmitted {A : Type 0} (ports : List (PortFiles A)) (family : AddressFamily) (bytes_of : A → List ℕ)
     (end : End) (writing : Writing) (merge merge' : MergeState) (setup : Setup) (old new : Option (List ℕ)) (result : Result ℕ Fault) : Type 0 where
   pub after : RouterState
   pub told : EmissionAnswer A
@@ -46,7 +46,7 @@ pub record IsEmitted {A : Type 0} (ports : List (Port A)) (family : AddressFamil
   pub answer : result ≡ emitted ports family bytes_of told
 
 -- Its messages are written, or there is no writer or no router and nothing is written.
-abbrev pub EmitsNew : {A : Type 0} → List (Port A) → AddressFamily → (A → List ℕ) → End → Writing → MergeState →
+abbrev pub EmitsNew : {A : Type 0} → List (PortFiles A) → AddressFamily → (A → List ℕ) → End → Writing → MergeState →
     MergeState → Setup →
     Option (List ℕ) → Option (List ℕ) → Result ℕ Fault → Type 0
 EmitsNew ports family bytes_of end writing merge merge' setup old new (Ok status) =

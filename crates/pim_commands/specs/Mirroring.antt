@@ -10,7 +10,7 @@ use Rattle.pim_replay.specs.declared.mirror_text.MirrorTextFault.TheVariants as 
 use Rattle.pim_replay.specs.MirrorText.{TellsMirror}
 use Rattle.pim_router.specs.Config.{config_faults}
 use Rattle.pim_router.specs.State.{Setup, RouterState, new_router}
-use Rattle.pim_words.specs.declared.task.Port.{Port}
+use Rattle.pim_files.specs.Captures.{PortFiles}
 use Rattle.pim_words.specs.Typed.{address_in}
 use Rattle.pim_check.specs.declared.fault.Fault.{Fault}
 use Rattle.pim_check.specs.declared.fault.Fault.TheVariants.{TooBig, Full}
@@ -21,7 +21,7 @@ use Rattle.pim_commands.specs.Writing.{writer_causes}
 -- ---- faults of the program
 
 -- The router has the ports `ports`. In a change, the second one has the ports `others`.
-module _ {F A N P : Type 0} (ports others : List (Port P)) (family : AddressFamily) (bytes_of : A → List ℕ) where
+module _ {F A N P : Type 0} (ports others : List (PortFiles P)) (family : AddressFamily) (bytes_of : A → List ℕ) where
   -- The program's fault for a fault of the mirror or the change.
   abbrev pub mirror_fault : MirrorTextFault F A N → Fault
   mirror_fault (of_mirror.Replay told) = replay_fault ports told
@@ -47,7 +47,7 @@ MirrorAnswer A = Result ℕ (MirrorTextFault (Unit {0}) A (Unit {0}))
 
 -- A new router of this set-up is replayed and mirrored, and this is the program's result for that
 -- of the engine.
-pub record IsMirrored {A : Type 0} (ports : List (Port A)) (family : AddressFamily) (bytes_of : A → List ℕ)
+pub record IsMirrored {A : Type 0} (ports : List (PortFiles A)) (family : AddressFamily) (bytes_of : A → List ℕ)
     (end : End) (limit : ℕ) (writing : Writing) (merge merge' : MergeState) (setup : Setup)
     (old new : Option (List ℕ)) (result : Result ℕ Fault) : Type 0 where
   pub after : RouterState
@@ -56,7 +56,7 @@ pub record IsMirrored {A : Type 0} (ports : List (Port A)) (family : AddressFami
   pub answer : result ≡ mirrored ports ports family bytes_of told
 
 -- A new router is mirrored, or there is no writer or no router and nothing is written.
-abbrev pub MirrorsNew : {A : Type 0} → List (Port A) → AddressFamily → (A → List ℕ) → End → ℕ → Writing →
+abbrev pub MirrorsNew : {A : Type 0} → List (PortFiles A) → AddressFamily → (A → List ℕ) → End → ℕ → Writing →
     MergeState → MergeState → Setup → Option (List ℕ) → Option (List ℕ) → Result ℕ Fault → Type 0
 MirrorsNew ports family bytes_of end limit writing merge merge' setup old new (Ok status) =
     IsMirrored ports family bytes_of end limit writing merge merge' setup old new (Ok status)

@@ -4,9 +4,10 @@ use Rattle.std.specs.Borrow.{Bor}
 use Rattle.pim_capture.specs.declared.vlan.Vlan.{Vlan}
 use Rattle.pim_capture.specs.declared.fault.CaptureFault.{CaptureFault}
 use Rattle.pim_capture.specs.declared.fault.CaptureFault.TheVariants as of_capture
-use Rattle.pim_files.specs.Captures.{is_of}
+use Rattle.pim_files.specs.Captures.{PortFiles, is_of, of_router}
 use Rattle.pim_merge.specs.declared.merge.MergeFault.{MergeFault}
 use Rattle.pim_words.specs.declared.fault.Side.{Side}
+use Rattle.pim_words.specs.declared.task.More.{More}
 use Rattle.pim_words.specs.declared.task.Port.{Port}
 use Rattle.pim_check.specs.declared.causes.CaptureCause.{CaptureCause}
 use Rattle.pim_check.specs.declared.causes.CaptureCause.TheVariants as capture
@@ -31,15 +32,30 @@ cause_of (of_capture.Interfaces first other) = Some (capture.Interfaces first ot
 cause_of of_capture.Memory = None
 cause_of other = Some capture.Read
 
--- The name of the file that faults of a port's capture have: that of a port with a link.
-abbrev pub file_of : {A : Type 0} → Port A → Option (Bor (List ℕ))
-file_of port = cond (is_some port.link) (Some port.file) None
+-- ---- the names of a port's files
+
+-- The name of the further file of this number, which counts from 0; `own` if there is none.
+abbrev pub further_name : Bor (List ℕ) → List More → ℕ → Bor (List ℕ)
+further_name own [] number = own
+further_name own (one ∷ others) zero = one.file
+further_name own (one ∷ others) (suc number) = further_name own others number
+
+-- The name of the file of this number among the files of a port. Its own file has the number 0.
+abbrev pub name_at : {A : Type 0} → PortFiles A → ℕ → Bor (List ℕ)
+name_at it zero = it.port.file
+name_at it (suc number) = further_name it.port.file it.more number
+
+-- The name of that file, which faults of a port's capture have: that of a port with a link.
+abbrev pub file_of : {A : Type 0} → PortFiles A → ℕ → Option (Bor (List ℕ))
+file_of it file = cond (is_some it.port.link) (Some (name_at it file)) None
 
 -- That of the port of this number.
-abbrev pub file_at : {A : Type 0} → List (Port A) → ℕ → Option (Bor (List ℕ))
-file_at [] number = None
-file_at (port ∷ ports) zero = file_of port
-file_at (port ∷ ports) (suc number) = file_at ports number
+abbrev pub file_at : {A : Type 0} → List (PortFiles A) → ℕ → ℕ → Option (Bor (List ℕ))
+file_at [] number file = None
+file_at (it ∷ ports) zero file = file_of it file
+file_at (it ∷ ports) (suc number) file = file_at ports number file
+
+-- ---- the fault
 
 -- The fault for this cause at a record of this number in a file, if it is named.
 abbrev pub in_file : Option (Bor (List ℕ)) → ℕ → CaptureCause → Fault
@@ -52,14 +68,15 @@ by_cause tell None = Memory
 by_cause tell (Some cause) = tell cause
 
 -- The program's fault for a fault of a capture of a router with these ports. The captures are
--- numbered as the ports.
-abbrev pub port_fault : {A : Type 0} → List (Port A) → MergeFault → Fault
-port_fault ports told = by_cause (in_file (file_at ports told.capture) told.«record») (cause_of told.fault)
+-- numbered as the ports. It names the file of the capture in which the fault is.
+abbrev pub port_fault : {A : Type 0} → List (PortFiles A) → MergeFault → Fault
+port_fault ports told =
+    by_cause (in_file (file_at ports told.capture told.file) told.«record») (cause_of told.fault)
 
 -- The ports of a router: of one of two routers, or all.
-abbrev pub ports_of : {A : Type 0} → Option Side → List (Port A) → List (Port A)
+abbrev pub ports_of : {A : Type 0} → Option Side → List (PortFiles A) → List (PortFiles A)
 ports_of None ports = ports
-ports_of (Some side) ports = filter (is_of side) ports
+ports_of (Some side) ports = of_router side ports
 
 -- ---- used by private functions only
 
@@ -67,3 +84,7 @@ ports_of (Some side) ports = filter (is_of side) ports
 abbrev pub is_in : {A : Type 0} → Option Side → Port A → Bool
 is_in None port = true
 is_in (Some side) port = is_of side port
+
+-- The same of a port with its further files.
+abbrev pub are_in : {A : Type 0} → Option Side → PortFiles A → Bool
+are_in side it = is_in side it.port

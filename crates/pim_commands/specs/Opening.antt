@@ -6,9 +6,9 @@ use Rattle.std.specs.Prelude.{Option, None, Some, Result, Ok, Err}
 use Rattle.pim_addr.specs.declared.family.AddressFamily.{AddressFamily}
 use Rattle.pim_addr.specs.Routes.{RouteTable}
 use Rattle.pim_files.specs.declared.fault.OpenFault.{OpenFault}
-use Rattle.pim_files.specs.Captures.{is_of, HoldFiles}
+use Rattle.pim_files.specs.Captures.{PortFiles, is_of, of_router, HoldFiles}
 use Rattle.pim_files.specs.Files.{Known, AsksFor, AsksFront}
-use Rattle.pim_files.specs.Opening.{file_names, IsUnopened}
+use Rattle.pim_files.specs.Opening.{file_names, port_files, IsUnopened}
 use Rattle.pim_files.specs.Table.{IsTable}
 use Rattle.pim_form.specs.Messages.{Writing as MessageWriting}
 use Rattle.pim_form.specs.Seen.{writing_seen}
@@ -18,7 +18,6 @@ use Rattle.pim_router.specs.State.{Setup}
 use Rattle.pim_words.specs.declared.fault.Side.{Side}
 use Rattle.pim_words.specs.declared.fault.Side.TheVariants as side
 use Rattle.pim_words.specs.declared.task.Captures.{Captures}
-use Rattle.pim_words.specs.declared.task.Port.{Port}
 use Rattle.pim_words.specs.declared.task.Tracing.{Tracing}
 use Rattle.pim_words.specs.declared.task.Writing.{Writing}
 use Rattle.pim_check.specs.declared.fault.Fault.{Fault}
@@ -60,7 +59,7 @@ module _ {A R : Type 0} (family : AddressFamily) (bytes_of : A → List ℕ) (re
     pub merge' : MergeState
     pub each : length merge.lanes ≡ length captures.ports.items
     pub untaken : IsUntaken merge
-    pub held : HoldFiles known.files captures.ports.items merge.lanes
+    pub held : HoldFiles known.files (port_files captures) merge.lanes
     pub asked : AsksFor known known' (file_names captures)
     pub answers : Answers table merge merge'
 
@@ -77,8 +76,8 @@ module _ {A R : Type 0} (family : AddressFamily) (bytes_of : A → List ℕ) (re
       pub each_of_b : length other.lanes ≡ length (filter (is_of side.B) captures.ports.items)
       pub untaken_of_a : IsUntaken merge
       pub untaken_of_b : IsUntaken other
-      pub held_of_a : HoldFiles known.files (filter (is_of side.A) captures.ports.items) merge.lanes
-      pub held_of_b : HoldFiles known.files (filter (is_of side.B) captures.ports.items) other.lanes
+      pub held_of_a : HoldFiles known.files (of_router side.A (port_files captures)) merge.lanes
+      pub held_of_b : HoldFiles known.files (of_router side.B (port_files captures)) other.lanes
       pub asked : AsksFor known known' (file_names captures)
       pub answers : Answers table merge merge' other other'
 
@@ -91,9 +90,9 @@ module _ {A R : Type 0} (family : AddressFamily) (bytes_of : A → List ℕ) (re
   abbrev pub setup_under : RouteTable → Setup
   setup_under table = setup_seen bytes_of (map config_of captures.ports.items) table captures.limit
 
-  -- The ports of one of two routers.
-  abbrev pub ports_of_side : Side → List (Port A)
-  ports_of_side side = filter (is_of side) captures.ports.items
+  -- The ports of one of two routers, each with its further files.
+  abbrev pub ports_of_side : Side → List (PortFiles A)
+  ports_of_side side = of_router side (port_files captures)
 
   -- The set-up of one of two routers under this table.
   abbrev pub side_setup_under : Side → RouteTable → Setup
@@ -118,26 +117,26 @@ module _ {A R : Type 0} (family : AddressFamily) (bytes_of : A → List ℕ) (re
   -- What `replay` returns and writes. It writes upstream neighbours if a file of routes is named.
   abbrev pub ReplaysFiles : (List ℕ → Type 0) → Option (List ℕ) → Option (List ℕ) → Result ℕ Fault → Type 0
   ReplaysFiles Warns old new result = OpensOne None Warns old new result (λ table merge merge'.
-      ReplaysNew captures.ports.items family (is_some captures.routes) (end_of captures) merge merge' (setup_under table) old new result
-      × Warns (warnings_text captures.ports.items merge'))
+      ReplaysNew (port_files captures) family (is_some captures.routes) (end_of captures) merge merge' (setup_under table) old new result
+      × Warns (warnings_text (port_files captures) merge'))
 
   -- What `trace` returns and writes.
   abbrev pub TracesFiles : Tracing A → (List ℕ → Type 0) → Option (List ℕ) → Option (List ℕ) → Result ℕ Fault → Type 0
   TracesFiles tracing Warns old new result = OpensOne None Warns old new result (λ table merge merge'.
-      TracesNew captures.ports.items family (line_of family bytes_of (names_of 0 tracing.names.items) tracing) (end_of captures) merge merge'
-      (setup_under table) old new result × Warns (warnings_text captures.ports.items merge'))
+      TracesNew (port_files captures) family (line_of family bytes_of (names_of 0 tracing.names.items) tracing) (end_of captures) merge merge'
+      (setup_under table) old new result × Warns (warnings_text (port_files captures) merge'))
 
   -- What `mirror` returns and writes.
   abbrev pub MirrorsFiles : Writing A → (List ℕ → Type 0) → Option (List ℕ) → Option (List ℕ) → Result ℕ Fault → Type 0
   MirrorsFiles writing Warns old new result = OpensOne (Some writing.upstream) Warns old new result (λ table merge merge'.
-      MirrorsNew captures.ports.items family bytes_of (end_of captures) captures.limit (writing_of writing) merge merge' (setup_under table)
-      old new result × Warns (warnings_text captures.ports.items merge'))
+      MirrorsNew (port_files captures) family bytes_of (end_of captures) captures.limit (writing_of writing) merge merge' (setup_under table)
+      old new result × Warns (warnings_text (port_files captures) merge'))
 
   -- What `emit` returns and writes.
   abbrev pub EmitsFiles : Writing A → (List ℕ → Type 0) → Option (List ℕ) → Option (List ℕ) → Result ℕ Fault → Type 0
   EmitsFiles writing Warns old new result = OpensOne (Some writing.upstream) Warns old new result (λ table merge merge'.
-      EmitsNew captures.ports.items family bytes_of (end_of captures) (writing_of writing) merge merge' (setup_under table) old new result
-      × Warns (warnings_text captures.ports.items merge'))
+      EmitsNew (port_files captures) family bytes_of (end_of captures) (writing_of writing) merge merge' (setup_under table) old new result
+      × Warns (warnings_text (port_files captures) merge'))
 
   -- What `same` returns and writes.
   abbrev pub ComparesFiles : Writing A → (List ℕ → Type 0) → Option (List ℕ) → Option (List ℕ) → Result ℕ Fault → Type 0

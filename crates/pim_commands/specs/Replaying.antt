@@ -2,6 +2,7 @@
 use Rattle.std.specs.Prelude.{◌≡◌, ◌⊎◌, ⊤, ℕ, Bool, List, [], ◌∷◌}
 use Rattle.std.specs.Prelude.{Option, None, Some, Result, Ok, Err}
 use Rattle.pim_addr.specs.declared.family.AddressFamily.{AddressFamily}
+use Rattle.pim_files.specs.Captures.{PortFiles}
 use Rattle.pim_merge.specs.declared.end.End.{End}
 use Rattle.pim_merge.specs.declared.end.End.TheVariants.{After, At}
 use Rattle.pim_merge.specs.Next.{MergeState}
@@ -47,13 +48,13 @@ config_fault of_config.Memory = Memory
 config_fault other = config_told cause.Ports
 
 -- The program's fault for a fault of the replay of a router with these ports.
-abbrev pub replay_fault : {A : Type 0} → List (Port A) → ReplayFault → Fault
+abbrev pub replay_fault : {A : Type 0} → List (PortFiles A) → ReplayFault → Fault
 replay_fault ports (of_replay.Capture told) = port_fault ports told
 replay_fault ports of_replay.Output = Output
 replay_fault ports of_replay.Memory = Memory
 
 -- The program's result for a result of that replay.
-abbrev pub answer_of : {A : Type 0} → List (Port A) → Result ℕ ReplayFault → Result ℕ Fault
+abbrev pub answer_of : {A : Type 0} → List (PortFiles A) → Result ℕ ReplayFault → Result ℕ Fault
 answer_of ports (Ok status) = Ok status
 answer_of ports (Err fault) = Err (replay_fault ports fault)
 
@@ -72,7 +73,7 @@ IsUnmade [] fault = ⊥
 IsUnmade (first ∷ others) fault = fault ≡ config_fault first
 
 -- A new router of this set-up is replayed, and this is the program's result for that of the engine.
-pub record IsReplayed {A : Type 0} (ports : List (Port A)) (family : AddressFamily) (tells_via : Bool) (end : End) (merge merge' : MergeState)
+pub record IsReplayed {A : Type 0} (ports : List (PortFiles A)) (family : AddressFamily) (tells_via : Bool) (end : End) (merge merge' : MergeState)
     (setup : Setup) (old new : Option (List ℕ)) (result : Result ℕ Fault) : Type 0 where
   pub after : RouterState
   pub told : Result ℕ ReplayFault
@@ -80,7 +81,7 @@ pub record IsReplayed {A : Type 0} (ports : List (Port A)) (family : AddressFami
   pub answer : result ≡ answer_of ports told
 
 -- A new router is replayed, or there is none and nothing is written.
-abbrev pub ReplaysNew : {A : Type 0} → List (Port A) → AddressFamily → Bool → End → MergeState → MergeState → Setup → Option (List ℕ) → Option (List ℕ) →
+abbrev pub ReplaysNew : {A : Type 0} → List (PortFiles A) → AddressFamily → Bool → End → MergeState → MergeState → Setup → Option (List ℕ) → Option (List ℕ) →
     Result ℕ Fault → Type 0
 ReplaysNew ports family tells_via end merge merge' setup old new (Ok status) =
     IsReplayed ports family tells_via end merge merge' setup old new (Ok status)

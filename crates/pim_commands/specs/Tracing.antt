@@ -17,7 +17,7 @@ use Rattle.pim_router.specs.State.{Setup, RouterState, new_router}
 use Rattle.pim_trace.specs.declared.trace.TraceFault.{TraceFault}
 use Rattle.pim_trace.specs.declared.trace.TraceFault.TheVariants as of_trace
 use Rattle.pim_trace.specs.Trace.{Traces}
-use Rattle.pim_words.specs.declared.task.Port.{Port}
+use Rattle.pim_files.specs.Captures.{PortFiles}
 use Rattle.pim_words.specs.declared.task.TimeForm.{TimeForm}
 use Rattle.pim_words.specs.declared.task.TimeForm.TheVariants.{Ms, Epoch, Utc}
 use Rattle.pim_words.specs.declared.task.Tracing.{Tracing}
@@ -67,18 +67,18 @@ TracesBy family line end merge merge' state after old new told =
     Traces line family end merge merge' state after old new told
 
 -- The program's fault for a fault of the trace of a router with these ports.
-abbrev pub trace_fault : {A : Type 0} → List (Port A) → TraceFault → Fault
+abbrev pub trace_fault : {A : Type 0} → List (PortFiles A) → TraceFault → Fault
 trace_fault ports (of_trace.Capture told) = port_fault ports told
 trace_fault ports of_trace.Output = Output
 trace_fault ports of_trace.Memory = Memory
 
 -- The program's result for a result of that trace.
-abbrev pub tracing_answer : {A : Type 0} → List (Port A) → Result (Unit {0}) TraceFault → Result ℕ Fault
+abbrev pub tracing_answer : {A : Type 0} → List (PortFiles A) → Result (Unit {0}) TraceFault → Result ℕ Fault
 tracing_answer ports (Ok done) = Ok 0
 tracing_answer ports (Err fault) = Err (trace_fault ports fault)
 
 -- A new router of this set-up is traced, and this is the program's result for that of the engine.
-pub record IsTracedNew {A : Type 0} (ports : List (Port A)) (family : AddressFamily) (line : Occurrence → List ℕ)
+pub record IsTracedNew {A : Type 0} (ports : List (PortFiles A)) (family : AddressFamily) (line : Occurrence → List ℕ)
     (end : End) (merge merge' : MergeState) (setup : Setup) (old new : Option (List ℕ)) (result : Result ℕ Fault) : Type 0 where
   pub after : RouterState
   pub told : Result (Unit {0}) TraceFault
@@ -86,7 +86,7 @@ pub record IsTracedNew {A : Type 0} (ports : List (Port A)) (family : AddressFam
   pub answer : result ≡ tracing_answer ports told
 
 -- A new router is traced, or there is none and nothing is written.
-abbrev pub TracesNew : {A : Type 0} → List (Port A) → AddressFamily → (Occurrence → List ℕ) → End → MergeState →
+abbrev pub TracesNew : {A : Type 0} → List (PortFiles A) → AddressFamily → (Occurrence → List ℕ) → End → MergeState →
     MergeState → Setup → Option (List ℕ) → Option (List ℕ) → Result ℕ Fault → Type 0
 TracesNew ports family line end merge merge' setup old new (Ok status) =
     IsTracedNew ports family line end merge merge' setup old new (Ok status)

@@ -3,7 +3,8 @@
 ghost use Rattle.std.specs.Prelude.{◌≡◌, length, filter};
 ghost use Rattle.pim_form.specs.Seen.{writing_seen};
 ghost use Rattle.pim_words.specs.Plan.{IsBounded, IsLimited, IsWritable};
-ghost use Rattle.pim_files.specs.Captures.{is_of};
+ghost use Rattle.pim_files.specs.Captures.{is_of, of_router};
+ghost use Rattle.pim_files.specs.Opening.{port_files};
 ghost use Rattle.pim_commands.specs.Replaying.{end_of};
 ghost use Rattle.pim_commands.specs.Comparing.{side_setup};
 ghost use Rattle.pim_commands.specs.Changing.{ChangesNew};
@@ -45,8 +46,8 @@ pub fn change_opened<'a, F: Family, R: Feed + Drop, W: Drain>(
     requires writing { IsWritable writing.now }
     requires a { length pair.old.a.lanes ≡ length (filter (is_of Side.A) captures.now.ports.items) }
     requires b { length pair.old.b.lanes ≡ length (filter (is_of Side.B) captures.now.ports.items) }
-    ensures text { ChangesNew (filter (is_of Side.A) captures.now.ports.items)
-        (filter (is_of Side.B) captures.now.ports.items)
+    ensures text { ChangesNew (of_router Side.A (port_files captures.now))
+        (of_router Side.B (port_files captures.now))
         F.family F.bytes_of (end_of captures.now) captures.now.limit
         (writing_seen F.bytes_of writing.now.upstream writing.now.own writing.now.holdtime
         writing.now.budget)

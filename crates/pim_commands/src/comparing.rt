@@ -6,7 +6,8 @@ ghost use Rattle.pim_form.specs.Writer.{has_bad_address};
 ghost use Rattle.pim_router.specs.State.{Setup};
 ghost use Rattle.pim_words.specs.Plan.{IsBounded, IsLimited, IsWritable};
 ghost use Rattle.pim_commands.specs.Replaying.{end_of, config_of, IsFirstCause};
-ghost use Rattle.pim_files.specs.Captures.{is_of};
+ghost use Rattle.pim_files.specs.Captures.{is_of, of_router};
+ghost use Rattle.pim_files.specs.Opening.{port_files};
 ghost use Rattle.pim_commands.specs.Comparing.{same_fault, compared, causes, side_setup, ComparesNew};
 ghost use Rattle.pim_commands.specs.Opened.{IsUnwritten};
 ghost use Rattle.pim_commands.specs.Opening.{ComparesFiles};
@@ -29,8 +30,8 @@ use std::alloc::{AllocError, Global};
 
 /// The program's fault for a fault of the comparison.
 fn same_fault<'a, F: Family>(captures: &Captures<'a, F::Addr>, fault: SameFault<F>) -> Fault<'a>
-    ensures { result ≡ same_fault (filter (is_of Side.A) captures.now.ports.items)
-        (filter (is_of Side.B) captures.now.ports.items) F.family F.bytes_of fault }
+    ensures { result ≡ same_fault (of_router Side.A (port_files captures.now))
+        (of_router Side.B (port_files captures.now)) F.family F.bytes_of fault }
 {
     match fault {
         SameFault::Replay(fault) => replay_fault(captures, Some(Side::A), fault),
@@ -44,8 +45,8 @@ fn compared<'a, F: Family>(
     captures: &Captures<'a, F::Addr>,
     told: Result<u8, SameFault<F>>,
 ) -> Result<u8, Fault<'a>>
-    ensures { result ≡ compared (filter (is_of Side.A) captures.now.ports.items)
-        (filter (is_of Side.B) captures.now.ports.items) F.family F.bytes_of told }
+    ensures { result ≡ compared (of_router Side.A (port_files captures.now))
+        (of_router Side.B (port_files captures.now)) F.family F.bytes_of told }
 {
     match told {
         Ok(status) => Ok(status),
@@ -134,8 +135,8 @@ pub fn same_opened<'a, F: Family, R: Feed + Drop, W: Drain>(
     requires writing { IsWritable writing.now }
     requires a { length pair.old.a.lanes ≡ length (filter (is_of Side.A) captures.now.ports.items) }
     requires b { length pair.old.b.lanes ≡ length (filter (is_of Side.B) captures.now.ports.items) }
-    ensures report { ComparesNew (filter (is_of Side.A) captures.now.ports.items)
-        (filter (is_of Side.B) captures.now.ports.items)
+    ensures report { ComparesNew (of_router Side.A (port_files captures.now))
+        (of_router Side.B (port_files captures.now))
         F.family F.bytes_of (end_of captures.now)
         (writing_seen F.bytes_of writing.now.upstream writing.now.own writing.now.holdtime
         writing.now.budget)

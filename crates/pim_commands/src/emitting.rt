@@ -4,6 +4,7 @@ ghost use Rattle.std.specs.Prelude.{◌≡◌, length, map};
 ghost use Rattle.pim_form.specs.Seen.{writing_seen};
 ghost use Rattle.pim_router.specs.Seen.{setup_seen};
 ghost use Rattle.pim_words.specs.Plan.{IsBounded, IsLimited, IsWritable};
+ghost use Rattle.pim_files.specs.Opening.{port_files};
 ghost use Rattle.pim_commands.specs.Replaying.{end_of, config_of};
 ghost use Rattle.pim_commands.specs.Emitting.{emit_fault, emitted, EmitsNew};
 ghost use Rattle.pim_commands.specs.Opening.{EmitsFiles};
@@ -25,7 +26,7 @@ use std::alloc::Global;
 
 /// The program's fault for a fault of the messages.
 fn emit_fault<'a, F: Family>(captures: &Captures<'a, F::Addr>, fault: EmitFault<F>) -> Fault<'a>
-    ensures { result ≡ emit_fault captures.now.ports.items F.family F.bytes_of fault }
+    ensures { result ≡ emit_fault (port_files captures.now) F.family F.bytes_of fault }
 {
     match fault {
         EmitFault::Replay(fault) => replay_fault(captures, None, fault),
@@ -38,7 +39,7 @@ pub fn emitted<'a, F: Family>(
     captures: &Captures<'a, F::Addr>,
     told: Result<u8, EmitFault<F>>,
 ) -> Result<u8, Fault<'a>>
-    ensures { result ≡ emitted captures.now.ports.items F.family F.bytes_of told }
+    ensures { result ≡ emitted (port_files captures.now) F.family F.bytes_of told }
 {
     match told {
         Ok(status) => Ok(status),
@@ -66,7 +67,7 @@ pub fn emit_opened<'a, F: Family, R: Feed + Drop, W: Drain>(
     requires limit { IsLimited captures.now }
     requires writing { IsWritable writing.now }
     requires ports { length merge.old.lanes ≡ length captures.now.ports.items }
-    ensures bytes { EmitsNew captures.now.ports.items F.family F.bytes_of (end_of captures.now)
+    ensures bytes { EmitsNew (port_files captures.now) F.family F.bytes_of (end_of captures.now)
         (writing_seen F.bytes_of writing.now.upstream writing.now.own writing.now.holdtime
         writing.now.budget)
         merge.old merge.new

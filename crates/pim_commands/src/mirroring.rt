@@ -6,6 +6,7 @@ ghost use Rattle.pim_form.specs.Writer.{has_bad_address};
 ghost use Rattle.pim_router.specs.Seen.{setup_seen};
 ghost use Rattle.pim_router.specs.State.{Setup};
 ghost use Rattle.pim_words.specs.Plan.{IsBounded, IsLimited, IsWritable};
+ghost use Rattle.pim_files.specs.Opening.{port_files};
 ghost use Rattle.pim_commands.specs.Replaying.{end_of, config_of, IsFirstCause};
 ghost use Rattle.pim_commands.specs.Mirroring.{mirror_fault, mirrored, mirror_causes, MirrorsNew};
 ghost use Rattle.pim_commands.specs.Naming.{ports_of};
@@ -37,8 +38,8 @@ fn mirror_fault<'a, F: Family>(
     second: Option<Side>,
     fault: MirrorTextFault<F>,
 ) -> Fault<'a>
-    ensures { result ≡ mirror_fault (ports_of first captures.now.ports.items)
-        (ports_of second captures.now.ports.items) F.family F.bytes_of fault }
+    ensures { result ≡ mirror_fault (ports_of first (port_files captures.now))
+        (ports_of second (port_files captures.now)) F.family F.bytes_of fault }
 {
     match fault {
         MirrorTextFault::Replay(fault) => replay_fault(captures, first, fault),
@@ -55,8 +56,8 @@ pub fn mirrored<'a, F: Family>(
     second: Option<Side>,
     told: Result<u8, MirrorTextFault<F>>,
 ) -> Result<u8, Fault<'a>>
-    ensures { result ≡ mirrored (ports_of first captures.now.ports.items)
-        (ports_of second captures.now.ports.items) F.family F.bytes_of told }
+    ensures { result ≡ mirrored (ports_of first (port_files captures.now))
+        (ports_of second (port_files captures.now)) F.family F.bytes_of told }
 {
     match told {
         Ok(status) => Ok(status),
@@ -118,7 +119,7 @@ pub fn mirror_opened<'a, F: Family, R: Feed + Drop, W: Drain>(
     requires limit { IsLimited captures.now }
     requires writing { IsWritable writing.now }
     requires ports { length merge.old.lanes ≡ length captures.now.ports.items }
-    ensures text { MirrorsNew captures.now.ports.items F.family F.bytes_of
+    ensures text { MirrorsNew (port_files captures.now) F.family F.bytes_of
         (end_of captures.now) captures.now.limit
         (writing_seen F.bytes_of writing.now.upstream writing.now.own writing.now.holdtime
         writing.now.budget)

@@ -1,14 +1,16 @@
 //! The program's fault for a fault of a capture. It names the file of a port with a link.
 
 ghost use Rattle.std.specs.Prelude.{◌≡◌, filter};
-ghost use Rattle.pim_files.specs.Captures.{is_of};
-ghost use Rattle.pim_commands.specs.Naming.{tag_of, cause_of, file_of, file_at, in_file};
-ghost use Rattle.pim_commands.specs.Naming.{port_fault, ports_of, is_in};
+ghost use Rattle.pim_files.specs.Captures.{files_from, is_of, with_more};
+ghost use Rattle.pim_files.specs.Opening.{port_files};
+ghost use Rattle.pim_commands.specs.Naming.{tag_of, cause_of, name_at, file_of, file_at, in_file};
+ghost use Rattle.pim_commands.specs.Naming.{port_fault, ports_of, is_in, are_in};
 
 use pim_capture::{CaptureFault, Vlan};
 use pim_check::{CaptureCause, Fault};
+use pim_files::is_further;
 use pim_merge::MergeFault;
-use pim_words::{Captures, Port, Side};
+use pim_words::{Captures, More, Port, Side};
 
 /// Whether the port belongs to this router.
 pub(crate) fn is_of<A: Copy>(side: Side, port: &Port<'_, A>) -> bool
@@ -65,28 +67,67 @@ pub(crate) fn is_in<A: Copy>(side: Option<Side>, port: &Port<'_, A>) -> bool
     }
 }
 
+/// The name of the file of this number among the files of the port of number `at`: its own file,
+/// then those of these further files that are its own. The own file has the number 0.
+pub(crate) fn name_at<'a, A: Copy>(
+    at: usize,
+    port: &Port<'a, A>,
+    further: &[More<'a>],
+    file: u64,
+) -> &'a str
+    ensures { result ≡ name_at (with_more at further.now port.now) file }
+{
+    if file == 0 {
+        return port.file;
+    }
+    let mut left = file - 1;
+    for one in further {
+        if is_further(at, port, one) {
+            if left == 0 {
+                return one.file;
+            }
+            left -= 1;
+        }
+    }
+    port.file
+}
+
 /// The name of the file that faults of a port's capture have: that of a port with a link.
-fn file_of<'a, A: Copy>(port: &Port<'a, A>) -> Option<&'a str>
-    ensures { result ≡ file_of port.now }
+fn file_of<'a, A: Copy>(
+    at: usize,
+    port: &Port<'a, A>,
+    further: &[More<'a>],
+    file: u64,
+) -> Option<&'a str>
+    ensures { result ≡ file_of (with_more at further.now port.now) file }
 {
     if port.link.is_some() {
-        return Some(port.file);
+        return Some(name_at(at, port, further, file));
     }
     None
 }
 
 /// That of the port of this number among those of a router.
-fn file_at<'a, A: Copy>(ports: &[Port<'a, A>], side: Option<Side>, number: usize) -> Option<&'a str>
-    ensures { result ≡ file_at (filter (is_in side) ports.now) number }
+fn file_at<'a, A: Copy>(
+    ports: &[Port<'a, A>],
+    further: &[More<'a>],
+    side: Option<Side>,
+    number: usize,
+    file: u64,
+) -> Option<&'a str>
+    ensures { result
+        ≡ file_at (filter (are_in side) (files_from 0 further.now ports.now)) number file }
 {
     let mut left = number;
+    let mut at = 0;
     for port in ports {
         if is_in(side, port) {
             if left == 0 {
-                return file_of(port);
+                return file_of(at, port, further, file);
             }
             left -= 1;
         }
+        at += 1;
     }
     None
 }
@@ -111,13 +152,19 @@ pub(crate) fn port_fault<'a, A: Copy>(
     side: Option<Side>,
     told: MergeFault,
 ) -> Fault<'a>
-    ensures { result ≡ port_fault (ports_of side captures.now.ports.items) told }
+    ensures { result ≡ port_fault (ports_of side (port_files captures.now)) told }
 {
     let Some(cause) = cause_of(told.fault) else {
         return Fault::Memory;
     };
     in_file(
-        file_at(&captures.ports, side, told.capture),
+        file_at(
+            &captures.ports,
+            &captures.more,
+            side,
+            told.capture,
+            told.file,
+        ),
         told.record,
         cause,
     )

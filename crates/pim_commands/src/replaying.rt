@@ -8,6 +8,7 @@ ghost use Rattle.pim_router.specs.Config.{config_faults};
 ghost use Rattle.pim_router.specs.Seen.{setup_seen};
 ghost use Rattle.pim_router.specs.State.{new_router};
 ghost use Rattle.pim_words.specs.Plan.{IsBounded, IsLimited};
+ghost use Rattle.pim_files.specs.Opening.{port_files};
 ghost use Rattle.pim_commands.specs.Naming.{ports_of};
 ghost use Rattle.pim_commands.specs.Replaying.{end_of, config_of, config_fault};
 ghost use Rattle.pim_commands.specs.Replaying.{replay_fault, answer_of};
@@ -91,7 +92,7 @@ pub fn replay_fault<'a, A: Copy>(
     side: Option<Side>,
     fault: ReplayFault,
 ) -> Fault<'a>
-    ensures { result ≡ replay_fault (ports_of side captures.now.ports.items) fault }
+    ensures { result ≡ replay_fault (ports_of side (port_files captures.now)) fault }
 {
     match fault {
         ReplayFault::Capture(told) => port_fault(captures, side, told),
@@ -105,7 +106,7 @@ fn answer_of<'a, A: Copy>(
     captures: &Captures<'a, A>,
     told: Result<u8, ReplayFault>,
 ) -> Result<u8, Fault<'a>>
-    ensures { result ≡ answer_of captures.now.ports.items told }
+    ensures { result ≡ answer_of (port_files captures.now) told }
 {
     match told {
         Ok(status) => Ok(status),
@@ -152,7 +153,7 @@ pub fn replay_opened<'a, F: Family, R: Feed + Drop, W: Drain>(
     requires after { IsBounded captures.now }
     requires limit { IsLimited captures.now }
     requires ports { length merge.old.lanes ≡ length captures.now.ports.items }
-    ensures report { ReplaysNew captures.now.ports.items F.family (is_some captures.now.routes)
+    ensures report { ReplaysNew (port_files captures.now) F.family (is_some captures.now.routes)
         (end_of captures.now) merge.old merge.new
         (setup_seen F.bytes_of (map config_of captures.now.ports.items) routes.now
         captures.now.limit)

@@ -9,6 +9,7 @@ ghost use Rattle.pim_capture.specs.Next.{latest_moment};
 ghost use Rattle.pim_router.specs.Seen.{setup_seen};
 ghost use Rattle.pim_words.specs.Labels.{is_name};
 ghost use Rattle.pim_words.specs.Plan.{AreNames, IsBounded, IsLimited};
+ghost use Rattle.pim_files.specs.Opening.{port_files};
 ghost use Rattle.pim_commands.specs.Replaying.{end_of, config_of};
 ghost use Rattle.pim_commands.specs.Tracing.{form_of, name_of, names_of, line_of};
 ghost use Rattle.pim_commands.specs.Tracing.{trace_fault, tracing_answer, TracesNew, TracesBy};
@@ -85,7 +86,7 @@ fn filter_of<'t, A>(tracing: &'t Tracing<'_, A>) -> Filter<'t, A>
 
 /// The program's fault for a fault of a trace.
 fn trace_fault<'a, A: Copy>(captures: &Captures<'a, A>, fault: TraceFault) -> Fault<'a>
-    ensures { result ≡ trace_fault captures.now.ports.items fault }
+    ensures { result ≡ trace_fault (port_files captures.now) fault }
 {
     match fault {
         TraceFault::Capture(told) => port_fault(captures, None, told),
@@ -99,7 +100,7 @@ fn tracing_answer<'a, A: Copy>(
     captures: &Captures<'a, A>,
     told: Result<(), TraceFault>,
 ) -> Result<u8, Fault<'a>>
-    ensures { result ≡ tracing_answer captures.now.ports.items told }
+    ensures { result ≡ tracing_answer (port_files captures.now) told }
 {
     match told {
         Ok(()) => Ok(0),
@@ -125,7 +126,7 @@ fn trace_by<F: Family, R: Feed + Drop, W: Drain>(
         (W.contents writer.old) (W.contents writer.new) result }
     ensures count { W.failures writer.new
         ≡ write_failures_after (W.failures writer.old)
-        (tracing_answer asked.entry.0.now.ports.items result) }
+        (tracing_answer (port_files asked.entry.0.now) result) }
 {
     let (captures, tracing) = asked;
     let end = end_of(captures);
@@ -159,7 +160,7 @@ pub fn trace_opened<'a, F: Family, R: Feed + Drop, W: Drain>(
     requires limit { IsLimited asked.0.now }
     requires names { AreNames asked.0.now asked.1.now }
     requires ports { length merge.old.lanes ≡ length asked.0.now.ports.items }
-    ensures events { TracesNew asked.entry.0.now.ports.items F.family (line_of F.family F.bytes_of
+    ensures events { TracesNew (port_files asked.entry.0.now) F.family (line_of F.family F.bytes_of
         (names_of 0 asked.entry.1.now.names.items) asked.entry.1.now)
         (end_of asked.entry.0.now) merge.old merge.new
         (setup_seen F.bytes_of (map config_of asked.entry.0.now.ports.items) routes.now

@@ -4,20 +4,22 @@ ghost use Rattle.std.specs.Prelude.{◌≡◌, ◌++◌, filter, nat_lt};
 ghost use Rattle.pim_device.specs.Device.{AppendsAll, failures_after};
 ghost use Rattle.pim_merge.specs.Lane.{tallies_of};
 ghost use Rattle.pim_merge.specs.Tally.{tally_at};
-ghost use Rattle.pim_files.specs.Captures.{is_of};
+ghost use Rattle.pim_files.specs.Captures.{files_from, of_router, with_more};
+ghost use Rattle.pim_files.specs.Opening.{port_files};
 ghost use Rattle.pim_check.specs.Telling.{IsTold};
 ghost use Rattle.pim_check.specs.declared.warning.Warning.TheVariants.{CutShort, Fragments, CutFrames};
-ghost use Rattle.pim_commands.specs.Naming.{is_in, ports_of};
+ghost use Rattle.pim_check.specs.declared.warning.Warning.TheVariants.{RunsBack, Jumps};
+ghost use Rattle.pim_commands.specs.Naming.{are_in, ports_of};
 ghost use Rattle.pim_commands.specs.Warnings.{warned, number_if, record_of, count_warnings};
-ghost use Rattle.pim_commands.specs.Warnings.{time_warnings, port_warnings, warnings_from};
+ghost use Rattle.pim_commands.specs.Warnings.{time_warnings, port_warnings, place_file, warnings_from};
 ghost use Rattle.pim_commands.specs.Warnings.{warnings_text};
 
-use crate::naming::is_in;
+use crate::naming::{is_in, name_at};
 use pim_addr::{Drain, Failed, Feed};
 use pim_check::{Warning, warning_line};
 use pim_files::Pair;
 use pim_merge::{Merge, Place, Tally};
-use pim_words::{Captures, Port, Side};
+use pim_words::{Captures, More, Port, Side};
 
 /// The number, if this holds.
 fn number_if(holds: bool, number: u64) -> Option<u64>
@@ -61,68 +63,133 @@ fn some_count(count: u64) -> Option<u64>
     number_if(0 < count, count)
 }
 
-/// Writes the lines of the warnings on counts with these numbers, as far as there are such.
+/// The name of the file of a port that has this place; that of the port's own file if there is
+/// none.
+fn place_file<'a, A: Copy>(
+    at: usize,
+    port: &Port<'a, A>,
+    further: &[More<'a>],
+    place: Option<Place>,
+) -> &'a str
+    ensures { result ≡ place_file (with_more at further.now port.now) place }
+{
+    match place {
+        Some(place) => name_at(at, port, further, place.file),
+        None => port.file,
+    }
+}
+
+/// Writes the lines of the warnings on counts with these numbers, as far as there are such. The
+/// file that ends inside a record has a name of its own.
 fn warn_of_numbers<W: Drain>(
     writer: &mut W,
-    file: &str,
+    cut_file: &str,
     cut_short: Option<u64>,
+    file: &str,
     fragments: Option<u64>,
     cut_frames: Option<u64>,
 ) -> Result<(), Failed>
     ensures bytes { AppendsAll (W.contents writer.old) (W.contents writer.new) result
-        (warned CutShort file.now cut_short ++ warned Fragments file.now fragments
+        (warned CutShort cut_file.now cut_short ++ warned Fragments file.now fragments
         ++ warned CutFrames file.now cut_frames) }
     ensures count { W.failures writer.new ≡ failures_after (W.failures writer.old) result }
 {
-    warn_of(writer, Warning::CutShort, file, cut_short)?;
+    warn_of(writer, Warning::CutShort, cut_file, cut_short)?;
     warn_of(writer, Warning::Fragments, file, fragments)?;
     warn_of(writer, Warning::CutFrames, file, cut_frames)
 }
 
 /// Writes the warnings on counts.
-fn warn_of_counts<W: Drain>(writer: &mut W, file: &str, tally: Tally) -> Result<(), Failed>
+fn warn_of_counts<W: Drain, A: Copy>(
+    writer: &mut W,
+    at: usize,
+    port: &Port<'_, A>,
+    further: &[More<'_>],
+    tally: Tally,
+) -> Result<(), Failed>
     ensures bytes { AppendsAll (W.contents writer.old) (W.contents writer.new) result
-        (count_warnings file.now tally) }
+        (count_warnings (with_more at further.now port.now) tally) }
     ensures count { W.failures writer.new ≡ failures_after (W.failures writer.old) result }
 {
     warn_of_numbers(
         writer,
-        file,
+        place_file(at, port, further, tally.cut_short),
         record_of(tally.cut_short),
+        port.file,
         some_count(tally.fragments),
         some_count(tally.cut_frames),
     )
 }
 
-/// Writes the warnings on times.
-#[tactic(auto, unfolding(crate::specs::Warnings::time_warnings))]
-fn warn_of_times<W: Drain>(writer: &mut W, file: &str, tally: Tally) -> Result<(), Failed>
+/// Writes the lines of the warnings on times with these names and numbers, as far as there are
+/// such.
+fn warn_of_places<W: Drain>(
+    writer: &mut W,
+    back_file: &str,
+    ran_back: Option<u64>,
+    jump_file: &str,
+    jumped: Option<u64>,
+) -> Result<(), Failed>
     ensures bytes { AppendsAll (W.contents writer.old) (W.contents writer.new) result
-        (time_warnings file.now tally) }
+        (warned RunsBack back_file.now ran_back ++ warned Jumps jump_file.now jumped) }
     ensures count { W.failures writer.new ≡ failures_after (W.failures writer.old) result }
 {
-    warn_of(writer, Warning::RunsBack, file, record_of(tally.ran_back))?;
-    warn_of(writer, Warning::Jumps, file, record_of(tally.jumped))
+    warn_of(writer, Warning::RunsBack, back_file, ran_back)?;
+    warn_of(writer, Warning::Jumps, jump_file, jumped)
 }
 
-/// Writes the warnings on the capture in a file.
-fn warn_of_file<W: Drain>(writer: &mut W, file: &str, tally: Tally) -> Result<(), Failed>
+/// Writes the warnings on times.
+fn warn_of_times<W: Drain, A: Copy>(
+    writer: &mut W,
+    at: usize,
+    port: &Port<'_, A>,
+    further: &[More<'_>],
+    tally: Tally,
+) -> Result<(), Failed>
     ensures bytes { AppendsAll (W.contents writer.old) (W.contents writer.new) result
-        (count_warnings file.now tally ++ time_warnings file.now tally) }
+        (time_warnings (with_more at further.now port.now) tally) }
     ensures count { W.failures writer.new ≡ failures_after (W.failures writer.old) result }
 {
-    warn_of_counts(writer, file, tally)?;
-    warn_of_times(writer, file, tally)
+    warn_of_places(
+        writer,
+        place_file(at, port, further, tally.ran_back),
+        record_of(tally.ran_back),
+        place_file(at, port, further, tally.jumped),
+        record_of(tally.jumped),
+    )
+}
+
+/// Writes the warnings on the capture of a port with a link.
+fn warn_of_files<W: Drain, A: Copy>(
+    writer: &mut W,
+    at: usize,
+    port: &Port<'_, A>,
+    further: &[More<'_>],
+    tally: Tally,
+) -> Result<(), Failed>
+    ensures bytes { AppendsAll (W.contents writer.old) (W.contents writer.new) result
+        (count_warnings (with_more at further.now port.now) tally
+        ++ time_warnings (with_more at further.now port.now) tally) }
+    ensures count { W.failures writer.new ≡ failures_after (W.failures writer.old) result }
+{
+    warn_of_counts(writer, at, port, further, tally)?;
+    warn_of_times(writer, at, port, further, tally)
 }
 
 /// Writes the warnings on the capture of a port.
-fn warn_of_port<W: Drain, A>(writer: &mut W, port: &Port<'_, A>, tally: Tally) -> Result<(), Failed>
+fn warn_of_port<W: Drain, A: Copy>(
+    writer: &mut W,
+    at: usize,
+    port: &Port<'_, A>,
+    further: &[More<'_>],
+    tally: Tally,
+) -> Result<(), Failed>
     ensures bytes { AppendsAll (W.contents writer.old) (W.contents writer.new) result
-        (port_warnings port.now tally) }
+        (port_warnings (with_more at further.now port.now) tally) }
     ensures count { W.failures writer.new ≡ failures_after (W.failures writer.old) result }
 {
     if port.link.is_some() {
-        return warn_of_file(writer, port.file, tally);
+        return warn_of_files(writer, at, port, further, tally);
     }
     Ok(())
 }
@@ -150,19 +217,23 @@ fn tally_of<R: Feed + Drop>(merge: &Merge<R>, number: usize) -> Tally
 fn warn_of_ports<W: Drain, R: Feed + Drop, A: Copy>(
     writer: &mut W,
     ports: &[Port<'_, A>],
+    further: &[More<'_>],
     side: Option<Side>,
     merge: &Merge<R>,
 ) -> Result<(), Failed>
     ensures bytes { AppendsAll (W.contents writer.old) (W.contents writer.new) result
-        (warnings_from 0 (filter (is_in side) ports.now) (tallies_of merge.now.lanes)) }
+        (warnings_from 0 (filter (are_in side) (files_from 0 further.now ports.now))
+        (tallies_of merge.now.lanes)) }
     ensures count { W.failures writer.new ≡ failures_after (W.failures writer.old) result }
 {
     let mut number = 0;
+    let mut at = 0;
     for port in ports {
         if is_in(side, port) {
-            warn_of_port(writer, port, tally_of(merge, number))?;
+            warn_of_port(writer, at, port, further, tally_of(merge, number))?;
             number += 1;
         }
+        at += 1;
     }
     Ok(())
 }
@@ -175,10 +246,10 @@ fn warn_of_router<W: Drain, R: Feed + Drop, A: Copy>(
     merge: &Merge<R>,
 ) -> Result<(), Failed>
     ensures bytes { AppendsAll (W.contents writer.old) (W.contents writer.new) result
-        (warnings_text (ports_of side captures.now.ports.items) merge.now) }
+        (warnings_text (ports_of side (port_files captures.now)) merge.now) }
     ensures count { W.failures writer.new ≡ failures_after (W.failures writer.old) result }
 {
-    warn_of_ports(writer, &captures.ports, side, merge)
+    warn_of_ports(writer, &captures.ports, &captures.more, side, merge)
 }
 
 /// Writes the warnings on the captures of the routers a and b.
@@ -188,8 +259,8 @@ fn warn_of_pair<W: Drain, R: Feed + Drop, A: Copy>(
     pair: &Pair<R>,
 ) -> Result<(), Failed>
     ensures bytes { AppendsAll (W.contents writer.old) (W.contents writer.new) result
-        (warnings_text (filter (is_of Side.A) captures.now.ports.items) pair.now.a
-        ++ warnings_text (filter (is_of Side.B) captures.now.ports.items) pair.now.b) }
+        (warnings_text (of_router Side.A (port_files captures.now)) pair.now.a
+        ++ warnings_text (of_router Side.B (port_files captures.now)) pair.now.b) }
     ensures count { W.failures writer.new ≡ failures_after (W.failures writer.old) result }
 {
     warn_of_router(writer, captures, Some(Side::A), &pair.a)?;
@@ -203,7 +274,7 @@ pub(crate) fn warn_of_one<E: Drain, R: Feed + Drop, A: Copy>(
     captures: &Captures<'_, A>,
     merge: &Merge<R>,
 )
-    ensures { IsTold (warnings_text captures.now.ports.items merge.now)
+    ensures { IsTold (warnings_text (port_files captures.now) merge.now)
         (E.contents errors.old) (E.contents errors.new) (E.failures errors.old)
         (E.failures errors.new) }
 {
@@ -217,8 +288,8 @@ pub(crate) fn warn_of_both<E: Drain, R: Feed + Drop, A: Copy>(
     captures: &Captures<'_, A>,
     pair: &Pair<R>,
 )
-    ensures { IsTold (warnings_text (filter (is_of Side.A) captures.now.ports.items) pair.now.a
-        ++ warnings_text (filter (is_of Side.B) captures.now.ports.items) pair.now.b)
+    ensures { IsTold (warnings_text (of_router Side.A (port_files captures.now)) pair.now.a
+        ++ warnings_text (of_router Side.B (port_files captures.now)) pair.now.b)
         (E.contents errors.old) (E.contents errors.new) (E.failures errors.old)
         (E.failures errors.new) }
 {

@@ -1,17 +1,18 @@
 -- All files of a command, opened one after another.
-use Rattle.std.proofs.Common.{◌≡◌, ◌∙◌, inr, sym, ap, subst, ℕ, List, ◌++◌, length, map, Option, None, append_assoc}
+use Rattle.std.proofs.Common.{◌≡◌, ◌∙◌, inr, sym, ap, subst, ℕ, List, ◌++◌, length, Option, None, append_assoc}
 use Rattle.std.specs.List.{filter}
 use Rattle.pim_addr.specs.declared.family.AddressFamily.{AddressFamily}
 use Rattle.pim_addr.specs.Routes.{RouteTable}
 use Rattle.pim_merge.specs.Next.{MergeState, IsUntaken}
 use Rattle.pim_words.specs.declared.fault.Side.TheVariants.{A as of_a, B as of_b}
 use Rattle.pim_words.specs.declared.task.Captures.{Captures}
+use Rattle.pim_words.specs.declared.task.More.{More}
 use Rattle.pim_words.specs.declared.task.Port.{Port}
 use Rattle.pim_files.specs.declared.fault.OpenFault.{OpenFault}
-use Rattle.pim_files.specs.Captures.{file_name, is_of, HoldFiles, StopsAtPort}
+use Rattle.pim_files.specs.Captures.{PortFiles, all_files, files_from, is_of, names_of, of_router, HoldFiles, StopsAt}
 use Rattle.pim_files.specs.Files.{Files, Known, AsksFor, AsksFront}
 use Rattle.pim_files.specs.Table.{IsTable, table_names}
-use Rattle.pim_files.specs.Opening.{file_names, IsUnopened, IsOpen, AreOpen}
+use Rattle.pim_files.specs.Opening.{port_files, file_names, IsUnopened, IsOpen, AreOpen}
 use Rattle.pim_files.proofs.Asked.{asks_more}
 
 -- ---- the names that were asked for
@@ -32,60 +33,64 @@ front_after a b c xs ys p q = record {
   asks = asks_more a b c xs q.front p q.asks;
 }
 
+-- the same ports and further files
+pub same_files : {A : Type 0} (further further' : List More) (ports ports' : List (Port A)) → further ≡ further' → ports ≡ ports' → files_from 0 further ports ≡ files_from 0 further' ports'
+same_files further further' ports ports' e f = ap (λ m. files_from 0 m ports) e ∙ ap (λ p. files_from 0 further' p) f
+
 -- ---- what was opened; `known` was known before, `middle` after the table was made, `last` after all
 
 module _ {A R : Type 0} (family : AddressFamily) (bytes_of : A → List ℕ) (remaining : R → Option (List ℕ)) (failures : R → ℕ) (known middle last : Known) (captures : Captures A)
     (upstream : Option A) where
   -- a port's file isn't open
-  pub no_port : (table : RouteTable) (ports : List (Port A)) (fault : OpenFault) → ports ≡ captures.ports.items
-      → IsTable family bytes_of remaining failures known.files captures upstream table → AsksFor known middle (table_names captures) → StopsAtPort middle.files ports fault
+  pub no_port : (table : RouteTable) (all : List (PortFiles A)) (fault : OpenFault) → all ≡ port_files captures
+      → IsTable family bytes_of remaining failures known.files captures upstream table → AsksFor known middle (table_names captures) → StopsAt middle.files (all_files all) fault
       → IsUnopened family bytes_of remaining failures known.files captures upstream fault
-  no_port table ports fault same is_table named stops = inr (
+  no_port table all fault same is_table named stops = inr (
     table,
     is_table,
-    subst (λ (l : List (Port A)). StopsAtPort known.files l fault) same
-        (subst (λ (f : Option Files). StopsAtPort f ports fault) named.files stops),
+    subst (λ (l : List (PortFiles A)). StopsAt known.files (all_files l) fault) same
+        (subst (λ (f : Option Files). StopsAt f (all_files all) fault) named.files stops),
   )
 
   -- the names that were asked for, if a port's file isn't open
-  pub port_asked : (ports : List (Port A)) → ports ≡ captures.ports.items → AsksFor known middle (table_names captures) → AsksFront middle last (map file_name ports)
+  pub port_asked : (all : List (PortFiles A)) → all ≡ port_files captures → AsksFor known middle (table_names captures) → AsksFront middle last (names_of (all_files all))
       → AsksFront known last (file_names captures)
-  port_asked ports same named asked = front_after known middle last (table_names captures) (map file_name captures.ports.items) named
-      (subst (λ (l : List (Port A)). AsksFront middle last (map file_name l)) same asked)
+  port_asked all same named asked = front_after known middle last (table_names captures) (names_of (all_files (port_files captures))) named
+      (subst (λ (l : List (PortFiles A)). AsksFront middle last (names_of (all_files l))) same asked)
 
-  names_asked : (ports : List (Port A)) → ports ≡ captures.ports.items → AsksFor known middle (table_names captures) → AsksFor middle last (map file_name ports)
-      → AsksFor known last (table_names captures ++ map file_name captures.ports.items)
-  names_asked ports same named asked = asks_more known middle last (table_names captures) (map file_name captures.ports.items) named
-      (subst (λ (l : List (Port A)). AsksFor middle last (map file_name l)) same asked)
+  names_asked : (all : List (PortFiles A)) → all ≡ port_files captures → AsksFor known middle (table_names captures) → AsksFor middle last (names_of (all_files all))
+      → AsksFor known last (file_names captures)
+  names_asked all same named asked = asks_more known middle last (table_names captures) (names_of (all_files (port_files captures))) named
+      (subst (λ (l : List (PortFiles A)). AsksFor middle last (names_of (all_files l))) same asked)
 
   -- the captures of one router are open
-  pub is_open : (table : RouteTable) (merge : MergeState) (ports : List (Port A)) → ports ≡ captures.ports.items
+  pub is_open : (table : RouteTable) (merge : MergeState) (ports : List (Port A)) (all : List (PortFiles A)) → ports ≡ captures.ports.items → all ≡ port_files captures
       → IsTable family bytes_of remaining failures known.files captures upstream table → AsksFor known middle (table_names captures)
-      → length merge.lanes ≡ length ports → IsUntaken merge → HoldFiles middle.files ports merge.lanes → AsksFor middle last (map file_name ports)
+      → length merge.lanes ≡ length ports → IsUntaken merge → HoldFiles middle.files all merge.lanes → AsksFor middle last (names_of (all_files all))
       → IsOpen family bytes_of remaining failures known last captures upstream table merge
-  is_open table merge ports same is_table named each untaken held asked = record {
+  is_open table merge ports all same_ports same is_table named each untaken held asked = record {
     is_table = is_table;
-    each = each ∙ ap length same;
+    each = each ∙ ap length same_ports;
     untaken = untaken;
-    held = subst (λ (l : List (Port A)). HoldFiles known.files l merge.lanes) same (subst (λ (f : Option Files). HoldFiles f ports merge.lanes) named.files held);
-    asked = names_asked ports same named asked;
+    held = subst (λ (l : List (PortFiles A)). HoldFiles known.files l merge.lanes) same (subst (λ (f : Option Files). HoldFiles f all merge.lanes) named.files held);
+    asked = names_asked all same named asked;
   }
 
   -- the captures of two routers are open
-  pub are_open : (table : RouteTable) (merge other : MergeState) (ports : List (Port A))
-      → ports ≡ captures.ports.items → IsTable family bytes_of remaining failures known.files captures upstream table → AsksFor known middle (table_names captures)
+  pub are_open : (table : RouteTable) (merge other : MergeState) (ports : List (Port A)) (all : List (PortFiles A)) → ports ≡ captures.ports.items → all ≡ port_files captures
+      → IsTable family bytes_of remaining failures known.files captures upstream table → AsksFor known middle (table_names captures)
       → length merge.lanes ≡ length (filter (is_of of_a) ports) → length other.lanes ≡ length (filter (is_of of_b) ports) → IsUntaken merge → IsUntaken other
-      → HoldFiles middle.files (filter (is_of of_a) ports) merge.lanes → HoldFiles middle.files (filter (is_of of_b) ports) other.lanes → AsksFor middle last (map file_name ports)
+      → HoldFiles middle.files (of_router of_a all) merge.lanes → HoldFiles middle.files (of_router of_b all) other.lanes → AsksFor middle last (names_of (all_files all))
       → AreOpen family bytes_of remaining failures known last captures upstream table merge other
-  are_open table merge other ports same is_table named each_of_a each_of_b untaken_of_a untaken_of_b held_of_a held_of_b asked = record {
+  are_open table merge other ports all same_ports same is_table named each_of_a each_of_b untaken_of_a untaken_of_b held_of_a held_of_b asked = record {
     is_table = is_table;
-    each_of_a = each_of_a ∙ ap (λ (l : List (Port A)). length (filter (is_of of_a) l)) same;
-    each_of_b = each_of_b ∙ ap (λ (l : List (Port A)). length (filter (is_of of_b) l)) same;
+    each_of_a = each_of_a ∙ ap (λ (l : List (Port A)). length (filter (is_of of_a) l)) same_ports;
+    each_of_b = each_of_b ∙ ap (λ (l : List (Port A)). length (filter (is_of of_b) l)) same_ports;
     untaken_of_a = untaken_of_a;
     untaken_of_b = untaken_of_b;
-    held_of_a = subst (λ (l : List (Port A)). HoldFiles known.files (filter (is_of of_a) l) merge.lanes) same
-        (subst (λ (f : Option Files). HoldFiles f (filter (is_of of_a) ports) merge.lanes) named.files held_of_a);
-    held_of_b = subst (λ (l : List (Port A)). HoldFiles known.files (filter (is_of of_b) l) other.lanes) same
-        (subst (λ (f : Option Files). HoldFiles f (filter (is_of of_b) ports) other.lanes) named.files held_of_b);
-    asked = names_asked ports same named asked;
+    held_of_a = subst (λ (l : List (PortFiles A)). HoldFiles known.files (of_router of_a l) merge.lanes) same
+        (subst (λ (f : Option Files). HoldFiles f (of_router of_a all) merge.lanes) named.files held_of_a);
+    held_of_b = subst (λ (l : List (PortFiles A)). HoldFiles known.files (of_router of_b l) other.lanes) same
+        (subst (λ (f : Option Files). HoldFiles f (of_router of_b all) other.lanes) named.files held_of_b);
+    asked = names_asked all same named asked;
   }

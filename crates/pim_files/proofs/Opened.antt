@@ -1,22 +1,23 @@
 -- Captures that are opened one by one.
-use Rattle.std.proofs.Common.{◌≡◌, ◌∙◌, ◌+◌, sym, ap, subst, refl, arith, ℕ, suc, ◌<◌, Bool, cond, true, false, List, [], ◌∷◌, ◌++◌, length, take, drop, get_or, map, option_map, Option, None, Some, append-nil, take-suc, drop-cons}
-use Rattle.std.specs.Prelude.{IsSome, IfSome}
-use Rattle.std.specs.List.{filter, AllByRecursion}
+use Rattle.std.proofs.Common.{◌≡◌, ◌∙◌, ◌+◌, sym, ap, subst, refl, arith, ℕ, zero, suc, ◌<◌, ◌≤◌, Bool, cond, true, false, List, [], ◌∷◌, ◌++◌, length, take, drop, get_or, map, option_map, Option, None, Some, append-nil, take-suc, drop-cons, take_all}
+use Rattle.std.specs.Prelude.{IfSome, slice_index_or}
+use Rattle.std.specs.List.{filter, flat_map, AllByRecursion}
 use Rattle.std.proofs.lemmas.List.{take-append-drop, map-append, length-map, length-append}
+use Rattle.std.proofs.lemmas.List.Concat.{flat_map-append}
 use Rattle.std.proofs.lemmas.List.Elements.{filter-append}
-use Rattle.std.proofs.lemmas.Bool.{false≢true}
-use Rattle.pim_capture.specs.Capture.{Answer}
+use Rattle.pim_capture.specs.Capture.{Answer, answers}
+use Rattle.pim_merge.specs.Chosen.{all_known, known_too, answers_of_files}
 use Rattle.pim_merge.specs.declared.tally.Tally.{Tally}
 use Rattle.pim_merge.specs.Lane.{LaneState, coming_on, tallies_of}
 use Rattle.pim_merge.specs.Next.{MergeState, IsUntaken}
 use Rattle.pim_merge.specs.Tally.{no_tally}
 use Rattle.pim_words.specs.declared.fault.Side.{Side}
+use Rattle.pim_words.specs.declared.task.Link.{Link}
+use Rattle.pim_words.specs.declared.task.More.{More}
 use Rattle.pim_words.specs.declared.task.Port.{Port}
 use Rattle.pim_words.specs.Faults.{is_side}
-use Rattle.pim_files.specs.declared.fault.OpenFault.{OpenFault}
-use Rattle.pim_files.specs.Files.{Files, Known, AsksFor}
-use Rattle.pim_files.specs.Captures.{file_name, IsPortFault, AreContents, CanOpen, results_by, results_of, AreFiles, HoldFiles, StopsAtPort, is_of, one_of, AddsLane, AddsUntaken}
-use Rattle.pim_files.proofs.Asked.{asks_more}
+use Rattle.pim_files.specs.Files.{Files}
+use Rattle.pim_files.specs.Captures.{PortFiles, NamedFile, with_more, files_from, files_of, all_files, names_of, choice_of, results_by, results_of, AreReaders, HaveFiles, AreFiles, HoldFiles, is_of, are_of, of_router, one_of, AddsLane, AddsUntaken}
 
 -- ---- what was taken
 
@@ -54,25 +55,87 @@ pub lanes_more : (lanes lanes' : List LaneState) (one : Option (List Answer)) �
 lanes_more lanes lanes' one more =
     sym (length-map lanes' coming_on) ∙ ap length more ∙ length-append (map coming_on lanes) (one ∷ []) ∙ ap (λ n. n + 1) (length-map lanes coming_on)
 
--- no ports can be opened
-pub none_present : (A : Type 0) (known : Option Files) → CanOpen {A = A} known []
-none_present A None = tt
-none_present A (Some files) = ([], refl)
+-- ---- the results of a port's files
+
+-- for these bytes
+abbrev results_from : Option Link → List (List ℕ) → List Answer
+results_from None [] = []
+results_from None (content ∷ contents) = answers content
+results_from (Some link) contents = answers_of_files (choice_of link) contents
+
+known_map : {X : Type 0} (f : X → Option (List ℕ)) (xs : List X) → all_known f xs ≡ all_known (λ (o : Option (List ℕ)). o) (map f xs)
+known_map f [] = refl
+known_map f (x ∷ xs) = ap (known_too (f x)) (known_map f xs)
+
+known_some : (contents : List (List ℕ)) → all_known (λ (o : Option (List ℕ)). o) (map Some contents) ≡ Some contents
+known_some [] = refl
+known_some (content ∷ contents) = ap (known_too (Some content)) (known_some contents)
+
+by_map : {X : Type 0} (f : X → Option (List ℕ)) (link : Option Link) (xs : List X) → results_by f link xs ≡ results_by (λ (o : Option (List ℕ)). o) link (map f xs)
+by_map f None [] = refl
+by_map f None (x ∷ xs) = refl
+by_map f (Some link) xs = ap (option_map (answers_of_files (choice_of link))) (known_map f xs)
+
+by_some : (link : Option Link) (contents : List (List ℕ)) → results_by (λ (o : Option (List ℕ)). o) link (map Some contents) ≡ Some (results_from link contents)
+by_some None [] = refl
+by_some None (content ∷ contents) = refl
+by_some (Some link) contents = ap (option_map (answers_of_files (choice_of link))) (known_some contents)
+
+by_contents : {X : Type 0} (f : X → Option (List ℕ)) (link : Option Link) (xs : List X) (contents : List (List ℕ)) → map f xs ≡ map Some contents → results_by f link xs ≡ Some (results_from link contents)
+by_contents f link xs contents are = by_map f link xs ∙ ap (results_by (λ (o : Option (List ℕ)). o) link) are ∙ by_some link contents
+
+-- those of the first reader alone
+pub classic_results : {R : Type 0} (remaining : R → Option (List ℕ)) (readers : List R) (reader : R) → 0 < length readers → reader ≡ slice_index_or readers 0 reader
+    → option_map answers (remaining reader) ≡ results_by remaining None readers
+classic_results remaining [] reader some is = absurd (omega (arith, some))
+classic_results remaining (first ∷ others) reader some is = ap (λ r. option_map answers (remaining r)) is
 
 module _ {A : Type 0} where
   -- ---- ports before a place
 
-  -- one more port
-  one_more_port : (ports : List (Port A)) (place next : ℕ) (port : Port A) → next ≡ suc place → place < length ports → port ≡ get_or ports place port → take next ports ≡ take place ports ++ port ∷ []
-  one_more_port ports place next port is below here =
-      ap (λ n. take n ports) is ∙ take-suc ports place port below ∙ ap (λ p. take place ports ++ p ∷ []) (sym here)
+  length_from : (number : ℕ) (further : List More) (ports : List (Port A)) → length (files_from number further ports) ≡ length ports
+  length_from number further [] = refl
+  length_from number further (port ∷ ports) = ap suc (length_from (suc number) further ports)
 
-  -- the names of one more port's file
-  pub one_more_name : (a b c : Known) (ports : List (Port A)) (place next : ℕ) (port : Port A) → next ≡ suc place → place < length ports → port ≡ get_or ports place port
-      → AsksFor a b (map file_name (take place ports)) → AsksFor b c (file_name port ∷ []) → AsksFor a c (map file_name (take next ports))
-  one_more_name a b c ports place next port is below here p q =
-      subst (AsksFor a c) (sym (ap (map file_name) (one_more_port ports place next port is below here) ∙ map-append file_name (take place ports) (port ∷ [])))
-      (asks_more a b c (map file_name (take place ports)) (file_name port ∷ []) p q)
+  at_place : (start : ℕ) (further : List More) (ports : List (Port A)) (place number : ℕ) (port : Port A) (other : PortFiles A) → number ≡ start + place → place < length ports
+      → port ≡ get_or ports place port → get_or (files_from start further ports) place other ≡ with_more number further port
+  at_place start further [] place number port other is below here = absurd (omega (arith, below))
+  at_place start further (first ∷ ports) zero number port other is below here =
+      let same : start ≡ number = omega (arith, is) in
+      ap (λ n. with_more n further first) same ∙ ap (λ p. with_more number further p) (sym here)
+  at_place start further (first ∷ ports) (suc place) number port other is below here =
+      at_place (suc start) further ports place number port other (omega (arith, is)) (omega (arith, below)) here
+
+  module _ (further : List More) (ports : List (Port A)) (place number : ℕ) (port : Port A) (same : number ≡ place) (below : place < length ports) (here : port ≡ get_or ports place port) where
+    below_too : place < length (files_from 0 further ports)
+    below_too = omega (arith, below, length_from 0 further ports)
+
+    this : get_or (files_from 0 further ports) place (with_more number further port) ≡ with_more number further port
+    this = at_place 0 further ports place number port (with_more number further port) (omega (arith, same)) below here
+
+    -- one more port
+    one_more_port : (next : ℕ) → next ≡ suc place → take next (files_from 0 further ports) ≡ take place (files_from 0 further ports) ++ with_more number further port ∷ []
+    one_more_port next is =
+        ap (λ n. take n (files_from 0 further ports)) is
+        ∙ take-suc (files_from 0 further ports) place (with_more number further port) below_too
+        ∙ ap (λ p. take place (files_from 0 further ports) ++ p ∷ []) this
+
+    -- the files of one more port
+    pub one_more_files : (next : ℕ) → next ≡ suc place
+        → all_files (take next (files_from 0 further ports)) ≡ all_files (take place (files_from 0 further ports)) ++ files_of (with_more number further port)
+    one_more_files next is =
+        ap all_files (one_more_port next is)
+        ∙ flat_map-append files_of (take place (files_from 0 further ports)) (with_more number further port ∷ [])
+        ∙ ap (λ l. all_files (take place (files_from 0 further ports)) ++ l) (append-nil (files_of (with_more number further port)))
+
+    -- all files, around those of the port at this place
+    pub files_around : all_files (files_from 0 further ports)
+        ≡ all_files (take place (files_from 0 further ports)) ++ (files_of (with_more number further port) ++ all_files (drop (suc place) (files_from 0 further ports)))
+    files_around =
+        ap all_files (sym (take-append-drop place (files_from 0 further ports))
+        ∙ ap (λ l. take place (files_from 0 further ports) ++ l)
+        (drop-cons (files_from 0 further ports) place (with_more number further port) below_too ∙ ap (λ p. p ∷ drop (suc place) (files_from 0 further ports)) this))
+        ∙ flat_map-append files_of (take place (files_from 0 further ports)) (with_more number further port ∷ drop (suc place) (files_from 0 further ports))
 
   counted : (b : Bool) (port : Port A) (ports : List (Port A)) → length (cond b (port ∷ ports) ports) ≡ cond b 1 0 + length ports
   counted true port ports = omega arith
@@ -88,97 +151,65 @@ module _ {A : Type 0} where
 
   -- ---- captures
 
-  one_more_result : (files : Files) (ports : List (Port A)) (port : Port A) (held remaining : Option (List ℕ)) (lanes lanes' : List LaneState)
-      → files.contents (file_name port) ≡ held → AreFiles files ports lanes → IsSome held × (remaining ≡ held)
-      → map coming_on lanes' ≡ map coming_on lanes ++ option_map (results_by port.link) remaining ∷ [] → AreFiles files (ports ++ port ∷ []) lanes'
-  one_more_result files ports port None remaining lanes lanes' is are opened more = absurd (false≢true opened.0)
-  one_more_result files ports port (Some content) remaining lanes lanes' is are opened more = record {
-    results = are.results ++ results_by port.link content ∷ [];
-    are = map-append (results_of files) ports (port ∷ [])
-        ∙ ap (λ l. l ++ results_of files port ∷ []) are.are
-        ∙ ap (λ o. map Some are.results ++ option_map (results_by port.link) o ∷ []) is
-        ∙ sym (map-append Some are.results (results_by port.link content ∷ []));
-    coming = more
-        ∙ ap (λ l. l ++ option_map (results_by port.link) remaining ∷ []) are.coming
-        ∙ ap (λ o. map Some are.results ++ option_map (results_by port.link) o ∷ []) opened.1
-        ∙ sym (map-append Some are.results (results_by port.link content ∷ []));
-  }
+  module _ {R : Type 0} (remaining : R → Option (List ℕ)) (it : PortFiles A) (readers : List R) (lanes lanes' : List LaneState) where
+    one_more_result : (files : Files) (ports : List (PortFiles A)) → AreFiles files ports lanes → AreReaders remaining files (files_of it) readers
+        → map coming_on lanes' ≡ map coming_on lanes ++ results_by remaining it.port.link readers ∷ [] → AreFiles files (ports ++ it ∷ []) lanes'
+    one_more_result files ports are opened more =
+        let results : List Answer = results_from it.port.link opened.contents in
+        let by_files : results_of files it ≡ Some results = by_contents files.contents it.port.link (names_of (files_of it)) opened.contents opened.are in
+        let by_readers : results_by remaining it.port.link readers ≡ Some results = by_contents remaining it.port.link readers opened.contents opened.given in
+        record {
+          results = are.results ++ results ∷ [];
+          are = map-append (results_of files) ports (it ∷ [])
+              ∙ ap (λ l. l ++ results_of files it ∷ []) are.are
+              ∙ ap (λ o. map Some are.results ++ o ∷ []) by_files
+              ∙ sym (map-append Some are.results (results ∷ []));
+          coming = more
+              ∙ ap (λ l. l ++ results_by remaining it.port.link readers ∷ []) are.coming
+              ∙ ap (λ o. map Some are.results ++ o ∷ []) by_readers
+              ∙ sym (map-append Some are.results (results ∷ []));
+        }
 
-  -- one more capture
-  one_more_held : (known : Option Files) (ports : List (Port A)) (port : Port A) (remaining : Option (List ℕ)) (lanes lanes' : List LaneState)
-      → HoldFiles known ports lanes → IfSome known (λ files. IsSome (files.contents (file_name port)) × (remaining ≡ files.contents (file_name port)))
-      → map coming_on lanes' ≡ map coming_on lanes ++ option_map (results_by port.link) remaining ∷ [] → HoldFiles known (ports ++ port ∷ []) lanes'
-  one_more_held None ports port remaining lanes lanes' are opened more = tt
-  one_more_held (Some files) ports port remaining lanes lanes' are opened more =
-      one_more_result files ports port (files.contents (file_name port)) remaining lanes lanes' refl are opened more
+    -- one more capture
+    one_more_held : (known : Option Files) (ports : List (PortFiles A)) → HoldFiles known ports lanes → HaveFiles remaining known (files_of it) readers
+        → map coming_on lanes' ≡ map coming_on lanes ++ results_by remaining it.port.link readers ∷ [] → HoldFiles known (ports ++ it ∷ []) lanes'
+    one_more_held None ports are opened more = tt
+    one_more_held (Some files) ports are opened more = one_more_result files ports are opened more
 
-  -- the capture of the port at this place
-  pub one_more_lane : (known known' : Option Files) (ports : List (Port A)) (place next : ℕ) (port : Port A) (remaining : Option (List ℕ)) (lanes lanes' : List LaneState)
-      → known' ≡ known → next ≡ suc place → place < length ports → port ≡ get_or ports place port
-      → HoldFiles known (take place ports) lanes → IfSome known' (λ files. IsSome (files.contents (file_name port)) × (remaining ≡ files.contents (file_name port)))
-      → map coming_on lanes' ≡ map coming_on lanes ++ option_map (results_by port.link) remaining ∷ [] → HoldFiles known (take next ports) lanes'
-  one_more_lane known known' ports place next port remaining lanes lanes' same is below here are opened more =
-      subst (λ l. HoldFiles known l lanes') (sym (one_more_port ports place next port is below here))
-      (one_more_held known (take place ports) port remaining lanes lanes' are
-      (subst (λ (k : Option Files). IfSome k (λ files. IsSome (files.contents (file_name port)) × (remaining ≡ files.contents (file_name port)))) same opened) more)
+    coming_same : (known : Option Files) (ports : List (PortFiles A)) → map coming_on lanes' ≡ map coming_on lanes → HoldFiles known ports lanes → HoldFiles known ports lanes'
+    coming_same None ports same are = tt
+    coming_same (Some files) ports same are = record { results = are.results; are = are.are; coming = same ∙ are.coming }
 
-  -- ---- a port whose file isn't open
+    one_more_if : (known : Option Files) (ports : List (PortFiles A)) (b : Bool) → HoldFiles known ports lanes → HaveFiles remaining known (files_of it) readers
+        → map coming_on lanes' ≡ map coming_on lanes ++ cond b (results_by remaining it.port.link readers ∷ []) [] → HoldFiles known (ports ++ cond b (it ∷ []) []) lanes'
+    one_more_if known ports true are opened more = one_more_held known ports are opened more
+    one_more_if known ports false are opened more =
+        subst (λ l. HoldFiles known l lanes') (sym (append-nil ports)) (coming_same known ports (more ∙ append-nil (map coming_on lanes)) are)
 
-  pub stops_after : (known known' : Option Files) (ports : List (Port A)) (place : ℕ) (port : Port A) (fault : OpenFault)
-      → known' ≡ known → place < length ports → port ≡ get_or ports place port → CanOpen known (take place ports) → IsPortFault known' port fault → StopsAtPort known ports fault
-  stops_after known known' ports place port fault same below here are wrong = record {
-    before = take place ports;
-    port = port;
-    others = drop (suc place) ports;
-    cut = sym (take-append-drop place ports) ∙ ap (λ l. take place ports ++ l) (drop-cons ports place port below ∙ ap (λ p. p ∷ drop (suc place) ports) (sym here));
-    wrong = subst (λ (k : Option Files). IsPortFault k port fault) same wrong;
-    opened = are;
-  }
+  module _ {R : Type 0} (remaining : R → Option (List ℕ)) (known known' : Option Files) (same_known : known' ≡ known) (further : List More) (ports : List (Port A)) (place next number : ℕ) (port : Port A)
+      (is : next ≡ suc place) (same : number ≡ place) (below : place < length ports) (here : port ≡ get_or ports place port) (readers : List R) (lanes lanes' : List LaneState)
+      (opened : HaveFiles remaining known' (files_of (with_more number further port)) readers) where
+    opened_now : HaveFiles remaining known (files_of (with_more number further port)) readers
+    opened_now = subst (λ (k : Option Files). HaveFiles remaining k (files_of (with_more number further port)) readers) same_known opened
 
-  -- ---- two routers
+    more_ports : take next (files_from 0 further ports) ≡ take place (files_from 0 further ports) ++ with_more number further port ∷ []
+    more_ports = one_more_port further ports place number port same below here next is
 
-  coming_same : (known : Option Files) (ports : List (Port A)) (lanes lanes' : List LaneState) → map coming_on lanes' ≡ map coming_on lanes → HoldFiles known ports lanes → HoldFiles known ports lanes'
-  coming_same None ports lanes lanes' same are = tt
-  coming_same (Some files) ports lanes lanes' same are = record { results = are.results; are = are.are; coming = same ∙ are.coming }
+    -- the capture of the port at this place
+    pub one_more_lane : HoldFiles known (take place (files_from 0 further ports)) lanes → map coming_on lanes' ≡ map coming_on lanes ++ results_by remaining port.link readers ∷ []
+        → HoldFiles known (take next (files_from 0 further ports)) lanes'
+    one_more_lane are more =
+        subst (λ l. HoldFiles known l lanes') (sym more_ports)
+        (one_more_held remaining (with_more number further port) readers lanes lanes' known (take place (files_from 0 further ports)) are opened_now more)
 
-  one_more_if : (known : Option Files) (ports : List (Port A)) (port : Port A) (remaining : Option (List ℕ)) (lanes lanes' : List LaneState) (b : Bool)
-      → HoldFiles known ports lanes → IfSome known (λ files. IsSome (files.contents (file_name port)) × (remaining ≡ files.contents (file_name port)))
-      → map coming_on lanes' ≡ map coming_on lanes ++ cond b (option_map (results_by port.link) remaining ∷ []) [] → HoldFiles known (ports ++ cond b (port ∷ []) []) lanes'
-  one_more_if known ports port remaining lanes lanes' true are opened more = one_more_held known ports port remaining lanes lanes' are opened more
-  one_more_if known ports port remaining lanes lanes' false are opened more =
-      subst (λ l. HoldFiles known l lanes') (sym (append-nil ports)) (coming_same known ports lanes lanes' (more ∙ append-nil (map coming_on lanes)) are)
+    -- the same, if it is one of this router
+    pub one_more_of : (side : Side) → HoldFiles known (of_router side (take place (files_from 0 further ports))) lanes
+        → AddsLane side port.side (results_by remaining port.link readers) lanes lanes' → HoldFiles known (of_router side (take next (files_from 0 further ports))) lanes'
+    one_more_of side are more =
+        subst (λ l. HoldFiles known l lanes')
+        (sym (ap (of_router side) more_ports ∙ filter-append (are_of side) (take place (files_from 0 further ports)) (with_more number further port ∷ [])))
+        (one_more_if remaining (with_more number further port) readers lanes lanes' known (of_router side (take place (files_from 0 further ports))) (is_side side port.side) are opened_now more)
 
-  -- the capture of the port at this place, if it is one of this router
-  pub one_more_of : (side : Side) (known known' : Option Files) (ports : List (Port A)) (place next : ℕ) (port : Port A) (remaining : Option (List ℕ)) (lanes lanes' : List LaneState)
-      → known' ≡ known → next ≡ suc place → place < length ports → port ≡ get_or ports place port
-      → HoldFiles known (filter (is_of side) (take place ports)) lanes → IfSome known' (λ files. IsSome (files.contents (file_name port)) × (remaining ≡ files.contents (file_name port)))
-      → AddsLane side port.side port.link remaining lanes lanes' → HoldFiles known (filter (is_of side) (take next ports)) lanes'
-  one_more_of side known known' ports place next port remaining lanes lanes' same is below here are opened more =
-      subst (λ l. HoldFiles known l lanes') (sym (ap (filter (is_of side)) (one_more_port ports place next port is below here) ∙ filter-append (is_of side) (take place ports) (port ∷ [])))
-      (one_more_if known (filter (is_of side) (take place ports)) port remaining lanes lanes' (is_side side port.side) are
-      (subst (λ (k : Option Files). IfSome k (λ files. IsSome (files.contents (file_name port)) × (remaining ≡ files.contents (file_name port)))) same opened) more)
-
-  one_more_there : (files : Files) (ports : List (Port A)) (port : Port A) (held : Option (List ℕ)) → files.contents (file_name port) ≡ held → IsSome held
-      → (contents : List (List ℕ)) × AreContents files ports contents → (contents : List (List ℕ)) × AreContents files (ports ++ port ∷ []) contents
-  one_more_there files ports port None is some are = absurd (false≢true some)
-  one_more_there files ports port (Some content) is some (contents, are) = (
-    contents ++ content ∷ [],
-    map-append (λ p. files.contents (file_name p)) ports (port ∷ [])
-        ∙ ap (λ l. l ++ files.contents (file_name port) ∷ []) are
-        ∙ ap (λ o. map Some contents ++ o ∷ []) is
-        ∙ sym (map-append Some contents (content ∷ [])),
-  )
-
-  one_more_can : (known : Option Files) (ports : List (Port A)) (port : Port A) (remaining : Option (List ℕ)) → CanOpen known ports
-      → IfSome known (λ files. IsSome (files.contents (file_name port)) × (remaining ≡ files.contents (file_name port))) → CanOpen known (ports ++ port ∷ [])
-  one_more_can None ports port remaining are opened = tt
-  one_more_can (Some files) ports port remaining are opened = one_more_there files ports port (files.contents (file_name port)) refl opened.0 are
-
-  -- the file of the port at this place can be opened
-  pub one_more_present : (known known' : Option Files) (ports : List (Port A)) (place next : ℕ) (port : Port A) (remaining : Option (List ℕ))
-      → known' ≡ known → next ≡ suc place → place < length ports → port ≡ get_or ports place port
-      → CanOpen known (take place ports) → IfSome known' (λ files. IsSome (files.contents (file_name port)) × (remaining ≡ files.contents (file_name port))) → CanOpen known (take next ports)
-  one_more_present known known' ports place next port remaining same is below here are opened =
-      subst (CanOpen known) (sym (one_more_port ports place next port is below here))
-      (one_more_can known (take place ports) port remaining are
-      (subst (λ (k : Option Files). IfSome k (λ files. IsSome (files.contents (file_name port)) × (remaining ≡ files.contents (file_name port)))) same opened))
+  -- all ports
+  pub all_ports : (further : List More) (ports : List (Port A)) (place : ℕ) → length ports ≤ place → take place (files_from 0 further ports) ≡ files_from 0 further ports
+  all_ports further ports place over = take_all place (files_from 0 further ports) (omega (arith, over, length_from 0 further ports))

@@ -1,13 +1,15 @@
 -- The captures of ports that are opened one by one. `known` is what files hold, where it is known.
-use Rattle.std.specs.Prelude.{◌≡◌, ⊤, ℕ, Bool, cond, true, List, [], ◌∷◌, ◌++◌, map}
+use Rattle.std.specs.Prelude.{◌≡◌, ⊤, ℕ, suc, ◌==◌, ◌&&◌, Bool, cond, true, List, [], ◌∷◌, ◌++◌, map, filter}
 use Rattle.std.specs.Prelude.{Option, None, Some, IsSome, IfSome, is_some, option_map}
+use Rattle.std.specs.List.{flat_map}
 use Rattle.pim_capture.specs.Capture.{Answer, answers}
 use Rattle.pim_container.specs.declared.choice.Choice.{Choice}
 use Rattle.pim_merge.specs.Lane.{LaneState, IsComing, coming_on, tallies_of}
 use Rattle.pim_merge.specs.Tally.{no_tally}
-use Rattle.pim_merge.specs.Chosen.{answers_by}
+use Rattle.pim_merge.specs.Chosen.{answers_of_files, all_known}
 use Rattle.pim_words.specs.declared.fault.Side.{Side}
 use Rattle.pim_words.specs.declared.task.Link.{Link}
+use Rattle.pim_words.specs.declared.task.More.{More}
 use Rattle.pim_words.specs.declared.task.Port.{Port}
 use Rattle.pim_words.specs.Faults.{is_side}
 use Rattle.pim_files.specs.declared.fault.OpenFault.{OpenFault}
@@ -15,78 +17,135 @@ use Rattle.pim_files.specs.declared.fault.OpenFault.TheVariants as opening
 use Rattle.pim_files.specs.declared.opener.FileCause.{FileCause}
 use Rattle.pim_files.specs.Files.{Files}
 
--- The name of a port's file.
-abbrev pub file_name : {A : Type 0} → Port A → List ℕ
-file_name port = port.file.now
+-- ---- ports with their further files
 
--- ---- one capture
+-- A port and its further files, in the order of the words.
+pub record PortFiles (A : Type 0) : Type 0 where
+  pub port : Port A
+  pub more : List More
 
--- The reader has all of the port's file to give.
-abbrev pub IsReaderOf : {A R : Type 0} → (R → Option (List ℕ)) → Option Files → Port A → R → Type 0
-IsReaderOf remaining known port reader = IfSome known (λ files.
-    IsSome (files.contents (file_name port)) × (remaining reader ≡ files.contents (file_name port)))
+-- Whether this further file is one of the port of this number. A port without a link has none.
+abbrev pub is_further : {A : Type 0} → ℕ → Port A → More → Bool
+is_further number port one = is_some port.link && (one.port == number)
+
+-- The port of this number, and those of these further files that are its own.
+abbrev pub with_more : {A : Type 0} → ℕ → List More → Port A → PortFiles A
+with_more number further port = record { port = port; more = filter (is_further number port) further }
+
+-- These ports, of which the first has this number, each with its own of these further files.
+abbrev pub files_from : {A : Type 0} → ℕ → List More → List (Port A) → List (PortFiles A)
+files_from number further [] = []
+files_from number further (port ∷ ports) = with_more number further port ∷ files_from (suc number) further ports
+
+-- ---- the files that are opened
+
+-- A file that is opened, with its fault where it can't be for a cause.
+pub record NamedFile : Type 0 where
+  pub name : List ℕ
+  pub fault : FileCause → OpenFault
 
 -- The fault of a port whose file can't be opened for this cause. It names the file if the port has
 -- a link, otherwise it has the port's whole word.
 abbrev pub port_fault : {A : Type 0} → Port A → FileCause → OpenFault
 port_fault port cause = cond (is_some port.link) (opening.Port port.file cause) (opening.File port.word)
 
--- The port's file can't be opened, and this is why.
-pub record IsClosed {A : Type 0} (known : Option Files) (port : Port A) (fault : OpenFault) : Type 0 where
-  pub cause : FileCause
-  pub is : fault ≡ port_fault port cause
-  pub closed : IfSome known (λ files.
-      (files.contents (file_name port) ≡ None) × (cause ≡ files.causes (file_name port)))
+-- The port's file.
+abbrev pub first_file : {A : Type 0} → Port A → NamedFile
+first_file port = record { name = port.file.now; fault = λ cause. port_fault port cause }
 
--- Why the port's file isn't open: it can't be opened, or memory is refused.
-abbrev pub IsPortFault : {A : Type 0} → Option Files → Port A → OpenFault → Type 0
-IsPortFault known port opening.Memory = ⊤
-IsPortFault known port fault = IsClosed known port fault
+-- A further file. Its fault names it.
+abbrev pub further_file : More → NamedFile
+further_file one = record { name = one.file.now; fault = λ cause. opening.Port one.file cause }
+
+-- The files of a port, in the order in which they are opened.
+abbrev pub files_of : {A : Type 0} → PortFiles A → List NamedFile
+files_of it = first_file it.port ∷ map further_file it.more
+
+-- The files of these ports, in the order in which they are opened.
+abbrev pub all_files : {A : Type 0} → List (PortFiles A) → List NamedFile
+all_files ports = flat_map files_of ports
+
+-- The names of files.
+abbrev pub names_of : List NamedFile → List (List ℕ)
+names_of wanted = map (λ (file : NamedFile). file.name) wanted
+
+-- ---- one file
+
+-- The reader has all of the file to give.
+abbrev pub IsReaderOf : {R : Type 0} → (R → Option (List ℕ)) → Option Files → NamedFile → R → Type 0
+IsReaderOf remaining known file reader = IfSome known (λ files.
+    IsSome (files.contents file.name) × (remaining reader ≡ files.contents file.name))
+
+-- The file can't be opened, and this is why.
+pub record IsClosed (known : Option Files) (file : NamedFile) (fault : OpenFault) : Type 0 where
+  pub cause : FileCause
+  pub is : fault ≡ file.fault cause
+  pub closed : IfSome known (λ files.
+      (files.contents file.name ≡ None) × (cause ≡ files.causes file.name))
+
+-- Why the file isn't open: it can't be opened, or memory is refused.
+abbrev pub IsPortFault : Option Files → NamedFile → OpenFault → Type 0
+IsPortFault known file opening.Memory = ⊤
+IsPortFault known file fault = IsClosed known file fault
+
+-- ---- several files
+
+-- These files hold these bytes.
+abbrev pub AreContents : Files → List NamedFile → List (List ℕ) → Type 0
+AreContents files wanted contents = map files.contents (names_of wanted) ≡ map Some contents
+
+-- These files can be opened, where it is known what files hold.
+abbrev pub CanOpen : Option Files → List NamedFile → Type 0
+CanOpen known wanted = IfSome known (λ files. (contents : List (List ℕ)) × AreContents files wanted contents)
+
+-- This file isn't open. It is the first such one: the files before it can be opened.
+pub record StopsAt (known : Option Files) (wanted : List NamedFile) (fault : OpenFault) : Type 0 where
+  pub before : List NamedFile
+  pub file : NamedFile
+  pub others : List NamedFile
+  pub cut : wanted ≡ before ++ file ∷ others
+  pub wrong : IsPortFault known file fault
+  pub opened : CanOpen known before
+
+-- These readers have all of these files to give, in their order.
+pub record AreReaders {R : Type 0} (remaining : R → Option (List ℕ)) (files : Files) (wanted : List NamedFile)
+    (readers : List R) : Type 0 where
+  pub contents : List (List ℕ)
+  pub are : AreContents files wanted contents
+  pub given : map remaining readers ≡ map Some contents
+
+-- The same, where it is known what files hold.
+abbrev pub HaveFiles : {R : Type 0} → (R → Option (List ℕ)) → Option Files → List NamedFile → List R → Type 0
+HaveFiles remaining known wanted readers = IfSome known (λ files. AreReaders remaining files wanted readers)
 
 -- ---- the captures of ports
-
--- The files of these ports, each with what it holds.
-abbrev pub AreContents : {A : Type 0} → Files → List (Port A) → List (List ℕ) → Type 0
-AreContents files ports contents = map (λ port. files.contents (file_name port)) ports ≡ map Some contents
-
--- The files of these ports can be opened, where it is known what files hold.
-abbrev pub CanOpen : {A : Type 0} → Option Files → List (Port A) → Type 0
-CanOpen known ports = IfSome known (λ files. (contents : List (List ℕ)) × AreContents files ports contents)
 
 -- The packets that are taken of a link: those of its VLAN and of its interface, and those that the
 -- host sent itself, too.
 abbrev pub choice_of : Link → Choice
 choice_of link = record { vlan = link.vlan; interface = link.interface; index = None; sent = true }
 
--- The results for the bytes of a file: of any container by this link, or of a classic capture.
-abbrev pub results_by : Option Link → List ℕ → List Answer
-results_by None = answers
-results_by (Some link) = answers_by (choice_of link)
+-- The results for the bytes of a port's files, if they are known: of any container by this link, one
+-- file after the other; or of a classic capture, which is one file. `bytes_of` gives the bytes of each.
+abbrev pub results_by : {X : Type 0} → (X → Option (List ℕ)) → Option Link → List X → Option (List Answer)
+results_by bytes_of None [] = Some []
+results_by bytes_of None (file ∷ others) = option_map answers (bytes_of file)
+results_by bytes_of (Some link) files = option_map (answers_of_files (choice_of link)) (all_known bytes_of files)
 
--- The results of a port's file by the port's link, if it can be opened.
-abbrev pub results_of : {A : Type 0} → Files → Port A → Option (List Answer)
-results_of files port = option_map (results_by port.link) (files.contents (file_name port))
+-- The results of a port's files by the port's link, if they can be opened.
+abbrev pub results_of : {A : Type 0} → Files → PortFiles A → Option (List Answer)
+results_of files it = results_by files.contents it.port.link (names_of (files_of it))
 
 -- These captures are those of the ports' files, in their order. Nothing of them is read: each has
--- all results of its file to return, by the link of its port.
-pub record AreFiles {A : Type 0} (files : Files) (ports : List (Port A)) (lanes : List LaneState) : Type 0 where
+-- all results of its files to return, by the link of its port.
+pub record AreFiles {A : Type 0} (files : Files) (ports : List (PortFiles A)) (lanes : List LaneState) : Type 0 where
   pub results : List (List Answer)
   pub are : map (results_of files) ports ≡ map Some results
   pub coming : IsComing lanes results
 
 -- The same, where it is known what files hold.
-abbrev pub HoldFiles : {A : Type 0} → Option Files → List (Port A) → List LaneState → Type 0
+abbrev pub HoldFiles : {A : Type 0} → Option Files → List (PortFiles A) → List LaneState → Type 0
 HoldFiles known ports lanes = IfSome known (λ files. AreFiles files ports lanes)
-
--- This port's file isn't open. It is the first such one: the files of the ports before it can be
--- opened.
-pub record StopsAtPort {A : Type 0} (known : Option Files) (ports : List (Port A)) (fault : OpenFault) : Type 0 where
-  pub before : List (Port A)
-  pub port : Port A
-  pub others : List (Port A)
-  pub cut : ports ≡ before ++ port ∷ others
-  pub wrong : IsPortFault known port fault
-  pub opened : CanOpen known before
 
 -- ---- two routers
 
@@ -94,15 +153,22 @@ pub record StopsAtPort {A : Type 0} (known : Option Files) (ports : List (Port A
 abbrev pub is_of : {A : Type 0} → Side → Port A → Bool
 is_of side port = is_side side port.side
 
+-- The same of a port with its further files.
+abbrev pub are_of : {A : Type 0} → Side → PortFiles A → Bool
+are_of side it = is_of side it.port
+
+-- The ports of this router, each with its further files.
+abbrev pub of_router : {A : Type 0} → Side → List (PortFiles A) → List (PortFiles A)
+of_router side ports = filter (are_of side) ports
+
 -- 1 if the port belongs to this router, otherwise 0.
 abbrev pub one_of : Side → Side → ℕ
 one_of side other = cond (is_side side other) 1 0
 
--- The capture of this reader, by this link, is one more of the router `side` if its port is one of
--- that router.
-abbrev pub AddsLane : Side → Side → Option Link → Option (List ℕ) → List LaneState → List LaneState → Type 0
-AddsLane side other link remaining old new = map coming_on new
-    ≡ map coming_on old ++ cond (is_side side other) (option_map (results_by link) remaining ∷ []) []
+-- A capture with these results is one more of the router `side` if its port is one of that router.
+abbrev pub AddsLane : Side → Side → Option (List Answer) → List LaneState → List LaneState → Type 0
+AddsLane side other results old new = map coming_on new
+    ≡ map coming_on old ++ cond (is_side side other) (results ∷ []) []
 
 -- Nothing was taken of that capture.
 abbrev pub AddsUntaken : Side → Side → List LaneState → List LaneState → Type 0

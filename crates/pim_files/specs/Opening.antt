@@ -1,28 +1,33 @@
 -- All files that the words of a command name. `known` and `known'` say what is known of the opener
 -- before and after.
-use Rattle.std.specs.Prelude.{◌≡◌, ◌⊎◌, ℕ, List, ◌++◌, length, map, filter, Option, None}
+use Rattle.std.specs.Prelude.{◌≡◌, ◌⊎◌, ℕ, List, ◌++◌, length, filter, Option, None}
 use Rattle.pim_addr.specs.declared.family.AddressFamily.{AddressFamily}
 use Rattle.pim_addr.specs.Routes.{RouteTable}
 use Rattle.pim_merge.specs.Next.{MergeState, IsUntaken}
 use Rattle.pim_words.specs.declared.fault.Side.TheVariants as side
 use Rattle.pim_words.specs.declared.task.Captures.{Captures}
 use Rattle.pim_files.specs.declared.fault.OpenFault.{OpenFault}
-use Rattle.pim_files.specs.Captures.{file_name, is_of, HoldFiles, StopsAtPort}
+use Rattle.pim_files.specs.Captures.{PortFiles, all_files, files_from, is_of, names_of, of_router, HoldFiles, StopsAt}
 use Rattle.pim_files.specs.Files.{Files, Known, AsksFor}
 use Rattle.pim_files.specs.Table.{IsTable, IsTableFault, table_names}
 
--- The names of the files, in the order in which they are opened: the file of routes is first.
+-- The ports, each with its further files.
+abbrev pub port_files : {A : Type 0} → Captures A → List (PortFiles A)
+port_files captures = files_from 0 captures.more.items captures.ports.items
+
+-- The names of the files, in the order in which they are opened: the file of routes is first. The
+-- further files of a port come after its own.
 abbrev pub file_names : {A : Type 0} → Captures A → List (List ℕ)
-file_names captures = table_names captures ++ map file_name captures.ports.items
+file_names captures = table_names captures ++ names_of (all_files (port_files captures))
 
 module _ {A R : Type 0} (family : AddressFamily) (bytes_of : A → List ℕ) (remaining : R → Option (List ℕ))
     (failures : R → ℕ) (known : Option Files) (captures : Captures A) (upstream : Option A) where
-  -- Why not all files are open: there is no table. Or there is one, and a port's file isn't open.
+  -- Why not all files are open: there is no table. Or there is one, and a file of a port isn't open.
   abbrev pub IsUnopened : OpenFault → Type 0
   IsUnopened fault =
       IsTableFault family bytes_of remaining failures known captures upstream fault
       ⊎ ((table : RouteTable) × IsTable family bytes_of remaining failures known captures upstream table
-      × StopsAtPort known captures.ports.items fault)
+      × StopsAt known (all_files (port_files captures)) fault)
 
 module _ {A R : Type 0} (family : AddressFamily) (bytes_of : A → List ℕ) (remaining : R → Option (List ℕ))
     (failures : R → ℕ) (known known' : Known) (captures : Captures A) (upstream : Option A) (table : RouteTable) where
@@ -31,7 +36,7 @@ module _ {A R : Type 0} (family : AddressFamily) (bytes_of : A → List ℕ) (re
     pub is_table : IsTable family bytes_of remaining failures known.files captures upstream table
     pub each : length merge.lanes ≡ length captures.ports.items
     pub untaken : IsUntaken merge
-    pub held : HoldFiles known.files captures.ports.items merge.lanes
+    pub held : HoldFiles known.files (port_files captures) merge.lanes
     pub asked : AsksFor known known' (file_names captures)
 
   -- The same for two routers.
@@ -41,6 +46,6 @@ module _ {A R : Type 0} (family : AddressFamily) (bytes_of : A → List ℕ) (re
     pub each_of_b : length other.lanes ≡ length (filter (is_of side.B) captures.ports.items)
     pub untaken_of_a : IsUntaken merge
     pub untaken_of_b : IsUntaken other
-    pub held_of_a : HoldFiles known.files (filter (is_of side.A) captures.ports.items) merge.lanes
-    pub held_of_b : HoldFiles known.files (filter (is_of side.B) captures.ports.items) other.lanes
+    pub held_of_a : HoldFiles known.files (of_router side.A (port_files captures)) merge.lanes
+    pub held_of_b : HoldFiles known.files (of_router side.B (port_files captures)) other.lanes
     pub asked : AsksFor known known' (file_names captures)

@@ -6,12 +6,12 @@
 //! - `table` makes the route table. It reads the file of routes, if one is named.
 //! - `open_all` opens the captures of one router, `open_both` those of two, in the order of the
 //!   words. A port's link says whether its capture is a classic one or any container, and which of
-//!   its packets are taken.
+//!   its packets are taken. The further files of a port come after its own, and are one capture.
 //! - `open_one` and `open_two` do both: they make the table, then open the captures.
 //! - `HeldFiles` is an opener of files in memory, for tests.
 //!
 //! Where the opener tells what files hold, the contracts say that each port has the capture of its
-//! own file, of which nothing is read. They also say which rows the table has, and the first file
+//! own files, of which nothing is read. They also say which rows the table has, and the first file
 //! that can't be opened is the fault. Elsewhere they say how many captures there are, and which
 //! words a fault may have. The fault of a port with a link has the name of the file and the cause.
 //!
@@ -24,12 +24,14 @@ mod held;
 mod opener;
 mod opening;
 mod pair;
+mod port;
 mod route_table;
 
-pub use captures::{open_all, open_port};
+pub use captures::open_all;
 pub use fault::OpenFault;
 pub use held::{HeldFile, HeldFiles};
 pub use opener::{FileCause, Opener, Unopened};
 pub use opening::{OpenOne, OpenTwo, open_one, open_two};
-pub use pair::{Pair, add_to, open_both};
+pub use pair::{Pair, open_both};
+pub use port::{is_further, open_port};
 pub use route_table::{first_rows, table};

@@ -33,6 +33,7 @@ pub struct OpenTwo<F: Family, R: Feed + Drop> {
 }
 
 /// Reads the file of routes, then opens the captures of one router, each by the link of its port.
+/// A port's further files come after its own.
 ///
 /// # Errors
 /// The fault of the first file that isn't open.
@@ -51,11 +52,12 @@ pub fn open_one<'a, F: Family, O: Opener>(
         AsksFront (O.known opener.old) (O.known opener.new) (file_names captures.now)) }
 {
     let routes = table::<F, O>(alloc, opener, captures, upstream)?;
-    let merge = open_all(alloc, opener, &captures.ports)?;
+    let merge = open_all(alloc, opener, &captures.ports, &captures.more)?;
     Ok(OpenOne { routes, merge })
 }
 
 /// Reads the file of routes, then opens the captures of two routers, each by the link of its port.
+/// A port's further files come after its own.
 ///
 /// # Errors
 /// The fault of the first file that isn't open.
@@ -74,6 +76,6 @@ pub fn open_two<'a, F: Family, O: Opener>(
         AsksFront (O.known opener.old) (O.known opener.new) (file_names captures.now)) }
 {
     let routes = table::<F, _>(alloc, opener, captures, upstream)?;
-    let pair = open_both(alloc, opener, &captures.ports)?;
+    let pair = open_both(alloc, opener, &captures.ports, &captures.more)?;
     Ok(OpenTwo { routes, pair })
 }

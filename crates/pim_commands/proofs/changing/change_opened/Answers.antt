@@ -8,8 +8,9 @@ use Rattle.pim_router.specs.Seen.{setup_seen}
 use Rattle.pim_router.specs.State.{Setup}
 use Rattle.pim_words.specs.declared.fault.Side.TheVariants.{A, B}
 use Rattle.pim_words.specs.declared.task.Port.{Port}
+use Rattle.pim_files.specs.Opening.{port_files}
 use Rattle.pim_commands.specs.Replaying.{config_of, IsUnmade}
-use Rattle.pim_files.specs.Captures.{is_of}
+use Rattle.pim_files.specs.Captures.{is_of, of_router}
 use Rattle.pim_commands.proofs.Routers.{as_many}
 use Rattle.pim_commands.proofs.Compared.{a_unmade, b_unmade}
 use Rattle.pim_commands.proofs.Mirrored.{failures_mirrored}
@@ -92,11 +93,11 @@ returns-clause-text g c =
     c.deref-3.ensures.value ∙ c.in-Ok.ensures.b ∙ ap (λ (l : List (Port g.row.F-Addr.Denot)). map config_of (filter (is_of B) l)) c.deref.ensures.value in
     rw (← c.end_of-end.ensures.end)
     (changed_new g.F.Family.family bytes_of c.end_of-end.result c.args.captures.now.limit c.args.pair.now.a c.change_into.new.merge_a c.args.pair.now.b c.change_into.new.merge_b
-    (g.W.Drain.contents c.args.writer.now) (g.W.Drain.contents c.change_into.new.writer) (filter (is_of A) ports) (filter (is_of B) ports) c.in-Ok.made.by writing (setup c.deref-2.result.now) (setup (map config_of (filter (is_of A) ports)))
+    (g.W.Drain.contents c.args.writer.now) (g.W.Drain.contents c.change_into.new.writer) (of_router A (port_files c.args.captures.now)) (of_router B (port_files c.args.captures.now)) c.in-Ok.made.by writing (setup c.deref-2.result.now) (setup (map config_of (filter (is_of A) ports)))
     (setup c.deref-3.result.now) (setup (map config_of (filter (is_of B) ports))) c.in-Ok-router_of.router c.change_into.new.router_a c.in-Ok-router_of-2.router c.change_into.new.router_b
     c.change_into.result c.mirrored.result c.in-Ok.ensures.by (ap setup same_a) (ap setup same_b) c.in-Ok-router_of.ensures.1 c.in-Ok-router_of-2.ensures.1 c.change_into.ensures.text
     c.mirrored.ensures)
 
 pub returns-clause-count : goal.returns-clause-count
 returns-clause-count g c =
-    rw (c.mirrored.ensures) (c.change_into.ensures.count ∙ failures_mirrored (filter (is_of A) c.args.captures.now.ports.items) (filter (is_of B) c.args.captures.now.ports.items) g.F.Family.family g.F.Family.bytes_of (g.W.Drain.failures c.args.writer.now) c.change_into.result)
+    rw (c.mirrored.ensures) (c.change_into.ensures.count ∙ failures_mirrored (of_router A (port_files c.args.captures.now)) (of_router B (port_files c.args.captures.now)) g.F.Family.family g.F.Family.bytes_of (g.W.Drain.failures c.args.writer.now) c.change_into.result)

@@ -6,6 +6,7 @@ use Rattle.pim_router.specs.Config.{config_faults}
 use Rattle.pim_router.specs.Seen.{setup_seen}
 use Rattle.pim_router.specs.State.{Setup}
 use Rattle.pim_words.specs.declared.task.Port.{Port}
+use Rattle.pim_files.specs.Opening.{port_files}
 use Rattle.pim_commands.specs.Replaying.{config_of, IsUnmade}
 use Rattle.pim_commands.proofs.Routers.{as_many}
 use Rattle.pim_commands.proofs.Mirrored.{unmade_mirror}
@@ -48,11 +49,11 @@ returns-clause-bytes g c =
     let same : c.deref-2.result.now ≡ map config_of ports = c.deref-2.ensures.value ∙ c.in-Ok.ensures.ports ∙ ap (map config_of) c.deref.ensures.value in
     rw (← c.end_of-end.ensures.end)
     (emitted_new g.F.Family.family bytes_of c.end_of-end.result c.args.merge.now c.emit_into.new.merge
-    (g.W.Drain.contents c.args.writer.now) (g.W.Drain.contents c.emit_into.new.writer) ports c.in-Ok.made.by writing (setup c.deref-2.result.now) (setup (map config_of ports))
+    (g.W.Drain.contents c.args.writer.now) (g.W.Drain.contents c.emit_into.new.writer) (port_files c.args.captures.now) c.in-Ok.made.by writing (setup c.deref-2.result.now) (setup (map config_of ports))
     c.in-Ok-router_of.router c.emit_into.new.router c.emit_into.result c.emitted.result c.in-Ok.ensures.by (ap setup same) c.in-Ok-router_of.ensures.1
     c.emit_into.ensures.emits c.emitted.ensures)
 
 pub returns-clause-count : goal.returns-clause-count
 returns-clause-count g c =
     rw (c.emitted.ensures)
-    (c.emit_into.ensures.count ∙ failures_emitted c.args.captures.now.ports.items g.F.Family.family g.F.Family.bytes_of (g.W.Drain.failures c.args.writer.now) c.emit_into.result)
+    (c.emit_into.ensures.count ∙ failures_emitted (port_files c.args.captures.now) g.F.Family.family g.F.Family.bytes_of (g.W.Drain.failures c.args.writer.now) c.emit_into.result)

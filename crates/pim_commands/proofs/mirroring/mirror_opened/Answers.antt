@@ -6,6 +6,7 @@ use Rattle.pim_router.specs.Config.{config_faults}
 use Rattle.pim_router.specs.Seen.{setup_seen}
 use Rattle.pim_router.specs.State.{Setup}
 use Rattle.pim_words.specs.declared.task.Port.{Port}
+use Rattle.pim_files.specs.Opening.{port_files}
 use Rattle.pim_commands.specs.Replaying.{config_of, IsUnmade}
 use Rattle.pim_commands.proofs.Routers.{as_many}
 use Rattle.pim_commands.proofs.Mirrored.{unmade_mirror, mirrored_new, failures_mirrored}
@@ -46,7 +47,7 @@ returns-clause-text g c =
     let setup : List (PortConfig g.row.F-Addr.Denot) → Setup = λ configs. setup_seen bytes_of configs c.args.routes.now c.args.captures.now.limit in
     let same : c.deref-2.result.now ≡ map config_of ports = c.deref-2.ensures.value ∙ c.in-Ok.ensures.ports ∙ ap (map config_of) c.deref.ensures.value in
     rw (← c.end_of-end.ensures.end)
-    (mirrored_new ports g.F.Family.family bytes_of c.end_of-end.result c.args.captures.now.limit c.args.merge.now c.mirror_into.new.merge
+    (mirrored_new (port_files c.args.captures.now) g.F.Family.family bytes_of c.end_of-end.result c.args.captures.now.limit c.args.merge.now c.mirror_into.new.merge
     (g.W.Drain.contents c.args.writer.now) (g.W.Drain.contents c.mirror_into.new.writer) c.in-Ok.made.by writing (setup c.deref-2.result.now) (setup (map config_of ports))
     c.in-Ok-router_of.router c.mirror_into.new.router c.mirror_into.result c.mirrored.result c.in-Ok.ensures.by (ap setup same) c.in-Ok-router_of.ensures.1
     c.mirror_into.ensures.text c.mirrored.ensures)
@@ -54,4 +55,4 @@ returns-clause-text g c =
 pub returns-clause-count : goal.returns-clause-count
 returns-clause-count g c =
     rw (c.mirrored.ensures)
-    (c.mirror_into.ensures.count ∙ failures_mirrored c.args.captures.now.ports.items c.args.captures.now.ports.items g.F.Family.family g.F.Family.bytes_of (g.W.Drain.failures c.args.writer.now) c.mirror_into.result)
+    (c.mirror_into.ensures.count ∙ failures_mirrored (port_files c.args.captures.now) (port_files c.args.captures.now) g.F.Family.family g.F.Family.bytes_of (g.W.Drain.failures c.args.writer.now) c.mirror_into.result)

@@ -1,8 +1,13 @@
-use Rattle.std.proofs.Common.{◌≡◌, drop}
+use Rattle.std.proofs.Common.{◌≡◌, ◌≤◌}
 use Rattle.std.specs.Prelude.{filter}
-use Rattle.pim_commands.specs.Naming.{file_at, is_in}
+use Rattle.pim_files.specs.Captures.{files_from}
+use Rattle.pim_commands.specs.Naming.{file_at, are_in}
+use Rattle.pim_commands.proofs.Named.{left_from}
 use Rattle.pim_commands.proofs.naming.file_at.Given as goal
 
 -- the port that is sought among those that are left
 abbrev pub invariant-loop-port : goal.invariant-loop-port
-invariant-loop-port g l = file_at (filter (is_in l.side) (drop l.port-index l.ports)) l.left ≡ file_at (filter (is_in l.side) l.ports) l.number
+invariant-loop-port g l = record {
+  few : l.at ≤ l.port-index;
+  sought : file_at (left_from l.side l.further l.at l.port-index l.ports) l.left l.file ≡ file_at (filter (are_in l.side) (files_from 0 l.further l.ports)) l.number l.file;
+}

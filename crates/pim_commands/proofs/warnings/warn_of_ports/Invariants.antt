@@ -1,8 +1,10 @@
-use Rattle.std.proofs.Common.{◌≡◌, ◌≤◌, drop}
+use Rattle.std.proofs.Common.{◌≡◌, ◌≤◌}
 use Rattle.std.specs.Prelude.{filter}
+use Rattle.pim_files.specs.Captures.{files_from}
 use Rattle.pim_merge.specs.Lane.{tallies_of}
-use Rattle.pim_commands.specs.Naming.{is_in}
+use Rattle.pim_commands.specs.Naming.{are_in}
 use Rattle.pim_commands.specs.Warnings.{warnings_from}
+use Rattle.pim_commands.proofs.Named.{left_from}
 use Rattle.pim_commands.proofs.Warned.{IsLeft}
 use Rattle.pim_commands.proofs.warnings.warn_of_ports.Given as goal
 
@@ -10,7 +12,8 @@ use Rattle.pim_commands.proofs.warnings.warn_of_ports.Given as goal
 abbrev pub invariant-loop-port : goal.invariant-loop-port
 invariant-loop-port g l = record {
   below : l.number ≤ l.port-index;
-  left : IsLeft (g.W.Drain.contents l.fn.writer) (g.W.Drain.contents l.writer) (warnings_from l.number (filter (is_in l.side) (drop l.port-index l.ports)) (tallies_of l.merge.lanes))
-      (warnings_from 0 (filter (is_in l.side) l.ports) (tallies_of l.merge.lanes));
+  few : l.at ≤ l.port-index;
+  left : IsLeft (g.W.Drain.contents l.fn.writer) (g.W.Drain.contents l.writer) (warnings_from l.number (left_from l.side l.further l.at l.port-index l.ports) (tallies_of l.merge.lanes))
+      (warnings_from 0 (filter (are_in l.side) (files_from 0 l.further l.ports)) (tallies_of l.merge.lanes));
   count : g.W.Drain.failures l.writer ≡ g.W.Drain.failures l.fn.writer;
 }

@@ -1,8 +1,9 @@
-use Rattle.std.proofs.Common.{inl, map}
+use Rattle.std.proofs.Common.{inl}
 use Rattle.std.proofs.lemmas.Result.{err_from_is_err_and}
-use Rattle.pim_files.specs.Captures.{file_name}
+use Rattle.pim_files.specs.Captures.{all_files, files_from, names_of}
+use Rattle.pim_files.specs.Opening.{port_files}
 use Rattle.pim_files.specs.Table.{table_names}
-use Rattle.pim_files.proofs.AllOpen.{front_of_more, no_port, port_asked, are_open}
+use Rattle.pim_files.proofs.AllOpen.{front_of_more, same_files, no_port, port_asked, are_open}
 use Rattle.pim_files.proofs.opening.open_two.Goals as goal
 
 pub returns-in_err-routes-clause-unopened : goal.returns-in_err-routes-clause-unopened
@@ -14,26 +15,32 @@ pub returns-in_err-routes-clause-asked : goal.returns-in_err-routes-clause-asked
 returns-in_err-routes-clause-asked g c =
     let p = err_from_is_err_and c.from_residual.result c.from_residual.ensures.1 in
     rw (p.1)
-    (front_of_more (g.O.Opener.known c.args.opener.now) (g.O.Opener.known c.table.new.opener) (table_names c.args.captures.now) (map file_name c.args.captures.now.ports.items) c.in_err-routes.ensures.asked)
+    (front_of_more (g.O.Opener.known c.args.opener.now) (g.O.Opener.known c.table.new.opener) (table_names c.args.captures.now) (names_of (all_files (port_files c.args.captures.now))) c.in_err-routes.ensures.asked)
 
 pub returns-in_err-pair-clause-unopened : goal.returns-in_err-pair-clause-unopened
 returns-in_err-pair-clause-unopened g c =
+    let all = files_from 0 c.deref-2.result.now c.deref.result.now in
+    let same = same_files c.deref-2.result.now c.args.captures.now.more.items c.deref.result.now c.args.captures.now.ports.items c.deref-2.ensures.value c.deref.ensures.value in
     let p = err_from_is_err_and c.from_residual-in_err-pair.result c.from_residual-in_err-pair.ensures.1 in
     rw (p.1, p.2)
     (no_port g.F.Family.family g.F.Family.bytes_of g.O.Reader.Feed.remaining g.O.Reader.Feed.failures (g.O.Opener.known c.args.opener.now) (g.O.Opener.known c.table.new.opener)
-    (g.O.Opener.known c.open_both.new.opener) c.args.captures.now c.args.upstream c.in_ok-routes.routes c.deref.result.now c.in_err-pair.field-0.0 c.deref.ensures.value
+    (g.O.Opener.known c.open_both.new.opener) c.args.captures.now c.args.upstream c.in_ok-routes.routes all c.in_err-pair.field-0.0 same
     c.in_ok-routes.ensures.table c.in_ok-routes.ensures.asked c.in_err-pair.ensures.fault)
 
 pub returns-in_err-pair-clause-asked : goal.returns-in_err-pair-clause-asked
 returns-in_err-pair-clause-asked g c =
+    let all = files_from 0 c.deref-2.result.now c.deref.result.now in
+    let same = same_files c.deref-2.result.now c.args.captures.now.more.items c.deref.result.now c.args.captures.now.ports.items c.deref-2.ensures.value c.deref.ensures.value in
     let p = err_from_is_err_and c.from_residual-in_err-pair.result c.from_residual-in_err-pair.ensures.1 in
     rw (p.1)
     (port_asked g.F.Family.family g.F.Family.bytes_of g.O.Reader.Feed.remaining g.O.Reader.Feed.failures (g.O.Opener.known c.args.opener.now) (g.O.Opener.known c.table.new.opener)
-    (g.O.Opener.known c.open_both.new.opener) c.args.captures.now c.args.upstream c.deref.result.now c.deref.ensures.value c.in_ok-routes.ensures.asked c.in_err-pair.ensures.asked)
+    (g.O.Opener.known c.open_both.new.opener) c.args.captures.now c.args.upstream all same c.in_ok-routes.ensures.asked c.in_err-pair.ensures.asked)
 
 pub returns-clause-opened : goal.returns-clause-opened
 returns-clause-opened g c =
+    let all = files_from 0 c.deref-2.result.now c.deref.result.now in
+    let same = same_files c.deref-2.result.now c.args.captures.now.more.items c.deref.result.now c.args.captures.now.ports.items c.deref-2.ensures.value c.deref.ensures.value in
     are_open g.F.Family.family g.F.Family.bytes_of g.O.Reader.Feed.remaining g.O.Reader.Feed.failures (g.O.Opener.known c.args.opener.now) (g.O.Opener.known c.table.new.opener) (g.O.Opener.known c.open_both.new.opener)
-    c.args.captures.now c.args.upstream c.in_ok-routes.routes c.in_ok-pair.pair.a c.in_ok-pair.pair.b c.deref.result.now c.deref.ensures.value c.in_ok-routes.ensures.table
+    c.args.captures.now c.args.upstream c.in_ok-routes.routes c.in_ok-pair.pair.a c.in_ok-pair.pair.b c.deref.result.now all c.deref.ensures.value same c.in_ok-routes.ensures.table
     c.in_ok-routes.ensures.asked c.in_ok-pair.ensures.a c.in_ok-pair.ensures.b c.in_ok-pair.ensures.untaken_of_a c.in_ok-pair.ensures.untaken_of_b
     c.in_ok-pair.ensures.opened_of_a c.in_ok-pair.ensures.opened_of_b c.in_ok-pair.ensures.asked
