@@ -1,13 +1,12 @@
 -- The files that follow the one that is read.
-use Rattle.std.proofs.Common.{◌≡◌, ◌∙◌, ◌≤◌, ◌<◌, ◌+◌, ◌*◌, ◌-◌, false, ℕ, List, [], ◌∷◌, length, get_or, set, take, drop, Option, None, Some, refl, sym, ap, arith}
+use Rattle.std.proofs.Common.{◌≡◌, ◌≤◌, ◌<◌, ◌+◌, false, ℕ, List, [], ◌∷◌, length, get_or, set, drop, Option, None, Some, refl, ap, arith}
 use Rattle.std.specs.List.{remove}
 use Rattle.std.specs.Option.{option_map}
 use Rattle.std.proofs.lemmas.List.{drop_all, drop_more, drop-set-lt, length-drop, length-set}
 use Rattle.pim_container.specs.declared.choice.Choice.{Choice}
 use Rattle.pim_container.specs.Pieces as pieces
-use Rattle.pim_merge.specs.Chosen.{known_too, all_known, answers_by, answers_of_files, next_files, chosen}
+use Rattle.pim_merge.specs.Chosen.{known_too, all_known, answers_by, answers_of_files}
 use Rattle.pim_merge.specs.Source.{chosen_known}
-use Rattle.pim_capture.specs.Capture.{Answer}
 
 module _ {R : Type 0} (remaining : R → Option (List ℕ)) (others : List R) (read : ℕ) where
   pub none_follow : length others ≤ read → all_known remaining (drop read others) ≡ Some []

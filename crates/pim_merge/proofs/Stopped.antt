@@ -9,7 +9,6 @@ use Rattle.pim_merge.specs.Merge.{turn, fails}
 use Rattle.pim_merge.specs.Lane.{LaneState, IsComing, lane_left, records_to_come, lane_at, no_lane, failures_of, LacksHeadRoom, HadAll, KeepsRoom, KeepRooms, tallies_of}
 use Rattle.pim_merge.specs.Looks.{IsToldOrRefused}
 use Rattle.pim_merge.specs.declared.tally.Place.{Place}
-use Rattle.pim_merge.specs.declared.tally.Tally.{Tally}
 use Rattle.pim_merge.specs.Tally.{next_place}
 use Rattle.pim_merge.specs.Next.{IsCause, CountsFailures, LacksMemory, IsNumbered}
 use Rattle.pim_merge.proofs.Looking.{one_comes, total_with, as_before, set_keeps, same_tallies, IsLookedUpTo}

@@ -3,6 +3,7 @@ use Rattle.std.specs.Prelude.{◌≡◌, ◌⊎◌, ℕ, ◌+◌, max, Bool, tru
 use Rattle.std.specs.Prelude.{Option, None, Some, Ok, IsSome, slice_index_or, Result, Err}
 use Rattle.std.specs.Option.{option_map}
 use Rattle.std.specs.List.{AllByRecursion}
+use Rattle.pim_addr.specs.declared.family.AddressFamily.{AddressFamily}
 use Rattle.pim_capture.specs.declared.event.Event.{Event}
 use Rattle.pim_capture.specs.declared.fault.CaptureFault.{CaptureFault}
 use Rattle.pim_capture.specs.declared.fault.CaptureFault.TheVariants as fault
@@ -13,7 +14,7 @@ use Rattle.pim_merge.specs.Source.{coming, failures_in, left_in, passes_over, ro
 use Rattle.pim_merge.specs.Source.{is_over_in, HadAllIf}
 use Rattle.pim_merge.specs.Merge.{time_told, rank_told}
 use Rattle.pim_merge.specs.declared.tally.Tally.{Tally}
-use Rattle.pim_merge.specs.Tally.{no_tally, tally_taken}
+use Rattle.pim_merge.specs.Tally.{no_tally, tally_taken, census_begun}
 
 -- A capture of a merge.
 pub record LaneState : Type 0 where
@@ -87,6 +88,10 @@ without_head lane = record {
   size = lane.size;
   tally = tally_taken lane.tally lane.head;
 }
+
+-- The capture with a census of messages of this family, in which nothing was counted.
+abbrev pub with_census : AddressFamily → LaneState → LaneState
+with_census family lane = record lane { tally = census_begun family lane.tally }
 
 -- The head of the capture was read.
 abbrev pub IsLooked : LaneState → Type 0

@@ -1,7 +1,7 @@
 -- What contracts see of the source of a lane: a classic capture, or any container with a choice.
 use Rattle.std.specs.Prelude.{◌≡◌, ◌+◌, ◌*◌, ◌⊎◌, ⊤, ℕ, Bool, true, false, List, [], ◌∷◌, Option, None, Some, Result, Ok}
 use Rattle.std.specs.Prelude.{Err, drop, length}
-use Rattle.std.specs.Option.{option_map, IfSome}
+use Rattle.std.specs.Option.{IfSome}
 use Rattle.pim_capture.specs.declared.fault.CaptureFault.{CaptureFault}
 use Rattle.pim_capture.specs.declared.fault.CaptureFault.TheVariants as fault
 use Rattle.pim_capture.specs.declared.event.Event.{Event}
@@ -9,7 +9,7 @@ use Rattle.pim_capture.specs.declared.capture.State.{State}
 use Rattle.pim_capture.specs.declared.capture.State.TheVariants.{Failed}
 use Rattle.pim_capture.specs.declared.event.Event.TheVariants.{Packet, Skipped, End}
 use Rattle.pim_capture.specs.declared.event.Why.TheVariants.{CutShort}
-use Rattle.pim_capture.specs.Capture.{Answer, ended}
+use Rattle.pim_capture.specs.Capture.{Answer}
 use Rattle.pim_capture.specs.Next as classic
 use Rattle.pim_container.specs.Choice.{choice_of, first_of}
 use Rattle.pim_container.specs.Next as any

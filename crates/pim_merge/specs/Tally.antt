@@ -2,14 +2,19 @@
 -- from 0, and its number in this file, from 1.
 use Rattle.std.specs.Prelude.{ℕ, ◌+◌, ◌-◌, min, nat_lt, Bool, true, false, List, [], ◌∷◌, slice_set, slice_index_or}
 use Rattle.std.specs.Prelude.{Option, None, Some}
+use Rattle.std.specs.Option.{option_map}
+use Rattle.pim_addr.specs.declared.family.AddressFamily.{AddressFamily}
 use Rattle.pim_capture.specs.declared.event.Why.{Why}
 use Rattle.pim_capture.specs.declared.event.Why.TheVariants.{Fragment, Cut, CutShort, NextFile}
 use Rattle.pim_capture.specs.Capture.{Told, packet, skipped, ended}
+use Rattle.pim_capture.specs.Frame.{Datagram}
+use Rattle.pim_census.specs.declared.census.Census.{Census}
+use Rattle.pim_census.specs.Census.{no_names, census_after}
 use Rattle.pim_merge.specs.declared.tally.Place.{Place}
 use Rattle.pim_merge.specs.declared.tally.Tally.{Tally}
 use Rattle.pim_merge.specs.Merge.{Taken, time_told}
 
--- That of a capture of which nothing was taken.
+-- That of a capture of which nothing was taken. It has no census.
 abbrev pub no_tally : Tally
 no_tally = record {
   file = 0;
@@ -20,7 +25,12 @@ no_tally = record {
   last = None;
   ran_back = None;
   jumped = None;
+  census = None;
 }
+
+-- The tally with a census of messages of this family, in which nothing was counted.
+abbrev pub census_begun : AddressFamily → Tally → Tally
+census_begun family tally = record tally { census = Some (no_names family) }
 
 -- One more. The count stops at 2^64 - 1.
 abbrev pub one_more : ℕ → ℕ
@@ -81,7 +91,16 @@ tally_by tally why time = record {
   last = last_time tally.last time;
   ran_back = first_place tally.ran_back (runs_back tally.last time) (next_place tally);
   jumped = first_place tally.jumped (jumps tally.last time) (next_place tally);
+  census = tally.census;
 }
+
+-- The census after the message of a packet, if there is one.
+abbrev pub census_with : Option Census → Datagram → Option Census
+census_with census datagram = option_map (λ (census : Census). census_after census datagram) census
+
+-- The tally whose census has the message of this packet, too, if it has a census.
+abbrev pub tally_with : Tally → Datagram → Tally
+tally_with tally datagram = record tally { census = census_with tally.census datagram }
 
 -- The tally when the capture goes on with its next file: of that no record was taken.
 abbrev pub in_next_file : Tally → Tally
@@ -94,6 +113,7 @@ in_next_file tally = record {
   last = tally.last;
   ran_back = tally.ran_back;
   jumped = tally.jumped;
+  census = tally.census;
 }
 
 -- The tally after one more result of this time that is skipped for this reason. The beginning of the
@@ -104,7 +124,7 @@ tally_skipped tally why time = tally_by tally (Some why) time
 
 -- The tally after one more result of the capture. The end leaves it.
 abbrev pub tally_after : Tally → Told → Tally
-tally_after tally (packet millis frame datagram) = tally_by tally None (Some millis)
+tally_after tally (packet millis frame datagram) = tally_by (tally_with tally datagram) None (Some millis)
 tally_after tally (skipped millis why) = tally_skipped tally why (time_told (skipped millis why))
 tally_after tally ended = tally
 

@@ -11,16 +11,16 @@ ghost use Rattle.pim_capture.specs.Next.{OnMemory, named_in};
 ghost use Rattle.pim_capture.specs.declared.capture.State.TheVariants.{Unbegun};
 ghost use Rattle.pim_merge.specs.Lane.{coming_on, without_head, IsLooked, head_time, lane_left};
 ghost use Rattle.pim_merge.specs.Lane.{LacksHeadRoom, KeepsRoom, HadAll, HasFailed};
-ghost use Rattle.pim_merge.specs.Lane.{IsFailedHead, head_rank};
+ghost use Rattle.pim_merge.specs.Lane.{IsFailedHead, head_rank, with_census};
 ghost use Rattle.pim_merge.specs.Merge.{time_told, time_by};
 ghost use Rattle.pim_merge.specs.Chosen.{answers_by, answers_of_files, all_known, all_failures};
 ghost use Rattle.pim_merge.specs.Looks.{StillComes, IsToldOrRefused};
-ghost use Rattle.pim_merge.specs.Tally.{no_tally, next_place, tally_taken};
+ghost use Rattle.pim_merge.specs.Tally.{no_tally, next_place};
 
 use crate::chosen::Chosen;
 use crate::source::Source;
-use crate::tally::{Place, Tally};
-use pim_addr::Feed;
+use crate::tally::{Place, Tally, count_head};
+use pim_addr::{AddressFamily, Feed};
 use pim_capture::{Capture, CaptureFault, Event, Why};
 use pim_container::Choice;
 use std::alloc::Global;
@@ -184,14 +184,11 @@ impl<R: Feed + Drop> Lane<R> {
         }
     }
 
-    /// The tally after the head is taken, if it was read.
-    fn next_tally(&self) -> Tally
-        ensures { result ≡ tally_taken self.now.tally self.now.head }
+    /// Begins a census of messages of this family.
+    pub(crate) fn begin_census(&mut self, family: AddressFamily)
+        ensures { self.new ≡ with_census family self.old }
     {
-        match &self.head {
-            Some(event) => self.tally.after(event),
-            None => self.tally,
-        }
+        self.tally.begin_census(family);
     }
 
     /// What was taken of the capture.
@@ -215,7 +212,7 @@ impl<R: Feed + Drop> Lane<R> {
         ensures payload { IfSome result (PayloadLiesIn self.new.bytes) }
         ensures moment { IfSome result (IsBy latest_moment) }
     {
-        self.tally = self.next_tally();
+        count_head(&mut self.tally, &self.head, &self.buffer);
         let event = self.head.take();
         if event.is_some() {
             self.source.pass_record();

@@ -15,8 +15,9 @@
 //! `Merge::add_any` appends one of any container, with a choice of its packets. What the container
 //! gives is then cut down to the records of a capture (`specs/Chosen.antt`). `Merge::add_files`
 //! appends one that consists of several files, each of which goes on where the one before it ended.
-//! `Merge::tally` counts what was taken of a capture (`specs/Tally.antt`). Each turn calls
-//! `pass_record` of the reader of its capture.
+//! `Merge::tally` counts what was taken of a capture (`specs/Tally.antt`), and after
+//! `Merge::begin_census` whom its messages name. Each turn calls `pass_record` of the reader of its
+//! capture.
 //!
 //! A head is read when the next turn is asked for, not when the one before is taken. So the bytes
 //! of a turn stay until the next call, and a fault comes after all turns before it. A time that

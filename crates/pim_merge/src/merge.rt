@@ -22,14 +22,14 @@ ghost use Rattle.pim_merge.specs.Next.{TellsTurnBy, IsFailed};
 ghost use Rattle.pim_merge.specs.Next.{bytes_at, with_fault, LacksMemory};
 ghost use Rattle.pim_merge.specs.Next.{KeepsTallies, IsNumbered};
 ghost use Rattle.pim_merge.specs.Chosen.{answers_by, answers_of_files, all_known, all_failures};
-ghost use Rattle.pim_merge.specs.Lane.{tallies_of};
+ghost use Rattle.pim_merge.specs.Lane.{tallies_of, with_census};
 ghost use Rattle.pim_merge.specs.Tally.{no_tally, tally_at};
 
 use crate::clock::{Clock, moment_at, moment_of};
 use crate::lane::{Lane, time_of};
 use crate::search::{earliest, look_at_all};
 use crate::tally::Tally;
-use pim_addr::Feed;
+use pim_addr::{AddressFamily, Feed};
 use pim_capture::{CaptureFault, Event};
 use pim_container::Choice;
 use pim_time::Time;
@@ -68,6 +68,15 @@ impl Turn {
         ensures { (bytes : List ℕ) → result ≡ time_told (event_seen bytes self.now.event) }
     {
         time_of(&self.event)
+    }
+}
+
+/// Begins a census of messages of this family in each capture.
+fn begin_all<R: Feed + Drop>(lanes: &mut [Lane<R>], family: AddressFamily)
+    ensures { lanes.new ≡ map (with_census family) lanes.old }
+{
+    for lane in lanes.iter_mut() {
+        lane.begin_census(family);
     }
 }
 
@@ -182,6 +191,15 @@ impl<R: Feed + Drop> Merge<R> {
         let lane = Lane::of_files(alloc, reader, others, choice);
         self.lanes.push(lane)?;
         Ok(())
+    }
+
+    /// Begins a census of messages of this family in each capture: its tally then says whom those
+    /// name that are taken from now on.
+    pub fn begin_census(&mut self, family: AddressFamily)
+        ensures lanes { self.new.lanes ≡ map (with_census family) self.old.lanes }
+        ensures clock { self.new.clock ≡ self.old.clock }
+    {
+        begin_all(&mut self.lanes, family);
     }
 
     /// The number of captures.

@@ -1,14 +1,20 @@
 //! Counts of the records that were taken of a capture, and their places in its files.
 
-ghost use Rattle.std.specs.Prelude.{◌≡◌, ℕ, List};
-ghost use Rattle.pim_capture.specs.Next.{event_seen};
+ghost use Rattle.std.specs.Prelude.{◌≡◌, ◌≤◌, length};
+ghost use Rattle.std.specs.Option.{option_map, IfSome};
+ghost use Rattle.pim_capture.specs.Capture.{most_captured};
+ghost use Rattle.pim_capture.specs.Next.{event_seen, PayloadLiesIn};
+ghost use Rattle.pim_capture.specs.Seen.{ip_seen, LiesIn};
 ghost use Rattle.pim_merge.specs.Tally.{no_tally, one_more, counted_if, first_place, runs_back};
 ghost use Rattle.pim_merge.specs.Tally.{jumps, last_time, is_fragment, is_cut_frame, is_cut_short};
 ghost use Rattle.pim_merge.specs.Tally.{next_place, tally_by, in_next_file, tally_skipped};
-ghost use Rattle.pim_merge.specs.Tally.{tally_after};
+ghost use Rattle.pim_merge.specs.Tally.{tally_after, tally_taken, tally_with, census_with};
+ghost use Rattle.pim_merge.specs.Tally.{census_begun};
 
 use crate::lane::time_of;
-use pim_capture::{Event, Why};
+use pim_addr::AddressFamily;
+use pim_capture::{Event, Ip, Why};
+use pim_census::Census;
 
 /// The place of a record in a capture.
 #[derive(Clone, Copy, Debug, PartialEq, Eq)]
@@ -39,6 +45,8 @@ pub struct Tally {
     pub ran_back: Option<Place>,
     /// The place of the first record whose time is more than a day after `last`.
     pub jumped: Option<Place>,
+    /// Whom its Join/Prune messages name, if that is counted.
+    pub census: Option<Census>,
 }
 
 /// One more. The count stops at 2^64 - 1.
@@ -125,8 +133,88 @@ fn is_cut_short(why: Option<Why>) -> bool
     }
 }
 
+/// Counts the message of a packet, if there is a census.
+fn count_names(census: &mut Option<Census>, ip: &Ip, bytes: &[u8])
+    requires payload { LiesIn bytes.now ip.now }
+    requires bytes { length bytes.now ≤ most_captured }
+    ensures { census.new ≡ census_with census.old (ip_seen bytes.now ip.now) }
+{
+    match census {
+        Some(census) => census.count(ip, bytes),
+        None => {}
+    }
+}
+
+/// Counts one more record of this time that is skipped for this reason, if there is one.
+fn count_record(tally: &mut Tally, why: Option<Why>, time: Option<u64>)
+    ensures { tally.new ≡ tally_by tally.old why time }
+{
+    let place = tally.next_place();
+    tally.records = place.record;
+    tally.fragments = counted_if(is_fragment(why), tally.fragments);
+    tally.cut_frames = counted_if(is_cut_frame(why), tally.cut_frames);
+    tally.cut_short = first_place(tally.cut_short, is_cut_short(why), place);
+    tally.ran_back = first_place(tally.ran_back, runs_back(tally.last, time), place);
+    tally.jumped = first_place(tally.jumped, jumps(tally.last, time), place);
+    tally.last = last_time(tally.last, time);
+}
+
+/// Goes on with the next file.
+fn go_on(tally: &mut Tally)
+    ensures { tally.new ≡ in_next_file tally.old }
+{
+    tally.file = one_more(tally.file);
+    tally.records = 0;
+}
+
+/// Counts a record of this time that is skipped for this reason. The beginning of a file is no
+/// record.
+fn count_skipped(tally: &mut Tally, why: Why, time: Option<u64>)
+    ensures { tally.new ≡ tally_skipped tally.old why time }
+{
+    match why {
+        Why::NextFile => go_on(tally),
+        _ => count_record(tally, Some(why), time),
+    }
+}
+
+/// Counts a packet of this time.
+fn count_packet(tally: &mut Tally, ip: &Ip, bytes: &[u8], time: Option<u64>)
+    requires payload { LiesIn bytes.now ip.now }
+    requires bytes { length bytes.now ≤ most_captured }
+    ensures { tally.new ≡ tally_by (tally_with tally.old (ip_seen bytes.now ip.now)) None time }
+{
+    count_names(&mut tally.census, ip, bytes);
+    count_record(tally, None, time);
+}
+
+/// Counts this record, which has these bytes. The end leaves the tally.
+fn count_event(tally: &mut Tally, event: &Event, bytes: &[u8])
+    requires payload { PayloadLiesIn bytes.now event.now }
+    requires bytes { length bytes.now ≤ most_captured }
+    ensures { tally.new ≡ tally_after tally.old (event_seen bytes.now event.now) }
+{
+    match event {
+        Event::Packet { ip, .. } => count_packet(tally, ip, bytes, time_of(event)),
+        Event::Skipped { why, .. } => count_skipped(tally, *why, time_of(event)),
+        Event::End => {}
+    }
+}
+
+/// Counts the head of a capture, if it was read. The record has these bytes.
+pub(crate) fn count_head(tally: &mut Tally, head: &Option<Event>, bytes: &[u8])
+    requires payload { IfSome head.now (PayloadLiesIn bytes.now) }
+    requires bytes { length bytes.now ≤ most_captured }
+    ensures { tally.new ≡ tally_taken tally.old (option_map (event_seen bytes.now) head.now) }
+{
+    match head {
+        Some(event) => count_event(tally, event, bytes),
+        None => {}
+    }
+}
+
 impl Tally {
-    /// The tally of a capture of which nothing was taken.
+    /// The tally of a capture of which nothing was taken. It has no census.
     pub(crate) fn new() -> Self
         ensures { result ≡ no_tally }
     {
@@ -139,66 +227,24 @@ impl Tally {
             last: None,
             ran_back: None,
             jumped: None,
+            census: None,
         }
     }
 
+    /// Begins a census of messages of this family.
+    pub(crate) fn begin_census(&mut self, family: AddressFamily)
+        ensures { self.new ≡ census_begun family self.old }
+    {
+        self.census = Some(Census::new(family));
+    }
+
     /// The place of the record that is taken next.
-    pub(crate) fn next_place(self) -> Place
-        ensures { result ≡ next_place self }
+    pub(crate) fn next_place(&self) -> Place
+        ensures { result ≡ next_place self.now }
     {
         Place {
             file: self.file,
             record: one_more(self.records),
-        }
-    }
-
-    /// The tally after a record of this time that is skipped for this reason, if there is one.
-    fn by(self, why: Option<Why>, time: Option<u64>) -> Tally
-        ensures { result ≡ tally_by self why time }
-    {
-        let place = self.next_place();
-        Tally {
-            file: place.file,
-            records: place.record,
-            fragments: counted_if(is_fragment(why), self.fragments),
-            cut_frames: counted_if(is_cut_frame(why), self.cut_frames),
-            cut_short: first_place(self.cut_short, is_cut_short(why), place),
-            last: last_time(self.last, time),
-            ran_back: first_place(self.ran_back, runs_back(self.last, time), place),
-            jumped: first_place(self.jumped, jumps(self.last, time), place),
-        }
-    }
-
-    /// The tally when its capture goes on with its next file.
-    fn in_next_file(self) -> Tally
-        ensures { result ≡ in_next_file self }
-    {
-        Tally {
-            file: one_more(self.file),
-            records: 0,
-            ..self
-        }
-    }
-
-    /// The tally after a record of this time that is skipped for this reason. The beginning of a
-    /// file is no record.
-    fn skipped(self, why: Why, time: Option<u64>) -> Tally
-        ensures { result ≡ tally_skipped self why time }
-    {
-        match why {
-            Why::NextFile => self.in_next_file(),
-            _ => self.by(Some(why), time),
-        }
-    }
-
-    /// The tally after this record. The end leaves it.
-    pub(crate) fn after(self, event: &Event) -> Tally
-        ensures { (bytes : List ℕ) → result ≡ tally_after self (event_seen bytes event.now) }
-    {
-        match event {
-            Event::Packet { .. } => self.by(None, time_of(event)),
-            Event::Skipped { why, .. } => self.skipped(*why, time_of(event)),
-            Event::End => self,
         }
     }
 }

@@ -148,6 +148,7 @@ fn tally_of_two_records(rt: HostRuntime) {
         last: Some(100_005),
         ran_back: None,
         jumped: None,
+        census: None,
     };
     assert_eq!(rt; tally_of(rt.alloc()), Some(tally));
 }
@@ -182,6 +183,7 @@ fn tally_of_two_files(rt: HostRuntime) {
         last: Some(100_005),
         ran_back: None,
         jumped: None,
+        census: None,
     };
     assert_eq!(rt; tally_of_files(rt.alloc()), Some(tally));
 }

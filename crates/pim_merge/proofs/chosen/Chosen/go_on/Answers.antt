@@ -1,4 +1,4 @@
-use Rattle.std.proofs.Common.{◌≡◌, ◌∙◌, ◌≤◌, ◌<◌, ◌+◌, Some, sym, ap, arith, drop, length}
+use Rattle.std.proofs.Common.{◌∙◌, ◌<◌, ◌+◌, sym, ap, arith, drop, length}
 use Rattle.pim_container.specs.Choice.{choice_of, first_of}
 use Rattle.pim_container.specs.Next.{coming}
 use Rattle.pim_merge.specs.Chosen.{all_known, known_too}

@@ -1,4 +1,4 @@
-use Rattle.std.proofs.Common.{◌≡◌, ◌∙◌, ◌+◌, ◌≤◌, ◌*◌, ◌⊎◌, List, ℕ, Ok, length, sym, ap, subst, arith}
+use Rattle.std.proofs.Common.{◌∙◌, ◌*◌, ◌⊎◌, List, ℕ, Ok, length, sym, ap, subst, arith}
 use Rattle.pim_container.specs.Choice.{choice_of, first_of}
 use Rattle.pim_container.specs.Next.{coming, IsNext, pieces_left}
 use Rattle.pim_container.specs.Told.{event_seen}

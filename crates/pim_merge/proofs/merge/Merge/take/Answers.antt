@@ -1,4 +1,4 @@
-use Rattle.std.proofs.Common.{◌≡◌, ◌≤◌, ◌<◌, ◌∙◌, length, IfSome, sym, ap, subst, arith}
+use Rattle.std.proofs.Common.{◌≤◌, ◌∙◌, length, IfSome, ap, subst}
 use Rattle.pim_capture.specs.Capture.{most_captured}
 use Rattle.pim_capture.specs.Next.{PayloadLiesIn}
 use Rattle.pim_merge.specs.Lane.{LaneState}

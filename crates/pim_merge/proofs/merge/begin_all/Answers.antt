@@ -1,0 +1,10 @@
+use Rattle.std.proofs.Common.{◌<◌, ◌∙◌, length, set, ap, sym, arith}
+use Rattle.std.proofs.lemmas.List.Edits.{map_over_more}
+use Rattle.pim_merge.specs.Lane.{with_census}
+use Rattle.pim_merge.proofs.merge.begin_all.Goals as goal
+
+pub loop-lane-preserved : goal.loop-lane-preserved
+loop-lane-preserved g c =
+    let within : c.loop-lane.lane-index < length c.args.lanes.now = omega (arith, c.loop-lane-test.true, c.loop-lane.auto.lanes) in
+    ap (set c.loop-lane.lanes c.loop-lane.lane-index) (c.begin_census.ensures ∙ ap (with_census c.args.family) (sym c.lane-item.is))
+    ∙ map_over_more (with_census c.args.family) c.args.lanes.now c.loop-lane.lanes c.loop-lane.lane-index c.lane-item.result within c.loop-lane.invariant c.lane-item.is
