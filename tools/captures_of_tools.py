@@ -5,7 +5,7 @@ them with what tshark reads.
     tools/captures_of_tools.py FOLDER [PROGRAM]
 
 PROGRAM prints a line for each PIM packet of the file that it is given: `packet MILLIS interface N index N
-vlan N.N sent N payload N SOURCE DESTINATION`, addresses of IPv4; `tools/quick_build.sh container` builds one. It
+vlan N.N copy N payload N SOURCE DESTINATION`, addresses of IPv4; `tools/quick_build.sh container` builds one. It
 needs Debian's tshark.
 """
 import os
@@ -27,12 +27,12 @@ def ethernet(packet, tags=b""):
     return MACS + tags + b"\x08\x00" + packet
 
 
-def cooked(packet, kind, protocol=b"\x08\x00", tag=b""):
-    return struct.pack(">HHH", kind, 1, 6) + bytes(8) + protocol + tag + packet
+def cooked(packet, kind, protocol=b"\x08\x00", tag=b"", device=1):
+    return struct.pack(">HHH", kind, device, 6) + bytes(8) + protocol + tag + packet
 
 
-def cooked_v2(packet, kind, index, protocol=b"\x08\x00", tag=b""):
-    return protocol + struct.pack(">HIHBB", 0, index, 1, kind, 6) + bytes(8) + tag + packet
+def cooked_v2(packet, kind, index, protocol=b"\x08\x00", tag=b"", device=1):
+    return protocol + struct.pack(">HIHBB", 0, index, device, kind, 6) + bytes(8) + tag + packet
 
 
 def tag(vlan, kind=0x8100):
@@ -47,6 +47,9 @@ FRAMES = {
     "cooked": (113, [cooked(message(1), 2), cooked(message(2), 4), cooked(message(3), 2, b"\x81\0", b"\0\5\x08\0")]),
     "cooked_v2": (276, [cooked_v2(message(1), 2, 3), cooked_v2(message(2), 4, 3),
                         cooked_v2(message(3), 2, 4, b"\x81\0", b"\0\5\x08\0")]),
+    "copies": (113, [cooked(message(1), 5), cooked(message(2), 4, device=772), cooked(message(3), 0, device=772)]),
+    "copies_v2": (276, [cooked_v2(message(1), 5, 3), cooked_v2(message(2), 4, 1, device=772),
+                        cooked_v2(message(3), 0, 1, device=772)]),
     "raw": (101, [message(1), b"\x60" + bytes(60)]),
     "raw_v4": (228, [message(1)]),
     "null": (0, [b"\2\0\0\0" + message(1), b"\0\0\0\2" + message(2)]),
@@ -127,12 +130,12 @@ def make(folder):
 
 
 def told_by_tshark(path):
-    fields = "frame.time_epoch frame.interface_id ip.src ip.dst ip.len ip.hdr_len frame.protocols vlan.id ieee8021ad.id sll.pkttype"
+    fields = "frame.time_epoch frame.interface_id ip.src ip.dst ip.len ip.hdr_len frame.protocols vlan.id ieee8021ad.id sll.pkttype sll.hatype"
     words = ["tshark", "-r", path, "-Y", "pim && ip && frame.cap_len == frame.len", "-T", "fields", "-E", "occurrence=a"]
     for it in fields.split():
         words += ["-e", it]
     for line in run(*words).splitlines():
-        epoch, interface, source, destination, size, header, layers, plain, provider, kind = line.split("\t")
+        epoch, interface, source, destination, size, header, layers, plain, provider, kind, device = line.split("\t")
         if not epoch:
             continue
         seconds, _, fraction = epoch.partition(".")
@@ -140,7 +143,7 @@ def told_by_tshark(path):
         tags = [(plain if it == "vlan" else provider).pop(0) for it in layers.split(":") if it in ("vlan", "ieee8021ad")]
         outer, inner, *_ = [it for it in tags if it != "0"] + ["0", "0"]
         yield (f"packet {int(seconds) * 1000 + int((fraction + '000')[:3])} interface {interface or 0} vlan {outer}.{inner} "
-               f"sent {int(kind == '4')} payload {int(size) - int(header)} {source} {destination}")
+               f"copy {int(kind == '5' or (kind, device) == ('4', '772'))} payload {int(size) - int(header)} {source} {destination}")
 
 
 def told_by(program, path):

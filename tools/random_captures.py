@@ -24,41 +24,44 @@ ETHERNET, RAW = (1,), (101, 12, 14)
 
 
 def packet_of(link, order, frame):
-    """(address bytes before the packet, VLANs, index, sent) or None where there is no IP."""
-    vlans, index, sent = [], 0, False
+    """(address bytes before the packet, VLANs, index, copy) or None where there is no IP."""
+    vlans, index, copy = [], 0, False
     if link in RAW:
-        return (0, vlans, index, sent) if frame else None
+        return (0, vlans, index, copy) if frame else None
     if link == 228 or link == 229:
-        return 0, vlans, index, sent
+        return 0, vlans, index, copy
     if link in (0, 108):
         if len(frame) < 4:
             return None
         words = [int.from_bytes(frame[:4], "big")]
         if link == 0 and order == "<":
             words.insert(0, int.from_bytes(frame[:4], "little"))
-        return (4, vlans, index, sent) if any(it in (2, 10, 24, 28, 30) for it in words) else None
+        return (4, vlans, index, copy) if any(it in (2, 10, 24, 28, 30) for it in words) else None
     at = {1: 14, 113: 16, 276: 20}[link]
     if len(frame) < at:
         return None
     kind = int.from_bytes(frame[0:2] if link == 276 else frame[at - 2:at], "big")
     if link == 113:
-        sent = frame[1] == 4 and frame[0] == 0
+        kinds = struct.unpack(">HH", frame[:4])
     if link == 276:
-        sent, index = frame[10] == 4, int.from_bytes(frame[4:8], "big")
+        index, device, sort = struct.unpack(">IHB", frame[4:11])
+        kinds = sort, device
+    if link in (113, 276):
+        copy = kinds[0] == 5 or kinds == (4, 772)
     for _ in range(2):
         if kind in (0x8100, 0x88A8, 0x9100):
             if len(frame) < at + 4:
                 return None
             vlans.append(int.from_bytes(frame[at:at + 2], "big") & 4095)
             kind, at = int.from_bytes(frame[at + 2:at + 4], "big"), at + 4
-    return (at, [it for it in vlans if it], index, sent) if kind in (0x800, 0x86DD) else None
+    return (at, [it for it in vlans if it], index, copy) if kind in (0x800, 0x86DD) else None
 
 
 def told(link, order, millis, interface, frame):
     place = packet_of(link, order, frame)
     if place is None:
         return "skipped"
-    at, vlans, index, sent = place
+    at, vlans, index, copy = place
     ip = frame[at:]
     if len(ip) < 20 or ip[0] >> 4 != 4 or ip[9] != 103 or ip[6] & 0x3F or ip[7]:
         return "skipped"
@@ -66,7 +69,7 @@ def told(link, order, millis, interface, frame):
     if head < 20 or size < head or len(ip) < size:
         return "skipped"
     outer, inner = (vlans + [0, 0])[:2]
-    return (f"packet {millis} interface {interface} index {index} vlan {outer}.{inner} sent {int(sent)} "
+    return (f"packet {millis} interface {interface} index {index} vlan {outer}.{inner} copy {int(copy)} "
             f"payload {size - head} {'.'.join(map(str, ip[12:16]))} {'.'.join(map(str, ip[16:20]))}")
 
 

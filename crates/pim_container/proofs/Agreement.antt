@@ -75,7 +75,7 @@ at_time millis origin (Err why) = refl
 placed_at : (millis : ℕ) (bytes : List ℕ) (r : Result Place Why) → IsAt millis (placed_told millis 0 bytes r)
 placed_at millis bytes (Err why) = refl
 placed_at millis bytes (Ok place) =
-    at_time millis (record { interface = 0; index = place.index; vlan = place.vlan; sent = place.sent }) (judge_packet (Some place.family) (drop place.at bytes))
+    at_time millis (record { interface = 0; index = place.index; vlan = place.vlan; is_copy = place.is_copy }) (judge_packet (Some place.family) (drop place.at bytes))
 
 same_packet : (millis : ℕ) (bytes : List ℕ) (origin : Origin) (r : Result Datagram Why) → SameTold (capture.told_of millis bytes r) (packet_told millis origin r)
 same_packet millis bytes origin (Ok datagram) = (refl, refl)
@@ -95,7 +95,7 @@ same_raw : (millis : ℕ) (bytes : List ℕ) (cut : Bool) (family : Option Addre
 same_raw millis bytes true family = refl
 same_raw millis bytes false None = refl
 same_raw millis bytes false (Some family) =
-    same_packet millis bytes (record { interface = 0; index = 0; vlan = record { outer = 0; inner = 0 }; sent = false }) (judge_packet (Some family) bytes)
+    same_packet millis bytes (record { interface = 0; index = 0; vlan = record { outer = 0; inner = 0 }; is_copy = false }) (judge_packet (Some family) bytes)
 
 -- what the types of tags name
 no_family : (type : ℕ) → is_tag type ≡ true → ethernet_family type ≡ None
@@ -106,7 +106,7 @@ same_typed : (millis : ℕ) (bytes : List ℕ) (carrier : Carried) (family : Opt
     → SameTold (capture.told_of millis bytes (judge_packet family (drop carrier.at bytes))) (placed_told millis 0 bytes (place_in family carrier 0 false))
 same_typed millis bytes carrier None = refl
 same_typed millis bytes carrier (Some family) =
-    same_packet millis bytes (record { interface = 0; index = 0; vlan = carrier.vlan; sent = false }) (judge_packet (Some family) (drop carrier.at bytes))
+    same_packet millis bytes (record { interface = 0; index = 0; vlan = carrier.vlan; is_copy = false }) (judge_packet (Some family) (drop carrier.at bytes))
 
 -- no IP for `pim_capture`, and another result of that time
 same_other : (millis : ℕ) (bytes rest : List ℕ) (family : Option AddressFamily) (r : Result Place Why) → family ≡ None

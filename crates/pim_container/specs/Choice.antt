@@ -1,5 +1,5 @@
 -- Which packets of a capture are taken, by their origins.
-use Rattle.std.specs.Prelude.{◌≡◌, ℕ, Bool, true, false, ◌&&◌, ◌||◌, ◌==◌, not, List, ◌++◌, Option, None, Some, Result, Ok, is_none}
+use Rattle.std.specs.Prelude.{◌≡◌, ℕ, Bool, true, false, ◌&&◌, ◌==◌, not, List, [], ◌++◌, Option, None, Some, Result, Ok, is_none}
 use Rattle.std.specs.Prelude.{if◌then◌else◌}
 use Rattle.pim_addr.specs.Faults.{fault_if, judged}
 use Rattle.pim_capture.specs.declared.vlan.Vlan.{Vlan}
@@ -22,6 +22,11 @@ abbrev pub fits : Option ℕ → ℕ → Bool
 fits None number = true
 fits (Some chosen) number = chosen == number
 
+-- The number by which the interface of a packet is chosen: its index in a cooked header of version 2,
+-- otherwise its number in the section of a pcapng file.
+abbrev pub number_of : Origin → ℕ
+number_of origin = if origin.index == 0 then origin.interface else origin.index
+
 abbrev pub is_same_vlan : Vlan → Vlan → Bool
 is_same_vlan one other = one.outer == other.outer && one.inner == other.inner
 
@@ -29,18 +34,28 @@ abbrev pub fits_vlan : Option Vlan → Vlan → Bool
 fits_vlan None vlan = true
 fits_vlan (Some chosen) vlan = is_same_vlan chosen vlan
 
--- A packet of this origin is chosen.
+-- A packet of this origin is chosen. A copy of another packet never is.
 abbrev pub is_chosen : Choice → Origin → Bool
 is_chosen choice origin =
-    (choice.sent || not origin.sent) && fits_vlan choice.vlan origin.vlan
-    && fits choice.interface origin.interface && fits choice.index origin.index
+    not origin.is_copy && fits_vlan choice.vlan origin.vlan && fits choice.interface (number_of origin)
+
+-- The packets of these origins have two interfaces. The fault shows the numbers by which they are
+-- chosen, or where these are equal the numbers in which they differ.
+abbrev pub mixed_interfaces : Origin → Origin → List Mixed
+mixed_interfaces first origin =
+    fault_if (not (number_of first == number_of origin)) (Interfaces (number_of first) (number_of origin))
+    ++ fault_if (not (first.interface == origin.interface)) (Interfaces first.interface origin.interface)
+    ++ fault_if (not (first.index == origin.index)) (Interfaces first.index origin.index)
+
+-- The packets of these origins have two VLANs.
+abbrev pub mixed_vlans : Origin → Origin → List Mixed
+mixed_vlans first origin = fault_if (not (is_same_vlan first.vlan origin.vlan)) (Vlans first.vlan origin.vlan)
 
 -- What is mixed in two packets of these origins, where none is chosen.
 abbrev pub mixed : Choice → Origin → Origin → List Mixed
 mixed choice first origin =
-    fault_if (is_none choice.interface && not (first.interface == origin.interface)) (Interfaces first.interface origin.interface)
-    ++ fault_if (is_none choice.index && not (first.index == origin.index)) (Interfaces first.index origin.index)
-    ++ fault_if (is_none choice.vlan && not (is_same_vlan first.vlan origin.vlan)) (Vlans first.vlan origin.vlan)
+    (if is_none choice.interface then mixed_interfaces first origin else [])
+    ++ (if is_none choice.vlan then mixed_vlans first origin else [])
 
 -- A chosen packet is taken if it is of one link with the first one.
 abbrev pub judge_second : Choice → Origin → Origin → Result Bool Mixed
@@ -63,9 +78,9 @@ first_or (Some first) origin = Some first
 abbrev pub first_after : Choice → Option Origin → Origin → Option Origin
 first_after choice first origin = if is_chosen choice origin then first_or first origin else first
 
--- Where a VLAN, an interface and an index are chosen, packets are never mixed, and those that are
--- taken are those of the choice.
+-- Where a VLAN and an interface are chosen, packets are never mixed, and those that are taken are
+-- those of the choice.
 abbrev pub OneLinkIsAFilter : Type 0
-OneLinkIsAFilter = (choice : Choice) (first : Option Origin) (origin : Origin) (vlan : Vlan) (interface index : ℕ)
-    → choice.vlan ≡ Some vlan → choice.interface ≡ Some interface → choice.index ≡ Some index
+OneLinkIsAFilter = (choice : Choice) (first : Option Origin) (origin : Origin) (vlan : Vlan) (interface : ℕ)
+    → choice.vlan ≡ Some vlan → choice.interface ≡ Some interface
     → judge_origin choice first origin ≡ Ok (is_chosen choice origin)

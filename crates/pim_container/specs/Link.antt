@@ -1,7 +1,7 @@
 -- Where the IP packet of a captured frame begins, or why there is none. Restates the headers of the
 -- link types of pcap files: Ethernet, Linux cooked capture and its second version, BSD loopback, and
 -- IP without a link layer; and the tags of IEEE 802.1Q and 802.1ad.
-use Rattle.std.specs.Prelude.{ℕ, ◌+◌, ◌%◌, Bool, false, ◌||◌, ◌==◌, not, List, length, drop, slice_index, nat_lt}
+use Rattle.std.specs.Prelude.{ℕ, ◌+◌, ◌%◌, Bool, false, ◌&&◌, ◌||◌, ◌==◌, not, List, length, drop, slice_index, nat_lt}
 use Rattle.std.specs.Prelude.{Option, None, Some, Result, Ok, Err, if◌then◌else◌}
 use Rattle.byteorder.specs.Endian.{big_number, little_number}
 use Rattle.pim_addr.specs.declared.family.AddressFamily.{AddressFamily}
@@ -106,11 +106,18 @@ first_type link.Cooked frame = big_number 2 (drop 14 frame)
 first_type link.CookedV2 frame = big_number 2 frame
 first_type _ frame = big_number 2 (drop 12 frame)
 
--- The capturing host sent the packet itself: the packet type of a cooked header is 4.
-abbrev pub is_sent : Link → List ℕ → Bool
-is_sent link.Cooked frame = big_number 2 frame == 4
-is_sent link.CookedV2 frame = slice_index frame 10 == 4
-is_sent _ frame = false
+-- A packet of this type, on a device of this hardware type, is a copy of another packet, which is
+-- captured too. Type 5 (PACKET_LOOPBACK of Linux) is a copy of what the host sent, looped back.
+-- Type 4 is what the host sent: the loopback device, which has the hardware type 772, receives it
+-- too.
+abbrev pub is_copied : ℕ → ℕ → Bool
+is_copied packet_type device_type = packet_type == 5 || packet_type == 4 && device_type == 772
+
+-- A cooked header says that the packet is a copy.
+abbrev pub is_copy : Link → List ℕ → Bool
+is_copy link.Cooked frame = is_copied (big_number 2 frame) (big_number 2 (drop 2 frame))
+is_copy link.CookedV2 frame = is_copied (slice_index frame 10) (big_number 2 (drop 8 frame))
+is_copy _ frame = false
 
 -- The index of the interface in the header of cooked version 2.
 abbrev pub index_of : Link → List ℕ → ℕ
@@ -133,18 +140,18 @@ family_or None other = other
 abbrev pub untagged_place : Option AddressFamily → ℕ → Result Place Why
 untagged_place None at = Err NotIp
 untagged_place (Some family) at =
-    Ok (record { family = family; at = at; vlan = stacked 0 0; index = 0; sent = false })
+    Ok (record { family = family; at = at; vlan = stacked 0 0; index = 0; is_copy = false })
 
 -- The place of a packet of this family after what carries it.
 abbrev pub place_in : Option AddressFamily → Carried → ℕ → Bool → Result Place Why
-place_in None carrier index sent = Err NotIp
-place_in (Some family) carrier index sent =
-    Ok (record { family = family; at = carrier.at; vlan = carrier.vlan; index = index; sent = sent })
+place_in None carrier index is_copy = Err NotIp
+place_in (Some family) carrier index is_copy =
+    Ok (record { family = family; at = carrier.at; vlan = carrier.vlan; index = index; is_copy = is_copy })
 
 -- The place of the packet that an Ethernet type names.
 abbrev pub typed_place : Option Carried → ℕ → Bool → Result Place Why
-typed_place None index sent = Err Cut
-typed_place (Some carrier) index sent = place_in (ethernet_family carrier.type_number) carrier index sent
+typed_place None index is_copy = Err Cut
+typed_place (Some carrier) index is_copy = place_in (ethernet_family carrier.type_number) carrier index is_copy
 
 -- The place of the packet in a frame whose link layer's header is whole.
 abbrev pub whole_place : Link → List ℕ → Result Place Why
@@ -154,7 +161,7 @@ whole_place link.Ipv6 frame = untagged_place (Some Ipv6) 0
 whole_place (link.Loopback order) frame =
     untagged_place (family_or (socket_family (number order 4 frame)) (socket_family (number Big 4 frame))) 4
 whole_place layer frame =
-    typed_place (carried (first_type layer frame) (link_length layer) frame) (index_of layer frame) (is_sent layer frame)
+    typed_place (carried (first_type layer frame) (link_length layer) frame) (index_of layer frame) (is_copy layer frame)
 
 -- The place of the IP packet in a frame, or the first reason why there is none.
 abbrev pub place_of : Link → List ℕ → Result Place Why

@@ -25,7 +25,7 @@ pub data Told : Type 0 where
 -- The origin of a packet at this place, in a frame of this interface.
 abbrev pub origin_of : ℕ → Place → Origin
 origin_of interface place =
-    record { interface = interface; index = place.index; vlan = place.vlan; sent = place.sent }
+    record { interface = interface; index = place.index; vlan = place.vlan; is_copy = place.is_copy }
 
 -- What an IP packet gives.
 abbrev pub packet_told : ℕ → Origin → Result Datagram Why → Told

@@ -1,9 +1,9 @@
 //! Which packets of a capture are taken.
 
-ghost use Rattle.std.specs.Prelude.{◌≡◌, None};
-ghost use Rattle.pim_addr.specs.Faults.{Answers};
+ghost use Rattle.std.specs.Prelude.{◌≡◌, None, true};
+ghost use Rattle.pim_addr.specs.Faults.{Answers, judged};
 ghost use Rattle.pim_container.specs.Choice.{choice_of, first_of, fits, is_same_vlan, fits_vlan};
-ghost use Rattle.pim_container.specs.Choice.{is_chosen};
+ghost use Rattle.pim_container.specs.Choice.{is_chosen, number_of, mixed_interfaces};
 ghost use Rattle.pim_container.specs.Choice.{first_after, judge_origin, judge_second};
 
 use crate::event::Origin;
@@ -14,14 +14,9 @@ use pim_capture::Vlan;
 pub struct Choice {
     /// The VLAN. `None` is each, as long as the packets have one.
     pub vlan: Option<Vlan>,
-    /// The number of the interface in a section of a pcapng file. `None` is each, as long as the
-    /// packets have one.
+    /// The interface: its index in a cooked header of version 2, or for packets without one its
+    /// number in a section of a pcapng file. `None` is each, as long as the packets have one.
     pub interface: Option<u32>,
-    /// The index of the interface in a cooked header of version 2. `None` is each, as long as the
-    /// packets have one.
-    pub index: Option<u32>,
-    /// Packets that the capturing host sent itself are taken too.
-    pub sent: bool,
 }
 
 /// The packets have more than one link, and none is chosen.
@@ -29,7 +24,7 @@ pub struct Choice {
 pub enum Mixed {
     /// A packet is of another interface than the first one.
     Interfaces {
-        /// The number of the first one's interface, or its index in a cooked header.
+        /// The number by which the first one's interface is chosen, or one in which they differ.
         first: u32,
         /// That of the packet's.
         other: u32,
@@ -60,6 +55,17 @@ fn fits(chosen: Option<u32>, number: u32) -> bool
     }
 }
 
+/// The number by which the interface of a packet is chosen.
+fn number_of(origin: Origin) -> u32
+    ensures { result ≡ number_of origin }
+{
+    if origin.index == 0 {
+        origin.interface
+    } else {
+        origin.index
+    }
+}
+
 /// Whether two VLANs are the same.
 fn is_same_vlan(one: Vlan, other: Vlan) -> bool
     ensures { result ≡ is_same_vlan one other }
@@ -81,27 +87,40 @@ fn fits_vlan(chosen: Option<Vlan>, vlan: Vlan) -> bool
 fn is_chosen(choice: Choice, origin: Origin) -> bool
     ensures { result ≡ is_chosen choice origin }
 {
-    (choice.sent || !origin.sent)
+    !origin.is_copy
         && fits_vlan(choice.vlan, origin.vlan)
-        && fits(choice.interface, origin.interface)
-        && fits(choice.index, origin.index)
+        && fits(choice.interface, number_of(origin))
+}
+
+/// Judges the interfaces of two packets, where none is chosen.
+fn judge_interfaces(first: Origin, origin: Origin) -> Result<bool, Mixed>
+    ensures { Answers (λ it. it) result (judged (mixed_interfaces first origin) true) }
+{
+    let (one, other) = (number_of(first), number_of(origin));
+    if one != other {
+        return Err(Mixed::Interfaces { first: one, other });
+    }
+    if first.interface != origin.interface {
+        return Err(Mixed::Interfaces {
+            first: first.interface,
+            other: origin.interface,
+        });
+    }
+    if first.index != origin.index {
+        return Err(Mixed::Interfaces {
+            first: first.index,
+            other: origin.index,
+        });
+    }
+    Ok(true)
 }
 
 /// Judges a chosen packet by the origin of the first one.
 fn judge_second(choice: Choice, first: Origin, origin: Origin) -> Result<bool, Mixed>
     ensures { Answers (λ it. it) result (judge_second choice first origin) }
 {
-    if choice.interface.is_none() && first.interface != origin.interface {
-        return Err(Mixed::Interfaces {
-            first: first.interface,
-            other: origin.interface,
-        });
-    }
-    if choice.index.is_none() && first.index != origin.index {
-        return Err(Mixed::Interfaces {
-            first: first.index,
-            other: origin.index,
-        });
+    if choice.interface.is_none() {
+        judge_interfaces(first, origin)?;
     }
     if choice.vlan.is_none() && !is_same_vlan(first.vlan, origin.vlan) {
         return Err(Mixed::Vlans {

@@ -12,8 +12,9 @@ pub struct Origin {
     pub index: u32,
     /// Its VLAN.
     pub vlan: Vlan,
-    /// The capturing host sent the packet itself: the packet type of a cooked header is 4.
-    pub sent: bool,
+    /// It is a copy of another packet, which is captured too: a cooked header says that it is
+    /// looped back, or that the host sent it to its loopback device.
+    pub is_copy: bool,
 }
 
 /// What a record or a block of a capture holds.

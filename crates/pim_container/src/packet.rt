@@ -42,7 +42,7 @@ pub fn event_of(
         interface,
         index: place.index,
         vlan: place.vlan,
-        sent: place.sent,
+        is_copy: place.is_copy,
     };
     Event::Packet { millis, origin, ip }
 }

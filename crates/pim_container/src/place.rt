@@ -2,7 +2,7 @@
 
 ghost use Rattle.std.specs.Prelude.{◌≡◌, ◌/◌, ◌≤◌, length, drop, IfOk, IfSome};
 ghost use Rattle.pim_container.specs.Link.{number, socket_family, family_or, untagged_place};
-ghost use Rattle.pim_container.specs.Link.{place_in, typed_place};
+ghost use Rattle.pim_container.specs.Link.{place_in, typed_place, is_copied};
 ghost use Rattle.pim_container.specs.Link.{whole_place, place_of, carried};
 ghost use Rattle.pim_capture.specs.Frame.{ethernet_family, raw_family, version};
 ghost use Rattle.pim_container.specs.declared.link.Link.TheVariants as link;
@@ -23,8 +23,8 @@ pub struct Place {
     pub vlan: Vlan,
     /// The index of the interface in a cooked header of version 2, else 0.
     pub index: u32,
-    /// The capturing host sent the packet itself.
-    pub sent: bool,
+    /// It is a copy of another packet, which is captured too.
+    pub is_copy: bool,
 }
 
 /// The family that an Ethernet type names.
@@ -72,13 +72,13 @@ fn untagged_place(family: Option<AddressFamily>, at: usize) -> Result<Place, Why
         at,
         vlan: stacked(0, 0),
         index: 0,
-        sent: false,
+        is_copy: false,
     })
 }
 
 /// The place of the packet that an Ethernet type names.
-fn typed_place(carrier: Option<Carried>, index: u32, sent: bool) -> Result<Place, Why>
-    ensures place { result ≡ typed_place carrier index sent }
+fn typed_place(carrier: Option<Carried>, index: u32, is_copy: bool) -> Result<Place, Why>
+    ensures place { result ≡ typed_place carrier index is_copy }
     ensures at { IfSome carrier (λ it. IfOk result (λ place. place.at ≡ it.at)) }
 {
     let Some(carrier) = carrier else {
@@ -92,8 +92,15 @@ fn typed_place(carrier: Option<Carried>, index: u32, sent: bool) -> Result<Place
         at: carrier.at,
         vlan: carrier.vlan,
         index,
-        sent,
+        is_copy,
     })
+}
+
+/// Whether a packet of this type, on a device of this hardware type, is a copy of another packet.
+fn is_copied(packet_type: u16, device_type: u16) -> bool
+    ensures { result ≡ is_copied packet_type device_type }
+{
+    packet_type == 5 || packet_type == 4 && device_type == 772
 }
 
 /// The place of the packet in an Ethernet frame.
@@ -117,8 +124,9 @@ fn cooked_place(frame: &[u8]) -> Result<Place, Why>
         return Err(Why::Cut);
     }
     let type_number = Endianness::Big.read_u16_at(frame, 14);
-    let sent = Endianness::Big.read_u16_at(frame, 0) == 4;
-    typed_place(after_tags(type_number, 16, frame), 0, sent)
+    let packet_type = Endianness::Big.read_u16_at(frame, 0);
+    let is_copy = is_copied(packet_type, Endianness::Big.read_u16_at(frame, 2));
+    typed_place(after_tags(type_number, 16, frame), 0, is_copy)
 }
 
 /// The place of the packet in a frame of a Linux cooked capture of version 2.
@@ -131,7 +139,9 @@ fn cooked_v2_place(frame: &[u8]) -> Result<Place, Why>
     }
     let type_number = Endianness::Big.read_u16_at(frame, 0);
     let index = Endianness::Big.read_u32_at(frame, 4);
-    typed_place(after_tags(type_number, 20, frame), index, frame[10] == 4)
+    let device_type = Endianness::Big.read_u16_at(frame, 8);
+    let is_copy = is_copied(u16::from(frame[10]), device_type);
+    typed_place(after_tags(type_number, 20, frame), index, is_copy)
 }
 
 /// The place of the packet in a frame of a BSD loopback.

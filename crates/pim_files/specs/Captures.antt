@@ -120,10 +120,9 @@ HaveFiles remaining known wanted readers = IfSome known (λ files. AreReaders re
 
 -- ---- the captures of ports
 
--- The packets that are taken of a link: those of its VLAN and of its interface, and those that the
--- host sent itself, too.
+-- The packets that are taken of a link: those of its VLAN and of its interface.
 abbrev pub choice_of : Link → Choice
-choice_of link = record { vlan = link.vlan; interface = link.interface; index = None; sent = true }
+choice_of link = record { vlan = link.vlan; interface = link.interface }
 
 -- The results for the bytes of a port's files, if they are known: of any container by this link, one
 -- file after the other; or of a classic capture, which is one file. `bytes_of` gives the bytes of each.

@@ -25,8 +25,6 @@ fn choice_of(link: Link) -> Choice
     Choice {
         vlan: link.vlan,
         interface: link.interface,
-        index: None,
-        sent: true,
     }
 }
 

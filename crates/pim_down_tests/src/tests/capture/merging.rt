@@ -7,12 +7,10 @@ use pim_container::Choice;
 use pim_merge::{Merge, MergeFault, Place, Tally, Turn};
 use std::alloc::Global;
 
-/// All packets that the host didn't send itself.
+/// All packets.
 const EACH: Choice = Choice {
     vlan: None,
     interface: None,
-    index: None,
-    sent: false,
 };
 
 /// The capture and the moment of a turn, or why there is none.

@@ -39,8 +39,6 @@ const FAILED: u64 = u64::MAX;
 const ALL: Choice = Choice {
     vlan: None,
     interface: None,
-    index: None,
-    sent: true,
 };
 
 /// The numbers of records that were passed on after each of three calls for a turn of a capture
