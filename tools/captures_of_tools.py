@@ -5,7 +5,7 @@ them with what tshark reads.
     tools/captures_of_tools.py FOLDER [PROGRAM]
 
 PROGRAM prints a line for each PIM packet of the file that it is given: `packet MILLIS interface N index N
-vlan N.N copy N payload N SOURCE DESTINATION`, addresses of IPv4; `tools/quick_build.sh container` builds one. It
+name NAME vlan N.N copy N payload N SOURCE DESTINATION`, addresses of IPv4; `tools/quick_build.sh container` builds one. It
 needs Debian's tshark.
 """
 import os
@@ -150,7 +150,7 @@ def told_by(program, path):
     for line in run(program, path).splitlines():
         words = line.split()
         if words[0] == "packet":
-            yield " ".join(words[:4] + words[6:])
+            yield " ".join(words[:4] + words[8:])
 
 
 def main():

@@ -12,6 +12,7 @@ prints. Of others it prints the first word: `skipped`, `untimed`, `section`, `in
 """
 import os
 import random
+import re
 import struct
 import subprocess
 import sys
@@ -21,6 +22,7 @@ import captures_of_tools as made
 
 LATEST = 4294971589967
 ETHERNET, RAW = (1,), (101, 12, 14)
+NAMES = [b"eth0", b"eth0.5", b"0", b"12x", b"a,b", b"a=b", b"a+b", b"a b", b"\x1b[2J", b"\x7f", b"!~", b"", b"x" * 16, b"x" * 17]
 
 
 def packet_of(link, order, frame):
@@ -57,7 +59,7 @@ def packet_of(link, order, frame):
     return (at, [it for it in vlans if it], index, copy) if kind in (0x800, 0x86DD) else None
 
 
-def told(link, order, millis, interface, frame):
+def told(link, order, millis, interface, frame, name="-"):
     place = packet_of(link, order, frame)
     if place is None:
         return "skipped"
@@ -69,13 +71,13 @@ def told(link, order, millis, interface, frame):
     if head < 20 or size < head or len(ip) < size:
         return "skipped"
     outer, inner = (vlans + [0, 0])[:2]
-    return (f"packet {millis} interface {interface} index {index} vlan {outer}.{inner} copy {int(copy)} "
+    return (f"packet {millis} interface {interface} index {index} name {name} vlan {outer}.{inner} copy {int(copy)} "
             f"payload {size - head} {'.'.join(map(str, ip[12:16]))} {'.'.join(map(str, ip[16:20]))}")
 
 
 def options(order, data):
-    """The last name's length, resolution and offset, or None where an option is cut."""
-    resolution, offset = 6, 0
+    """The last name, resolution and offset, or None where an option is cut. A text that is no name is `-`."""
+    name, resolution, offset = "-", 6, 0
     while len(data) >= 4:
         code, size = struct.unpack(order + "HH", data[:4])
         if code == 0:
@@ -83,12 +85,15 @@ def options(order, data):
         end = 4 + size + -size % 4
         if len(data) < end:
             return None
+        if code == 2:
+            is_name = re.fullmatch(rb"[!-*\-./0-9:;<>-~]{1,16}", data[4:4 + size]) and not data[4:4 + size].isdigit()
+            name = data[4:4 + size].decode() if is_name else "-"
         if code == 9 and size == 1:
             resolution = data[4]
         if code == 14 and size == 8:
             offset = struct.unpack(order + "q", data[4:12])[0]
         data = data[end:]
-    return resolution, offset
+    return name, resolution, offset
 
 
 def millis_of(stamp, resolution, offset):
@@ -129,12 +134,12 @@ def blocks(data):
             high, low, length = struct.unpack(order + "III", block[12:24])
             if number >= len(interfaces) or length > size - 32:
                 return (yield "fault block")
-            link, *units = interfaces[number]
+            link, name, *units = interfaces[number]
             millis = millis_of(high * 2**32 + low, *units)
             if not 0 <= millis <= LATEST:
                 return (yield "fault time")
             known = link in made_links
-            yield told(link, order, millis, number, block[28:28 + length]) if known else "skipped"
+            yield told(link, order, millis, number, block[28:28 + length], name) if known else "skipped"
         else:
             yield "untimed" if kind in (3, 9, 0x204, 0x216, 0x221, 0xBAD, 0x40000BAD) else "passed"
     yield "end"
@@ -191,7 +196,7 @@ def some_file(source):
         for link, _ in chosen:
             given = [(9, bytes([source.choice([0, 3, 6, 9, 30, 0x80, 0x94, 0xFF])]))] if source.random() < 0.5 else []
             given += [(14, struct.pack(order + "q", source.choice([5, -3600, -2**40])))] if source.random() < 0.3 else []
-            given += [(2, b"eth0")] if source.random() < 0.5 else [(1, b"xyz"), (0, b"")]
+            given += [(2, source.choice(NAMES))] if source.random() < 0.5 else [(1, b"xyz"), (0, b"")]
             listed.append((link, given))
         stamps = [source.choice([1700000000123456, 1700000000, 2**52, 2**64 - 1]) for _ in chosen]
         data += made.section(order, listed, [(at, stamps[at], chosen[at][1]) for at in range(len(chosen))])

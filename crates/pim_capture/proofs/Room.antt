@@ -41,6 +41,7 @@ memory_passed fault.Block P Q h p = tt
 memory_passed fault.Time P Q h p = tt
 memory_passed (fault.Vlans first other) P Q h p = tt
 memory_passed (fault.Interfaces first other) P Q h p = tt
+memory_passed (fault.InterfaceNames first other) P Q h p = tt
 memory_passed (fault.LinkNumber number) P Q h p = tt
 
 pub fits_told : (event : Event) (old new : ℕ) (size : Option (Option ℕ)) → event ≢ End → IsNamed new size → FitsRecord (Ok event) old new size

@@ -3,13 +3,14 @@
 ghost use Rattle.std.specs.Prelude.{◌≡◌};
 ghost use Rattle.pim_capture.specs.declared.fault.CaptureFault.TheVariants.{Read, Memory};
 
+use crate::interface::InterfaceName;
 use crate::vlan::Vlan;
 use pim_addr::Failed;
 use std::alloc::AllocError;
 use thiserror::Error;
 
 /// Why a capture can't be read any further. Every later call returns `Failed`. Readers of other
-/// files than classic ones return the last five too; `Capture` never does.
+/// files than classic ones return the last six too; `Capture` never does.
 #[derive(Clone, Copy, Debug, PartialEq, Eq, Error)]
 pub enum CaptureFault {
     /// It doesn't begin with the magic of a classic pcap file.
@@ -54,6 +55,14 @@ pub enum CaptureFault {
         first: u32,
         /// That of the first packet of another interface.
         other: u32,
+    },
+    /// The packets have interfaces of more than one name, and none is chosen.
+    #[error("interfaces")]
+    InterfaceNames {
+        /// The name of the interface of the first packet.
+        first: InterfaceName,
+        /// That of the first packet of an interface with another name.
+        other: InterfaceName,
     },
     /// Its link type has this number, which isn't read.
     #[error("link-type {0}")]

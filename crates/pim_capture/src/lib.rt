@@ -16,7 +16,7 @@
 //! that no count wraps.
 //!
 //! A pcapng file is refused (`Magic`); `pim_container` reads it. `judge_packet` judges an IP packet
-//! alone, for that crate too.
+//! alone, for that crate too. `InterfaceName` is the name of an interface in such a file.
 #![tactic(auto)]
 
 mod capture;
@@ -24,6 +24,7 @@ mod event;
 mod fault;
 mod frame;
 mod header;
+mod interface;
 mod record;
 mod vlan;
 
@@ -31,4 +32,5 @@ pub use capture::Capture;
 pub use event::{Event, Ip, Why};
 pub use fault::CaptureFault;
 pub use frame::judge_packet;
+pub use interface::{InterfaceChoice, InterfaceName};
 pub use vlan::Vlan;

@@ -5,6 +5,7 @@ use Rattle.clap.specs.Values.{kind_text}
 use Rattle.pim_report.specs.Malformed.{frame_words, hello_words, join_prune_words}
 use Rattle.pim_addr.specs.declared.family.AddressFamily.TheVariants.{Ipv4, Ipv6}
 use Rattle.pim_addr.specs.Text.{address_text}
+use Rattle.pim_capture.specs.Names.{text_of}
 use Rattle.pim_files.specs.declared.opener.FileCause.{FileCause}
 use Rattle.pim_files.specs.declared.opener.FileCause.TheVariants as opening
 use Rattle.pim_routes_file.specs.declared.fault.RoutesFault.{RoutesFault}
@@ -55,6 +56,8 @@ capture_words capture.Time = codes "capture time"
 capture_words (capture.Vlans first other) = codes "capture vlans " ++ decimal first ++ codes "," ++ decimal other
 capture_words (capture.Interfaces first other) =
     codes "capture interfaces " ++ decimal first ++ codes "," ++ decimal other
+capture_words (capture.InterfaceNames first other) =
+    codes "capture interfaces " ++ text_of first ++ codes "," ++ text_of other
 
 -- Whether a fault of this cause is one of a single record.
 abbrev pub is_of_record : CaptureCause → Bool

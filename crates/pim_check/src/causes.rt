@@ -3,6 +3,7 @@
 ghost use Rattle.std.specs.Prelude.{◌≡◌};
 ghost use Rattle.pim_check.specs.Words.{config_words, file_words, is_of_record, no_port_words};
 
+use pim_capture::InterfaceName;
 use pim_files::FileCause;
 use pim_words::{ConfigCause, Side};
 
@@ -38,6 +39,13 @@ pub enum CaptureCause {
         first: u32,
         /// Another one.
         other: u32,
+    },
+    /// Its packets are of the interfaces with these names.
+    InterfaceNames {
+        /// That of the first packet.
+        first: InterfaceName,
+        /// Another one.
+        other: InterfaceName,
     },
 }
 

@@ -2,6 +2,7 @@
 
 ghost use Rattle.std.specs.Prelude.{◌≡◌, ◌≤◌, ◌++◌, take, codes, decimal};
 ghost use Rattle.pim_device.specs.Device.{AppendsAll, failures_after};
+ghost use Rattle.pim_capture.specs.Names.{text_of};
 ghost use Rattle.pim_report.specs.Malformed.{malformed_words};
 ghost use Rattle.pim_check.specs.declared.fault.Fault.TheVariants.{Words};
 ghost use Rattle.pim_text.specs.Text.{line};
@@ -13,6 +14,7 @@ use crate::causes::{CaptureCause, config_words, file_words, is_of_record, no_por
 use clap::error::ErrorKind;
 use itoa::Buffer;
 use pim_addr::{Drain, Failed, V4, V6, write_all, write_text};
+use pim_capture::InterfaceName;
 use pim_files::FileCause;
 use pim_frame::FrameFault;
 use pim_hello::HelloFault;
@@ -134,13 +136,38 @@ fn put_number<W: Drain>(writer: &mut W, words: &[u8], number: u64) -> Result<(),
 }
 
 /// Writes the words and two numbers, with a comma between them.
-fn put_two<W: Drain>(writer: &mut W, words: &[u8], first: u64, other: u64) -> Result<(), Failed>
+fn put_two<W: Drain>(writer: &mut W, words: &[u8], first: u32, other: u32) -> Result<(), Failed>
     ensures bytes { AppendsAll (W.contents writer.old) (W.contents writer.new) result
         (words.now ++ decimal first ++ codes "," ++ decimal other) }
     ensures count { W.failures writer.new ≡ failures_after (W.failures writer.old) result }
 {
-    put_number(writer, words, first)?;
-    put_number(writer, b",", other)
+    put_number(writer, words, u64::from(first))?;
+    put_number(writer, b",", u64::from(other))
+}
+
+/// Writes the words and a name.
+fn put_name<W: Drain>(writer: &mut W, words: &[u8], name: &InterfaceName) -> Result<(), Failed>
+    ensures bytes { AppendsAll (W.contents writer.old) (W.contents writer.new) result
+        (words.now ++ text_of name.now) }
+    ensures count { W.failures writer.new ≡ failures_after (W.failures writer.old) result }
+{
+    write_all(writer, words)?;
+    write_all(writer, name.text())
+}
+
+/// Writes the words and two names, with a comma between them.
+fn put_names<W: Drain>(
+    writer: &mut W,
+    words: &[u8],
+    first: &InterfaceName,
+    other: &InterfaceName,
+) -> Result<(), Failed>
+    ensures bytes { AppendsAll (W.contents writer.old) (W.contents writer.new) result
+        (words.now ++ text_of first.now ++ codes "," ++ text_of other.now) }
+    ensures count { W.failures writer.new ≡ failures_after (W.failures writer.old) result }
+{
+    put_name(writer, words, first)?;
+    put_name(writer, b",", other)
 }
 
 /// Writes the words of a capture's fault.
@@ -164,17 +191,15 @@ fn put_capture<W: Drain>(writer: &mut W, cause: CaptureCause) -> Result<(), Fail
             put_two(
                 writer,
                 b"capture vlans ",
-                u64::from(first),
-                u64::from(other),
+                u32::from(first),
+                u32::from(other),
             )
         }
         CaptureCause::Interfaces { first, other } => {
-            put_two(
-                writer,
-                b"capture interfaces ",
-                u64::from(first),
-                u64::from(other),
-            )
+            put_two(writer, b"capture interfaces ", first, other)
+        }
+        CaptureCause::InterfaceNames { first, other } => {
+            put_names(writer, b"capture interfaces ", &first, &other)
         }
     }
 }

@@ -29,6 +29,7 @@ cause_of of_capture.Block = Some capture.Block
 cause_of of_capture.Time = Some capture.Time
 cause_of (of_capture.Vlans first other) = Some (capture.Vlans (tag_of first other) (tag_of other first))
 cause_of (of_capture.Interfaces first other) = Some (capture.Interfaces first other)
+cause_of (of_capture.InterfaceNames first other) = Some (capture.InterfaceNames first other)
 cause_of of_capture.Memory = None
 cause_of other = Some capture.Read
 

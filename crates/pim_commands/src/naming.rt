@@ -54,6 +54,9 @@ fn cause_of(fault: CaptureFault) -> Option<CaptureCause>
         CaptureFault::Interfaces { first, other } => {
             Some(CaptureCause::Interfaces { first, other })
         }
+        CaptureFault::InterfaceNames { first, other } => {
+            Some(CaptureCause::InterfaceNames { first, other })
+        }
     }
 }
 

@@ -72,10 +72,10 @@ at_time : (millis : ℕ) (origin : Origin) (r : Result Datagram Why) → IsAt mi
 at_time millis origin (Ok datagram) = refl
 at_time millis origin (Err why) = refl
 
-placed_at : (millis : ℕ) (bytes : List ℕ) (r : Result Place Why) → IsAt millis (placed_told millis 0 bytes r)
+placed_at : (millis : ℕ) (bytes : List ℕ) (r : Result Place Why) → IsAt millis (placed_told millis 0 None bytes r)
 placed_at millis bytes (Err why) = refl
 placed_at millis bytes (Ok place) =
-    at_time millis (record { interface = 0; index = place.index; vlan = place.vlan; is_copy = place.is_copy }) (judge_packet (Some place.family) (drop place.at bytes))
+    at_time millis (record { interface = 0; name = None; index = place.index; vlan = place.vlan; is_copy = place.is_copy }) (judge_packet (Some place.family) (drop place.at bytes))
 
 same_packet : (millis : ℕ) (bytes : List ℕ) (origin : Origin) (r : Result Datagram Why) → SameTold (capture.told_of millis bytes r) (packet_told millis origin r)
 same_packet millis bytes origin (Ok datagram) = (refl, refl)
@@ -91,11 +91,11 @@ same_packet millis bytes origin (Err CutShort) = refl
 same_packet millis bytes origin (Err NextFile) = refl
 
 same_raw : (millis : ℕ) (bytes : List ℕ) (cut : Bool) (family : Option AddressFamily)
-    → SameTold (capture.told_of millis bytes (if cut then Err Cut else judge_packet family bytes)) (placed_told millis 0 bytes (if cut then Err Cut else untagged_place family 0))
+    → SameTold (capture.told_of millis bytes (if cut then Err Cut else judge_packet family bytes)) (placed_told millis 0 None bytes (if cut then Err Cut else untagged_place family 0))
 same_raw millis bytes true family = refl
 same_raw millis bytes false None = refl
 same_raw millis bytes false (Some family) =
-    same_packet millis bytes (record { interface = 0; index = 0; vlan = record { outer = 0; inner = 0 }; is_copy = false }) (judge_packet (Some family) bytes)
+    same_packet millis bytes (record { interface = 0; name = None; index = 0; vlan = record { outer = 0; inner = 0 }; is_copy = false }) (judge_packet (Some family) bytes)
 
 -- what the types of tags name
 no_family : (type : ℕ) → is_tag type ≡ true → ethernet_family type ≡ None
@@ -103,21 +103,21 @@ no_family type e = grind (arith, common_steps)
 
 -- a place behind these tags, and a packet of the family that it names
 same_typed : (millis : ℕ) (bytes : List ℕ) (carrier : Carried) (family : Option AddressFamily)
-    → SameTold (capture.told_of millis bytes (judge_packet family (drop carrier.at bytes))) (placed_told millis 0 bytes (place_in family carrier 0 false))
+    → SameTold (capture.told_of millis bytes (judge_packet family (drop carrier.at bytes))) (placed_told millis 0 None bytes (place_in family carrier 0 false))
 same_typed millis bytes carrier None = refl
 same_typed millis bytes carrier (Some family) =
-    same_packet millis bytes (record { interface = 0; index = 0; vlan = carrier.vlan; is_copy = false }) (judge_packet (Some family) (drop carrier.at bytes))
+    same_packet millis bytes (record { interface = 0; name = None; index = 0; vlan = carrier.vlan; is_copy = false }) (judge_packet (Some family) (drop carrier.at bytes))
 
 -- no IP for `pim_capture`, and another result of that time
 same_other : (millis : ℕ) (bytes rest : List ℕ) (family : Option AddressFamily) (r : Result Place Why) → family ≡ None
-    → SameTold (capture.told_of millis bytes (judge_packet family rest)) (placed_told millis 0 bytes r)
+    → SameTold (capture.told_of millis bytes (judge_packet family rest)) (placed_told millis 0 None bytes r)
 same_other millis bytes rest family r e =
-    subst (λ it. SameTold (capture.told_of millis bytes (judge_packet it rest)) (placed_told millis 0 bytes r)) (sym e) (placed_at millis bytes r)
+    subst (λ it. SameTold (capture.told_of millis bytes (judge_packet it rest)) (placed_told millis 0 None bytes r)) (sym e) (placed_at millis bytes r)
 
 -- a frame without a tag of 802.1Q
 untagged : (millis : ℕ) (bytes : List ℕ) (cut tag : Bool) (carrier : Carried) (more : Option Carried) → is_tag carrier.type_number ≡ tag
     → SameTold (capture.told_of millis bytes (if cut then Err Cut else judge_packet (ethernet_family carrier.type_number) (drop carrier.at bytes)))
-    (placed_told millis 0 bytes (if cut then Err Cut else typed_place (if tag then more else Some carrier) 0 false))
+    (placed_told millis 0 None bytes (if cut then Err Cut else typed_place (if tag then more else Some carrier) 0 false))
 untagged millis bytes true tag carrier more e = refl
 untagged millis bytes false false carrier more e = same_typed millis bytes carrier (ethernet_family carrier.type_number)
 untagged millis bytes false true carrier more e =
@@ -127,7 +127,7 @@ untagged millis bytes false true carrier more e =
 tagged_once : (millis : ℕ) (bytes : List ℕ) (cut short cut' tag : Bool) (carrier : Carried) (more : Option Carried) → (short ≡ true → cut ≡ true) → (short ≡ false → cut' ≡ cut)
     → is_tag carrier.type_number ≡ tag
     → SameTold (capture.told_of millis bytes (if cut then Err Cut else judge_packet (ethernet_family carrier.type_number) (drop carrier.at bytes)))
-    (placed_told millis 0 bytes (if short then Err Cut else typed_place (if cut' then None else (if not tag then Some carrier else more)) 0 false))
+    (placed_told millis 0 None bytes (if short then Err Cut else typed_place (if cut' then None else (if not tag then Some carrier else more)) 0 false))
 tagged_once millis bytes true true cut' tag carrier more h k e = refl
 tagged_once millis bytes false true cut' tag carrier more h k e = absurd (false≢true (h refl))
 tagged_once millis bytes true false true tag carrier more h k e = refl
@@ -150,7 +150,7 @@ judged_by once bytes =
     else judge_packet (ethernet_family (big_number 2 (drop (if once then 16 else 12) bytes))) (drop (if once then 18 else 14) bytes)
 
 same_by : (millis : ℕ) (bytes : List ℕ) (once : Bool) → frame.is_tagged bytes ≡ once
-    → SameTold (capture.told_of millis bytes (judged_by once bytes)) (placed_told millis 0 bytes (place_of link.Ethernet bytes))
+    → SameTold (capture.told_of millis bytes (judged_by once bytes)) (placed_told millis 0 None bytes (place_of link.Ethernet bytes))
 unfolding judged_by
 same_by millis bytes false e =
     let type = big_number 2 (drop 12 bytes) in
@@ -164,15 +164,15 @@ same_by millis bytes true e =
     let once = tagged_once millis bytes (nat_lt (length bytes) 18) (nat_lt (length bytes) 14) (nat_lt (length rest) 4) (is_tag (second_type rest)) (after_one 14 rest)
     (if nat_lt (length rest) 8 then None else Some (after_two 14 rest)) (less_is (length bytes) 14 18 (omega arith)) l refl in
     let there : SameTold (capture.told_of millis bytes (if nat_lt (length bytes) 18 then Err Cut else judge_packet (ethernet_family (big_number 2 (drop 16 bytes))) (drop 18 bytes)))
-    (placed_told millis 0 bytes (if nat_lt (length bytes) 14 then Err Cut else typed_place (tagged 14 rest) 0 false)) =
+    (placed_told millis 0 None bytes (if nat_lt (length bytes) 14 then Err Cut else typed_place (tagged 14 rest) 0 false)) =
     subst (λ it. SameTold (capture.told_of millis bytes (if nat_lt (length bytes) 18 then Err Cut else judge_packet (ethernet_family (big_number 2 it)) (drop 18 bytes)))
-    (placed_told millis 0 bytes (if nat_lt (length bytes) 14 then Err Cut else typed_place (tagged 14 rest) 0 false))) (drop-drop 2 14 bytes) once in
+    (placed_told millis 0 None bytes (if nat_lt (length bytes) 14 then Err Cut else typed_place (tagged 14 rest) 0 false))) (drop-drop 2 14 bytes) once in
     subst (λ it. SameTold (capture.told_of millis bytes (if nat_lt (length bytes) 18 then Err Cut else judge_packet (ethernet_family (big_number 2 (drop 16 bytes))) (drop 18 bytes)))
-    (placed_told millis 0 bytes (if nat_lt (length bytes) 14 then Err Cut else typed_place (if it then tagged 14 rest
+    (placed_told millis 0 None bytes (if nat_lt (length bytes) 14 then Err Cut else typed_place (if it then tagged 14 rest
     else Some (record { type_number = big_number 2 (drop 12 bytes); at = 14; vlan = record { outer = 0; inner = 0 } })) 0 false))) (sym is) there
 
 same_ethernet : (millis : ℕ) (bytes : List ℕ)
-    → SameTold (capture.told_of millis bytes (frame.judge_frame layer.Ethernet bytes)) (placed_told millis 0 bytes (place_of link.Ethernet bytes))
+    → SameTold (capture.told_of millis bytes (frame.judge_frame layer.Ethernet bytes)) (placed_told millis 0 None bytes (place_of link.Ethernet bytes))
 unfolding judged_by
 same_ethernet millis bytes = same_by millis bytes (frame.is_tagged bytes) refl
 
@@ -180,11 +180,11 @@ never : (n : ℕ) → nat_lt n 0 ≡ false
 never n = grind (arith, common_steps)
 
 same_frame : (millis : ℕ) (l : layer_type.Link) (bytes : List ℕ)
-    → SameTold (capture.told_of millis bytes (frame.judge_frame l bytes)) (frame_told millis 0 (Some (link_as l)) bytes)
+    → SameTold (capture.told_of millis bytes (frame.judge_frame l bytes)) (frame_told millis 0 None (Some (link_as l)) bytes)
 same_frame millis layer.Ethernet bytes = same_ethernet millis bytes
 same_frame millis layer.Raw bytes =
     subst (λ it. SameTold (capture.told_of millis bytes (frame.judge_frame layer.Raw bytes))
-    (placed_told millis 0 bytes (if it then Err Cut else (if length bytes == 0 then Err Cut else untagged_place (raw_family (version bytes)) 0))))
+    (placed_told millis 0 None bytes (if it then Err Cut else (if length bytes == 0 then Err Cut else untagged_place (raw_family (version bytes)) 0))))
     (sym (never (length bytes))) (same_raw millis bytes (length bytes == 0) (raw_family (version bytes)))
 
 -- ---- records
@@ -239,11 +239,11 @@ length_same f xs = number_same f.endianness 4 (drop 8 (take 16 xs))
 record_same : (f : format.Format) (xs : List ℕ) → SameTold (capture.record_told f xs) (classic.record_told (format_as f) (take (16 + capture.captured_length f (take 16 xs)) xs))
 record_same f xs =
     let n = capture.captured_length f (take 16 xs) in
-    let same : SameTold (capture.record_told f xs) (frame_told (capture.millis_of f (take 16 xs)) 0 (Some (link_as f.link)) (take n (drop 16 xs))) =
+    let same : SameTold (capture.record_told f xs) (frame_told (capture.millis_of f (take 16 xs)) 0 None (Some (link_as f.link)) (take n (drop 16 xs))) =
     same_frame (capture.millis_of f (take 16 xs)) f.link (take n (drop 16 xs)) in
-    let framed : SameTold (capture.record_told f xs) (frame_told (capture.millis_of f (take 16 xs)) 0 (Some (link_as f.link)) (drop 16 (take (16 + n) xs))) =
-    subst (λ it. SameTold (capture.record_told f xs) (frame_told (capture.millis_of f (take 16 xs)) 0 (Some (link_as f.link)) it)) (sym (drop-take 16 n xs)) same in
-    subst (λ it. SameTold (capture.record_told f xs) (frame_told it 0 (Some (link_as f.link)) (drop 16 (take (16 + n) xs)))) (sym (millis_same f xs n)) framed
+    let framed : SameTold (capture.record_told f xs) (frame_told (capture.millis_of f (take 16 xs)) 0 None (Some (link_as f.link)) (drop 16 (take (16 + n) xs))) =
+    subst (λ it. SameTold (capture.record_told f xs) (frame_told (capture.millis_of f (take 16 xs)) 0 None (Some (link_as f.link)) it)) (sym (drop-take 16 n xs)) same in
+    subst (λ it. SameTold (capture.record_told f xs) (frame_told it 0 None (Some (link_as f.link)) (drop 16 (take (16 + n) xs)))) (sym (millis_same f xs n)) framed
 
 -- ---- the results, one by one
 

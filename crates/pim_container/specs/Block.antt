@@ -100,6 +100,7 @@ captured_at None interface order block = Err fault.Time
 captured_at (Some millis) interface order block = Ok (record {
   millis = millis;
   interface = interface_number order block;
+  name = interface.name;
   link = interface.link;
   end = 28 + captured_length order block;
 })
@@ -115,7 +116,7 @@ captured_on (Some interface) order block =
 -- captured bytes.
 abbrev pub packet_told : Result Captured Fault → List ℕ → Result Told Fault
 packet_told (Ok captured) block =
-    Ok (frame_told captured.millis captured.interface captured.link (drop 28 (take captured.end block)))
+    Ok (frame_told captured.millis captured.interface captured.name captured.link (drop 28 (take captured.end block)))
 packet_told (Err fault) block = Err fault
 
 abbrev pub packet_block : Endianness → List Interface → List ℕ → Result Told Fault

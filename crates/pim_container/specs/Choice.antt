@@ -2,12 +2,16 @@
 use Rattle.std.specs.Prelude.{◌≡◌, ℕ, Bool, true, false, ◌&&◌, ◌==◌, not, List, [], ◌++◌, Option, None, Some, Result, Ok, is_none}
 use Rattle.std.specs.Prelude.{if◌then◌else◌}
 use Rattle.pim_addr.specs.Faults.{fault_if, judged}
+use Rattle.pim_capture.specs.declared.interface.InterfaceChoice.{InterfaceChoice}
+use Rattle.pim_capture.specs.declared.interface.InterfaceChoice.TheVariants.{Number, Name}
+use Rattle.pim_capture.specs.declared.interface.InterfaceName.{InterfaceName}
 use Rattle.pim_capture.specs.declared.vlan.Vlan.{Vlan}
+use Rattle.pim_capture.specs.Names.{is_same_name}
 use Rattle.pim_container.specs.declared.event.Origin.{Origin}
 use Rattle.pim_container.specs.declared.choice.Choice.{Choice}
 use Rattle.pim_container.specs.declared.choice.Chooser.{Chooser}
 use Rattle.pim_container.specs.declared.choice.Mixed.{Mixed}
-use Rattle.pim_container.specs.declared.choice.Mixed.TheVariants.{Interfaces, Vlans}
+use Rattle.pim_container.specs.declared.choice.Mixed.TheVariants.{Numbers, Names, Vlans}
 
 -- The choice of a chooser.
 abbrev pub choice_of : Chooser → Choice
@@ -17,15 +21,21 @@ choice_of chooser = chooser.choice
 abbrev pub first_of : Chooser → Option Origin
 first_of chooser = chooser.first
 
--- `None` chooses each number.
-abbrev pub fits : Option ℕ → ℕ → Bool
-fits None number = true
-fits (Some chosen) number = chosen == number
-
 -- The number by which the interface of a packet is chosen: its index in a cooked header of version 2,
 -- otherwise its number in the section of a pcapng file.
 abbrev pub number_of : Origin → ℕ
 number_of origin = if origin.index == 0 then origin.interface else origin.index
+
+-- The name of an interface is this one.
+abbrev pub has_name : InterfaceName → Option InterfaceName → Bool
+has_name name None = false
+has_name name (Some other) = is_same_name name other
+
+-- The packet is of the chosen interface. `None` chooses each.
+abbrev pub fits : Option InterfaceChoice → Origin → Bool
+fits None origin = true
+fits (Some (Number number)) origin = number == number_of origin
+fits (Some (Name name)) origin = has_name name origin.name
 
 abbrev pub is_same_vlan : Vlan → Vlan → Bool
 is_same_vlan one other = one.outer == other.outer && one.inner == other.inner
@@ -37,24 +47,40 @@ fits_vlan (Some chosen) vlan = is_same_vlan chosen vlan
 -- A packet of this origin is chosen. A copy of another packet never is.
 abbrev pub is_chosen : Choice → Origin → Bool
 is_chosen choice origin =
-    not origin.is_copy && fits_vlan choice.vlan origin.vlan && fits choice.interface (number_of origin)
+    not origin.is_copy && fits_vlan choice.vlan origin.vlan && fits choice.interface origin
 
--- The packets of these origins have two interfaces. The fault shows the numbers by which they are
--- chosen, or where these are equal the numbers in which they differ.
-abbrev pub mixed_interfaces : Origin → Origin → List Mixed
-mixed_interfaces first origin =
-    fault_if (not (number_of first == number_of origin)) (Interfaces (number_of first) (number_of origin))
-    ++ fault_if (not (first.interface == origin.interface)) (Interfaces first.interface origin.interface)
-    ++ fault_if (not (first.index == origin.index)) (Interfaces first.index origin.index)
+-- The packets of these origins are of interfaces with two names.
+abbrev pub mixed_names : Option InterfaceName → Option InterfaceName → List Mixed
+mixed_names (Some first) (Some other) = fault_if (not (is_same_name first other)) (Names first other)
+mixed_names first other = []
+
+-- They have two indexes in cooked headers.
+abbrev pub mixed_indexes : Origin → Origin → List Mixed
+mixed_indexes first origin = fault_if (not (first.index == origin.index)) (Numbers first.index origin.index)
+
+-- They are of two interfaces, by number or index. The fault shows the numbers by which these are
+-- chosen, or where they are equal those in which they differ.
+abbrev pub mixed_numbers : Origin → Origin → List Mixed
+mixed_numbers first origin =
+    fault_if (not (number_of first == number_of origin)) (Numbers (number_of first) (number_of origin))
+    ++ fault_if (not (first.interface == origin.interface)) (Numbers first.interface origin.interface)
+    ++ mixed_indexes first origin
+
+-- They are of two interfaces, where this choice leaves that open. A chosen name leaves open the index
+-- in a cooked header, since a capture of all interfaces has one name.
+abbrev pub mixed_interfaces : Option InterfaceChoice → Origin → Origin → List Mixed
+mixed_interfaces None first origin = mixed_names first.name origin.name ++ mixed_numbers first origin
+mixed_interfaces (Some (Number number)) first origin = []
+mixed_interfaces (Some (Name name)) first origin = mixed_indexes first origin
 
 -- The packets of these origins have two VLANs.
 abbrev pub mixed_vlans : Origin → Origin → List Mixed
 mixed_vlans first origin = fault_if (not (is_same_vlan first.vlan origin.vlan)) (Vlans first.vlan origin.vlan)
 
--- What is mixed in two packets of these origins, where none is chosen.
+-- What is mixed in two packets of these origins, where none is chosen: first interfaces, then VLANs.
 abbrev pub mixed : Choice → Origin → Origin → List Mixed
 mixed choice first origin =
-    (if is_none choice.interface then mixed_interfaces first origin else [])
+    mixed_interfaces choice.interface first origin
     ++ (if is_none choice.vlan then mixed_vlans first origin else [])
 
 -- A chosen packet is taken if it is of one link with the first one.
@@ -78,9 +104,9 @@ first_or (Some first) origin = Some first
 abbrev pub first_after : Choice → Option Origin → Origin → Option Origin
 first_after choice first origin = if is_chosen choice origin then first_or first origin else first
 
--- Where a VLAN and an interface are chosen, packets are never mixed, and those that are taken are
--- those of the choice.
+-- Where a VLAN and the number of an interface are chosen, packets are never mixed, and those that
+-- are taken are those of the choice.
 abbrev pub OneLinkIsAFilter : Type 0
-OneLinkIsAFilter = (choice : Choice) (first : Option Origin) (origin : Origin) (vlan : Vlan) (interface : ℕ)
-    → choice.vlan ≡ Some vlan → choice.interface ≡ Some interface
+OneLinkIsAFilter = (choice : Choice) (first : Option Origin) (origin : Origin) (vlan : Vlan) (number : ℕ)
+    → choice.vlan ≡ Some vlan → choice.interface ≡ Some (Number number)
     → judge_origin choice first origin ≡ Ok (is_chosen choice origin)

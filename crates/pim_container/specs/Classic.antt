@@ -66,4 +66,4 @@ millis_of format bytes =
 
 -- What a whole record gives.
 abbrev pub record_told : Format → List ℕ → Told
-record_told format bytes = frame_told (millis_of format bytes) 0 (Some format.link) (drop 16 bytes)
+record_told format bytes = frame_told (millis_of format bytes) 0 None (Some format.link) (drop 16 bytes)

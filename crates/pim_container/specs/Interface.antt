@@ -1,10 +1,11 @@
 -- An interface of a pcapng section (draft-ietf-opsawg-pcapng, 4.2): its link, and of its options the
 -- name (if_name), the resolution (if_tsresol) and the offset (if_tsoffset) of its times.
 use Rattle.std.specs.Prelude.{◌≤◌, ℕ, zero, suc, ◌+◌, ◌-◌, ◌*◌, ◌/◌, ◌^◌, Bool, ◌&&◌, ◌||◌, ◌==◌, not, List, length, drop}
-use Rattle.std.specs.Prelude.{nat_lt, slice_index, Option, None, Some, if◌then◌else◌}
+use Rattle.std.specs.Prelude.{nat_lt, slice_index, slice_range, Option, None, Some, if◌then◌else◌}
 use Rattle.pim_container.specs.declared.link.Endianness.{Endianness}
 use Rattle.pim_container.specs.declared.interface.Settings.{Settings}
 use Rattle.pim_container.specs.declared.interface.Interface.{Interface}
+use Rattle.pim_capture.specs.Names.{name_of}
 use Rattle.pim_container.specs.Link.{number, link_of}
 use Rattle.pim_container.specs.Told.{latest_moment}
 
@@ -68,12 +69,14 @@ settings_from (suc left) order settings at bytes =
 abbrev pub settings_of : Endianness → List ℕ → Option Settings
 settings_of order bytes = settings_from (length bytes) order no_settings 16 bytes
 
--- The interface of an interface description block with these settings.
+-- The interface of an interface description block with these settings. A text that is no name names
+-- nothing.
 abbrev pub interface_of : Endianness → List ℕ → Settings → Interface
 interface_of order block settings = record {
   link = link_of order (number order 2 (drop 8 block));
   resolution = settings.resolution;
   offset = settings.offset;
+  name = name_of (slice_range block settings.name_at settings.name_end);
 }
 
 -- The name of these settings lies within these bytes.

@@ -2,6 +2,7 @@
 use Rattle.std.specs.Prelude.{◌≤◌, ℕ, List, drop, length, slice_range, Option, None, Some, Result, Ok, Err, ⊤}
 use Rattle.pim_capture.specs.declared.event.Why.{Why}
 use Rattle.pim_capture.specs.declared.event.Why.TheVariants.{LinkType}
+use Rattle.pim_capture.specs.declared.interface.InterfaceName.{InterfaceName}
 use Rattle.pim_capture.specs.Frame.{Datagram, judge_packet}
 use Rattle.pim_capture.specs.Seen.{ip_seen, LiesIn, IsShort}
 use Rattle.pim_container.specs.declared.link.Link.{Link}
@@ -22,10 +23,10 @@ pub data Told : Type 0 where
   passed : Told
   ended : Told
 
--- The origin of a packet at this place, in a frame of this interface.
-abbrev pub origin_of : ℕ → Place → Origin
-origin_of interface place =
-    record { interface = interface; index = place.index; vlan = place.vlan; is_copy = place.is_copy }
+-- The origin of a packet at this place, in a frame of the interface with this number and name.
+abbrev pub origin_of : ℕ → Option InterfaceName → Place → Origin
+origin_of interface name place =
+    record { interface = interface; name = name; index = place.index; vlan = place.vlan; is_copy = place.is_copy }
 
 -- What an IP packet gives.
 abbrev pub packet_told : ℕ → Origin → Result Datagram Why → Told
@@ -33,16 +34,16 @@ packet_told millis origin (Ok datagram) = packet millis origin datagram
 packet_told millis origin (Err why) = skipped millis why
 
 -- What a frame gives, by the place of its IP packet.
-abbrev pub placed_told : ℕ → ℕ → List ℕ → Result Place Why → Told
-placed_told millis interface frame (Ok place) =
-    packet_told millis (origin_of interface place) (judge_packet (Some place.family) (drop place.at frame))
-placed_told millis interface frame (Err why) = skipped millis why
+abbrev pub placed_told : ℕ → ℕ → Option InterfaceName → List ℕ → Result Place Why → Told
+placed_told millis interface name frame (Ok place) =
+    packet_told millis (origin_of interface name place) (judge_packet (Some place.family) (drop place.at frame))
+placed_told millis interface name frame (Err why) = skipped millis why
 
--- What a frame gives that was captured at this time on an interface with this number and link. One
--- of a link type that isn't read is skipped.
-abbrev pub frame_told : ℕ → ℕ → Option Link → List ℕ → Told
-frame_told millis interface None frame = skipped millis LinkType
-frame_told millis interface (Some layer) frame = placed_told millis interface frame (place_of layer frame)
+-- What a frame gives that was captured at this time on an interface with this number, name and link.
+-- One of a link type that isn't read is skipped.
+abbrev pub frame_told : ℕ → ℕ → Option InterfaceName → Option Link → List ℕ → Told
+frame_told millis interface name None frame = skipped millis LinkType
+frame_told millis interface name (Some layer) frame = placed_told millis interface name frame (place_of layer frame)
 
 -- ---- an event, with the bytes in the buffer
 

@@ -11,7 +11,7 @@ ghost use Rattle.pim_container.specs.Block.{captured_length};
 ghost use Rattle.pim_container.specs.Block.{captured_on, packet_block, interface_block};
 ghost use Rattle.pim_container.specs.Block.{without_end, block_told, is_untimed};
 ghost use Rattle.pim_container.specs.Block.{interfaces_after, with_interface};
-ghost use Rattle.pim_container.specs.Interface.{settings_of, interface_of};
+ghost use Rattle.pim_container.specs.Interface.{settings_of, interface_of, HasName};
 ghost use Rattle.pim_container.specs.Told.{latest_moment, event_seen, EventLiesIn, IsBy};
 ghost use Rattle.pim_container.specs.Next.{OnMemory};
 
@@ -20,6 +20,7 @@ use crate::fault::Fault;
 use crate::interface::{Interface, Settings, moment_of, settings_of};
 use crate::link::{Endianness, Link, link_of};
 use crate::packet::event_of;
+use pim_capture::InterfaceName;
 
 /// The type of a section header block, the same in both byte orders.
 const SECTION: u32 = 0x0a0d_0d0a;
@@ -58,6 +59,8 @@ pub struct Captured {
     pub millis: u64,
     /// The number of its interface in the section.
     pub interface: u32,
+    /// The name of that interface.
+    pub name: Option<InterfaceName>,
     /// What its frame begins with. `None` for a link type that isn't read.
     pub link: Option<Link>,
     /// The index after its frame in the block.
@@ -189,6 +192,7 @@ fn captured_on(interface: Interface, order: Endianness, block: &[u8]) -> Result<
     Ok(Captured {
         millis,
         interface: interface_number(order, block),
+        name: interface.name,
         link: interface.link,
         end: 28 + captured_length,
     })
@@ -220,6 +224,7 @@ fn tell_packet(
     Ok(event_of(
         captured.millis,
         captured.interface,
+        captured.name,
         captured.link,
         buffer.as_slice(),
         28,
@@ -228,13 +233,15 @@ fn tell_packet(
 
 /// The interface that a block describes, with these settings.
 fn interface_of(order: Endianness, block: &[u8], settings: Settings) -> Interface
-    requires { 20 ≤ length block.now }
+    requires least { 20 ≤ length block.now }
+    requires name { HasName block.now settings }
     ensures { result ≡ interface_of order block.now settings }
 {
     Interface {
         link: link_of(order, order.read_u16_at(block, 8)),
         resolution: settings.resolution,
         offset: settings.offset,
+        name: InterfaceName::of(&block[settings.name_at..settings.name_end]),
     }
 }
 

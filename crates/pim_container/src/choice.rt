@@ -3,27 +3,34 @@
 ghost use Rattle.std.specs.Prelude.{◌≡◌, None, true};
 ghost use Rattle.pim_addr.specs.Faults.{Answers, judged};
 ghost use Rattle.pim_container.specs.Choice.{choice_of, first_of, fits, is_same_vlan, fits_vlan};
-ghost use Rattle.pim_container.specs.Choice.{is_chosen, number_of, mixed_interfaces};
+ghost use Rattle.pim_container.specs.Choice.{is_chosen, number_of, has_name, mixed_names};
+ghost use Rattle.pim_container.specs.Choice.{mixed_indexes, mixed_numbers, mixed_interfaces};
 ghost use Rattle.pim_container.specs.Choice.{first_after, judge_origin, judge_second};
 
 use crate::event::Origin;
-use pim_capture::Vlan;
+use pim_capture::{InterfaceChoice, InterfaceName, Vlan};
 
 /// Which packets are taken: those of one VLAN or interface, or of each.
 #[derive(Clone, Copy, Debug, PartialEq, Eq)]
 pub struct Choice {
     /// The VLAN. `None` is each, as long as the packets have one.
     pub vlan: Option<Vlan>,
-    /// The interface: its index in a cooked header of version 2, or for packets without one its
-    /// number in a section of a pcapng file. `None` is each, as long as the packets have one.
-    pub interface: Option<u32>,
+    /// The interface. `None` is each, as long as the packets have one.
+    pub interface: Option<InterfaceChoice>,
 }
 
 /// The packets have more than one link, and none is chosen.
 #[derive(Clone, Copy, Debug, PartialEq, Eq)]
 pub enum Mixed {
-    /// A packet is of another interface than the first one.
-    Interfaces {
+    /// A packet is of an interface with another name than that of the first one.
+    Names {
+        /// The name of the first one's interface.
+        first: InterfaceName,
+        /// That of the packet's.
+        other: InterfaceName,
+    },
+    /// A packet is of an interface with another number or index than that of the first one.
+    Numbers {
         /// The number by which the first one's interface is chosen, or one in which they differ.
         first: u32,
         /// That of the packet's.
@@ -45,16 +52,6 @@ pub struct Chooser {
     first: Option<Origin>,
 }
 
-/// Whether a number is the chosen one.
-fn fits(chosen: Option<u32>, number: u32) -> bool
-    ensures { result ≡ fits chosen number }
-{
-    match chosen {
-        Some(it) => it == number,
-        None => true,
-    }
-}
-
 /// The number by which the interface of a packet is chosen.
 fn number_of(origin: Origin) -> u32
     ensures { result ≡ number_of origin }
@@ -63,6 +60,29 @@ fn number_of(origin: Origin) -> u32
         origin.interface
     } else {
         origin.index
+    }
+}
+
+/// Whether the name of an interface is this one.
+fn has_name(name: InterfaceName, other: Option<InterfaceName>) -> bool
+    ensures { result ≡ has_name name other }
+{
+    match other {
+        Some(other) => name.is_same(&other),
+        None => false,
+    }
+}
+
+/// Whether a packet is of the chosen interface.
+fn fits(chosen: Option<InterfaceChoice>, origin: Origin) -> bool
+    ensures { result ≡ fits chosen origin }
+{
+    let Some(chosen) = chosen else {
+        return true;
+    };
+    match chosen {
+        InterfaceChoice::Number(number) => number == number_of(origin),
+        InterfaceChoice::Name(name) => has_name(name, origin.name),
     }
 }
 
@@ -87,27 +107,31 @@ fn fits_vlan(chosen: Option<Vlan>, vlan: Vlan) -> bool
 fn is_chosen(choice: Choice, origin: Origin) -> bool
     ensures { result ≡ is_chosen choice origin }
 {
-    !origin.is_copy
-        && fits_vlan(choice.vlan, origin.vlan)
-        && fits(choice.interface, number_of(origin))
+    !origin.is_copy && fits_vlan(choice.vlan, origin.vlan) && fits(choice.interface, origin)
 }
 
-/// Judges the interfaces of two packets, where none is chosen.
-fn judge_interfaces(first: Origin, origin: Origin) -> Result<bool, Mixed>
-    ensures { Answers (λ it. it) result (judged (mixed_interfaces first origin) true) }
+/// Judges the names of the interfaces of two packets.
+fn judge_names(first: Option<InterfaceName>, other: Option<InterfaceName>) -> Result<bool, Mixed>
+    ensures { Answers (λ it. it) result (judged (mixed_names first other) true) }
 {
-    let (one, other) = (number_of(first), number_of(origin));
-    if one != other {
-        return Err(Mixed::Interfaces { first: one, other });
+    let Some(first) = first else {
+        return Ok(true);
+    };
+    let Some(other) = other else {
+        return Ok(true);
+    };
+    if !first.is_same(&other) {
+        return Err(Mixed::Names { first, other });
     }
-    if first.interface != origin.interface {
-        return Err(Mixed::Interfaces {
-            first: first.interface,
-            other: origin.interface,
-        });
-    }
+    Ok(true)
+}
+
+/// Judges the indexes of two packets in cooked headers.
+fn judge_indexes(first: Origin, origin: Origin) -> Result<bool, Mixed>
+    ensures { Answers (λ it. it) result (judged (mixed_indexes first origin) true) }
+{
     if first.index != origin.index {
-        return Err(Mixed::Interfaces {
+        return Err(Mixed::Numbers {
             first: first.index,
             other: origin.index,
         });
@@ -115,13 +139,46 @@ fn judge_interfaces(first: Origin, origin: Origin) -> Result<bool, Mixed>
     Ok(true)
 }
 
+/// Judges the numbers and indexes of the interfaces of two packets.
+fn judge_numbers(first: Origin, origin: Origin) -> Result<bool, Mixed>
+    ensures { Answers (λ it. it) result (judged (mixed_numbers first origin) true) }
+{
+    let (one, other) = (number_of(first), number_of(origin));
+    if one != other {
+        return Err(Mixed::Numbers { first: one, other });
+    }
+    if first.interface != origin.interface {
+        return Err(Mixed::Numbers {
+            first: first.interface,
+            other: origin.interface,
+        });
+    }
+    judge_indexes(first, origin)
+}
+
+/// Judges the interfaces of two packets, where this one is chosen or none is.
+fn judge_interfaces(
+    chosen: Option<InterfaceChoice>,
+    first: Origin,
+    origin: Origin,
+) -> Result<bool, Mixed>
+    ensures { Answers (λ it. it) result (judged (mixed_interfaces chosen first origin) true) }
+{
+    let Some(chosen) = chosen else {
+        judge_names(first.name, origin.name)?;
+        return judge_numbers(first, origin);
+    };
+    match chosen {
+        InterfaceChoice::Number(_) => Ok(true),
+        InterfaceChoice::Name(_) => judge_indexes(first, origin),
+    }
+}
+
 /// Judges a chosen packet by the origin of the first one.
 fn judge_second(choice: Choice, first: Origin, origin: Origin) -> Result<bool, Mixed>
     ensures { Answers (λ it. it) result (judge_second choice first origin) }
 {
-    if choice.interface.is_none() {
-        judge_interfaces(first, origin)?;
-    }
+    judge_interfaces(choice.interface, first, origin)?;
     if choice.vlan.is_none() && !is_same_vlan(first.vlan, origin.vlan) {
         return Err(Mixed::Vlans {
             first: first.vlan,

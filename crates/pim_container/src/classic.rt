@@ -135,5 +135,5 @@ pub fn tell_record(format: Format, record: &[u8]) -> Event
     ensures record { result ≢ Event.End }
 {
     let millis = millis_of(format, record);
-    event_of(millis, 0, Some(format.link), record, 16)
+    event_of(millis, 0, None, Some(format.link), record, 16)
 }

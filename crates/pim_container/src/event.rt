@@ -1,6 +1,6 @@
 //! The events of a capture.
 
-use pim_capture::{Ip, Vlan, Why};
+use pim_capture::{InterfaceName, Ip, Vlan, Why};
 use std::ops::Range;
 
 /// The link on which a packet was captured.
@@ -8,6 +8,8 @@ use std::ops::Range;
 pub struct Origin {
     /// The number of its interface in the section of a pcapng file, else 0.
     pub interface: u32,
+    /// The name of that interface, if it has one.
+    pub name: Option<InterfaceName>,
     /// The index of its interface in a cooked header of version 2, else 0.
     pub index: u32,
     /// Its VLAN.

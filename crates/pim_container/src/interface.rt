@@ -7,6 +7,7 @@ ghost use Rattle.pim_container.specs.Interface.{stamp_millis, moved, moment_of};
 ghost use Rattle.pim_container.specs.Told.{latest_moment};
 
 use crate::link::{Endianness, Link};
+use pim_capture::InterfaceName;
 
 /// What the options of an interface description say.
 #[derive(Clone, Copy, Debug, PartialEq, Eq)]
@@ -30,6 +31,8 @@ pub struct Interface {
     pub resolution: u8,
     /// if_tsoffset.
     pub offset: u64,
+    /// if_name, if its text is a name.
+    pub name: Option<InterfaceName>,
 }
 
 /// The latest time of an event, in milliseconds since 1970.

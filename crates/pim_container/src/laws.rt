@@ -9,7 +9,7 @@ pub fn classic_agrees()
     ensures { AgreesOnClassic }
 {}
 
-/// Where a VLAN and an interface are chosen, a choice is a filter, packet by packet.
+/// Where a VLAN and the number of an interface are chosen, a choice is a filter, packet by packet.
 pub fn one_link_is_a_filter()
     ensures { OneLinkIsAFilter }
 {}

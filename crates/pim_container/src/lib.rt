@@ -43,5 +43,5 @@ pub use choice::{Choice, Chooser, Mixed};
 pub use event::{Event, Origin};
 pub use fault::Fault;
 pub use laws::{classic_agrees, one_link_is_a_filter};
-pub use pim_capture::Vlan;
+pub use pim_capture::{InterfaceChoice, InterfaceName, Vlan};
 pub use reader::Reader;

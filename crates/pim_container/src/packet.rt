@@ -6,19 +6,20 @@ ghost use Rattle.pim_container.specs.Told.{event_seen, EventLiesIn, IsBy, frame_
 use crate::event::{Event, Origin};
 use crate::link::Link;
 use crate::place::place_of;
-use pim_capture::{Why, judge_packet};
+use pim_capture::{InterfaceName, Why, judge_packet};
 
 /// The event of the frame that begins at the index `start` of these bytes and ends with them.
 pub fn event_of(
     millis: u64,
     interface: u32,
+    name: Option<InterfaceName>,
     link: Option<Link>,
     bytes: &[u8],
     start: usize,
 ) -> Event
     requires { start ≤ length bytes.now }
     ensures event { event_seen bytes.now result
-        ≡ frame_told millis interface link (drop start bytes.now) }
+        ≡ frame_told millis interface name link (drop start bytes.now) }
     ensures ranges { EventLiesIn bytes.now result }
     ensures moment { IsBy millis result }
     ensures record { result ≢ Event.End }
@@ -40,6 +41,7 @@ pub fn event_of(
     };
     let origin = Origin {
         interface,
+        name,
         index: place.index,
         vlan: place.vlan,
         is_copy: place.is_copy,

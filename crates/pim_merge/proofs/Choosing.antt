@@ -59,6 +59,7 @@ given_fault n n' all later given bytes fault.Block is gives = inr (is ∙ ap (λ
 given_fault n n' all later given bytes fault.Time is gives = inr (is ∙ ap (λ g. put g later) gives)
 given_fault n n' all later given bytes (fault.Vlans one other) is gives = inr (is ∙ ap (λ g. put g later) gives)
 given_fault n n' all later given bytes (fault.Interfaces one other) is gives = inr (is ∙ ap (λ g. put g later) gives)
+given_fault n n' all later given bytes (fault.InterfaceNames one other) is gives = inr (is ∙ ap (λ g. put g later) gives)
 given_fault n n' all later given bytes (fault.LinkNumber number) is gives = inr (is ∙ ap (λ g. put g later) gives)
 
 -- one piece was read, and gave this
@@ -303,6 +304,7 @@ no_reads m m' (Err fault.Block) same = same
 no_reads m m' (Err fault.Time) same = same
 no_reads m m' (Err (fault.Vlans one other)) same = same
 no_reads m m' (Err (fault.Interfaces one other)) same = same
+no_reads m m' (Err (fault.InterfaceNames one other)) same = same
 no_reads m m' (Err (fault.LinkNumber number)) same = same
 
 pub fails_left : (old new more : ℕ) (cut b : Bool) (f : Fault) → cut ≡ false → new ≡ 0 →

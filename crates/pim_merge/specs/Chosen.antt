@@ -15,7 +15,7 @@ use Rattle.pim_container.specs.declared.fault.Fault.TheVariants as of_any
 use Rattle.pim_container.specs.declared.event.Origin.{Origin}
 use Rattle.pim_container.specs.declared.choice.Choice.{Choice}
 use Rattle.pim_container.specs.declared.choice.Mixed.{Mixed}
-use Rattle.pim_container.specs.declared.choice.Mixed.TheVariants.{Interfaces, Vlans}
+use Rattle.pim_container.specs.declared.choice.Mixed.TheVariants.{Names, Numbers, Vlans}
 use Rattle.pim_container.specs.Choice.{judge_origin, first_after}
 use Rattle.pim_container.specs.Told as any
 use Rattle.pim_container.specs.Pieces as pieces
@@ -34,7 +34,8 @@ fault_of of_any.Failed = fault.Failed
 
 -- The fault of packets of more than one link, where none is chosen.
 abbrev pub mixed_fault : Mixed → CaptureFault
-mixed_fault (Interfaces first other) = fault.Interfaces first other
+mixed_fault (Names first other) = fault.InterfaceNames first other
+mixed_fault (Numbers first other) = fault.Interfaces first other
 mixed_fault (Vlans first other) = fault.Vlans first other
 
 -- What a packet gives, by the judgment of its origin. Of its bytes only the message is kept. One that

@@ -97,7 +97,8 @@ fn mixed_fault(mixed: Mixed) -> CaptureFault
     ensures { result ≡ mixed_fault mixed }
 {
     match mixed {
-        Mixed::Interfaces { first, other } => CaptureFault::Interfaces { first, other },
+        Mixed::Names { first, other } => CaptureFault::InterfaceNames { first, other },
+        Mixed::Numbers { first, other } => CaptureFault::Interfaces { first, other },
         Mixed::Vlans { first, other } => CaptureFault::Vlans { first, other },
     }
 }

@@ -4,7 +4,7 @@ use Rattle.std.proofs.lemmas.List.{length-replicate}
 use Rattle.pim_addr.specs.declared.family.AddressFamily.{AddressFamily}
 use Rattle.pim_capture.specs.declared.fault.CaptureFault.{CaptureFault}
 use Rattle.pim_capture.specs.declared.fault.CaptureFault.TheVariants.{Magic, LinkType, Truncated, TooLong, Read, Memory, Failed}
-use Rattle.pim_capture.specs.declared.fault.CaptureFault.TheVariants.{Block, Time, Vlans, Interfaces, LinkNumber}
+use Rattle.pim_capture.specs.declared.fault.CaptureFault.TheVariants.{Block, Time, Vlans, Interfaces, InterfaceNames, LinkNumber}
 use Rattle.pim_capture.specs.Next.{latest_moment}
 use Rattle.pim_merge.specs.declared.end.End.{End}
 use Rattle.pim_merge.specs.declared.merge.Turn.{Turn}
@@ -145,6 +145,7 @@ module _ (line : Occurrence → List ℕ) (family : AddressFamily) (end : End) (
       by_fault Time is = stopped (λ e. cc)
       by_fault (Vlans one other) is = stopped (λ e. cc)
       by_fault (Interfaces one other) is = stopped (λ e. cc)
+      by_fault (InterfaceNames one other) is = stopped (λ e. cc)
       by_fault (LinkNumber number) is = stopped (λ e. cc)
 
       pub failed : (answer : TraceFault) → answer ≡ stopped_by told → Steps line family end start state old merge' ledger now new (Err answer)

@@ -3,7 +3,10 @@ use Rattle.std.specs.Prelude.{◌≡◌, ◌≢◌, ◌<◌, ◌+◌, ◌⊎◌,
 use Rattle.std.specs.Prelude.{get_or, Option, None, Some, IsSomeAnd, codes, is_some}
 use Rattle.std.specs.Str.Parse.{IsNumeral, digits_value, without_leading_plus}
 use Rattle.clap.specs.Words.{Row, Text}
+use Rattle.pim_capture.specs.declared.interface.InterfaceChoice.{InterfaceChoice}
+use Rattle.pim_capture.specs.declared.interface.InterfaceChoice.TheVariants as interface
 use Rattle.pim_capture.specs.declared.vlan.Vlan.{Vlan}
+use Rattle.pim_capture.specs.Names.{name_of}
 use Rattle.pim_words.specs.declared.addresses.Address.{Address}
 use Rattle.pim_words.specs.declared.fault.Fault.{Fault}
 use Rattle.pim_words.specs.declared.fault.Fault.TheVariants as cause
@@ -48,13 +51,23 @@ IsVlanText text vlan = IsOneTag text vlan ⊎ AreTwoTags text vlan
 abbrev pub IsNoVlan : Text → Type 0
 IsNoVlan text = (vlan : Vlan) → IsVlanText text vlan → ⊥
 
+-- ---- an interface
+
+-- The text names this interface: it is its number, or the text of its name. No name is a number.
+abbrev pub IsInterfaceText : Text → InterfaceChoice → Type 0
+IsInterfaceText text (interface.Number number) = IsNumber 0 4294967295 text number
+IsInterfaceText text (interface.Name name) = name_of text ≡ Some name
+
+-- The text names no interface.
+abbrev pub IsNoInterface : Text → Type 0
+IsNoInterface text = (choice : InterfaceChoice) → IsInterfaceText text choice → ⊥
+
 -- ---- a link of which one part is chosen
 
--- The text names this part of the link: its VLAN, or the number of its interface. The other part is
--- not chosen.
+-- The text names this part of the link: its VLAN or its interface. The other part is not chosen.
 abbrev pub IsLinkText : Part → Text → Link → Type 0
 IsLinkText part.Vlan text link = IsSomeAnd link.vlan (IsVlanText text) × (link.interface ≡ None)
-IsLinkText part.Interface text link = (link.vlan ≡ None) × IsSomeAnd link.interface (IsNumber 0 4294967295 text)
+IsLinkText part.Interface text link = (link.vlan ≡ None) × IsSomeAnd link.interface (IsInterfaceText text)
 
 -- The text names no such link.
 abbrev pub IsNoLink : Part → Text → Type 0

@@ -212,7 +212,7 @@ const INTERFACE: Row<'static> = Row {
     name: "interface",
     form: Form::Repeated,
     value: "[P=]N",
-    help: "With --input any: only packets of this interface of{n}pcapng, by its number; at all \
+    help: "With --input any: only packets of this interface, by{n}its name or number; at all \
 ports, or at P",
 };
 
@@ -230,7 +230,7 @@ const TRACE_INTERFACE: Row<'static> = Row {
     name: "interface",
     form: Form::Repeated,
     value: "[P=]N",
-    help: "Only packets of this interface of pcapng, by its{n}number; at all ports, or at the \
+    help: "Only packets of this interface, by its name or{n}number; at all ports, or at the \
 port P",
 };
 

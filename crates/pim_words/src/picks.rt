@@ -1,10 +1,12 @@
 //! The values of `--vlan` and `--interface`, each of which picks a link for a port or for all.
 //!
 //! A value is `SPEC`, for all ports that have none of their own, or `P=SPEC` for the port P. Of
-//! `--vlan`, SPEC is `N`, `N.M`, or `0` for frames without a tag. Of `--interface` it is a number.
+//! `--vlan`, SPEC is `N`, `N.M`, or `0` for frames without a tag. Of `--interface` it is the name
+//! or the number of an interface.
 
 ghost use Rattle.std.specs.Prelude.{◌≡◌, MatchOption, MatchResult, map, []};
 ghost use Rattle.pim_words.specs.Links.{IsPortNumber, IsNoPortNumber, IsVlanText, IsNoVlan};
+ghost use Rattle.pim_words.specs.Links.{IsInterfaceText, IsNoInterface};
 ghost use Rattle.pim_words.specs.Links.{IsLinkText, IsNoLink, IsTargetOf, IsNoTarget};
 ghost use Rattle.pim_words.specs.Links.{is_same_port, pick_for, chosen_for};
 ghost use Rattle.pim_words.specs.Links.{IsPick, IsNoPick, ArePicks, IsFirstWrongPick};
@@ -13,7 +15,7 @@ ghost use Rattle.pim_words.specs.Seen.{OrMemory};
 use crate::fault::Fault;
 use crate::given::number_between;
 use crate::task::Link;
-use pim_capture::Vlan;
+use pim_capture::{InterfaceChoice, InterfaceName, Vlan};
 use std::alloc::Global;
 
 /// What the values of an option choose.
@@ -97,6 +99,19 @@ fn vlan_named(text: &str) -> Option<Vlan>
     }
 }
 
+/// The interface that a text names: by its name, or by its number.
+fn interface_named(text: &str) -> Option<InterfaceChoice>
+    ensures { MatchOption result (IsNoInterface text.now) (IsInterfaceText text.now) }
+{
+    if let Some(name) = InterfaceName::of(text.as_bytes()) {
+        return Some(InterfaceChoice::Name(name));
+    }
+    match number_between(text, 0, 4_294_967_295) {
+        Some(number) => Some(InterfaceChoice::Number(number as u32)),
+        None => None,
+    }
+}
+
 /// The link of which a text names this part.
 fn link_named(part: Part, text: &str) -> Option<Link>
     ensures { MatchOption result (IsNoLink part text.now) (IsLinkText part text.now) }
@@ -109,10 +124,10 @@ fn link_named(part: Part, text: &str) -> Option<Link>
             }),
             None => None,
         },
-        Part::Interface => match number_between(text, 0, 4_294_967_295) {
-            Some(number) => Some(Link {
+        Part::Interface => match interface_named(text) {
+            Some(interface) => Some(Link {
                 vlan: None,
-                interface: Some(number as u32),
+                interface: Some(interface),
             }),
             None => None,
         },

@@ -4,7 +4,7 @@
 //! below are those of a plan.
 
 use crate::fault::Side;
-use pim_capture::Vlan;
+use pim_capture::{InterfaceChoice, Vlan};
 use pim_time::Time;
 
 /// The link of a port, in a capture of any container: the packets that are taken are of it.
@@ -12,9 +12,8 @@ use pim_time::Time;
 pub struct Link {
     /// The VLAN. `None` is each, as long as all packets have one.
     pub vlan: Option<Vlan>,
-    /// The number of the interface in a section of a pcapng file. `None` is each, as long as all
-    /// packets have one.
-    pub interface: Option<u32>,
+    /// The interface, by its name or its number. `None` is each, as long as all packets have one.
+    pub interface: Option<InterfaceChoice>,
 }
 
 /// A port of a router, which a word of the command line names.
