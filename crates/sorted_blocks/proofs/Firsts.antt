@@ -68,3 +68,7 @@ module _ {A : Type 0} where
 
   pub led_long : (half : ℕ) (bs : List (List A)) (spare : ℕ) (row : List A) (cap : ℕ) → AllFilled half bs → IsLed bs spare row cap → length row ≡ length bs
   led_long half bs spare row cap f led = ap length led.row_is ∙ firsts-length half bs f
+
+  -- a block that contracts see has its first item in the row
+  pub led_within : (half : ℕ) (bs now : List (List A)) (spare : ℕ) (row : List A) (cap i : ℕ) → AllFilled half bs → IsLed bs spare row cap → bs ≡ now → i < length now → i < length row
+  led_within half bs now spare row cap i f led e h = let within : i < length bs = rw e h in omega (arith, within, led_long half bs spare row cap f led)

@@ -1,8 +1,16 @@
 -- Every edit keeps a list in blocks sound.
-use Rattle.sorted_blocks.proofs.Words.{◌≡◌, ℕ, ◌+◌, ◌-◌, ◌*◌, ◌^◌, ◌<◌, ◌≤◌, List, [], ◌++◌, length, get_or, set, take, drop, ap, ◌∙◌, arith, length-append, length-drop, insert, remove, get_or_read, length-set, length-take-le, length-insert, length-remove, IsSound}
+use Rattle.sorted_blocks.proofs.Words.{◌≡◌, ℕ, ◌+◌, ◌-◌, ◌*◌, ◌^◌, ◌<◌, ◌≤◌, List, [], ◌++◌, length, get_or, set, take, drop, ap, ◌∙◌, arith, length-append, length-drop, insert, remove, get_or_read, length-set, length-take-le, length-insert, length-remove, AllFilled, IsSound}
 use Rattle.sorted_blocks.proofs.Counted.{count-set, count-insert, count-remove, filled-get, filled-set, filled-insert, filled-remove, count-few}
 
 module _ {A : Type 0} where
+  -- a block that contracts see is in the list, with one item at least and two halves at most
+  pub opened : (half : ℕ) (bs now : List (List A)) (i : ℕ) (b : List A) → AllFilled half bs → bs ≡ now → i < length now → b ≡ get_or bs i b → (i < length bs) × (b ≡ get_or now i []) × (1 ≤ length b) × (length b ≤ half + half)
+  opened half bs now i b f e h at =
+      let within : i < length bs = rw e h in
+      let same = get_or_read bs i b within at [] in
+      let bounds = filled-get half bs i f within in
+      (within, same ∙ ap (λ xs. get_or xs i []) e, rw same bounds.0, rw same bounds.1)
+
   -- another block in a block's place
   pub kept_set : (half : ℕ) (bs : List (List A)) (spare um sm count : ℕ) → IsSound half bs spare um sm count → (i : ℕ) (b c : List A) → i < length bs → b ≡ get_or bs i b → 1 ≤ length c → length c ≤ half + half → (count2 : ℕ) → count2 + length b ≡ count + length c → IsSound half (set bs i c) spare um sm count2
   kept_set half bs spare um sm count s i b c h at some most count2 n =

@@ -1,6 +1,5 @@
 -- What each edit does to the list and to a place.
-use Rattle.sorted_blocks.proofs.Words.{◌≡◌, ℕ, suc, ◌+◌, ◌-◌, ◌<◌, ◌≤◌, List, [], ◌∷◌, ◌++◌, length, get_or, set, take, drop, refl, sym, ap, subst, ◌∙◌, arith, length-append, length-drop, add-one, ◌⊎◌, inl, inr, insert, remove, length-set, length-take-le, get_or-set_same, length-insert, length-remove, Place, Shape, items, joined, cut, before, IsPlace, IsItem}
-use Rattle.sorted_blocks.specs.Shape.{spliced}
+use Rattle.sorted_blocks.proofs.Words.{◌≡◌, ℕ, suc, ◌+◌, ◌-◌, ◌<◌, ◌≤◌, List, [], ◌∷◌, ◌++◌, length, get_or, set, take, drop, refl, sym, ap, subst, ◌∙◌, arith, length-append, length-drop, add-one, ◌⊎◌, inl, inr, insert, remove, length-set, length-take-le, get_or-set_same, length-insert, length-remove, Place, Shape, items, joined, cut, before, IsPlace, IsItem, spliced}
 use Rattle.sorted_blocks.proofs.Cuts.{length-cut}
 use Rattle.sorted_blocks.proofs.Splices.{length-spliced, joined-spliced}
 use Rattle.sorted_blocks.proofs.Joined.{start, joined-put, joined-take, joined-cut, joined-whole, joined-split, joined-merge, item_at, start-suc, start-all}
@@ -100,9 +99,6 @@ module _ {A : Type 0} where
   pub take_items : (s t : Shape A) (p : Place) → p.block < length s.blocks → p.at < length (get_or s.blocks p.block []) → t.blocks ≡ set s.blocks p.block (remove (get_or s.blocks p.block []) p.at) → items t ≡ remove (items s) (before s p)
   unfolding before
   take_items s t p h l e = ap joined e ∙ joined-take s.blocks p.block p.at h l
-
-  pub take_block : (s t : Shape A) (p : Place) → p.block < length s.blocks → t.blocks ≡ set s.blocks p.block (remove (get_or s.blocks p.block []) p.at) → p.block < length t.blocks
-  take_block s t p h e = omega (arith, h, ap length e ∙ length-set s.blocks p.block (remove (get_or s.blocks p.block []) p.at))
 
   pub take_at : (s t : Shape A) (p : Place) → p.block < length s.blocks → p.at < length (get_or s.blocks p.block []) → t.blocks ≡ set s.blocks p.block (remove (get_or s.blocks p.block []) p.at) → p.at ≤ length (get_or t.blocks p.block [])
   take_at s t p h l e =

@@ -1,8 +1,5 @@
 -- Lists with some items put in.
-use Rattle.std.proofs.Common.{◌≡◌, ℕ, zero, suc, ◌+◌, ◌-◌, ◌<◌, ◌≤◌, List, [], ◌∷◌, ◌++◌, length, get_or, set, take, drop, sym, ap, ap₂, ◌∙◌, arith, length-append, length-drop, append_assoc, zero-add}
-use Rattle.std.proofs.Math.Seq.{take-append-add, drop-append-add}
-use Rattle.std.proofs.lemmas.List.{drop_at, take_at, length-take-le, take-append-le, drop-append-le, take-append-drop}
-use Rattle.sorted_blocks.specs.Shape.{spliced, joined}
+use Rattle.sorted_blocks.proofs.Words.{◌≡◌, ℕ, zero, suc, ◌+◌, ◌-◌, ◌<◌, ◌≤◌, List, [], ◌∷◌, ◌++◌, length, get_or, set, take, drop, sym, ap, ap₂, ◌∙◌, arith, length-append, length-drop, append_assoc, zero-add, take-append-add, drop-append-add, drop_at, take_at, length-take-le, take-append-le, drop-append-le, take-append-drop, spliced, joined}
 use Rattle.sorted_blocks.proofs.Joined.{start}
 
 module _ {A : Type 0} where

@@ -21,7 +21,7 @@ pub use Rattle.std.specs.declared.cmp.Ordering.TheVariants.{Equal, Greater, Less
 pub use Rattle.sorted_blocks.specs.Found.{IsFound, IsGap}
 unfoldable pub use Rattle.sorted_blocks.specs.Places.{IsItem, IsPlace, before, rest_of}
 pub use Rattle.sorted_blocks.specs.Shape.{Shape, block_at, block_total, items, joined}
-unfoldable pub use Rattle.sorted_blocks.specs.Shape.{capacity, cut, firsts}
+unfoldable pub use Rattle.sorted_blocks.specs.Shape.{capacity, cut, firsts, spliced}
 pub use Rattle.sorted_blocks.specs.Sought.{IsBlockGap, IsLead, IsLessAt, IsRowLeft}
 pub use Rattle.sorted_blocks.specs.Sound.{IsDense, IsLed, IsSound}
 unfoldable pub use Rattle.sorted_blocks.specs.Sound.{AllFilled, IsDenseIn}

@@ -1,6 +1,4 @@
-use Rattle.std.proofs.Common.{◌≡◌, ◌-◌, ◌≤◌, ◌++◌, length, take, drop, ap, ◌∙◌, arith, length-append}
-use Rattle.std.proofs.lemmas.List.{take_at}
-use Rattle.sorted_blocks.specs.Shape.{spliced}
+use Rattle.sorted_blocks.proofs.Words.{◌≡◌, ◌-◌, ◌≤◌, ◌++◌, length, take, drop, ap, ◌∙◌, arith, length-append, take_at, spliced}
 use Rattle.sorted_blocks.proofs.Splices.{over_end, length-spliced}
 use Rattle.sorted_blocks.proofs.block.put_all.Goals as goal
 

@@ -1,5 +1,4 @@
-use Rattle.sorted_blocks.proofs.Words.{◌+◌, ◌≤◌, length, ap, ◌∙◌, arith, cut}
-use Rattle.std.proofs.lemmas.List.{length-drop}
+use Rattle.sorted_blocks.proofs.Words.{◌+◌, ◌≤◌, length, ap, ◌∙◌, arith, cut, length-drop}
 use Rattle.sorted_blocks.proofs.Cuts.{cut_moved, cut_later}
 use Rattle.sorted_blocks.proofs.block.Block.cut_out.Goals as goal
 

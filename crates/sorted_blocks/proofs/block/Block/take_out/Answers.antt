@@ -1,5 +1,4 @@
-use Rattle.sorted_blocks.proofs.Words.{◌+◌, ◌<◌, length, ap, ◌∙◌, arith, remove}
-use Rattle.std.proofs.lemmas.List.{length-drop}
+use Rattle.sorted_blocks.proofs.Words.{◌+◌, ◌<◌, length, ap, ◌∙◌, arith, remove, length-drop}
 use Rattle.sorted_blocks.proofs.LeftOver.{remove_beyond, front_moved}
 use Rattle.sorted_blocks.proofs.block.Block.take_out.Goals as goal
 

@@ -1,5 +1,4 @@
-use Rattle.std.proofs.Common.{ap, ◌∙◌}
-use Rattle.sorted_blocks.specs.Shape.{capacity}
+use Rattle.sorted_blocks.proofs.Words.{ap, ◌∙◌, capacity}
 use Rattle.sorted_blocks.proofs.Capacity.{capacity_same}
 use Rattle.sorted_blocks.proofs.blocks.Blocks.insert_in_block.Goals as goal
 

@@ -1,5 +1,4 @@
-use Rattle.std.proofs.Common.{lit<, ap, ◌∙◌}
-use Rattle.sorted_blocks.specs.Shape.{capacity}
+use Rattle.sorted_blocks.proofs.Words.{lit<, ap, ◌∙◌, capacity}
 use Rattle.sorted_blocks.proofs.Capacity.{spare_within, capacity_same}
 use Rattle.sorted_blocks.proofs.blocks.Blocks.insert_within.Goals as goal
 

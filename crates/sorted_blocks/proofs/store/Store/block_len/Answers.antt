@@ -5,8 +5,6 @@ use Rattle.sorted_blocks.proofs.store.Store.block_len.Goals as goal
 pub returns-clause-some : goal.returns-clause-some
 returns-clause-some g c =
     let bs = c.self.inside.used.items in
-    let e = ap (λ (s : Shape g.row.T.Denot). s.blocks) c.self.view_is in
-    let h : c.args.block < length bs = rw e c.requires in
+    let h : c.args.block < length bs = rw (ap (λ (s : Shape g.row.T.Denot). s.blocks) c.self.view_is) c.requires in
     let r = ap length (get_or_read bs c.args.block c.index.result.now h c.index.ensures []) in
-    let one = (filled-get _ bs c.args.block c.self.invariant.0.filled h).0 in
-    omega (arith, one, r, c.len.ensures.len)
+    omega (arith, (filled-get _ bs c.args.block c.self.invariant.0.filled h).0, r, c.len.ensures.len)

@@ -14,6 +14,5 @@ returns-then-not-is_item g c =
 
 pub returns-in-Greater : goal.returns-in-Greater
 returns-in-Greater g c =
-    let item = (c.if-not-is_item.ensures {u = tt}).0 refl in
-    let greater = reads (g.P.Probe.order c.args.probe.now) c.args.self.now c.settled-next.result c.get.result.now Greater item c.get.ensures c.in-Greater.ensures in
+    let greater = reads (g.P.Probe.order c.args.probe.now) c.args.self.now c.settled-next.result c.get.result.now Greater ((c.if-not-is_item.ensures {u = tt}).0 refl) c.get.ensures c.in-Greater.ensures in
     found_behind (g.P.Probe.order c.args.probe.now) c.args.self.now c.args.near c.behind-behind.result c.requires.less c.behind-behind.ensures.place c.behind-behind.ensures.before (λ d h. ap (λ (i : ℕ). g.P.Probe.order c.args.probe.now (get_or (items c.args.self.now) i d)) (sym c.settled-next.ensures.before) ∙ greater d)

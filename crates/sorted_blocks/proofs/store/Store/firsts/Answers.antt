@@ -4,6 +4,4 @@ use Rattle.sorted_blocks.proofs.store.Store.firsts.Goals as goal
 
 pub returns : goal.returns
 returns g c =
-    let e = ap (λ (s : Shape g.row.T.Denot). s.blocks) c.self.view_is in
-    let row = c.as_slice.ensures.value ∙ c.self.invariant.1.row_is in
-    rw (row, sym e) (is_lead _ c.self.inside.used.items c.self.invariant.0.filled)
+    rw ((c.as_slice.ensures.value ∙ c.self.invariant.1.row_is), sym (ap (λ (s : Shape g.row.T.Denot). s.blocks) c.self.view_is)) (is_lead _ c.self.inside.used.items c.self.invariant.0.filled)

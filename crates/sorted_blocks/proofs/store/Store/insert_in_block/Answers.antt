@@ -1,6 +1,4 @@
-use Rattle.std.proofs.Common.{◌<◌, length, sym, subst, arith, lit<}
-use Rattle.sorted_blocks.specs.Shape.{spliced, block_at}
-use Rattle.sorted_blocks.specs.Sound.{IsDense}
+use Rattle.sorted_blocks.proofs.Words.{◌<◌, length, sym, subst, arith, lit<, spliced, block_at, IsDense}
 use Rattle.sorted_blocks.proofs.Splices.{length-spliced}
 use Rattle.sorted_blocks.proofs.Moves.{at_most, spliced_items, spliced_place, spliced_before}
 use Rattle.sorted_blocks.proofs.Dense.{dense-set}
@@ -14,8 +12,7 @@ put_all-requires g c =
 
 pub overflow_add-result : goal.overflow_add-result
 overflow_add-result g c =
-    let at = at_most c.args.self.now c.args.place c.requires in
-    omega (arith, at, c.block_len-len.ensures.len, c.block_len-len.ensures.most, c.block_len-len.ensures.small, c.if-count-room.false)
+    omega (arith, at_most c.args.self.now c.args.place c.requires, c.block_len-len.ensures.len, c.block_len-len.ensures.most, c.block_len-len.ensures.small, c.if-count-room.false)
 
 pub returns-clause-some : goal.returns-clause-some
 returns-clause-some g c =
@@ -34,6 +31,5 @@ returns-clause-dense g c d =
     let p = c.args.place in
     let h : p.block < length s.blocks = omega (arith, c.block_count.ensures.count, c.if-place-block_count.false) in
     let row = block_at s.blocks p.block in
-    let at = at_most s p c.requires in
     subst (λ bs. IsDense g.row.HALF bs) (sym c.put_all.ensures.blocks)
-    (dense-set g.row.HALF s.blocks p.block (spliced row p.at c.args.run.now) h (omega (arith, length-spliced row p.at c.args.run.now at)) d)
+    (dense-set g.row.HALF s.blocks p.block (spliced row p.at c.args.run.now) h (omega (arith, length-spliced row p.at c.args.run.now (at_most s p c.requires))) d)

@@ -1,8 +1,4 @@
-use Rattle.std.proofs.Common.{[], length, get_or, refl, sym, ap, ◌∙◌, arith, lit<}
-use Rattle.std.proofs.lemmas.List.{nil_from_length}
-use Rattle.std.specs.List.{insert}
-use Rattle.sorted_blocks.specs.Shape.{items}
-use Rattle.sorted_blocks.specs.Places.{before}
+use Rattle.sorted_blocks.proofs.Words.{[], length, get_or, refl, sym, ap, ◌∙◌, arith, lit<, nil_from_length, insert, items, before}
 use Rattle.sorted_blocks.proofs.Moves.{is_item, before_is, before_none, put_items, put_item, set_before}
 use Rattle.sorted_blocks.proofs.Dense.{dense-one, put-dense}
 use Rattle.sorted_blocks.proofs.store.Store.insert_reserved.Goals as goal
@@ -18,9 +14,7 @@ returns-then-block_count-eq0-clause-items g c =
 
 pub returns-then-block_count-eq0-clause-place : goal.returns-then-block_count-eq0-clause-place
 returns-then-block_count-eq0-clause-place g c =
-    let b = ap length c.begin.ensures.blocks in
-    let l = ap (λ bs. length (get_or bs 0 [])) c.begin.ensures.blocks in
-    is_item c.begin.new.self (record { block = 0; at = 0 }) (omega (arith, b)) (omega (arith, l))
+    is_item c.begin.new.self (record { block = 0; at = 0 }) (omega (arith, ap length c.begin.ensures.blocks)) (omega (arith, (ap (λ bs. length (get_or bs 0 [])) c.begin.ensures.blocks)))
 
 pub returns-then-block_count-eq0-clause-before : goal.returns-then-block_count-eq0-clause-before
 returns-then-block_count-eq0-clause-before g c =

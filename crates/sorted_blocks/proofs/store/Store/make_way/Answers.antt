@@ -11,9 +11,7 @@ returns-then-block_len-clause-at g c = at_most c.args.self.now c.args.place c.re
 
 pub split-requires : goal.split-requires
 split-requires g c =
-    let least = c.if-block_len.false in
-    let most = c.block_len.ensures.most in
-    (lit< tt, (in_block c.args.self.now c.args.place c.requires.place c.requires.some, (omega (arith, c.block_len.ensures.len, least, most), c.requires.spare)))
+    (lit< tt, (in_block c.args.self.now c.args.place c.requires.place c.requires.some, (omega (arith, c.block_len.ensures.len, c.if-block_len.false, c.block_len.ensures.most), c.requires.spare)))
 
 pub returns-then-place-clause-items : goal.returns-then-place-clause-items
 returns-then-place-clause-items g c =

@@ -1,5 +1,5 @@
 use Rattle.sorted_blocks.proofs.Words.{IsDenseIn, ◌+◌, length, sym, ◌∙◌, arith, lit<}
-use Rattle.sorted_blocks.proofs.Moves.{item_block, item_within, item_of, set_before, take_items, take_block, take_at, whole_items, whole_before, whole_is}
+use Rattle.sorted_blocks.proofs.Moves.{item_block, item_within, item_of, set_before, take_items, cut_block, take_at, whole_items, whole_before, whole_is}
 use Rattle.sorted_blocks.proofs.Dense.{dense-remove, front-set, back-set}
 use Rattle.sorted_blocks.proofs.store.Store.remove.Goals as goal
 
@@ -20,14 +20,12 @@ returns-then-block_len-eq1-clause-before g c =
 
 pub take_out-item-requires : goal.take_out-item-requires
 take_out-item-requires g c =
-    let some = c.block_len.ensures.some in
-    (lit< tt, (item_block c.args.self.now c.args.place c.requires, (item_within c.args.self.now c.args.place c.requires, omega (arith, c.block_len.ensures.len, some, c.if-block_len-eq1.false))))
+    (lit< tt, (item_block c.args.self.now c.args.place c.requires, (item_within c.args.self.now c.args.place c.requires, omega (arith, c.block_len.ensures.len, c.block_len.ensures.some, c.if-block_len-eq1.false))))
 
 pub join_behind-place-requires : goal.join_behind-place-requires
 join_behind-place-requires g c =
     let h = item_block c.args.self.now c.args.place c.requires in
-    let l = item_within c.args.self.now c.args.place c.requires in
-    (lit< tt, (take_block c.args.self.now c.take_out-item.new.self c.args.place h c.take_out-item.ensures.blocks, take_at c.args.self.now c.take_out-item.new.self c.args.place h l c.take_out-item.ensures.blocks))
+    (lit< tt, (cut_block c.args.self.now c.take_out-item.new.self c.args.place _ h c.take_out-item.ensures.blocks, take_at c.args.self.now c.take_out-item.new.self c.args.place h (item_within c.args.self.now c.args.place c.requires) c.take_out-item.ensures.blocks))
 
 pub returns-clause-item : goal.returns-clause-item
 returns-clause-item g c = item_of c.args.self.now c.args.place c.take_out-item.result (item_block c.args.self.now c.args.place c.requires) (item_within c.args.self.now c.args.place c.requires) c.take_out-item.ensures.value
@@ -46,8 +44,7 @@ returns-then-block_len-eq1-clause-dense g c d =
 
 pub returns-clause-dense : goal.returns-clause-dense
 returns-clause-dense g c d =
-    let h = item_block c.args.self.now c.args.place c.requires in
     let taken = c.take_out-item.new.self.blocks in
-    let front : IsDenseIn g.row.HALF taken 0 c.args.place.block = rw c.take_out-item.ensures.blocks (front-set g.row.HALF c.args.self.now.blocks c.args.place.block _ d h) in
+    let front : IsDenseIn g.row.HALF taken 0 c.args.place.block = rw c.take_out-item.ensures.blocks (front-set g.row.HALF c.args.self.now.blocks c.args.place.block _ d (item_block c.args.self.now c.args.place c.requires)) in
     let back : IsDenseIn g.row.HALF taken (c.args.place.block + 1) (length taken) = rw c.take_out-item.ensures.blocks (back-set g.row.HALF c.args.self.now.blocks c.args.place.block _ d) in
     c.join_before.ensures.dense (c.join_behind-place.ensures.front front) (c.join_behind-place.ensures.back back)

@@ -28,8 +28,7 @@ returns-clause-total g c =
 
 pub returns-clause-dense : goal.returns-clause-dense
 returns-clause-dense g c d =
-    let h = item_block c.args.self.now c.args.place c.requires.item in
     let cut_bs = c.cut_out.new.self.blocks in
-    let front : IsDenseIn g.row.HALF cut_bs 0 c.args.place.block = rw c.cut_out.ensures.blocks (front-set g.row.HALF c.args.self.now.blocks c.args.place.block _ d h) in
+    let front : IsDenseIn g.row.HALF cut_bs 0 c.args.place.block = rw c.cut_out.ensures.blocks (front-set g.row.HALF c.args.self.now.blocks c.args.place.block _ d (item_block c.args.self.now c.args.place c.requires.item)) in
     let back : IsDenseIn g.row.HALF cut_bs (c.args.place.block + 1) (length cut_bs) = rw c.cut_out.ensures.blocks (back-set g.row.HALF c.args.self.now.blocks c.args.place.block _ d) in
     c.join_before.ensures.dense (c.join_behind-place.ensures.front front) (c.join_behind-place.ensures.back back)

@@ -19,5 +19,4 @@ returns-clause-before g c =
     let bs = c.args.self.now.blocks in
     let n = start-suc bs (c.args.block - 1) (omega (arith, c.requires, c.if-block-eq0.false)) in
     let is : suc (c.args.block - 1) ≡ c.args.block = omega (arith, c.if-block-eq0.false) in
-    let m = ap (λ i. start bs i) is in
-    omega (arith, n, m, c.block_len.ensures.len, before_is c.args.self.now (record { block = c.args.block - 1; at = c.block_len.result }), before_is c.args.self.now (record { block = c.args.block; at = 0 }))
+    omega (arith, n, (ap (λ i. start bs i) is), c.block_len.ensures.len, before_is c.args.self.now (record { block = c.args.block - 1; at = c.block_len.result }), before_is c.args.self.now (record { block = c.args.block; at = 0 }))

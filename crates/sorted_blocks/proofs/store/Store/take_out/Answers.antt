@@ -1,39 +1,25 @@
-use Rattle.sorted_blocks.proofs.Words.{◌+◌, ◌<◌, [], length, ap, ◌∙◌, arith, get_or_read, length-remove, Shape}
-use Rattle.sorted_blocks.proofs.Counted.{filled-get}
-use Rattle.sorted_blocks.proofs.Kept.{kept_set, count_covers}
-use Rattle.sorted_blocks.proofs.Firsts.{led_set, led_long}
+use Rattle.sorted_blocks.proofs.Words.{◌+◌, ◌<◌, length, ap, ◌∙◌, arith, length-remove, Shape}
+use Rattle.sorted_blocks.proofs.Kept.{opened, kept_set, count_covers}
+use Rattle.sorted_blocks.proofs.Firsts.{led_set, led_within}
 use Rattle.sorted_blocks.proofs.store.Store.take_out.Goals as goal
 
 pub overflow_sub-self : goal.overflow_sub-self
 overflow_sub-self g c =
-    let bs = c.self.inside.used.items in
     let row = c.index_mut-row.result.now in
-    let e = ap (λ (s : Shape g.row.T.Denot). s.blocks) c.self.view_is in
-    let h : c.args.block < length bs = rw e c.requires.block in
-    let some = filled-get _ bs c.args.block c.self.invariant.0.filled h in
-    let is_row = ap length (get_or_read bs c.args.block row h c.index_mut-row.ensures.value []) in
-    let covers = count_covers _ bs _ _ _ _ c.self.invariant.0 c.args.block row h c.index_mut-row.ensures.value in
-    let one = some.0 in
-    omega (arith, covers, one, is_row)
+    let held = opened _ _ _ c.args.block row c.self.invariant.0.filled (ap (λ (s : Shape g.row.T.Denot). s.blocks) c.self.view_is) c.requires.block c.index_mut-row.ensures.value in
+    let covers = count_covers _ _ _ _ _ _ c.self.invariant.0 c.args.block row held.0 c.index_mut-row.ensures.value in
+    omega (arith, covers, held.2)
 
 pub invariant_of-self : goal.invariant_of-self
 invariant_of-self g c =
-    let bs = c.self.inside.used.items in
     let row = c.index_mut-row.result.now in
-    let e = ap (λ (s : Shape g.row.T.Denot). s.blocks) c.self.view_is in
-    let h : c.args.block < length bs = rw e c.requires.block in
-    let is_row = get_or_read bs c.args.block row h c.index_mut-row.ensures.value [] in
-    let at : c.args.at < length row = rw (is_row, e) c.requires.at in
-    let others : 1 < length row = rw (is_row, e) c.requires.others in
-    let most = (filled-get _ bs c.args.block c.self.invariant.0.filled h).1 in
-    let long = ap length is_row in
+    let held = opened _ _ _ c.args.block row c.self.invariant.0.filled (ap (λ (s : Shape g.row.T.Denot). s.blocks) c.self.view_is) c.requires.block c.index_mut-row.ensures.value in
+    let at : c.args.at < length row = rw held.1 c.requires.at in
+    let others : 1 < length row = rw held.1 c.requires.others in
     let shorter = ap (λ xs. length xs + 1) c.take_out-item.ensures.left ∙ length-remove row c.args.at at in
-    let count = count_covers _ bs _ _ _ _ c.self.invariant.0 c.args.block row h c.index_mut-row.ensures.value in
-    (kept_set _ bs _ _ _ _ c.self.invariant.0 c.args.block row c.take_out-item.new.self h c.index_mut-row.ensures.value (omega (arith, shorter, others)) (omega (arith, shorter, most, long)) _ (omega (arith, shorter, count, others)), led_set _ bs _ _ _ c.self.invariant.0.filled c.self.invariant.1 c.args.block c.take_out-item.new.self c.get.result.now h (omega (arith, shorter, others)) c.get.ensures)
+    let count = count_covers _ _ _ _ _ _ c.self.invariant.0 c.args.block row held.0 c.index_mut-row.ensures.value in
+    (kept_set _ _ _ _ _ _ c.self.invariant.0 c.args.block row c.take_out-item.new.self held.0 c.index_mut-row.ensures.value (omega (arith, shorter, others)) (omega (arith, shorter, held.3)) _ (omega (arith, shorter, count, others)), led_set _ _ _ _ _ c.self.invariant.0.filled c.self.invariant.1 c.args.block c.take_out-item.new.self c.get.result.now held.0 (omega (arith, shorter, others)) c.get.ensures)
 
 pub index_mut-requires : goal.index_mut-requires
 index_mut-requires g c =
-    let bs = c.self.inside.used.items in
-    let e = ap (λ (s : Shape g.row.T.Denot). s.blocks) c.self.view_is in
-    let h : c.args.block < length bs = rw e c.requires.block in
-    omega (arith, h, c.self.inside.firsts.ok.0, led_long _ bs _ _ _ c.self.invariant.0.filled c.self.invariant.1)
+    omega (arith, c.self.inside.firsts.ok.0, led_within _ _ _ _ _ _ c.args.block c.self.invariant.0.filled c.self.invariant.1 (ap (λ (s : Shape g.row.T.Denot). s.blocks) c.self.view_is) c.requires.block)

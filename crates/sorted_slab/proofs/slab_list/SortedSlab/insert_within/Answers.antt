@@ -1,10 +1,4 @@
-use Rattle.std.proofs.Common.{lit<, sym, ap, refl, subst, ◌∙◌, ◌≡◌, arith}
-use Rattle.std.specs.List.{insert, remove}
-use Rattle.slab.specs.Slab.{get}
-use Rattle.sorted_blocks.specs.Shape.{items}
-use Rattle.sorted_blocks.specs.Places.{before}
-use Rattle.sorted_slab.specs.Listed.{Listed, found, at, numbers}
-use Rattle.sorted_slab.specs.Sound.{IsSound}
+use Rattle.sorted_slab.proofs.Words.{lit<, sym, ap, refl, subst, ◌∙◌, ◌≡◌, arith, insert, remove, get, items, before, Listed, found, at, numbers, IsSound}
 use Rattle.sorted_slab.proofs.Found.{remove_insert}
 use Rattle.sorted_slab.proofs.Kept.{slab_room, index_room, index_place, inserted, sound_insert, seen_item}
 use Rattle.sorted_slab.proofs.slab_list.SortedSlab.insert_within.Goals as goal
@@ -36,9 +30,7 @@ returns-clause-place g c =
 
 pub returns-clause-numbers : goal.returns-clause-numbers
 returns-clause-numbers g c =
-    let ns = items c.self.inside.index in
     let i = before c.self.inside.index c.args.place in
-    let new = items c.insert_within.new.self in
     let within = c.place_is_within.ensures c.self.inside.index c.args.place (index_place c.self.inside.slab c.self.inside.index g.row.HALF c.args.self.now c.self.view_is c.self.invariant c.args.place c.requires.place) in
-    subst (λ (m : Listed g.row.T.Denot). remove new (at m c.args.place) ≡ numbers m) c.self.view_is
-    (ap (λ ms. remove ms i) c.insert_within.ensures.items ∙ remove_insert ns i c.insert_reserved-number.result within)
+    subst (λ (m : Listed g.row.T.Denot). remove (items c.insert_within.new.self) (at m c.args.place) ≡ numbers m) c.self.view_is
+    (ap (λ ms. remove ms i) c.insert_within.ensures.items ∙ remove_insert (items c.self.inside.index) i c.insert_reserved-number.result within)

@@ -18,8 +18,7 @@ pub returns-clause-ok : goal.returns-clause-ok
 returns-clause-ok g c =
     let sound = invariant_of-self-2 g c in
     let count = length_found c.reserve.new.self (items c.reserve_capacity.new.self) sound.held in
-    let room = (c.in_ok-reserve.ensures {u = tt}).room in
-    on_ok c.reserve_capacity.result c.reserve_capacity.ensures.ok (λ fits. omega (arith, fits, count, room, sound.nothing_else))
+    on_ok c.reserve_capacity.result c.reserve_capacity.ensures.ok (λ fits. omega (arith, fits, count, (c.in_ok-reserve.ensures {u = tt}).room, sound.nothing_else))
 
 pub returns-clause-fits : goal.returns-clause-fits
 returns-clause-fits g c fits = c.reserve_capacity.ensures.fits (index_room c.self.inside.slab c.self.inside.index g.row.HALF c.args.self.now c.self.view_is c.self.invariant c.args.additional fits)
