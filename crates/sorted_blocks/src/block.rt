@@ -87,7 +87,7 @@ impl<T: Copy, const HALF: usize> Block<T, HALF> {
             self.items[self.start] = item;
             return;
         }
-        self.start = make_room(&mut self.items, self.start, HALF + HALF);
+        self.start = make_way(&mut self.items, self.start, 1, HALF + HALF);
         if self.items.insert(self.start + at, item).is_err() {
             unreachable!()
         }
@@ -173,33 +173,16 @@ impl<T: Copy, const HALF: usize> Block<T, HALF> {
     }
 }
 
-/// Makes room for one more item after the items from `start` on, and returns where these then
+/// Makes room for `count` more items after the items from `start` on, and returns where these then
 /// begin. They move only where there is no room, so that one move of the whole block pays for all
 /// removals at its front.
-fn make_room<T: Copy>(items: &mut Vec<T>, start: usize, most: usize) -> usize
-    requires begins { start ≤ vec_len items.old }
-    requires few { vec_len items.old < start + most }
-    ensures begins { result ≤ vec_len items.new }
-    ensures same { drop result items.new.items ≡ drop start items.old.items }
-    ensures len { vec_len items.new + start ≡ vec_len items.old + result }
-    ensures room { vec_len items.new < most }
-    ensures capacity { vec_capacity items.new ≡ vec_capacity items.old }
-{
-    if items.len() < most {
-        return start;
-    }
-    move_down(items, start);
-    0
-}
-
-/// Makes room for `count` more items after the items from `start` on, and returns where these then
-/// begin.
 fn make_way<T: Copy>(items: &mut Vec<T>, start: usize, count: usize, most: usize) -> usize
     requires begins { start ≤ vec_len items.old }
     requires few { vec_len items.old + count ≤ start + most }
     requires small { count ≤ most }
     ensures begins { result ≤ vec_len items.new }
     ensures same { drop result items.new.items ≡ drop start items.old.items }
+    ensures len { vec_len items.new + start ≡ vec_len items.old + result }
     ensures room { vec_len items.new + count ≤ most }
     ensures capacity { vec_capacity items.new ≡ vec_capacity items.old }
 {

@@ -3,10 +3,9 @@
 //! No branch of a search by halves depends on an item, so that branch prediction cannot fail. A
 //! lookup near a place compares the items beside it, and else searches by halves in the whole list.
 
-ghost use Rattle.std.specs.Prelude.{◌≡◌, ◌≢◌, ℕ, ◌+◌, ◌-◌, ◌<◌, ◌≤◌, List, [], length};
-ghost use Rattle.std.specs.Prelude.{slice_index_or};
+ghost use Rattle.std.specs.Prelude.{◌≡◌, ◌≢◌, ◌+◌, ◌-◌, ◌<◌, ◌≤◌, length, slice_index_or};
 ghost use Rattle.std.specs.List.{All};
-ghost use Rattle.sorted_blocks.specs.Shape.{items, block_at};
+ghost use Rattle.sorted_blocks.specs.Shape.{items};
 ghost use Rattle.sorted_blocks.specs.Places.{before, IsItem};
 ghost use Rattle.sorted_blocks.specs.Found.{IsFound};
 ghost use Rattle.sorted_blocks.specs.Sought.{IsSought, IsBlockSought, IsBlockGap, IsRowLeft};
@@ -68,8 +67,10 @@ impl<T: Copy, const HALF: usize> Store<T, HALF> {
         requires { All (P.can_compare probe.now) (items self.now) }
         ensures { IsFound (P.order probe.now) self.now result }
     {
-        let sought = self.seek_block(probe);
-        self.find_sought(probe, sought)
+        match self.seek_block(probe) {
+            Ok(block) => Ok(Place { block, at: 0 }),
+            Err(count) => self.find_after(probe, count),
+        }
     }
 
     /// Returns the same, for any place `near`, at which the search begins. It costs a few
@@ -119,22 +120,6 @@ impl<T: Copy, const HALF: usize> Store<T, HALF> {
     {
         let firsts = self.firsts();
         seek(probe, firsts, 0, firsts.len())
-    }
-
-    /// Returns the result after a search over the blocks.
-    fn find_sought<P: Probe<T>>(
-        &self,
-        probe: &P,
-        sought: Result<usize, usize>,
-    ) -> Result<Place, Place>
-        requires can { All (P.can_compare probe.now) (items self.now) }
-        requires sought { IsBlockSought (P.order probe.now) self.now.blocks sought }
-        ensures { IsFound (P.order probe.now) self.now result }
-    {
-        match sought {
-            Ok(block) => Ok(Place { block, at: 0 }),
-            Err(count) => self.find_after(probe, count),
-        }
     }
 
     /// Returns the result where `count` blocks begin with a lesser item.

@@ -1,7 +1,5 @@
 //! Comparison with the item that has a number.
 
-ghost use Rattle.std.specs.Prelude.{◌≡◌};
-
 use slab::Slab;
 use sorted_blocks::Probe;
 use std::cmp::Ordering;
