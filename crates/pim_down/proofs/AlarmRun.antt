@@ -1,18 +1,7 @@
 -- Timers of one kind that end together: taken out where they are side by side, and put in again.
-use Rattle.std.proofs.Common.{◌≡◌, ℕ, zero, suc, ◌+◌, ◌<◌, ◌≤◌, true, false, cond, List, [], ◌∷◌, ◌++◌, Option, Some, None, option_map, map, length, take, drop, get_or, refl, sym, ap, ap₂, subst, ◌∙◌, arith, add-one, length-append, length-drop}
-use Rattle.std.specs.List.{remove, AllByRecursion}
-use Rattle.std.specs.Ordering.{is_gt}
-use Rattle.std.proofs.lemmas.List.{drop-drop, take_at, drop_at, length-take-le, map-append, take-map, drop-map, length-map, get_or-map, get_or-take, get_or-drop, take-append-drop}
-use Rattle.std.proofs.lemmas.List.Edits.{length-remove, get_or-remove_above}
-use Rattle.slab.specs.Slab.{Slab, get}
-use Rattle.sorted_blocks.specs.Shape.{cut}
-use Rattle.pim_down.specs.declared.records.deadline.Alarm.{Alarm}
-use Rattle.pim_down.specs.declared.machines.held.Held.{Held}
-use Rattle.pim_down.specs.declared.machines.key.Key.{Key}
-use Rattle.pim_down.specs.Schedule.{placed, without, Numbered, alarm_cmp, alarm_of, alarm_seen, key_of, AreKnown}
-use Rattle.pim_down.specs.PutOff.{with_run}
-use Rattle.pim_down.specs.Seen.{key_seen}
-use Rattle.pim_down.proofs.InOrder.{placed_swap, order_placed, without_placed, remove_is}
+use Rattle.pim_down.proofs.Words.{◌≡◌, ℕ, zero, suc, ◌+◌, ◌<◌, ◌≤◌, true, false, cond, List, [], ◌∷◌, ◌++◌, Option, Some, None, option_map, map, length, take, drop, get_or, refl, sym, ap, ap₂, subst, ◌∙◌, arith, length-append, length-drop, remove, AllByRecursion, is_gt, drop-drop, take_at, drop_at, length-take-le, map-append, take-map, drop-map, length-map, get_or-map, get_or-take, get_or-drop, take-append-drop, length-remove, get_or-remove_above, Slab, get, cut, Alarm, Held, Key, placed, without, Numbered, alarm_cmp, alarm_of, AreKnown, with_run, key_seen}
+use Rattle.pim_down.specs.Schedule.{key_of}
+use Rattle.pim_down.proofs.InOrder.{order_placed, without_placed, remove_is}
 use Rattle.pim_down.proofs.AlarmOrder.{alarm_total, same_alarm, all_placed, one_of, known_rest}
 use Rattle.pim_down.proofs.Rpts.{same_default}
 
@@ -52,17 +41,6 @@ this_placed P x (y ∷ ys) all =
 module _ {A : Type 0} (bytes_of : A → List ℕ) where
   abbrev pub timer_of : ℕ → ℕ → Held A → Numbered
   timer_of ends n x = record { ends_at = ends; key = key_seen bytes_of x.key; number = n }
-
-  -- one more of a run
-  run_suc : (ends : ℕ) (ns : List ℕ) (xs : List (Held A)) (i n : ℕ) (x : Held A) (ts : List Numbered) → i < length ns → i < length xs → n ≡ get_or ns i n → x ≡ get_or xs i x →
-      with_run bytes_of ends (take (suc i) ns) (take (suc i) xs) ts ≡ placed alarm_cmp (timer_of ends n x) (with_run bytes_of ends (take i ns) (take i xs) ts)
-  unfolding with_run
-  run_suc ends [] xs i n x ts w v en ex = absurd (omega (arith, w))
-  run_suc ends (m ∷ ns) [] i n x ts w v en ex = absurd (omega (arith, v))
-  run_suc ends (m ∷ ns) (y ∷ xs) zero n x ts w v en ex = λ k. placed alarm_cmp (timer_of ends (sym en k) (sym ex k)) ts
-  run_suc ends (m ∷ ns) (y ∷ xs) (suc i) n x ts w v en ex =
-      ap (placed alarm_cmp (timer_of ends m y)) (run_suc ends ns xs i n x ts (omega (arith, w)) (omega (arith, v)) en ex)
-      ∙ placed_swap alarm_cmp alarm_total same_alarm (timer_of ends m y) (timer_of ends n x) (with_run bytes_of ends (take i ns) (take i xs) ts)
 
   module _ (slab : Slab (Held A)) where
     abbrev pub HasKey : Numbered → Type 0
@@ -162,26 +140,6 @@ module _ {A : Type 0} (bytes_of : A → List ℕ) where
         ∙ ap (λ (ys : List Alarm). get_or ys (a + j) (alarm_of e)) (sym kept)
         ∙ here j d (alarm_of e) (omega (arith, w, many))) in
         out ∙ ap (cut alarms a) many ∙ ap (λ (ys : List Alarm). cut ys a (length ns)) kept ∙ map_cut alarm_of all a (length ns) ∙ ap (map alarm_of) rest
-
-    -- ---- put in again
-
-    pub put_one : (ends to : ℕ) (ns : List ℕ) (xs : List (Held A)) (ts : List Numbered) (i n : ℕ) (held : Held A) (old new : List Alarm) → i < length ns → length xs ≡ length ns → n ≡ get_or ns i n → get slab n ≡ Some held → AreKnown bytes_of slab (with_run bytes_of ends ns xs ts) →
-        old ≡ map alarm_of (with_run bytes_of to (take i ns) (take i xs) ts) →
-        ((all : List Numbered) → AreKnown bytes_of slab all → old ≡ map alarm_of all → new ≡ map alarm_of (placed alarm_cmp (alarm_seen bytes_of held.key (record { ends_at = to; number = n })) all)) →
-        new ≡ map alarm_of (with_run bytes_of to (take (i + 1) ns) (take (i + 1) xs) ts)
-    put_one ends to ns xs ts i n held old new w long at_i found known kept put =
-        let x = get_or xs i held in
-        let here : x ≡ get_or xs i x = same_default xs i held x (omega (arith, w, long)) in
-        let keyed = known_key ends ns xs ts i n x known w (omega (arith, w, long)) at_i here in
-        let same : key_seen bytes_of held.key ≡ key_seen bytes_of x.key = some_key held x (sym (ap (option_map (λ (h : Held A). key_seen bytes_of h.key)) found) ∙ keyed) in
-        let front = with_run bytes_of to (take i ns) (take i xs) ts in
-        put front (known_front ends to ns xs ts i known) kept
-        ∙ ap (λ (k : Key (List ℕ)). map alarm_of (placed alarm_cmp (record { ends_at = to; key = k; number = n }) front)) same
-        ∙ ap (map alarm_of) (sym (run_suc to ns xs i n x ts w (omega (arith, w, long)) at_i here))
-        ∙ ap (λ (k : ℕ). map alarm_of (with_run bytes_of to (take k ns) (take k xs) ts)) (sym (add-one i))
-      where
-        some_key : (h x : Held A) → ◌≡◌ {A = Option (Key (List ℕ))} (Some (key_seen bytes_of h.key)) (Some (key_seen bytes_of x.key)) → key_seen bytes_of h.key ≡ key_seen bytes_of x.key
-        some_key h x f = cc
 
     pub none_there : (ends : ℕ) (ns : List ℕ) (xs : List (Held A)) (ts : List Numbered) (i n : ℕ) → i < length ns → length xs ≡ length ns → n ≡ get_or ns i n → get slab n ≡ None → AreKnown bytes_of slab (with_run bytes_of ends ns xs ts) → ⊥
     none_there ends ns [] ts i n w long at_i gone known = omega (arith, w, long)

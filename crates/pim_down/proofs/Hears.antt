@@ -1,8 +1,24 @@
 -- What a call that hears a message leaves, whose records count from the moment 0.
-use Rattle.pim_down.proofs.Words.{◌≡◌, ◌≢◌, ◌<◌, ℕ, List, Option, Result, Ok, Err, OnOk, OnErr, map, sym, ap, subst, ◌∙◌, arith, AddressFamily, Message, IsMessage, Held, Key, Start, Record, Timing, HearFault, IsAscending, machine_at, hearing, events_of, start_of, needed, count_new, Downstream, record_after, IsSound, heard, needed_for, new_for, IsWithin, MayWantMemory, records_seen, shown, downstream_at, start_after}
+use Rattle.pim_down.proofs.Words.{◌≡◌, ◌≢◌, ◌<◌, ℕ, List, Option, Result, Ok, Err, OnOk, OnErr, map, sym, ap, subst, ◌∙◌, arith, AddressFamily, Message, IsMessage, Held, Key, Start, Record, Timing, HearFault, IsAscending, machine_at, hearing, events_of, start_of, needed, count_new, Downstream, record_after, IsSound, heard, needed_for, new_for, IsWithin, MayWantMemory, records_seen, shown, downstream_at, start_after, ◌≤◌}
 use Rattle.pim_down.proofs.Origin.{hearing_later, count_on_later, count_new_later}
-use Rattle.pim_down.proofs.Heard.{hearing_elsewhere}
-use Rattle.pim_down.proofs.SoundHeard.{sound_heard}
+use Rattle.pim_down.proofs.Heard.{hearing_elsewhere, settled_hearing, within_hearing}
+use Rattle.pim_down.proofs.Act.{IsAscending-hearing}
+use Rattle.pim_down.proofs.Real.{real_events, real_hearing}
+
+-- it keeps the machines sound
+pub sound_heard : (family : AddressFamily) (port : ℕ) (message : Message) (known : List ℕ → Option (List ℕ)) (timing : Timing) (state : Downstream) → IsSound family state → port < state.ports → IsMessage family message → needed_for port message known state ≤ state.limit → IsSound family (heard port message known timing state)
+sound_heard family port message known timing state sound there legal room =
+    let start = start_of message.holdtime timing in
+    let events = events_of known message in
+    record {
+      ports = sound.ports;
+      limit = sound.limit;
+      moment = sound.moment;
+      ascending = IsAscending-hearing port start events state.records sound.ascending;
+      settled = settled_hearing port start events state.records sound.settled;
+      real = real_hearing family state.ports port there start events (real_events family known message legal) state.records sound.settled sound.real;
+      within = λ other. within_hearing port other state.limit start events state.records sound.ascending room (sound.within other);
+    }
 
 module _ {A : Type 0} (bytes_of : A → List ℕ) (ports limit moment port : ℕ) (message : Message) (known : List ℕ → Option (List ℕ)) (timing : Timing) where
   pub heard_is : (start : Start) (old new : List (Held A)) (state : Downstream) → start_after moment start ≡ start_of message.holdtime timing → downstream_at bytes_of ports limit moment old ≡ state → records_seen bytes_of new ≡ hearing port start (events_of known message) (records_seen bytes_of old) → downstream_at bytes_of ports limit moment new ≡ heard port message known timing state

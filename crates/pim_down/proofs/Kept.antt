@@ -1,5 +1,5 @@
 -- Time keeps the machines sound.
-use Rattle.pim_down.proofs.Words.{◌≡◌, ℕ, zero, suc, ◌+◌, ◌≤◌, Bool, true, false, cond, List, [], ◌∷◌, ◌++◌, Option, Some, None, option_map, map, ltb, refl, sym, ap, subst, ◌∙◌, arith, ltb-true, AllByRecursion, AddressFamily, Held, What, Star, Source, Rpt, Key, Machine, Record, Step, Reached, Echo, same_key, IsBelow, IsAscending, machine_at, recorded, count_on, state_of_machine, state_of, downstream_at, Downstream, record_after, machine_after, tick, on_ppt, after_et, after_ppt, et_due, ppt_due, first_due, with_first, fire_et, fire_ppt, fired, echo_of, Outcome, rests, moves, echoes, with_records, told, turn_by, turn, run_on, run_within, Runs, is_temporary, IsSettled, IsReal, IsSound}
+use Rattle.pim_down.proofs.Words.{◌≡◌, ℕ, zero, suc, ◌+◌, ◌≤◌, Bool, true, false, cond, List, [], ◌∷◌, ◌++◌, Option, Some, None, option_map, map, ltb, refl, sym, ap, subst, ◌∙◌, arith, ltb-true, AllByRecursion, AddressFamily, Held, What, Star, Source, Rpt, Key, Machine, Record, Step, Reached, Echo, same_key, IsBelow, IsAscending, machine_at, recorded, count_on, state_of_machine, state_of, downstream_at, Downstream, record_after, machine_after, tick, on_ppt, after_et, after_ppt, et_due, ppt_due, first_due, with_first, fire_et, fire_ppt, fired, echo_of, Outcome, rests, moves, echoes, with_records, told, turn_by, turn, run_on, run_within, Runs, is_temporary, IsSettled, IsReal, IsSound, records_seen, shown}
 use Rattle.pim_down.proofs.Real.{real_later, real_ppt}
 use Rattle.pim_down.proofs.Map.{IsBelow-recorded, IsAscending-recorded}
 
@@ -212,3 +212,9 @@ sound_at_first family {A} bytes_of ports limit records none small_ports small_li
   where
     empty : (ports limit : ℕ) → ports ≤ 64 → limit ≤ 100000 → IsSound family (record { ports = ports; limit = limit; moment = 0; records = [] })
     empty ports limit p l = record { ports = p; limit = l; moment = omega arith; ascending = tt; settled = tt; real = tt; within = λ port. omega arith }
+
+-- the order of records after a timer has fired
+module _ {A : Type 0} (bytes_of : A → List ℕ) (now : ℕ) where
+  pub still_ascending : (records left : List (Held A)) (step : Step (List ℕ)) → fired (shown bytes_of now records) ≡ Some (step, shown bytes_of now left) → IsAscending (records_seen bytes_of records) → IsAscending (records_seen bytes_of left)
+  still_ascending records left step e a =
+      ascending_back now (records_seen bytes_of left) ((kept_fired (shown bytes_of now records) (shown bytes_of now left) step e).ascending ((kept_later now (records_seen bytes_of records)).ascending a))

@@ -26,7 +26,6 @@ pub mod FirstTimer
 pub mod Late
 pub mod Jumps
 pub mod Firings
-pub mod Moments
 pub mod Kept
 pub mod Walks
 pub mod Act
@@ -39,7 +38,6 @@ pub mod Heard
 pub mod Hears
 pub mod OneList
 pub mod Real
-pub mod SoundHeard
 pub mod Stays
 pub mod OnPort
 pub mod Passing

@@ -1,6 +1,5 @@
 -- Records side by side whose Expiry Timers are put off, and the timers of these records.
-use Rattle.pim_down.proofs.Words.{◌≡◌, ℕ, zero, suc, ◌+◌, ◌<◌, ◌≤◌, List, [], ◌∷◌, ◌++◌, Some, map, length, take, drop, get_or, set, refl, sym, ap, subst, ◌∙◌, arith, add-one, length-append, All, AllByRecursion, drop-drop, take-append-drop, length-take-le, length-map, recursion_from_All, Slab, get, Alarm, TimerKind, PendingTimer, ExpiryTimer, Held, put_off, put_off_from, with_run, Numbered, alarm_of, end_of, with_alarm, with_its, numbered, AreKnown, timed_seen, key_seen}
-use Rattle.std.proofs.Common.{append_assoc, length-drop}
+use Rattle.pim_down.proofs.Words.{◌≡◌, ℕ, zero, suc, ◌+◌, ◌<◌, ◌≤◌, List, [], ◌∷◌, ◌++◌, Some, map, length, take, drop, get_or, set, refl, sym, ap, subst, ◌∙◌, arith, add-one, length-append, All, AllByRecursion, drop-drop, take-append-drop, length-take-le, length-map, recursion_from_All, Slab, get, Alarm, TimerKind, PendingTimer, ExpiryTimer, Held, put_off, put_off_from, with_run, Numbered, alarm_of, end_of, with_alarm, with_its, numbered, AreKnown, timed_seen, key_seen, append_assoc, length-drop}
 use Rattle.pim_down.proofs.Numbered.{timers, alarm_swap, known_timers}
 
 -- ---- lists

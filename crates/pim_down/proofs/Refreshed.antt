@@ -1,5 +1,5 @@
 -- A run of refreshes does what its entries do, one after another.
-use Rattle.pim_down.proofs.Words.{◌≡◌, ℕ, zero, suc, ◌+◌, ◌<◌, ◌≤◌, max, Bool, true, false, ◌&&◌, eqb, List, [], ◌∷◌, ◌++◌, Option, None, Some, map, length, take, drop, refl, sym, ap, subst, ◌∙◌, arith, All, pointwise, same_text, Less, Equal, Greater, false≢true, eqb-true, append_assoc, map-append, take-append-drop, take-map, drop-map, drop-drop, length-map, length-drop, All-cons, All-nil, Entry, Held, What, Star, Source, Rpt, Key, State, Join, PrunePending, Prune, PruneTmp, PrunePendingTmp, Machine, Record, Start, on_join, greater, key_cmp, IsBelow, IsAscending, recorded, changed, at_rank, Event, entry_events, list_events, act, act_all, record_seen, records_seen, put_off, put_off_from, is_of_source, is_source_of, is_join, is_time, is_joined_until, names_joined, AreJoinedUntil, flat_map-append, HasRoom}
+use Rattle.pim_down.proofs.Words.{◌≡◌, ℕ, zero, suc, ◌+◌, ◌<◌, ◌≤◌, max, Bool, true, false, ◌&&◌, eqb, List, [], ◌∷◌, ◌++◌, Option, None, Some, map, length, take, drop, refl, sym, ap, subst, ◌∙◌, arith, All, pointwise, same_text, Less, false≢true, eqb-true, append_assoc, map-append, take-append-drop, take-map, drop-map, drop-drop, length-map, length-drop, All-cons, All-nil, Entry, Held, What, Star, Source, Rpt, Key, State, Join, PrunePending, Prune, PruneTmp, PrunePendingTmp, Machine, Record, Start, on_join, key_cmp, IsBelow, IsAscending, recorded, changed, Event, entry_events, list_events, act, act_all, record_seen, records_seen, put_off, put_off_from, is_of_source, is_source_of, is_join, is_time, is_joined_until, names_joined, AreJoinedUntil, flat_map-append, HasRoom}
 use Rattle.pim_jp.specs.declared.entry.Entry.TheVariants as entry
 use Rattle.pim_down.proofs.Order.{key_itself, less_back}
 use Rattle.pim_down.proofs.Act.{IsAscending-act, IsAscending-act_all}

@@ -1,7 +1,6 @@
 -- Events in key order, those of one machine in the order in which they came, do what they did before, where no Join(*,G) stands behind
 -- events of its group's (S,G,rpt) machines. In order by source, where a Join(*,G) and those events keep their order too, they do so always.
-use Rattle.pim_down.proofs.Words.{◌≡◌, ℕ, ◌+◌, Bool, true, false, cond, not, ◌&&◌, ◌||◌, List, [], ◌∷◌, ◌++◌, map, Option, sum_by, nat_eq, ◌==◌, refl, sym, ap, subst, ◌∙◌, is_lt, pointwise, same_text, list_any, IsPermutation, ties, IsStableBy, false≢true, and_parts, and_from, or_parts, or_from, or_left, or_right, false_from_ne_true, list_any-append, Any-from_list_any, sum_by-cons, IsPermutation-map, sum_by-IsPermutation, list_any-IsPermutation, What, Star, Source, Rpt, Key, Machine, Record, key_cmp, same_key, Start, on_star_join, machine_at, Event, key_of, is_star, is_rpt, is_star_join, is_rpt_on, is_rpt_of, effect, effects, act_all, is_new, count_new, source_or_star, source_key_of, comes_before_by_source, is_of_rpts_of, ComeFirstBehind, StarsComeFirst, AreAlike, event_seen}
-use Rattle.std.proofs.Common.{filter}
+use Rattle.pim_down.proofs.Words.{◌≡◌, ℕ, ◌+◌, Bool, true, false, cond, not, ◌&&◌, ◌||◌, List, [], ◌∷◌, ◌++◌, map, Option, sum_by, nat_eq, ◌==◌, refl, sym, ap, subst, ◌∙◌, is_lt, pointwise, same_text, list_any, IsPermutation, ties, IsStableBy, false≢true, and_parts, and_from, or_parts, or_from, or_left, or_right, false_from_ne_true, list_any-append, Any-from_list_any, sum_by-cons, IsPermutation-map, sum_by-IsPermutation, list_any-IsPermutation, What, Star, Source, Rpt, Key, Machine, Record, key_cmp, same_key, Start, on_star_join, machine_at, Event, key_of, is_star, is_rpt, is_star_join, is_rpt_on, is_rpt_of, effect, effects, act_all, is_new, count_new, source_or_star, source_key_of, comes_before_by_source, is_of_rpts_of, ComeFirstBehind, StarsComeFirst, AreAlike, event_seen, filter}
 use Rattle.pim_down.specs.declared.machines.event.Event.{Event as EventOf}
 use Rattle.pim_down.proofs.Order.{key_itself, same_keys}
 use Rattle.pim_down.proofs.OneList.{one_list}

@@ -1,23 +1,6 @@
 -- Timers of one end whose keys ascend, put in side by side.
-use Rattle.std.proofs.Common.{◌≡◌, ℕ, zero, suc, ◌+◌, ◌<◌, ◌≤◌, true, false, List, [], ◌∷◌, ◌++◌, Option, Some, option_map, map, length, take, drop, get_or, set, refl, sym, ap, ap₂, subst, ◌∙◌, arith, append_assoc, length-drop, length-append}
-use Rattle.std.specs.declared.cmp.Ordering.{Ordering}
-use Rattle.std.specs.declared.cmp.Ordering.TheVariants.{Less, Equal, Greater}
-use Rattle.std.specs.List.{insert}
-use Rattle.std.specs.Cmp.{nat_cmp_is}
-use Rattle.std.specs.Ordering.{nat_cmp, ordering_then, is_gt, is_lt}
-use Rattle.std.proofs.lemmas.Bool.{false≢true}
-use Rattle.std.proofs.lemmas.Cmp.{nat_cmp_total, tied_itself}
-use Rattle.std.proofs.lemmas.List.{take_all, take_more, take_more_set, take-append-drop, take_at, drop_at, length-take-le, length-map, map-append, get_or-map}
-use Rattle.std.proofs.lemmas.List.Edits.{length-insert, get_or-insert_at, get_or-insert_above}
-use Rattle.slab.specs.Slab.{Slab, get}
-use Rattle.sorted_blocks.specs.Shape.{spliced}
-use Rattle.pim_down.specs.declared.records.deadline.Alarm.{Alarm}
-use Rattle.pim_down.specs.declared.machines.held.Held.{Held}
-use Rattle.pim_down.specs.declared.machines.key.Key.{Key}
-use Rattle.pim_down.specs.Key.{key_cmp}
-use Rattle.pim_down.specs.PutOff.{with_run, alarm_at, Ascend}
-use Rattle.pim_down.specs.Schedule.{placed, Numbered, alarm_cmp, alarm_of, alarm_seen, key_of, AreKnown}
-use Rattle.pim_down.specs.Seen.{key_seen}
+use Rattle.pim_down.proofs.Words.{◌≡◌, ℕ, zero, suc, ◌+◌, ◌<◌, ◌≤◌, true, false, List, [], ◌∷◌, ◌++◌, Option, Some, option_map, map, length, take, drop, get_or, refl, sym, ap, ap₂, subst, ◌∙◌, arith, append_assoc, length-drop, length-append, Ordering, Less, Equal, Greater, insert, nat_cmp_is, nat_cmp, ordering_then, is_gt, is_lt, false≢true, nat_cmp_total, tied_itself, take_all, take-append-drop, take_at, drop_at, length-take-le, length-map, get_or-map, length-insert, get_or-insert_at, get_or-insert_above, Slab, get, spliced, Alarm, Held, Key, key_cmp, with_run, alarm_at, Ascend, placed, Numbered, alarm_cmp, alarm_of, alarm_seen, AreKnown, key_seen}
+use Rattle.pim_down.specs.Schedule.{key_of}
 use Rattle.pim_down.proofs.AlarmOrder.{alarm_total, same_alarm, one_of}
 use Rattle.pim_down.proofs.AlarmRun.{timer_of, known_this, known_base, known_more, known_front}
 use Rattle.pim_down.proofs.InOrder.{placed_swap, insert_is}
@@ -86,14 +69,6 @@ lt_is Equal e = absurd (false≢true e)
 lt_is Greater e = absurd (false≢true e)
 
 -- ---- the alarms, one by one
-
-pub one_written : (to i n : ℕ) (row : List Alarm) (ns : List ℕ) → i < length row → i < length ns → n ≡ get_or ns i n → take i row ≡ map (alarm_at to) (take i ns) → take (i + 1) (set row i (alarm_at to n)) ≡ map (alarm_at to) (take (i + 1) ns)
-one_written to i n row ns w v at so_far =
-    take_more_set row i (alarm_at to n) w
-    ∙ ap (λ ys. ys ++ alarm_at to n ∷ []) so_far
-    ∙ sym (map-append (alarm_at to) (take i ns) (n ∷ []))
-    ∙ ap (λ k. map (alarm_at to) (take i ns ++ k ∷ [])) at
-    ∙ ap (map (alarm_at to)) (sym (take_more ns i n v))
 
 pub row_is : (to count : ℕ) (ns front : List ℕ) (row slice : List Alarm) → count ≤ length ns → front ≡ take count ns → take (length front) row ≡ map (alarm_at to) front → slice ≡ take count row → slice ≡ map (alarm_at to) (take count ns)
 row_is to count ns front row slice w is written part =

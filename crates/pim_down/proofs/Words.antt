@@ -8,11 +8,12 @@ pub use Rattle.pim_jp.specs.declared.entry.Entry.{Entry}
 pub use Rattle.slab.specs.Slab.{Slab, get}
 pub use Rattle.sorted_blocks.specs.Found.{IsEqualAt, IsGap}
 pub use Rattle.sorted_blocks.specs.Places.{before}
-pub use Rattle.sorted_blocks.specs.Shape.{Shape}
+pub use Rattle.sorted_blocks.specs.Shape.{Shape, items}
+unfoldable pub use Rattle.sorted_blocks.specs.Shape.{cut, spliced}
 pub use Rattle.sorted_blocks.specs.declared.place.Place.{Place}
 pub use Rattle.sorted_slab.specs.Listed.{IsFound, IsItem, IsPlace, Listed, at, numbers}
 pub use Rattle.std.proofs.Common.{Bool, Err, IsTrue, List, None, Ok, OnErr, OnOk, Option, Result, Some, [], add-one}
-pub use Rattle.std.proofs.Common.{ap, arith, cond, drop, eqb, false, get_or, inl, inr, leb, length, length-append}
+pub use Rattle.std.proofs.Common.{ap, ap₂, arith, cond, drop, eqb, false, get_or, inl, inr, leb, length, length-append}
 pub use Rattle.std.proofs.Common.{lit<, ltb, map, max, min, nat_eq, not, option_map, refl, replicate, rules, set}
 pub use Rattle.std.proofs.Common.{subst, suc, sum_by, sym, take, true, zero, ℕ, ◌&&◌, ◌*◌, ◌++◌, ◌+◌, ◌-◌, ◌<◌, ◌==◌}
 pub use Rattle.std.proofs.Common.{◌||◌, ◌↔◌, ◌∙◌, ◌∷◌, ◌≡◌, ◌≢◌, ◌≤◌, ◌⊎◌}
@@ -27,8 +28,9 @@ pub use Rattle.std.proofs.lemmas.Grind.{flat_map-append, get_or-set_at}
 pub use Rattle.std.proofs.lemmas.List.{append-nil, append_assoc, drop-append-le, drop-drop, drop-map, drop_all}
 pub use Rattle.std.proofs.lemmas.List.{drop_at, drop_more, get_or-drop, get_or-map, get_or-set_other, get_or-take}
 pub use Rattle.std.proofs.lemmas.List.{length-drop, length-map, length-set, length-take, length-take-le, map-append}
-pub use Rattle.std.proofs.lemmas.List.{set_split, take-append-drop, take-map, take-take, take_at, take_more}
-pub use Rattle.std.proofs.lemmas.List.Edits.{length-remove}
+pub use Rattle.std.proofs.lemmas.List.{set_split, take-append-drop, take-map, take-take, take_all, take_at, take_more}
+pub use Rattle.std.proofs.lemmas.List.Edits.{get_or-insert_above, get_or-insert_at, get_or-remove_above}
+pub use Rattle.std.proofs.lemmas.List.Edits.{length-insert, length-remove}
 pub use Rattle.std.proofs.lemmas.List.Elements.{All-cons, All-nil, All-take, recursion_from_All}
 pub use Rattle.std.proofs.lemmas.List.Folds.{Any-from_list_any, list_any-append}
 pub use Rattle.std.proofs.lemmas.List.Quantifiers.{position-Some}
@@ -47,7 +49,7 @@ pub use Rattle.std.specs.List.{All, AllByRecursion, filter, find, flat_map, inse
 pub use Rattle.std.specs.List.{position_or_len, remove, slice_get}
 pub use Rattle.std.specs.List.Sorted.{IsNonDecreasingBy, IsPartitionPoint, IsPartitionedBy, IsPermutation, IsStableBy}
 pub use Rattle.std.specs.List.Sorted.{ties}
-pub use Rattle.std.specs.Option.{is_some}
+pub use Rattle.std.specs.Option.{is_some, option_copied}
 pub use Rattle.std.specs.Ordering.{is_eq, is_gt, is_le, is_lt, nat_cmp, ordering_reverse, ordering_then}
 pub use Rattle.std.specs.Prelude.{is_err}
 pub use Rattle.std.specs.declared.cmp.Ordering.{Ordering}
@@ -74,8 +76,8 @@ pub use Rattle.pim_down.specs.Ordered.{AreAlike, IsLast, StarsComeFirst, StayBut
 pub use Rattle.pim_down.specs.Ordered.{entry_named, entry_of_what, is_of_rpts_of, source_key_of, source_or_star}
 unfoldable pub use Rattle.pim_down.specs.Ordered.{ComeFirstBehind}
 pub use Rattle.pim_down.specs.Places.{StandsAt, WouldStandAt, is_below}
-pub use Rattle.pim_down.specs.PutOff.{put_off}
-unfoldable pub use Rattle.pim_down.specs.PutOff.{put_off_from, with_run}
+pub use Rattle.pim_down.specs.PutOff.{alarm_at, put_off}
+unfoldable pub use Rattle.pim_down.specs.PutOff.{Ascend, put_off_from, with_run}
 pub use Rattle.pim_down.specs.Records.{at_rank, is_on, recorded, state_of, state_of_machine}
 unfoldable pub use Rattle.pim_down.specs.Records.{IsAscending, IsBelow, changed, count_on, each_changed, machine_at}
 pub use Rattle.pim_down.specs.Refresh.{is_join, is_joined_until, is_of_source, is_source_of, is_time, names_joined}
@@ -84,7 +86,7 @@ pub use Rattle.pim_down.specs.Running.{downstream_at, is_over, is_over_in, start
 unfoldable pub use Rattle.pim_down.specs.Running.{AreOverIn, is_joined_in}
 pub use Rattle.pim_down.specs.Schedule.{AlarmList, AreKnown, IsTimed, Numbered, alarm_of, deadline_at, deadline_seen}
 pub use Rattle.pim_down.specs.Schedule.{end_of, first_in, key_order, sooner_of, timer_rank, with_alarm, with_end}
-pub use Rattle.pim_down.specs.Schedule.{with_its}
+pub use Rattle.pim_down.specs.Schedule.{alarm_seen, with_its}
 unfoldable pub use Rattle.pim_down.specs.Schedule.{IsInOrder, IsLow, alarm_cmp, alarm_order, deadline_cmp, numbered}
 unfoldable pub use Rattle.pim_down.specs.Schedule.{placed, timers_of, without}
 pub use Rattle.pim_down.specs.Seen.{event_seen, firing_seen, key_at, key_seen, machine_seen, record_seen, records_seen}

@@ -143,6 +143,7 @@ fn place_after<F: Family>(
 /// machines: those whose records stand one after another, at the hint or right after it, and end at
 /// one time. It leaves the place after the last of these records. Returns how many it hears, which
 /// may be none.
+#[tactic(auto, unfolding(crate::specs::Hearing::act_all))]
 pub(crate) fn refresh_front<F: Family>(
     records: &mut Store<F::Addr, OfFamily<F>>,
     near: &mut Place,

@@ -16,11 +16,13 @@ pub fn change_acts_at_its_key()
 {}
 
 /// A map from keys to machines has at most one list in key order.
+#[tactic(auto, using(crate::proofs::OneList::one_list))]
 pub fn a_map_has_one_list()
     ensures { AMapHasOneList }
 {}
 
 /// A run that reaches a moment, followed by a run to a later one, is a run to the later one.
+#[tactic(auto, using(crate::proofs::Time::runs_then))]
 pub fn run_goes_on()
     ensures { RunGoesOn }
 {}
@@ -31,11 +33,13 @@ pub fn run_has_one_end()
 {}
 
 /// An event does to the machine at each key what the tables say.
+#[tactic(auto, using(crate::proofs::Act::at_act))]
 pub fn event_acts_at_each_key()
     ensures { EventActsAtEachKey }
 {}
 
 /// End of Message does to the machine at each key what the table says.
+#[tactic(auto, using(crate::proofs::Act::at_hearing_end))]
 pub fn end_acts_at_each_key()
     ensures { EndActsAtEachKey }
 {}
@@ -46,6 +50,7 @@ pub fn hearing_keeps_the_order()
 {}
 
 /// Hearing a message on one port leaves the machines of the other ports unchanged.
+#[tactic(auto, using(crate::proofs::Heard::hearing_elsewhere))]
 pub fn hearing_leaves_other_ports()
     ensures { HearingLeavesOtherPorts }
 {}
@@ -57,6 +62,7 @@ pub fn event_keeps_the_order()
 
 /// A message does to the machine at each key what its events do, one after the other, and then End
 /// of Message.
+#[tactic(auto, using(crate::proofs::Act::at_hearing))]
 pub fn hearing_acts_at_each_key()
     ensures { HearingActsAtEachKey }
 {}
@@ -78,6 +84,7 @@ pub fn silence_acts_at_each_key()
 {}
 
 /// Every state has a run up to every moment.
+#[tactic(auto, using(crate::proofs::Runs::every_run))]
 pub fn every_state_has_a_run()
     ensures { EveryStateHasARun }
 {}
@@ -93,6 +100,7 @@ pub fn echo_names_a_machine()
 {}
 
 /// Two keys compare as equal exactly if they are the same key.
+#[tactic(auto, using(crate::proofs::Order::told_apart))]
 pub fn keys_are_told_apart()
     ensures { KeysAreToldApart }
 {}
@@ -108,6 +116,7 @@ pub fn hearing_keeps_sound()
 {}
 
 /// What a run reports of a timer that fires is what its firing says of a PruneEcho.
+#[tactic(auto, using(crate::proofs::FirstDue::fired_by_firing))]
 pub fn firing_says_more()
     ensures { FiringSaysMore }
 {}
@@ -118,6 +127,7 @@ pub fn run_is_a_chain_of_firings()
 {}
 
 /// All runs from a state up to a moment that stop at the first timer end alike.
+#[tactic(auto, using(crate::proofs::Stops::fires_once))]
 pub fn firing_has_one_end()
     ensures { FiringHasOneEnd }
 {}

@@ -211,6 +211,7 @@ fn ends_later<const HALF: usize>(list: &Blocks<Alarm, HALF>, place: Place, to: u
 /// Puts in the timers of the records with these numbers that belong right after the one at this
 /// place: of the first ones, as many as its block has room for. Returns their number, and a place
 /// near the last one.
+#[tactic(auto, unfolding(crate::specs::PutOff::with_run))]
 fn put_run_after<A: Copy, O: KeyOrder<A>, const HALF: usize>(
     list: &mut Blocks<Alarm, HALF>,
     stands: Place,
@@ -394,6 +395,7 @@ impl<A: Copy, O: KeyOrder<A>, const HALF: usize> Alarms<A, O, HALF> {
 
     /// Removes timers of the records with these numbers, all with this end. It takes as many of the
     /// first ones as are side by side in a block, and returns their number.
+    #[tactic(auto, unfolding(crate::specs::PutOff::with_run))]
     fn take_run(&mut self, slab: &Slab<Held<A>>, from: u64, numbers: &[usize]) -> usize
         ensures numbers { result ≤ length numbers.now }
         ensures alarms { (run : List (Held A)) (timers : List Numbered) → length run ≡ result

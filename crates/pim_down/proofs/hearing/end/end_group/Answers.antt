@@ -29,28 +29,24 @@ returns-then-not-is_rpt_of g c =
     let group = bytes_of c.args.group in
     let list = c.loop-group.records in
     let i = at list c.loop-group.place in
-    let here = c.is_item.ensures.0 c.loop-group-test.true in
     let ends = c.loop-group.invariant.ends in
-    ends_all bytes_of c.args.port group c.args.records.now.items list.items i (none_behind bytes_of c.args.port group list.items ends.ascending i c.get-held.result.now here.1 c.get-held.ensures ends.behind (sym c.is_rpt_of.ensures ∙ c.if-not-is_rpt_of.true)) ends
+    ends_all bytes_of c.args.port group c.args.records.now.items list.items i (none_behind bytes_of c.args.port group list.items ends.ascending i c.get-held.result.now (c.is_item.ensures.0 c.loop-group-test.true).1 c.get-held.ensures ends.behind (sym c.is_rpt_of.ensures ∙ c.if-not-is_rpt_of.true)) ends
 
 pub loop-group-smaller-then-is_temporary : goal.loop-group-smaller-then-is_temporary
 loop-group-smaller-then-is_temporary g c =
     let list = c.loop-group.records in
     let here = c.is_item.ensures.0 c.loop-group-test.true in
-    let fewer = ap length c.remove-place.ensures.items in
-    omega (arith, here.1, fewer, length-remove list.items (at list c.loop-group.place) here.1, c.remove-place.ensures.at)
+    omega (arith, here.1, ap length c.remove-place.ensures.items, length-remove list.items (at list c.loop-group.place) here.1, c.remove-place.ensures.at)
 
 pub loop-group-preserved-then-is_temporary : goal.loop-group-preserved-then-is_temporary
 loop-group-preserved-then-is_temporary g c =
     let bytes_of = g.F.Family.bytes_of in
     let group = bytes_of c.args.group in
     let list = c.loop-group.records in
-    let i = at list c.loop-group.place in
-    let here = c.is_item.ensures.0 c.loop-group-test.true in
     let gone = c.remove-place in
     let over = over_by bytes_of c.args.port group c.get-held.result.now true (sym c.is_rpt_of.ensures ∙ c.if-not-is_rpt_of.false) (sym c.is_temporary.ensures ∙ c.if-is_temporary.true) in
     record {
-      ends = ends_gone bytes_of c.args.port group c.args.records.now.items list.items gone.new.self.items i (at gone.new.self gone.result) c.get-held.result.now here.1 c.get-held.ensures over gone.ensures.items gone.ensures.at c.loop-group.invariant.ends;
+      ends = ends_gone bytes_of c.args.port group c.args.records.now.items list.items gone.new.self.items (at list c.loop-group.place) (at gone.new.self gone.result) c.get-held.result.now (c.is_item.ensures.0 c.loop-group-test.true).1 c.get-held.ensures over gone.ensures.items gone.ensures.at c.loop-group.invariant.ends;
       next = gone.ensures.item;
     }
 
@@ -59,11 +55,10 @@ loop-group-preserved g c =
     let bytes_of = g.F.Family.bytes_of in
     let group = bytes_of c.args.group in
     let list = c.loop-group.records in
-    let i = at list c.loop-group.place in
     let next = c.next-place in
     let stays = over_by bytes_of c.args.port group c.get-held.result.now false (sym c.is_rpt_of.ensures ∙ c.if-not-is_rpt_of.false) (sym c.is_temporary.ensures ∙ c.if-is_temporary.false) in
     record {
-      ends = ends_past bytes_of c.args.port group c.args.records.now.items list.items i (at list next.result) c.get-held.result.now c.get-held.ensures stays next.ensures.at c.loop-group.invariant.ends;
+      ends = ends_past bytes_of c.args.port group c.args.records.now.items list.items (at list c.loop-group.place) (at list next.result) c.get-held.result.now c.get-held.ensures stays next.ensures.at c.loop-group.invariant.ends;
       next = λ lt. next.ensures.item (omega (arith, lt, next.ensures.at));
     }
 

@@ -26,22 +26,18 @@ loop-group-init g c =
 
 pub loop-group-smaller : goal.loop-group-smaller
 loop-group-smaller g c =
-    let here = c.is_item.ensures.0 c.loop-group-test.true in
     let same = ap length (c.set_machine.ensures.items c.get-held.result.now) ∙ length-set c.loop-group.records.items (at c.loop-group.records c.loop-group.place) _ in
-    omega (arith, here.1, same, c.next-place.ensures.at, c.set_machine.ensures.at c.loop-group.place)
+    omega (arith, (c.is_item.ensures.0 c.loop-group-test.true).1, same, c.next-place.ensures.at, c.set_machine.ensures.at c.loop-group.place)
 
 pub loop-group-preserved : goal.loop-group-preserved
 loop-group-preserved g c =
     let bytes_of = g.F.Family.bytes_of in
-    let group = bytes_of c.args.group in
-    let old = c.args.records.now.items in
     let list = c.loop-group.records in
     let i = at list c.loop-group.place in
-    let here = c.is_item.ensures.0 c.loop-group-test.true in
     let same = ap length (c.set_machine.ensures.items c.get-held.result.now) ∙ length-set list.items i _ in
     let next = c.next-place.ensures.at ∙ ap (λ n. n + 1) (c.set_machine.ensures.at c.loop-group.place) in
     record {
-      changed = joins_more bytes_of c.args.port group old list.items c.set_machine.new.self.items i (at c.set_machine.new.self c.next-place.result) c.get-held.result.now c.on_star_join-machine.result c.loop-group.invariant.long here.1 c.get-held.ensures (sym c.is_rpt_of.ensures ∙ c.if-not-is_rpt_of.false) c.on_star_join-machine.ensures (c.set_machine.ensures.items c.get-held.result.now) next c.loop-group.invariant.changed;
+      changed = joins_more bytes_of c.args.port (bytes_of c.args.group) c.args.records.now.items list.items c.set_machine.new.self.items i (at c.set_machine.new.self c.next-place.result) c.get-held.result.now c.on_star_join-machine.result c.loop-group.invariant.long (c.is_item.ensures.0 c.loop-group-test.true).1 c.get-held.ensures (sym c.is_rpt_of.ensures ∙ c.if-not-is_rpt_of.false) c.on_star_join-machine.ensures (c.set_machine.ensures.items c.get-held.result.now) next c.loop-group.invariant.changed;
       behind = λ k d le w. c.loop-group.invariant.behind k d (omega (arith, le, next)) w;
       next = λ lt. c.next-place.ensures.item (omega (arith, lt, c.next-place.ensures.at));
       long = same ∙ c.loop-group.invariant.long;
@@ -52,8 +48,7 @@ pub returns-then-not-is_rpt_of-clause-records : goal.returns-then-not-is_rpt_of-
 returns-then-not-is_rpt_of-clause-records g c =
     let bytes_of = g.F.Family.bytes_of in
     let list = c.loop-group.records in
-    let here = c.is_item.ensures.0 c.loop-group-test.true in
-    joins_end bytes_of c.args.port (bytes_of c.args.group) c.args.records.now.items list.items (at list c.loop-group.place) c.get-held.result.now c.requires c.loop-group.invariant.long here.1 c.get-held.ensures c.loop-group.invariant.behind (sym c.is_rpt_of.ensures ∙ c.if-not-is_rpt_of.true) c.loop-group.invariant.changed
+    joins_end bytes_of c.args.port (bytes_of c.args.group) c.args.records.now.items list.items (at list c.loop-group.place) c.get-held.result.now c.requires c.loop-group.invariant.long (c.is_item.ensures.0 c.loop-group-test.true).1 c.get-held.ensures c.loop-group.invariant.behind (sym c.is_rpt_of.ensures ∙ c.if-not-is_rpt_of.true) c.loop-group.invariant.changed
 
 pub returns-clause-records : goal.returns-clause-records
 returns-clause-records g c =

@@ -30,27 +30,23 @@ pub join_listed-requires-clause-ascending : goal.join_listed-requires-clause-asc
 join_listed-requires-clause-ascending g c =
     let bytes_of = g.F.Family.bytes_of in
     let event = event_seen bytes_of c.args.event in
-    let seen = records_seen bytes_of c.args.records.now.items in
-    subst IsAscending (sym c.act_on_own.ensures.records) (IsAscending-changed (key_of c.args.port event) (on_own event.joins event.what (start_seen c.args.start)) seen c.requires.ascending)
+    subst IsAscending (sym c.act_on_own.ensures.records) (IsAscending-changed (key_of c.args.port event) (on_own event.joins event.what (start_seen c.args.start)) (records_seen bytes_of c.args.records.now.items) c.requires.ascending)
 
 pub join_listed-requires-clause-stay : goal.join_listed-requires-clause-stay
 join_listed-requires-clause-stay g c other is =
     let bytes_of = g.F.Family.bytes_of in
     let port = c.args.port in
     let event = event_seen bytes_of c.args.event in
-    let seen = records_seen bytes_of c.args.records.now.items in
-    let new = records_seen bytes_of c.act_on_own.new.records.items in
     let named = map (event_seen bytes_of) (drop c.args.last.behind (take c.args.index c.args.events.now)) in
     let star = sym (c.is_star_join.ensures bytes_of) ∙ c.if-not-is_star_join.false in
-    rw (c.split_at-2.ensures.back, c.split_at.ensures.front) (stay_own port (bytes_of other) (λ key. is_pruned_by port (bytes_of other) (map entry_named named) key) event (on_own event.joins event.what (start_seen c.args.start)) seen new star c.act_on_own.ensures.records (c.requires.last.1 other is))
+    rw (c.split_at-2.ensures.back, c.split_at.ensures.front) (stay_own port (bytes_of other) (λ key. is_pruned_by port (bytes_of other) (map entry_named named) key) event (on_own event.joins event.what (start_seen c.args.start)) (records_seen bytes_of c.args.records.now.items) (records_seen bytes_of c.act_on_own.new.records.items) star c.act_on_own.ensures.records (c.requires.last.1 other is))
 
 pub returns-clause-records : goal.returns-clause-records
 returns-clause-records g c =
     let bytes_of = g.F.Family.bytes_of in
     let event = event_seen bytes_of c.args.event in
-    let seen = records_seen bytes_of c.args.records.now.items in
     c.join_listed.ensures.records ∙ ap (each_changed (on_rpts c.args.port event.group)) c.act_on_own.ensures.records
-    ∙ sym (act_star c.args.port (start_seen c.args.start) event seen (sym (c.is_star_join.ensures bytes_of) ∙ c.if-not-is_star_join.false))
+    ∙ sym (act_star c.args.port (start_seen c.args.start) event (records_seen bytes_of c.args.records.now.items) (sym (c.is_star_join.ensures bytes_of) ∙ c.if-not-is_star_join.false))
 
 pub returns-clause-last : goal.returns-clause-last
 returns-clause-last g c =

@@ -35,6 +35,5 @@ loop-index-preserved g c =
 pub returns : goal.returns
 returns g c =
     let bytes_of = g.F.Family.bytes_of in
-    let rest = seen_from bytes_of c.loop-index.index c.args.events.now in
-    sym (none_acts c.args.port (start_seen c.args.start) rest (records_seen bytes_of c.loop-index.records.items) (no_event_left bytes_of c.args.events.now c.loop-index.index (omega (arith, c.loop-index-test.false))))
+    sym (none_acts c.args.port (start_seen c.args.start) (seen_from bytes_of c.loop-index.index c.args.events.now) (records_seen bytes_of c.loop-index.records.items) (no_event_left bytes_of c.args.events.now c.loop-index.index (omega (arith, c.loop-index-test.false))))
     ∙ c.loop-index.invariant.left

@@ -23,9 +23,8 @@ loop-entry-preserved-then-is_new g c =
     let group = bytes_of c.args.group in
     let event = event_seen bytes_of c.in-Some-event_of.event in
     let rest = c.next.new.self in
-    let seen = records_seen bytes_of c.args.records.now.items in
     let split = events_one known c.args.joins group c.loop-entry.entry-iterator rest (entry_seen bytes_of c.in-Some.entry) event c.in-Some.ensures.steps c.in-Some-event_of.ensures in
-    let one = count_yes c.args.port seen event (list_events known c.args.joins group c.loop-entry.entry-iterator) (list_events known c.args.joins group rest) split (sym c.is_new.ensures ∙ c.if-is_new.true) in
+    let one = count_yes c.args.port (records_seen bytes_of c.args.records.now.items) event (list_events known c.args.joins group c.loop-entry.entry-iterator) (list_events known c.args.joins group rest) split (sym c.is_new.ensures ∙ c.if-is_new.true) in
     let so_far = c.loop-entry.invariant in
     omega arith
 
@@ -36,9 +35,8 @@ loop-entry-preserved-else-is_new g c =
     let group = bytes_of c.args.group in
     let event = event_seen bytes_of c.in-Some-event_of.event in
     let rest = c.next.new.self in
-    let seen = records_seen bytes_of c.args.records.now.items in
     let split = events_one known c.args.joins group c.loop-entry.entry-iterator rest (entry_seen bytes_of c.in-Some.entry) event c.in-Some.ensures.steps c.in-Some-event_of.ensures in
-    let none = count_no c.args.port seen event (list_events known c.args.joins group c.loop-entry.entry-iterator) (list_events known c.args.joins group rest) split (sym c.is_new.ensures ∙ c.if-is_new.false) in
+    let none = count_no c.args.port (records_seen bytes_of c.args.records.now.items) event (list_events known c.args.joins group c.loop-entry.entry-iterator) (list_events known c.args.joins group rest) split (sym c.is_new.ensures ∙ c.if-is_new.false) in
     let so_far = c.loop-entry.invariant in
     omega arith
 

@@ -24,8 +24,7 @@ end_events-requires-clause-groups g c =
 
 pub hear_sets-requires-clause-room : goal.hear_sets-requires-clause-room
 hear_sets-requires-clause-room g c =
-    let bytes_of = g.F.Family.bytes_of in
-    let held = records_seen bytes_of c.args.records.now.items in
+    let held = records_seen g.F.Family.bytes_of c.args.records.now.items in
     let long : length held ≡ length c.args.records.now.items = simp length-map in
     room_for c.args.port (start_seen c.args.start) c.args.records.now.capacity (events_of (known_in g.F.Family.family c.args.routes.now) c.args.message.now) held c.requires.ascending (omega (arith, c.requires.room, long))
 
@@ -35,5 +34,4 @@ end_sets-requires-clause-ascending g c =
 
 pub end_sets-requires-clause-groups : goal.end_sets-requires-clause-groups
 end_sets-requires-clause-groups g c =
-    let bytes_of = g.F.Family.bytes_of in
-    rw c.hear_sets.ensures (over_heard c.args.port (start_seen c.args.start) _ (records_seen bytes_of c.args.records.now.items) c.requires.settled)
+    rw c.hear_sets.ensures (over_heard c.args.port (start_seen c.args.start) _ (records_seen g.F.Family.bytes_of c.args.records.now.items) c.requires.settled)

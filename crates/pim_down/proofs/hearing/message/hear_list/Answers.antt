@@ -1,4 +1,4 @@
-use Rattle.pim_down.proofs.Words.{◌≡◌, ◌∙◌, List, sym, ap, subst, arith, entry_seen, Event, list_events, act_all, act, known_in, HasRoom, start_seen, records_seen, event_seen}
+use Rattle.pim_down.proofs.Words.{◌∙◌, List, sym, ap, subst, arith, entry_seen, Event, list_events, act_all, act, known_in, HasRoom, start_seen, records_seen, event_seen}
 use Rattle.pim_down.proofs.Act.{IsAscending-act}
 use Rattle.pim_down.proofs.Events.{events_one, room_at, left_at, nothing_left, room_grows}
 use Rattle.pim_down.proofs.Refreshed.{Follows, front_heard, no_event}
@@ -30,10 +30,8 @@ act-requires-clause-room g c =
     front_heard c.args.port start known c.args.joins group c.loop-entry.records.capacity front.new.records.capacity front.result c.loop-entry.left front.new.entries (records_seen bytes_of c.loop-entry.records.items) seen front.ensures.capacity front.ensures.entries (front.ensures.records known) here.ascending here.room in
     let event = event_seen bytes_of c.in-Some-event_of.event in
     let rest = c.next.new.self in
-    let all = list_events known c.args.joins group front.new.entries in
-    let others = list_events known c.args.joins group rest in
     let split = events_one known c.args.joins group front.new.entries rest (entry_seen bytes_of c.in-Some.entry) event c.in-Some.ensures.steps c.in-Some-event_of.ensures in
-    let space = room_at c.args.port start front.new.records.capacity event all others seen split after.1 in
+    let space = room_at c.args.port start front.new.records.capacity event (list_events known c.args.joins group front.new.entries) (list_events known c.args.joins group rest) seen split after.1 in
     space.0
 
 pub loop-entry-preserved-in-Some-event_of : goal.loop-entry-preserved-in-Some-event_of

@@ -14,23 +14,18 @@ loop-set-init g c =
 
 pub hear_list-requires-clause-room : goal.hear_list-requires-clause-room
 hear_list-requires-clause-room g c =
-    let bytes_of = g.F.Family.bytes_of in
-    let known = known_in g.F.Family.family c.args.routes.now in
-    let seen = records_seen bytes_of c.loop-set.records.items in
-    let space = set_room c.args.port (start_seen c.args.start) c.loop-set.records.capacity known c.in-Some.set c.loop-set.set-iterator c.next.new.self seen c.in-Some.ensures.steps c.loop-set.invariant.room in
+    let space = set_room c.args.port (start_seen c.args.start) c.loop-set.records.capacity (known_in g.F.Family.family c.args.routes.now) c.in-Some.set c.loop-set.set-iterator c.next.new.self (records_seen g.F.Family.bytes_of c.loop-set.records.items) c.in-Some.ensures.steps c.loop-set.invariant.room in
     rw (c.group-group.ensures, c.joined-joined.ensures) space.0
 
 pub hear_list-requires-in-loop-set-clause-ascending : goal.hear_list-requires-in-loop-set-clause-ascending
 hear_list-requires-in-loop-set-clause-ascending g c =
-    let bytes_of = g.F.Family.bytes_of in
-    rw c.hear_list.ensures.records (IsAscending-act_all c.args.port (start_seen c.args.start) _ (records_seen bytes_of c.loop-set.records.items) c.loop-set.invariant.ascending)
+    rw c.hear_list.ensures.records (IsAscending-act_all c.args.port (start_seen c.args.start) _ (records_seen g.F.Family.bytes_of c.loop-set.records.items) c.loop-set.invariant.ascending)
 
 pub hear_list-requires-in-loop-set-clause-room : goal.hear_list-requires-in-loop-set-clause-room
 hear_list-requires-in-loop-set-clause-room g c =
-    let bytes_of = g.F.Family.bytes_of in
     let known = known_in g.F.Family.family c.args.routes.now in
     let set = c.in-Some.set in
-    let seen = records_seen bytes_of c.loop-set.records.items in
+    let seen = records_seen g.F.Family.bytes_of c.loop-set.records.items in
     let space = set_room c.args.port (start_seen c.args.start) c.loop-set.records.capacity known set c.loop-set.set-iterator c.next.new.self seen c.in-Some.ensures.steps c.loop-set.invariant.room in
     let joined = rw (c.group-group.ensures, c.joined-joined.ensures) at c.hear_list.ensures.records in
     let grown = room_grows c.args.port (start_seen c.args.start) c.loop-set.records.capacity c.hear_list.new.records.capacity (list_events known false set.group set.pruned) (act_all c.args.port (start_seen c.args.start) (list_events known true set.group set.joined) seen) c.hear_list.ensures.capacity space.1 in
@@ -38,11 +33,10 @@ hear_list-requires-in-loop-set-clause-room g c =
 
 pub loop-set-preserved : goal.loop-set-preserved
 loop-set-preserved g c =
-    let bytes_of = g.F.Family.bytes_of in
     let known = known_in g.F.Family.family c.args.routes.now in
     let set = c.in-Some.set in
     let rest = sets_events known c.next.new.self in
-    let seen = records_seen bytes_of c.loop-set.records.items in
+    let seen = records_seen g.F.Family.bytes_of c.loop-set.records.items in
     let joins = list_events known true set.group set.joined in
     let prunes = list_events known false set.group set.pruned in
     let space = set_room c.args.port (start_seen c.args.start) c.loop-set.records.capacity known set c.loop-set.set-iterator c.next.new.self seen c.in-Some.ensures.steps c.loop-set.invariant.room in
@@ -61,5 +55,4 @@ loop-set-preserved g c =
 
 pub returns : goal.returns
 returns g c =
-    let bytes_of = g.F.Family.bytes_of in
-    sym (no_set_left c.args.port (start_seen c.args.start) (known_in g.F.Family.family c.args.routes.now) c.loop-set.set-iterator (records_seen bytes_of c.loop-set.records.items) c.in-None.ensures.steps.0) ∙ c.loop-set.invariant.left
+    sym (no_set_left c.args.port (start_seen c.args.start) (known_in g.F.Family.family c.args.routes.now) c.loop-set.set-iterator (records_seen g.F.Family.bytes_of c.loop-set.records.items) c.in-None.ensures.steps.0) ∙ c.loop-set.invariant.left

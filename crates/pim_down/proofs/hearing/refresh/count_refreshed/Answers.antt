@@ -1,4 +1,4 @@
-use Rattle.pim_down.proofs.Words.{◌≡◌, ℕ, ◌+◌, suc, true, List, length, take, drop, sym, ap, subst, ◌∙◌, arith, at, entry_seen, names_joined, AreJoinedUntil, record_seen, records_seen}
+use Rattle.pim_down.proofs.Words.{◌≡◌, ℕ, ◌+◌, suc, true, length, take, drop, sym, ap, subst, ◌∙◌, arith, at, entry_seen, names_joined, AreJoinedUntil, record_seen, records_seen}
 use Rattle.pim_down.proofs.Refreshed.{joined_before, one_more_joined, so_far}
 use Rattle.pim_down.proofs.hearing.refresh.count_refreshed.Goals as goal
 

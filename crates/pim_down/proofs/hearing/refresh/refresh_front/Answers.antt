@@ -1,26 +1,6 @@
-use Rattle.pim_down.proofs.Words.{◌≡◌, ◌<◌, ◌≤◌, List, ℕ, Option, true, refl, sym, ap, subst, length, take, drop, arith, at, Entry, list_events, act_all, AreJoinedUntil, start_seen, records_seen}
+use Rattle.pim_down.proofs.Words.{◌≡◌, ◌<◌, List, ℕ, true, ap, subst, length, drop, arith, at, Entry, AreJoinedUntil, start_seen, records_seen}
 use Rattle.pim_down.proofs.Refreshed.{joined_within, all_end, fit, run_refreshed}
 use Rattle.pim_down.proofs.hearing.refresh.refresh_front.Goals as goal
-
-pub returns-in_default-clause-records : goal.returns-in_default-clause-records
-unfolding act_all
-returns-in_default-clause-records g c = λ known. refl
-
-pub returns-then-not-joins-clause-records : goal.returns-then-not-joins-clause-records
-unfolding act_all
-returns-then-not-joins-clause-records g c = λ known. refl
-
-pub returns-in_default-front_place-clause-records : goal.returns-in_default-front_place-clause-records
-unfolding act_all
-returns-in_default-front_place-clause-records g c = λ known. refl
-
-pub returns-in_default-expires_at-clause-records : goal.returns-in_default-expires_at-clause-records
-unfolding act_all
-returns-in_default-expires_at-clause-records g c = λ known. refl
-
-pub returns-then-from-to-clause-records : goal.returns-then-from-to-clause-records
-unfolding act_all
-returns-then-from-to-clause-records g c = λ known. refl
 
 pub put_off-done-requires-clause-within : goal.put_off-done-requires-clause-within
 put_off-done-requires-clause-within g c =

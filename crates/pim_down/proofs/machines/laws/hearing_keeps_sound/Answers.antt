@@ -1,4 +1,4 @@
-use Rattle.pim_down.proofs.SoundHeard.{sound_heard}
+use Rattle.pim_down.proofs.Hears.{sound_heard}
 use Rattle.pim_down.proofs.machines.laws.hearing_keeps_sound.Goals as goal
 
 pub returns : goal.returns

@@ -15,7 +15,6 @@ count_on-requires g c = omega (arith, c.if-port-self.false, c.self.invariant.0.p
 pub returns : goal.returns
 returns g c =
     let p = c.self.inside in
-    let held = records_seen g.F.Family.bytes_of p.records.items in
     c.count_on.ensures
-    ∙ sym (count_on_later p.moment c.args.port held)
+    ∙ sym (count_on_later p.moment c.args.port (records_seen g.F.Family.bytes_of p.records.items))
     ∙ ap (λ (s : Downstream). count_on c.args.port s.records) c.self.view_is

@@ -33,9 +33,9 @@ invariant_of-self g c =
     let bytes_of = g.F.Family.bytes_of in
     let known = known_in g.F.Family.family c.args.routes.now in
     let message = c.args.message.now in
-    let starts = rw c.holdtime.ensures at c.start_at-start.ensures.starts in
     let old = downstream_at bytes_of p.ports p.limit p.moment p.records.items in
     let new = downstream_at bytes_of p.ports p.limit p.moment c.hear_message.new.records.items in
+    let starts = rw c.holdtime.ensures at c.start_at-start.ensures.starts in
     let ok = on_ok_weaker c.hear_message.result (heard_is bytes_of p.ports p.limit p.moment c.args.port message known c.args.timing (start_seen c.start_at-start.result) p.records.items c.hear_message.new.records.items old starts refl) c.hear_message.ensures.ok in
     let err = on_err c.hear_message.result (ap (downstream_at bytes_of p.ports p.limit p.moment)) c.hear_message.ensures.err in
     let within = within_is bytes_of p.ports p.limit p.moment c.args.port message known c.args.timing c.hear_message.result p.records.items old refl c.hear_message.ensures.room in
@@ -44,21 +44,18 @@ invariant_of-self g c =
 pub returns-clause-ok : goal.returns-clause-ok
 returns-clause-ok g c =
     let p = c.self.inside in
-    let bytes_of = g.F.Family.bytes_of in
     let starts = rw c.holdtime.ensures at c.start_at-start.ensures.starts in
-    on_ok_weaker c.hear_message.result (heard_is bytes_of p.ports p.limit p.moment c.args.port c.args.message.now (known_in g.F.Family.family c.args.routes.now) c.args.timing (start_seen c.start_at-start.result) p.records.items c.hear_message.new.records.items c.args.self.now starts c.self.view_is) c.hear_message.ensures.ok
+    on_ok_weaker c.hear_message.result (heard_is g.F.Family.bytes_of p.ports p.limit p.moment c.args.port c.args.message.now (known_in g.F.Family.family c.args.routes.now) c.args.timing (start_seen c.start_at-start.result) p.records.items c.hear_message.new.records.items c.args.self.now starts c.self.view_is) c.hear_message.ensures.ok
 
 pub returns-clause-room : goal.returns-clause-room
 returns-clause-room g c =
     let p = c.self.inside in
-    let bytes_of = g.F.Family.bytes_of in
-    within_is bytes_of p.ports p.limit p.moment c.args.port c.args.message.now (known_in g.F.Family.family c.args.routes.now) c.args.timing c.hear_message.result p.records.items c.args.self.now c.self.view_is c.hear_message.ensures.room
+    within_is g.F.Family.bytes_of p.ports p.limit p.moment c.args.port c.args.message.now (known_in g.F.Family.family c.args.routes.now) c.args.timing c.hear_message.result p.records.items c.args.self.now c.self.view_is c.hear_message.ensures.room
 
 pub returns-clause-memory : goal.returns-clause-memory
 returns-clause-memory g c =
     let p = c.self.inside in
-    let bytes_of = g.F.Family.bytes_of in
-    memory_is bytes_of p.ports p.limit p.moment c.args.port c.args.message.now (known_in g.F.Family.family c.args.routes.now) c.args.timing c.hear_message.result p.records.items c.args.self.now c.self.view_is c.hear_message.ensures.memory
+    memory_is g.F.Family.bytes_of p.ports p.limit p.moment c.args.port c.args.message.now (known_in g.F.Family.family c.args.routes.now) c.args.timing c.hear_message.result p.records.items c.args.self.now c.self.view_is c.hear_message.ensures.memory
 
 pub returns-clause-others : goal.returns-clause-others
 returns-clause-others g c =
@@ -66,9 +63,9 @@ returns-clause-others g c =
     let bytes_of = g.F.Family.bytes_of in
     let known = known_in g.F.Family.family c.args.routes.now in
     let message = c.args.message.now in
-    let starts = rw c.holdtime.ensures at c.start_at-start.ensures.starts in
     let old = downstream_at bytes_of p.ports p.limit p.moment p.records.items in
     let new = downstream_at bytes_of p.ports p.limit p.moment c.hear_message.new.records.items in
+    let starts = rw c.holdtime.ensures at c.start_at-start.ensures.starts in
     let ok = on_ok_weaker c.hear_message.result (heard_is bytes_of p.ports p.limit p.moment c.args.port message known c.args.timing (start_seen c.start_at-start.result) p.records.items c.hear_message.new.records.items old starts refl) c.hear_message.ensures.ok in
     let err = on_err c.hear_message.result (ap (downstream_at bytes_of p.ports p.limit p.moment)) c.hear_message.ensures.err in
     let all = others_are bytes_of p.ports p.limit p.moment c.args.port message known c.args.timing c.hear_message.result old new c.self.invariant.0.ascending ok err in

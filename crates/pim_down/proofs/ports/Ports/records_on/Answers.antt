@@ -21,5 +21,4 @@ pub returns : goal.returns
 returns g c =
     let p = c.self.inside in
     let bytes_of = g.F.Family.bytes_of in
-    let here = c.on_port.ensures in
-    c.new-2.ensures ∙ shown_later bytes_of c.args.port (records_seen bytes_of p.records.items) c.on_port.result here p.moment c.args.self.now.records (ap (λ (s : Downstream). s.records) (sym c.self.view_is))
+    c.new-2.ensures ∙ shown_later bytes_of c.args.port (records_seen bytes_of p.records.items) c.on_port.result c.on_port.ensures p.moment c.args.self.now.records (ap (λ (s : Downstream). s.records) (sym c.self.view_is))

@@ -13,7 +13,6 @@ returns-then-port-self g c =
 pub returns : goal.returns
 returns g c =
     let p = c.self.inside in
-    let held = records_seen g.F.Family.bytes_of p.records.items in
     c.rpt_count_on.ensures g.F.Family.bytes_of
-    ∙ sym (rpts_later c.args.port p.moment held)
+    ∙ sym (rpts_later c.args.port p.moment (records_seen g.F.Family.bytes_of p.records.items))
     ∙ ap (λ (s : Downstream). rpt_count_on c.args.port s.records) c.self.view_is

@@ -27,9 +27,8 @@ returns-then-first-port g c =
     let port = c.args.port in
     let list = c.args.records.now in
     let i = at list c.first_behind-place.result in
-    let here = c.is_item.ensures.0 c.if-not-is_item.false in
     found_some bytes_of (is_before_groups port bound) (is_of_group_after port bound) (groups_apart port bound) (groups_near port bound) (λ held. eqb held.key.port port) (group_first port bound)
-    list.items (drop i list.items) i c.requires c.first_behind-place.ensures.parts refl c.get-first.result.now (front_some list.items i c.get-first.result.now here.1 c.get-first.ensures) (eq-eqb _ _ c.if-first-port.true)
+    list.items (drop i list.items) i c.requires c.first_behind-place.ensures.parts refl c.get-first.result.now (front_some list.items i c.get-first.result.now (c.is_item.ensures.0 c.if-not-is_item.false).1 c.get-first.ensures) (eq-eqb _ _ c.if-first-port.true)
 
 pub returns-else-first-port : goal.returns-else-first-port
 returns-else-first-port g c =
@@ -38,6 +37,5 @@ returns-else-first-port g c =
     let port = c.args.port in
     let list = c.args.records.now in
     let i = at list c.first_behind-place.result in
-    let here = c.is_item.ensures.0 c.if-not-is_item.false in
     found_other bytes_of (is_before_groups port bound) (is_of_group_after port bound) (groups_apart port bound) (groups_near port bound) (λ held. eqb held.key.port port) (group_first port bound)
-    list.items (drop i list.items) i c.requires c.first_behind-place.ensures.parts refl c.get-first.result.now (front_some list.items i c.get-first.result.now here.1 c.get-first.ensures) (ne_eqb _ _ c.if-first-port.false)
+    list.items (drop i list.items) i c.requires c.first_behind-place.ensures.parts refl c.get-first.result.now (front_some list.items i c.get-first.result.now (c.is_item.ensures.0 c.if-not-is_item.false).1 c.get-first.ensures) (ne_eqb _ _ c.if-first-port.false)

@@ -1,7 +1,4 @@
-use Rattle.std.proofs.Common.{◌≡◌, ℕ, suc, ◌+◌, ◌<◌, true, length, get_or, drop, sym, subst, arith, add-one, ◌∙◌}
-use Rattle.std.specs.Ordering.{is_lt}
-use Rattle.pim_down.specs.PutOff.{Ascend}
-use Rattle.pim_down.specs.Seen.{key_seen}
+use Rattle.pim_down.proofs.Words.{◌≡◌, ℕ, suc, ◌+◌, ◌<◌, true, length, get_or, drop, sym, subst, arith, add-one, ◌∙◌, is_lt, Ascend, key_seen}
 use Rattle.pim_down.proofs.RunPut.{ascend_more, ascend_so_far, lt_is}
 use Rattle.pim_down.proofs.Rpts.{same_default}
 use Rattle.pim_down.proofs.records.alarms.count_ascending.Goals as goal

@@ -1,6 +1,4 @@
-use Rattle.std.proofs.Common.{ℕ, ◌+◌, ◌-◌, ◌≤◌, drop}
-use Rattle.pim_down.specs.PutOff.{Ascend}
-use Rattle.pim_down.specs.Seen.{key_seen}
+use Rattle.pim_down.proofs.Words.{ℕ, ◌+◌, ◌-◌, ◌≤◌, drop, Ascend, key_seen}
 use Rattle.pim_down.proofs.records.alarms.count_ascending.Given as goal
 
 -- where those that are left ascend, all do

@@ -1,6 +1,4 @@
-use Rattle.sorted_blocks.specs.Shape.{items}
-use Rattle.sorted_blocks.specs.Places.{before}
-use Rattle.pim_down.specs.Schedule.{alarm_seen}
+use Rattle.pim_down.proofs.Words.{items, before, alarm_seen}
 use Rattle.pim_down.proofs.AlarmOrder.{put_equal, put_gap}
 use Rattle.pim_down.proofs.records.alarms.slot_of.Goals as goal
 

@@ -1,5 +1,4 @@
-use Rattle.std.proofs.Common.{◌≡◌, ◌-◌, ◌≤◌, length, map, take}
-use Rattle.pim_down.specs.PutOff.{alarm_at}
+use Rattle.pim_down.proofs.Words.{◌≡◌, ◌-◌, ◌≤◌, length, map, take, alarm_at}
 use Rattle.pim_down.proofs.records.alarms.write_run.Given as goal
 
 abbrev pub invariant-loop-count : goal.invariant-loop-count

@@ -22,8 +22,7 @@ insert_within-requires-clause-within g c =
 pub returns-in-Err-Some-clause-left : goal.returns-in-Err-Some-clause-left
 returns-in-Err-Some-clause-left g c =
     let bytes_of = g.F.Family.bytes_of in
-    let key = key_seen bytes_of c.args.key in
     let list = c.args.records.now in
-    let found = place_err bytes_of key list c.args.found c.in-Err-Some.place c.requires.found c.in-Err-Some.is-0 in
+    let found = place_err bytes_of (key_seen bytes_of c.args.key) list c.args.found c.in-Err-Some.place c.requires.found c.in-Err-Some.is-0 in
     inserted bytes_of list.items c.insert_within.new.self.items (at list c.in-Err-Some.place) c.args.key c.in-Err-Some.machine c.args.machine c.insert_within.ensures.items c.in-Err-Some.is-1
     ∙ sym (found.1.after (λ _. machine_seen c.args.machine))

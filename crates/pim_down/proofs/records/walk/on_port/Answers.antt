@@ -9,6 +9,5 @@ pub returns : goal.returns
 returns g c =
     let bytes_of = g.F.Family.bytes_of in
     let list = c.args.records.now in
-    let from = drop (at list c.first_behind.result) list.items in
-    ap (records_seen bytes_of) (c.walk.ensures ∙ ap (λ n. take n from) (c.count_on.ensures bytes_of))
+    ap (records_seen bytes_of) (c.walk.ensures ∙ ap (λ n. take n (drop (at list c.first_behind.result) list.items)) (c.count_on.ensures bytes_of))
     ∙ together bytes_of c.args.port list.items (at list c.first_behind.result) c.requires.ascending c.first_behind.ensures.parts

@@ -2,15 +2,14 @@ use Rattle.pim_down.proofs.Words.{◌+◌, ◌≡◌, Some, subst, arith, fired,
 use Rattle.pim_down.proofs.FirstDue.{weight_length}
 use Rattle.pim_down.proofs.FirstTimer.{first_end_some}
 use Rattle.pim_down.proofs.Late.{late_first, late_not_by, late_at_end}
-use Rattle.pim_down.proofs.Moments.{still_ascending}
+use Rattle.pim_down.proofs.Kept.{still_ascending}
 use Rattle.pim_down.proofs.Jumps.{lighter}
 use Rattle.pim_down.proofs.Firings.{RunsFiring, looking, goes_fired, arrive, settle}
 use Rattle.pim_down.proofs.running.run.run.Goals as goal
 
 pub first_by-requires : goal.first_by-requires
 first_by-requires g c =
-    let start = records_seen g.F.Family.bytes_of c.args.records.now.items in
-    omega (arith, c.loop-first.invariant.few, weight_length start, length-map c.args.records.now.items (record_seen g.F.Family.bytes_of), c.len-few.ensures.small)
+    omega (arith, c.loop-first.invariant.few, weight_length (records_seen g.F.Family.bytes_of c.args.records.now.items), length-map c.args.records.now.items (record_seen g.F.Family.bytes_of), c.len-few.ensures.small)
 
 pub returns-in-Echo-clause-runs : goal.returns-in-Echo-clause-runs
 returns-in-Echo-clause-runs g c ports limit =

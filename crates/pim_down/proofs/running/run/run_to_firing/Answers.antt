@@ -24,8 +24,7 @@ returns-in-Some-clause-late g c =
     let held = records_seen bytes_of c.args.records.now.items in
     let ends = c.in-Some.first.ends_at in
     let first = first_end_some held (deadline_seen bytes_of c.in-Some.first) c.in-Some.ensures.first.0 in
-    let from = late_first c.args.now ends held c.requires.late first in
-    c.fire_timer.ensures.late ends (late_at_end c.args.now ends ends held first (omega (arith, from)) c.requires.late)
+    c.fire_timer.ensures.late ends (late_at_end c.args.now ends ends held first (omega (arith, late_first c.args.now ends held c.requires.late first)) c.requires.late)
 
 pub returns-in-None-clause-fires : goal.returns-in-None-clause-fires
 returns-in-None-clause-fires g c ports limit =

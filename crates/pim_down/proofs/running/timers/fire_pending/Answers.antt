@@ -5,9 +5,7 @@ use Rattle.pim_down.proofs.running.timers.fire_pending.Goals as goal
 pub returns-clause-told : goal.returns-clause-told
 returns-clause-told g c d =
     let bytes_of = g.F.Family.bytes_of in
-    let items = c.args.records.now.items in
-    let i = at c.args.records.now c.args.place in
-    c.ppt_fires.ensures bytes_of ∙ ap (λ held. ppt_fires (record_after c.args.now (record_seen bytes_of held))) (c.get.ensures ∙ same_default items i c.get.result.now d c.requires.1)
+    c.ppt_fires.ensures bytes_of ∙ ap (λ held. ppt_fires (record_after c.args.now (record_seen bytes_of held))) (c.get.ensures ∙ same_default c.args.records.now.items (at c.args.records.now c.args.place) c.get.result.now d c.requires.1)
 
 pub returns-clause-left : goal.returns-clause-left
 returns-clause-left g c d =

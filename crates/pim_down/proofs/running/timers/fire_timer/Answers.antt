@@ -45,5 +45,4 @@ returns-in-ExpiryTimer-clause-fires g c =
 pub returns-in-ExpiryTimer-clause-late : goal.returns-in-ExpiryTimer-clause-late
 returns-in-ExpiryTimer-clause-late g c m late =
     let list = c.args.records.now in
-    let found = c.in-Ok.ensures {u = tt} in
-    late_removed g.F.Family.bytes_of m list.items c.fire_expiry.new.records.items (at list c.in-Ok.place) found.0.1 c.fire_expiry.ensures.left late
+    late_removed g.F.Family.bytes_of m list.items c.fire_expiry.new.records.items (at list c.in-Ok.place) (c.in-Ok.ensures {u = tt}).0.1 c.fire_expiry.ensures.left late

@@ -1,8 +1,4 @@
-use Rattle.std.proofs.Common.{◌≡◌, ◌<◌, Some, length, get_or, sym, ap, subst, ◌∙◌, arith}
-use Rattle.std.specs.List.{slice_get}
-use Rattle.std.proofs.lemmas.Option.{slice_get-get_or}
-use Rattle.sorted_blocks.specs.Shape.{items}
-use Rattle.pim_down.specs.Schedule.{AlarmList}
+use Rattle.pim_down.proofs.Words.{◌≡◌, ◌<◌, Some, length, get_or, sym, ap, subst, ◌∙◌, arith, slice_get, slice_get-get_or, items, AlarmList}
 use Rattle.pim_down.proofs.records.alarms.Alarms.first.Goals as goal
 
 pub returns-then-is_item : goal.returns-then-is_item

@@ -1,5 +1,4 @@
-use Rattle.std.proofs.Common.{ap, ◌∙◌}
-use Rattle.pim_down.specs.Schedule.{AlarmList}
+use Rattle.pim_down.proofs.Words.{ap, ◌∙◌, AlarmList}
 use Rattle.pim_down.proofs.records.alarms.Alarms.put.Goals as goal
 
 pub returns-clause-alarms : goal.returns-clause-alarms

@@ -1,10 +1,4 @@
-use Rattle.std.proofs.Common.{◌≡◌, None, length, get_or, map, take, sym, ap, subst, ◌∙◌}
-use Rattle.std.specs.Option.{option_copied}
-use Rattle.slab.specs.Slab.{get}
-use Rattle.sorted_blocks.specs.Shape.{items}
-use Rattle.sorted_blocks.specs.Places.{before}
-use Rattle.pim_down.specs.PutOff.{with_run}
-use Rattle.pim_down.specs.Schedule.{AlarmList, alarm_of, AreKnown}
+use Rattle.pim_down.proofs.Words.{◌≡◌, None, length, get_or, map, take, sym, ap, subst, ◌∙◌, option_copied, get, items, before, with_run, AlarmList, alarm_of, AreKnown}
 use Rattle.pim_down.proofs.AlarmRun.{none_there}
 use Rattle.pim_down.proofs.RunPut.{front_put, first_of}
 use Rattle.pim_down.proofs.records.alarms.Alarms.put_front.Goals as goal

@@ -1,7 +1,4 @@
-use Rattle.std.proofs.Common.{◌≡◌, ℕ, List, ◌+◌, ◌-◌, ◌≤◌, length, map, take}
-use Rattle.pim_down.specs.declared.machines.held.Held.{Held}
-use Rattle.pim_down.specs.PutOff.{with_run}
-use Rattle.pim_down.specs.Schedule.{Numbered, alarm_of, AreKnown}
+use Rattle.pim_down.proofs.Words.{◌≡◌, ℕ, List, ◌+◌, ◌-◌, ◌≤◌, length, map, take, Held, with_run, Numbered, alarm_of, AreKnown}
 use Rattle.pim_down.proofs.records.alarms.Alarms.put_run.Given as goal
 
 abbrev pub invariant-loop-at : goal.invariant-loop-at

@@ -1,8 +1,4 @@
-use Rattle.std.proofs.Common.{◌≤◌, length, ap, sym, subst, arith, ◌∙◌}
-use Rattle.std.proofs.lemmas.List.Edits.{length-remove}
-use Rattle.sorted_blocks.specs.Shape.{items}
-use Rattle.sorted_blocks.specs.Places.{before}
-use Rattle.pim_down.specs.Schedule.{AlarmList, alarm_seen}
+use Rattle.pim_down.proofs.Words.{◌≤◌, length, ap, sym, subst, arith, ◌∙◌, length-remove, items, before, AlarmList, alarm_seen}
 use Rattle.pim_down.proofs.AlarmOrder.{taken, not_there}
 use Rattle.pim_down.proofs.records.alarms.Alarms.take.Goals as goal
 
@@ -16,10 +12,8 @@ returns-in-Ok-clause-alarms g c timers known kept =
 pub returns-in-Ok-clause-fewer : goal.returns-in-Ok-clause-fewer
 returns-in-Ok-clause-fewer g c =
     let list = c.self.inside.list in
-    let new = items c.remove.new.self in
-    let i = before list c.in-Ok.place in
-    subst (λ (l : AlarmList). length new ≤ length l.alarms) c.self.view_is
-    (omega (arith, ap length c.remove.ensures.items, length-remove (items list) i (c.in-Ok.ensures {u = tt}).1.within))
+    subst (λ (l : AlarmList). length (items c.remove.new.self) ≤ length l.alarms) c.self.view_is
+    (omega (arith, ap length c.remove.ensures.items, length-remove (items list) (before list c.in-Ok.place) (c.in-Ok.ensures {u = tt}).1.within))
 
 pub returns-in_default-clause-alarms : goal.returns-in_default-clause-alarms
 returns-in_default-clause-alarms g c timers known kept =

@@ -1,23 +1,6 @@
-use Rattle.std.proofs.Common.{◌+◌, length, take, ap, sym, arith, ◌∙◌}
-use Rattle.std.proofs.lemmas.List.{length-take-le}
-use Rattle.sorted_blocks.specs.Shape.{items}
-use Rattle.sorted_blocks.specs.Places.{before}
-use Rattle.pim_down.specs.PutOff.{with_run}
-use Rattle.pim_down.specs.Schedule.{AlarmList}
+use Rattle.pim_down.proofs.Words.{◌+◌, length, take, ap, sym, arith, ◌∙◌, length-take-le, items, before, AlarmList}
 use Rattle.pim_down.proofs.AlarmRun.{taken_out, row_within, read_run, cut_long}
 use Rattle.pim_down.proofs.records.alarms.Alarms.take_run.Goals as goal
-
-pub returns-in_default-clause-alarms : goal.returns-in_default-clause-alarms
-unfolding with_run
-returns-in_default-clause-alarms g c run timers long known kept = kept
-
-pub returns-in_default-get-clause-alarms : goal.returns-in_default-get-clause-alarms
-unfolding with_run
-returns-in_default-get-clause-alarms g c run timers long known kept = kept
-
-pub returns-in_default-find_near-clause-alarms : goal.returns-in_default-find_near-clause-alarms
-unfolding with_run
-returns-in_default-find_near-clause-alarms g c run timers long known kept = kept
 
 pub returns-clause-alarms : goal.returns-clause-alarms
 returns-clause-alarms g c run timers long known kept =

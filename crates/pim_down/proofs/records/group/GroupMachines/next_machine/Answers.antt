@@ -27,10 +27,9 @@ returns-then-not-is_of_group-clause-told g c =
     let bound = key_seen bytes_of left.behind in
     let list = left.records.now in
     let i = at list left.place in
-    let here = c.is_item.ensures.0 c.if-not-is_item.false in
     next_told bytes_of left.moment (records_seen bytes_of list.items) (shown bytes_of left.moment list.items) refl bound.port bound.group bound.what None
     (found_other bytes_of (is_up_to bound) (is_machine_after bound.port bound.group bound.what) (machines_apart bound) (machines_near bound) (λ held. is_of_group bound held.key) (machine_first bound)
-    list.items (drop i list.items) i c.self.invariant.0 c.self.invariant.1.parts refl c.get.result.now (front_some list.items i c.get.result.now here.1 c.get.ensures) (sym c.is_of_group.ensures ∙ c.if-not-is_of_group.true))
+    list.items (drop i list.items) i c.self.invariant.0 c.self.invariant.1.parts refl c.get.result.now (front_some list.items i c.get.result.now (c.is_item.ensures.0 c.if-not-is_item.false).1 c.get.ensures) (sym c.is_of_group.ensures ∙ c.if-not-is_of_group.true))
     ∙ ap next_machine c.self.view_is
 
 pub returns-then-not-is_of_group-clause-left : goal.returns-then-not-is_of_group-clause-left
@@ -40,13 +39,12 @@ pub invariant_of-self : goal.invariant_of-self
 invariant_of-self g c =
     let left = c.self.inside in
     let list = left.records.now in
-    let here = c.is_item.ensures.0 c.if-not-is_item.false in
     let next = c.next-self-inside in (
       c.self.invariant.0,
       record {
         is_place = next.ensures.place;
         is_item = λ within. next.ensures.item (rw next.ensures.at at within);
-        parts = rw next.ensures.at (behind_it g.F.Family.bytes_of list.items c.self.invariant.0 (at list left.place) c.get.result.now here.1 c.get.ensures);
+        parts = rw next.ensures.at (behind_it g.F.Family.bytes_of list.items c.self.invariant.0 (at list left.place) c.get.result.now (c.is_item.ensures.0 c.if-not-is_item.false).1 c.get.ensures);
       },
     )
 
@@ -57,17 +55,15 @@ returns-clause-told g c =
     let bound = key_seen bytes_of left.behind in
     let list = left.records.now in
     let i = at list left.place in
-    let here = c.is_item.ensures.0 c.if-not-is_item.false in
     ap (λ r. Some r) (c.record_after.ensures bytes_of)
     ∙ next_told bytes_of left.moment (records_seen bytes_of list.items) (shown bytes_of left.moment list.items) refl bound.port bound.group bound.what (Some c.get.result.now)
     (found_some bytes_of (is_up_to bound) (is_machine_after bound.port bound.group bound.what) (machines_apart bound) (machines_near bound) (λ held. is_of_group bound held.key) (machine_first bound)
-    list.items (drop i list.items) i c.self.invariant.0 c.self.invariant.1.parts refl c.get.result.now (front_some list.items i c.get.result.now here.1 c.get.ensures) (sym c.is_of_group.ensures ∙ c.if-not-is_of_group.false))
+    list.items (drop i list.items) i c.self.invariant.0 c.self.invariant.1.parts refl c.get.result.now (front_some list.items i c.get.result.now (c.is_item.ensures.0 c.if-not-is_item.false).1 c.get.ensures) (sym c.is_of_group.ensures ∙ c.if-not-is_of_group.false))
     ∙ ap next_machine c.self.view_is
 
 pub returns-clause-left : goal.returns-clause-left
 returns-clause-left g c =
     let bytes_of = g.F.Family.bytes_of in
-    let held = c.get.result.now in
-    ap (λ (s : MachinesLeft). record { records = s.records; behind = key_seen bytes_of held.key }) c.self.view_is
+    ap (λ (s : MachinesLeft). record { records = s.records; behind = key_seen bytes_of c.get.result.now.key }) c.self.view_is
     ∙ ap (λ r. left_behind c.args.self.now (Some r)) (sym (c.record_after.ensures bytes_of))
     ∙ ap (left_behind c.args.self.now) (returns-clause-told g c)

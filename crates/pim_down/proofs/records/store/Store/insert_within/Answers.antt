@@ -1,9 +1,4 @@
-use Rattle.std.specs.Int.{from_bool}
-use Rattle.std.proofs.Common.{ℕ, List, [], ◌≡◌, ◌<◌, ◌≤◌, length, get_or, sym, ap, subst, arith, lit<, ◌∙◌}
-use Rattle.std.specs.List.{remove}
-use Rattle.sorted_slab.specs.Listed.{Listed, at, numbers}
-use Rattle.pim_down.specs.declared.records.deadline.TimerKind.TheVariants.{PendingTimer, ExpiryTimer}
-use Rattle.pim_down.specs.declared.machines.held.Held.{Held}
+use Rattle.pim_down.proofs.Words.{from_bool, ℕ, List, [], ◌≡◌, ◌<◌, ◌≤◌, length, get_or, sym, ap, subst, arith, lit<, ◌∙◌, remove, Listed, at, numbers, PendingTimer, ExpiryTimer, Held}
 use Rattle.pim_down.proofs.Counts.{one_longer, few, few_rpts_on, few_rpts, kept_in, kept_as}
 use Rattle.pim_down.proofs.Numbered.{room_for, at_insert, remove_insert, timers_in}
 use Rattle.pim_down.proofs.records.store.Store.insert_within.Goals as goal
