@@ -3,7 +3,6 @@
 
 pub(crate) mod after;
 pub(crate) mod alarms;
-pub(crate) mod blocks;
 pub(crate) mod bound;
 pub(crate) mod deadline;
 pub(crate) mod edits;

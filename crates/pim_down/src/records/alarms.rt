@@ -1,8 +1,7 @@
 //! The timers of one kind that run, in the order in which they fire: by end, then by key. Each has
 //! the number of its record. Its key is read from the slab, only where ends are equal.
 
-ghost use Rattle.std.specs.Prelude.{◌≡◌, ℕ, List, Option, ◌+◌, ◌<◌, ◌≤◌, [], length, map, OnOk};
-ghost use Rattle.std.specs.Prelude.{IsTrue};
+ghost use Rattle.std.specs.Prelude.{◌≡◌, ℕ, List, ◌+◌, ◌<◌, ◌≤◌, [], length, map, OnOk, IsTrue};
 ghost use Rattle.std.specs.Prelude.{slice_index_or, take};
 ghost use Rattle.std.specs.List.{slice_get, insert};
 ghost use Rattle.slab.specs.Slab.{get};
@@ -12,7 +11,7 @@ ghost use Rattle.pim_down.specs.declared.records.deadline.Alarm.{Alarm};
 ghost use Rattle.pim_down.specs.declared.machines.held.Held.{Held};
 ghost use Rattle.pim_down.specs.PutOff.{with_run, alarm_at, Ascend};
 ghost use Rattle.pim_down.specs.Schedule.{Numbered, alarm_cmp, alarm_of, alarm_seen, with_alarm};
-ghost use Rattle.pim_down.specs.Schedule.{AreKnown, key_order, alarm_order, placed, without};
+ghost use Rattle.pim_down.specs.Schedule.{AreKnown, alarm_order, placed, without};
 ghost use Rattle.pim_down.specs.Seen.{key_seen};
 
 use crate::machines::held::Held;
@@ -26,21 +25,6 @@ use std::marker::{Model, PhantomData};
 
 /// How many timers are put in by one move at most.
 const RUN: usize = 32;
-
-/// Compares the key of the record with this number.
-fn compare_key<A: Copy, O: KeyOrder<A>>(
-    slab: &Slab<Held<A>>,
-    number: usize,
-    key: &Key<A>,
-) -> Ordering
-    ensures { result
-        ≡ key_order O.bytes_of slab.now (key_seen O.bytes_of key.now) (get slab.now number) }
-{
-    match slab.get(number) {
-        Some(held) => O::compare(&held.key, key),
-        None => Ordering::Less,
-    }
-}
 
 /// A timer that is searched among others of its kind.
 #[derive(Drop)]
@@ -65,7 +49,10 @@ impl<'a, A: Copy, O: KeyOrder<A>> Probe<Alarm> for Wanted<'a, A, O> {
         if by_end.is_ne() {
             return by_end;
         }
-        let by_key = compare_key::<A, O>(self.slab, other.number, &self.key);
+        let Some(held) = self.slab.get(other.number) else {
+            return Ordering::Less;
+        };
+        let by_key = O::compare(&held.key, &self.key);
         if by_key.is_ne() {
             return by_key;
         }

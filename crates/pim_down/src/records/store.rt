@@ -14,7 +14,6 @@ ghost use Rattle.pim_down.specs.Words.{what_seen, records_seen, put_off_from, Is
 
 use crate::machines::held::{Held, Timed};
 use crate::machines::key::{KeyOrder, What};
-use crate::records::blocks::{HALF_OF_RECORDS, HALF_OF_TIMERS};
 use crate::records::bound::{Bound, Side};
 use crate::records::deadline::Deadline;
 use crate::records::schedule::Schedule;
@@ -26,6 +25,14 @@ use std::marker::Model;
 
 /// The greatest number of ports.
 const PORTS: usize = 64;
+
+/// The number of records in half a block. A block holds record numbers, and an empty block that is
+/// removed moves the row of all later blocks. So blocks are long.
+pub(crate) const HALF_OF_RECORDS: usize = 256;
+
+/// The number of timers in half a block. Timers are larger than numbers, and most edits move some
+/// of a block's.
+const HALF_OF_TIMERS: usize = 128;
 
 /// The records of all ports. Contracts see their list, its places, and the number of records that
 /// fit without memory.

@@ -9,9 +9,8 @@ ghost use Rattle.pim_down.specs.Words.{timed_seen, record_seen, told_seen, recor
 use crate::machines::held::{Held, Timed};
 use crate::machines::key::{Key, OfFamily};
 use crate::machines::machine::{Machine, Pending, Record};
-use crate::records::blocks::HALF_OF_RECORDS;
 use crate::records::bound::Bound;
-use crate::records::store::Store;
+use crate::records::store::{HALF_OF_RECORDS, Store};
 use pim_addr::Family;
 use sorted_blocks::Place;
 use sorted_slab::Walk;
