@@ -1,5 +1,5 @@
 -- What an edit of a block is to the list of all items.
-use Rattle.sorted_blocks.proofs.Words.{◌≡◌, ℕ, zero, suc, ◌+◌, ◌-◌, ◌<◌, ◌≤◌, List, [], ◌∷◌, ◌++◌, length, get_or, set, take, drop, refl, sym, ap, ◌∙◌, arith, length-append, append_assoc, zero-add, insert, remove, take-append-drop, get_or_append_left, get_or-append-add, insert-append_left, insert-append_right, remove-append_left, remove-append_right, joined, cut}
+use Rattle.sorted_blocks.proofs.Words.{◌≡◌, ℕ, zero, suc, ◌+◌, ◌-◌, ◌<◌, ◌≤◌, List, [], ◌∷◌, ◌++◌, length, get_or, set, take, drop, refl, sym, ap, ◌∙◌, arith, length-append, append_assoc, zero-add, insert, remove, take-append-drop, get_or_append_left, get_or-append-add, insert-append_left, insert-append_right, remove-append_right, joined, cut}
 use Rattle.sorted_blocks.proofs.Cuts.{cut-append_left, cut-append_right}
 
 module _ {A : Type 0} where
@@ -15,15 +15,6 @@ module _ {A : Type 0} where
       let n = length-append b (joined (take i bs)) in
       let m : start (b ∷ bs) (suc i) + at - length b ≡ start bs i + at = omega (arith, n) in
       ap (λ xs. b ++ xs) r ∙ ap (λ k. b ++ insert (joined bs) k x) (sym m) ∙ sym (insert-append_right b (joined bs) (length b) (start (b ∷ bs) (suc i) + at) x refl (omega (arith, n)))
-
-  pub joined-take : (bs : List (List A)) (i at : ℕ) → i < length bs → at < length (get_or bs i []) → joined (set bs i (remove (get_or bs i []) at)) ≡ remove (joined bs) (start bs i + at)
-  joined-take [] i at h l = absurd (omega arith)
-  joined-take (b ∷ bs) zero at h l = rw zero-add (sym (remove-append_left b (joined bs) at l))
-  joined-take (b ∷ bs) (suc i) at h l =
-      let r = joined-take bs i at (omega arith) l in
-      let n = length-append b (joined (take i bs)) in
-      let m : start (b ∷ bs) (suc i) + at - length b ≡ start bs i + at = omega (arith, n) in
-      ap (λ xs. b ++ xs) r ∙ ap (λ k. b ++ remove (joined bs) k) (sym m) ∙ sym (remove-append_right b (joined bs) (length b) (start (b ∷ bs) (suc i) + at) refl (omega (arith, n)))
 
   -- a block of one item goes
   alone : (b xs : List A) → length b ≡ 1 → xs ≡ remove (b ++ xs) 0

@@ -2,7 +2,7 @@
 use Rattle.sorted_blocks.proofs.Words.{◌≡◌, ℕ, suc, ◌+◌, ◌-◌, ◌<◌, ◌≤◌, List, [], ◌∷◌, ◌++◌, length, get_or, set, take, drop, refl, sym, ap, subst, ◌∙◌, arith, length-append, length-drop, add-one, ◌⊎◌, inl, inr, insert, remove, length-set, length-take-le, get_or-set_same, length-insert, length-remove, Place, Shape, items, joined, cut, before, IsPlace, IsItem, spliced}
 use Rattle.sorted_blocks.proofs.Cuts.{length-cut}
 use Rattle.sorted_blocks.proofs.Splices.{length-spliced, joined-spliced}
-use Rattle.sorted_blocks.proofs.Joined.{start, joined-put, joined-take, joined-cut, joined-whole, joined-split, joined-merge, item_at, start-suc, start-all}
+use Rattle.sorted_blocks.proofs.Joined.{start, joined-put, joined-cut, joined-whole, joined-split, joined-merge, item_at, start-suc, start-all}
 use Rattle.sorted_blocks.proofs.Starts.{start-set, start-split, start-split_suc, at-split, at-split_suc, start-merge, at-merge, start-remove}
 
 -- the list is the same, and the second place stands in a block where the first one stood
@@ -94,17 +94,6 @@ module _ {A : Type 0} where
   pub set_before : (s t : Shape A) (p : Place) (c : List A) → t.blocks ≡ set s.blocks p.block c → before t p ≡ before s p
   unfolding before
   set_before s t p c e = ap (λ n. n + p.at) (ap (λ bs. start bs p.block) e ∙ start-set s.blocks p.block c)
-
-  -- a removal out of a block
-  pub take_items : (s t : Shape A) (p : Place) → p.block < length s.blocks → p.at < length (get_or s.blocks p.block []) → t.blocks ≡ set s.blocks p.block (remove (get_or s.blocks p.block []) p.at) → items t ≡ remove (items s) (before s p)
-  unfolding before
-  take_items s t p h l e = ap joined e ∙ joined-take s.blocks p.block p.at h l
-
-  pub take_at : (s t : Shape A) (p : Place) → p.block < length s.blocks → p.at < length (get_or s.blocks p.block []) → t.blocks ≡ set s.blocks p.block (remove (get_or s.blocks p.block []) p.at) → p.at ≤ length (get_or t.blocks p.block [])
-  take_at s t p h l e =
-      let c = remove (get_or s.blocks p.block []) p.at in
-      let r = ap length (ap (λ bs. get_or bs p.block []) e ∙ get_or-set_same s.blocks p.block c [] h) in
-      omega (arith, r, l, length-remove (get_or s.blocks p.block []) p.at l)
 
   -- items of a block go
   pub cut_items : (s t : Shape A) (p : Place) (n : ℕ) → p.block < length s.blocks → p.at + n ≤ length (get_or s.blocks p.block []) → t.blocks ≡ set s.blocks p.block (cut (get_or s.blocks p.block []) p.at n) → items t ≡ cut (items s) (before s p) n

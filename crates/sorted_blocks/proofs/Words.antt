@@ -13,7 +13,7 @@ pub use Rattle.std.proofs.lemmas.List.{length-take-le, nil_from_length, take-app
 pub use Rattle.std.proofs.lemmas.List.{take_all, take_at}
 pub use Rattle.std.proofs.lemmas.List.Edits.{get_or-insert_above, get_or-insert_at, get_or-insert_below}
 pub use Rattle.std.proofs.lemmas.List.Edits.{get_or-remove_above, get_or-remove_below, insert-append_left}
-pub use Rattle.std.proofs.lemmas.List.Edits.{insert-append_right, length-insert, length-remove, remove-append_left}
+pub use Rattle.std.proofs.lemmas.List.Edits.{insert-append_right, length-insert, length-remove}
 pub use Rattle.std.proofs.lemmas.List.Edits.{remove-append_right}
 pub use Rattle.std.specs.List.{All, insert, remove}
 pub use Rattle.std.specs.declared.cmp.Ordering.{Ordering}

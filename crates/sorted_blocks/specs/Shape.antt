@@ -33,10 +33,6 @@ module _ {A : Type 0} where
   abbrev pub spliced_into : List (List A) → ℕ → ℕ → List A → List (List A)
   spliced_into blocks block at run = slice_set blocks block (spliced (block_at blocks block) at run)
 
-  -- The blocks with an item taken out of one of them.
-  abbrev pub taken_out : List (List A) → ℕ → ℕ → List (List A)
-  taken_out blocks block at = slice_set blocks block (remove (block_at blocks block) at)
-
   -- The blocks with `count` items of one of them taken out.
   abbrev pub cut_from : List (List A) → ℕ → ℕ → ℕ → List (List A)
   cut_from blocks block at count = slice_set blocks block (cut (block_at blocks block) at count)

@@ -104,23 +104,6 @@ impl<T: Copy, const HALF: usize> Block<T, HALF> {
         put_all(&mut self.items, self.start + at, run);
     }
 
-    /// Takes out the item at this place. It moves the items before it where these are few, else the
-    /// items after it.
-    pub(crate) fn take_out(&mut self, at: usize) -> T
-        requires { at < length self.old }
-        ensures value { result ≡ slice_index_or self.old at result }
-        ensures left { self.new ≡ remove self.old at }
-    {
-        let start = self.start;
-        if at > self.len() / FRONT {
-            return self.items.remove(start + at);
-        }
-        let item = *self.get(at);
-        self.items.copy_within(start..start + at, start + 1);
-        self.start += 1;
-        item
-    }
-
     /// Takes out `count` items from this place on. It moves the items before them where these are
     /// few, else the items after them.
     pub(crate) fn cut_out(&mut self, at: usize, count: usize)

@@ -102,9 +102,8 @@ impl<T: Copy, const HALF: usize> Store<T, HALF> {
             let item = self.take_whole(place.block);
             return (item, self.start_of(place.block));
         }
-        let item = self.take_out(place.block, place.at);
-        let place = self.join_behind(place);
-        (item, self.join_before(place))
+        let item = *self.get(place);
+        (item, self.remove_within(place, 1))
     }
 
     /// Takes out `count` items of one block from this place on, and returns the place of the item

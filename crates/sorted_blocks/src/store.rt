@@ -6,7 +6,7 @@
 ghost use Rattle.std.specs.Prelude.{◌≡◌, ◌+◌, ◌<◌, ◌≤◌, [], ◌∷◌, length, slice_index_or};
 ghost use Rattle.std.specs.Prelude.{OnOk, OnErr};
 ghost use Rattle.std.specs.List.{remove};
-ghost use Rattle.sorted_blocks.specs.Shape.{Shape, joined, block_at, together, put_into, taken_out};
+ghost use Rattle.sorted_blocks.specs.Shape.{Shape, joined, block_at, together, put_into};
 ghost use Rattle.sorted_blocks.specs.Shape.{spliced_into, cut_from, split, merged, block_total};
 ghost use Rattle.sorted_blocks.specs.Sound.{AllFilled};
 ghost use Rattle.sorted_blocks.specs.Sought.{IsLead};
@@ -200,22 +200,6 @@ impl<T: Copy, const HALF: usize> Store<T, HALF> {
         }
     }
 
-    /// Takes an item out of a block that has others.
-    pub(crate) fn take_out(&mut self, block: usize, at: usize) -> T
-        requires block { block < length self.old.blocks }
-        requires at { at < length (block_at self.old.blocks block) }
-        requires others { 1 < length (block_at self.old.blocks block) }
-        ensures value { result ≡ slice_index_or (block_at self.old.blocks block) at result }
-        ensures blocks { self.new.blocks ≡ taken_out self.old.blocks block at }
-        ensures spare { self.new.spare ≡ self.old.spare }
-    {
-        let row = &mut self.used[block];
-        let item = row.take_out(at);
-        self.firsts[block] = *row.get(0);
-        self.count -= 1;
-        item
-    }
-
     /// Takes `count` items out of a block that keeps others.
     pub(crate) fn cut_out(&mut self, block: usize, at: usize, count: usize)
         requires block { block < length self.old.blocks }
@@ -239,8 +223,8 @@ impl<T: Copy, const HALF: usize> Store<T, HALF> {
         ensures spare { self.new.spare ≡ self.old.spare + 1 }
         ensures filled { AllFilled HALF self.old.blocks }
     {
-        let mut row = self.used.remove(block);
-        let item = row.take_out(0);
+        let row = self.used.remove(block);
+        let item = *row.get(0);
         let _first = self.firsts.remove(block);
         self.spare.push_reserved(row);
         self.count -= 1;
