@@ -5,3 +5,4 @@ pub mod Ends
 pub mod Telling
 pub mod Building
 pub mod Unopened
+pub mod Missing

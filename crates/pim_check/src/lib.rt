@@ -7,6 +7,7 @@
 //! - `Fault` is why a command wasn't done. `fault_line` writes its line, and `tell_into` writes it
 //!   on one of two devices and returns the status.
 //! - `Warning` is what is told of a capture beside a result. `warning_line` writes its line.
+//!   `missed_line` and `unserved_line` write those on whom the messages of a capture name.
 //!
 //! A device's count of failures rises exactly where its failure is the result.
 //!
@@ -17,6 +18,7 @@ mod build;
 mod causes;
 mod check;
 mod fault;
+mod missing;
 mod telling;
 mod unopened;
 mod warning;
@@ -25,5 +27,6 @@ pub use build::{build_into, build_task};
 pub use causes::CaptureCause;
 pub use check::{check_into, check_task};
 pub use fault::{Fault, fault_line};
+pub use missing::{missed_line, unserved_line};
 pub use telling::{FAULTY, tell_into};
 pub use warning::{Warning, warning_line};
