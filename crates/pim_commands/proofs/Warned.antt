@@ -4,6 +4,8 @@ use Rattle.std.specs.Prelude.{filter}
 use Rattle.std.proofs.lemmas.List.{take-append-le, length-take, drop_more, drop_all, length-map}
 use Rattle.std.proofs.KnownBytes.{Appends-nil, Appends-trans}
 use Rattle.std.specs.Io.KnownBytes.{Appends}
+use Rattle.pim_addr.specs.declared.family.AddressFamily.{AddressFamily}
+use Rattle.pim_addr.specs.Routes.{RouteTable}
 use Rattle.pim_device.specs.Device.{AppendsFront, AppendsAll, failures_after}
 use Rattle.pim_merge.specs.declared.tally.Tally.{Tally}
 use Rattle.pim_merge.specs.Tally.{tally_at}
@@ -71,33 +73,33 @@ stopped old new (Err x) text e p = p
 
 -- ---- the ports of a router
 
-module _ {A : Type 0} (side : Option Side) (tallies : List Tally) (further : List More) (ports : List (Port A)) (at next place number : ℕ) (port : Port A) (more : next ≡ suc at) (below : place < length ports)
+module _ {A : Type 0} (family : AddressFamily) (bytes_of : A → List ℕ) (table : RouteTable) (side : Option Side) (tallies : List Tally) (further : List More) (ports : List (Port A)) (at next place number : ℕ) (port : Port A) (more : next ≡ suc at) (below : place < length ports)
     (here : port ≡ get_or ports place port) where
   -- what is left before this port and after it
-  left_at : (b : Bool) → is_in side port ≡ b → warnings_from number (left_from side further at place ports) tallies
-      ≡ warnings_from number (cond b (with_more at further port ∷ left_from side further next (place + 1) ports) (left_from side further next (place + 1) ports)) tallies
-  left_at b is = ap (λ l. warnings_from number l tallies) (one_port side further ports at next place port b more below is here)
+  left_at : (b : Bool) → is_in side port ≡ b → warnings_from family bytes_of table number (left_from side further at place ports) tallies
+      ≡ warnings_from family bytes_of table number (cond b (with_more at further port ∷ left_from side further next (place + 1) ports) (left_from side further next (place + 1) ports)) tallies
+  left_at b is = ap (λ l. warnings_from family bytes_of table number l tallies) (one_port side further ports at next place port b more below is here)
 
-  pub port_passed : (old now : Option (List ℕ)) (all : List ℕ) → is_in side port ≡ false → IsLeft old now (warnings_from number (left_from side further at place ports) tallies) all
-      → IsLeft old now (warnings_from number (left_from side further next (place + 1) ports) tallies) all
+  pub port_passed : (old now : Option (List ℕ)) (all : List ℕ) → is_in side port ≡ false → IsLeft old now (warnings_from family bytes_of table number (left_from side further at place ports) tallies) all
+      → IsLeft old now (warnings_from family bytes_of table number (left_from side further next (place + 1) ports) tallies) all
   port_passed old now all is w = subst (λ l. IsLeft old now l all) (left_at false is) w
 
   pub port_warned : (old now new : Option (List ℕ)) (all : List ℕ) (later : ℕ) → later ≡ suc number → is_in side port ≡ true
-      → IsLeft old now (warnings_from number (left_from side further at place ports) tallies) all → Appends now new (port_warnings (with_more at further port) (tally_at number tallies))
-      → IsLeft old new (warnings_from later (left_from side further next (place + 1) ports) tallies) all
+      → IsLeft old now (warnings_from family bytes_of table number (left_from side further at place ports) tallies) all → Appends now new (port_warnings family bytes_of table (with_more at further port) (tally_at number tallies))
+      → IsLeft old new (warnings_from family bytes_of table later (left_from side further next (place + 1) ports) tallies) all
   port_warned old now new all later one is w p =
-      subst (λ n. IsLeft old new (warnings_from n (left_from side further next (place + 1) ports) tallies) all) (sym one)
-      (left_less old now new (port_warnings (with_more at further port) (tally_at number tallies)) (warnings_from (suc number) (left_from side further next (place + 1) ports) tallies) all
+      subst (λ n. IsLeft old new (warnings_from family bytes_of table n (left_from side further next (place + 1) ports) tallies) all) (sym one)
+      (left_less old now new (port_warnings family bytes_of table (with_more at further port) (tally_at number tallies)) (warnings_from family bytes_of table (suc number) (left_from side further next (place + 1) ports) tallies) all
       (subst (λ l. IsLeft old now l all) (left_at true is) w) p)
 
   pub port_stopped : (old now new : Option (List ℕ)) (all : List ℕ) → is_in side port ≡ true
-      → IsLeft old now (warnings_from number (left_from side further at place ports) tallies) all
-      → AppendsFront now new (port_warnings (with_more at further port) (tally_at number tallies)) → AppendsFront old new all
+      → IsLeft old now (warnings_from family bytes_of table number (left_from side further at place ports) tallies) all
+      → AppendsFront now new (port_warnings family bytes_of table (with_more at further port) (tally_at number tallies)) → AppendsFront old new all
   port_stopped old now new all is w p =
-      left_stopped old now new (port_warnings (with_more at further port) (tally_at number tallies)) (warnings_from (suc number) (left_from side further next (place + 1) ports) tallies) all
+      left_stopped old now new (port_warnings family bytes_of table (with_more at further port) (tally_at number tallies)) (warnings_from family bytes_of table (suc number) (left_from side further next (place + 1) ports) tallies) all
       (subst (λ l. IsLeft old now l all) (left_at true is) w) p
 
-pub ports_warned : {A : Type 0} (side : Option Side) (tallies : List Tally) (further : List More) (ports : List (Port A)) (at place number : ℕ) (old now : Option (List ℕ)) (all : List ℕ) → length ports ≤ place
-    → IsLeft old now (warnings_from number (left_from side further at place ports) tallies) all → Appends old now all
-ports_warned side tallies further ports at place number old now all over w =
-    left_none old now all (subst (λ l. IsLeft old now l all) (ap (λ l. warnings_from number (filter (are_in side) (files_from at further l)) tallies) (drop_all place ports over)) w)
+pub ports_warned : {A : Type 0} (family : AddressFamily) (bytes_of : A → List ℕ) (table : RouteTable) (side : Option Side) (tallies : List Tally) (further : List More) (ports : List (Port A)) (at place number : ℕ) (old now : Option (List ℕ)) (all : List ℕ) → length ports ≤ place
+    → IsLeft old now (warnings_from family bytes_of table number (left_from side further at place ports) tallies) all → Appends old now all
+ports_warned family bytes_of table side tallies further ports at place number old now all over w =
+    left_none old now all (subst (λ l. IsLeft old now l all) (ap (λ l. warnings_from family bytes_of table number (filter (are_in side) (files_from at further l)) tallies) (drop_all place ports over)) w)

@@ -1,6 +1,7 @@
 -- The definitions of `pim_commands`.
 pub mod Naming
 pub mod Warnings
+pub mod Census
 pub mod Replaying
 pub mod Tracing
 pub mod Laws

@@ -21,6 +21,7 @@ use Rattle.pim_words.specs.declared.task.Captures.{Captures}
 use Rattle.pim_words.specs.declared.task.Tracing.{Tracing}
 use Rattle.pim_words.specs.declared.task.Writing.{Writing}
 use Rattle.pim_check.specs.declared.fault.Fault.{Fault}
+use Rattle.pim_commands.specs.Census.{begun}
 use Rattle.pim_commands.specs.Changing.{ChangesNew}
 use Rattle.pim_commands.specs.Comparing.{side_setup, ComparesNew}
 use Rattle.pim_commands.specs.Emitting.{EmitsNew}
@@ -117,39 +118,43 @@ module _ {A R : Type 0} (family : AddressFamily) (bytes_of : A → List ℕ) (re
   -- What `replay` returns and writes. It writes upstream neighbours if a file of routes is named.
   abbrev pub ReplaysFiles : (List ℕ → Type 0) → Option (List ℕ) → Option (List ℕ) → Result ℕ Fault → Type 0
   ReplaysFiles Warns old new result = OpensOne None Warns old new result (λ table merge merge'.
-      ReplaysNew (port_files captures) family (is_some captures.routes) (end_of captures) merge merge' (setup_under table) old new result
-      × Warns (warnings_text (port_files captures) merge'))
+      ReplaysNew (port_files captures) family (is_some captures.routes) (end_of captures) (begun family captures merge) merge' (setup_under table) old new result
+      × Warns (warnings_text family bytes_of table (port_files captures) merge'))
 
   -- What `trace` returns and writes.
   abbrev pub TracesFiles : Tracing A → (List ℕ → Type 0) → Option (List ℕ) → Option (List ℕ) → Result ℕ Fault → Type 0
   TracesFiles tracing Warns old new result = OpensOne None Warns old new result (λ table merge merge'.
       TracesNew (port_files captures) family (line_of family bytes_of (names_of 0 tracing.names.items) tracing) (end_of captures) merge merge'
-      (setup_under table) old new result × Warns (warnings_text (port_files captures) merge'))
+      (setup_under table) old new result × Warns (warnings_text family bytes_of table (port_files captures) merge'))
 
   -- What `mirror` returns and writes.
   abbrev pub MirrorsFiles : Writing A → (List ℕ → Type 0) → Option (List ℕ) → Option (List ℕ) → Result ℕ Fault → Type 0
   MirrorsFiles writing Warns old new result = OpensOne (Some writing.upstream) Warns old new result (λ table merge merge'.
-      MirrorsNew (port_files captures) family bytes_of (end_of captures) captures.limit (writing_of writing) merge merge' (setup_under table)
-      old new result × Warns (warnings_text (port_files captures) merge'))
+      MirrorsNew (port_files captures) family bytes_of (end_of captures) captures.limit (writing_of writing) (begun family captures merge) merge' (setup_under table)
+      old new result × Warns (warnings_text family bytes_of table (port_files captures) merge'))
 
   -- What `emit` returns and writes.
   abbrev pub EmitsFiles : Writing A → (List ℕ → Type 0) → Option (List ℕ) → Option (List ℕ) → Result ℕ Fault → Type 0
   EmitsFiles writing Warns old new result = OpensOne (Some writing.upstream) Warns old new result (λ table merge merge'.
-      EmitsNew (port_files captures) family bytes_of (end_of captures) (writing_of writing) merge merge' (setup_under table) old new result
-      × Warns (warnings_text (port_files captures) merge'))
+      EmitsNew (port_files captures) family bytes_of (end_of captures) (writing_of writing) (begun family captures merge) merge' (setup_under table) old new result
+      × Warns (warnings_text family bytes_of table (port_files captures) merge'))
 
   -- What `same` returns and writes.
   abbrev pub ComparesFiles : Writing A → (List ℕ → Type 0) → Option (List ℕ) → Option (List ℕ) → Result ℕ Fault → Type 0
   ComparesFiles writing Warns old new result = OpensBoth (Some writing.upstream) Warns old new result
       (λ table merge merge' other other'.
-      ComparesNew (ports_of_side side.A) (ports_of_side side.B) family bytes_of (end_of captures) (writing_of writing) merge merge' other other'
+      ComparesNew (ports_of_side side.A) (ports_of_side side.B) family bytes_of (end_of captures) (writing_of writing)
+      (begun family captures merge) merge' (begun family captures other) other'
       (side_setup_under side.A table) (side_setup_under side.B table) old new result
-      × Warns (warnings_text (ports_of_side side.A) merge' ++ warnings_text (ports_of_side side.B) other'))
+      × Warns (warnings_text family bytes_of table (ports_of_side side.A) merge'
+      ++ warnings_text family bytes_of table (ports_of_side side.B) other'))
 
   -- What `change` returns and writes.
   abbrev pub ChangesFiles : Writing A → (List ℕ → Type 0) → Option (List ℕ) → Option (List ℕ) → Result ℕ Fault → Type 0
   ChangesFiles writing Warns old new result = OpensBoth (Some writing.upstream) Warns old new result
       (λ table merge merge' other other'.
-      ChangesNew (ports_of_side side.A) (ports_of_side side.B) family bytes_of (end_of captures) captures.limit (writing_of writing) merge merge' other other'
+      ChangesNew (ports_of_side side.A) (ports_of_side side.B) family bytes_of (end_of captures) captures.limit (writing_of writing)
+      (begun family captures merge) merge' (begun family captures other) other'
       (side_setup_under side.A table) (side_setup_under side.B table) old new result
-      × Warns (warnings_text (ports_of_side side.A) merge' ++ warnings_text (ports_of_side side.B) other'))
+      × Warns (warnings_text family bytes_of table (ports_of_side side.A) merge'
+      ++ warnings_text family bytes_of table (ports_of_side side.B) other'))

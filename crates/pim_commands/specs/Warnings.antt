@@ -1,5 +1,9 @@
 -- The warnings on the captures of a router after its run, by what was taken of each.
 use Rattle.std.specs.Prelude.{ℕ, suc, Bool, nat_lt, cond, is_some, List, [], ◌∷◌, ◌++◌, Option, None, Some}
+use Rattle.pim_addr.specs.declared.family.AddressFamily.{AddressFamily}
+use Rattle.pim_addr.specs.Routes.{RouteTable}
+use Rattle.pim_census.specs.declared.census.Census.{Census}
+use Rattle.pim_census.specs.Missing.{misses, without_rp}
 use Rattle.pim_files.specs.Captures.{PortFiles}
 use Rattle.std.specs.Borrow.{Bor}
 use Rattle.pim_merge.specs.declared.tally.Place.{Place}
@@ -9,6 +13,7 @@ use Rattle.pim_merge.specs.Next.{MergeState}
 use Rattle.pim_merge.specs.Tally.{tally_at}
 use Rattle.pim_check.specs.declared.warning.Warning.{Warning}
 use Rattle.pim_check.specs.declared.warning.Warning.TheVariants.{CutShort, Fragments, CutFrames, RunsBack, Jumps}
+use Rattle.pim_check.specs.Missing.{missed_text, unserved_text}
 use Rattle.pim_check.specs.Words.{warning_text}
 use Rattle.pim_commands.specs.Naming.{name_at}
 
@@ -43,16 +48,42 @@ unfoldable pub time_warnings : {A : Type 0} → PortFiles A → Tally → List �
 time_warnings it tally = warned RunsBack (place_file it tally.ran_back).now (record_of tally.ran_back)
     ++ warned Jumps (place_file it tally.jumped).now (record_of tally.jumped)
 
--- The warnings on the capture of a port. There are none on that of a port without a link.
-abbrev pub port_warnings : {A : Type 0} → PortFiles A → Tally → List ℕ
-port_warnings it tally = cond (is_some it.port.link) (count_warnings it tally ++ time_warnings it tally) []
+-- The warning that no message of a capture is for the router with this address, if messages are for
+-- others.
+abbrev pub missed_warning : AddressFamily → List ℕ → List ℕ → Census → List ℕ
+missed_warning family file own census =
+    cond (misses own census.upstreams) (missed_text family file own census.upstreams) []
 
--- Those on the captures of these ports, of which the first has this number.
-abbrev pub warnings_from : {A : Type 0} → ℕ → List (PortFiles A) → List Tally → List ℕ
-warnings_from number [] tallies = []
-warnings_from number (it ∷ ports) tallies =
-    port_warnings it (tally_at number tallies) ++ warnings_from (suc number) ports tallies
+-- The warning that this group of a Join(*,G) has no RP, if there is such a group.
+abbrev pub unserved_group : AddressFamily → List ℕ → Option (List ℕ) → List ℕ
+unserved_group family file None = []
+unserved_group family file (Some group) = unserved_text family file group
 
--- The warnings on all captures of a router with these ports.
-abbrev pub warnings_text : {A : Type 0} → List (PortFiles A) → MergeState → List ℕ
-warnings_text ports merge = warnings_from 0 ports (tallies_of merge.lanes)
+-- The warning that a Join(*,G) for the router with this address is of a group without an RP in the
+-- table.
+abbrev pub unserved_warning : AddressFamily → RouteTable → List ℕ → List ℕ → Census → List ℕ
+unserved_warning family table file own census =
+    unserved_group family file (without_rp family table own census.stars)
+
+-- The warnings on whom the messages of a capture name, if that was counted.
+unfoldable pub census_warnings : AddressFamily → RouteTable → List ℕ → List ℕ → Option Census → List ℕ
+census_warnings family table file own None = []
+census_warnings family table file own (Some census) =
+    missed_warning family file own census ++ unserved_warning family table file own census
+
+module _ {A : Type 0} (family : AddressFamily) (bytes_of : A → List ℕ) (table : RouteTable) where
+  -- The warnings on the capture of a port. There are none on that of a port without a link. The port's
+  -- own file names those on messages.
+  abbrev pub port_warnings : PortFiles A → Tally → List ℕ
+  port_warnings it tally = cond (is_some it.port.link) (count_warnings it tally ++ time_warnings it tally
+      ++ census_warnings family table it.port.file.now (bytes_of it.port.address) tally.census) []
+
+  -- Those on the captures of these ports, of which the first has this number.
+  abbrev pub warnings_from : ℕ → List (PortFiles A) → List Tally → List ℕ
+  warnings_from number [] tallies = []
+  warnings_from number (it ∷ ports) tallies =
+      port_warnings it (tally_at number tallies) ++ warnings_from (suc number) ports tallies
+
+  -- The warnings on all captures of a router with these ports.
+  abbrev pub warnings_text : List (PortFiles A) → MergeState → List ℕ
+  warnings_text ports merge = warnings_from 0 ports (tallies_of merge.lanes)

@@ -12,6 +12,7 @@ ghost use Rattle.pim_commands.specs.Opening.{ChangesFiles};
 ghost use Rattle.pim_check.specs.Report.{write_failures_after};
 ghost use Rattle.pim_check.specs.Telling.{IsTold};
 
+use crate::census::begin_both;
 use crate::comparing::prepare_both;
 use crate::mirroring::mirrored;
 use crate::opening::open_two;
@@ -118,6 +119,7 @@ pub fn change<'a, F: Family, O: Opener, W: Drain, E: Drain>(
         Ok(files) => files,
         Err(fault) => return Err(fault),
     };
+    begin_both::<F, _>(captures, &mut files.pair);
     let answer = change_opened::<F, _, W>(
         alloc,
         captures,
@@ -126,6 +128,6 @@ pub fn change<'a, F: Family, O: Opener, W: Drain, E: Drain>(
         &mut files.pair,
         writer,
     );
-    warn_of_both(errors, captures, &files.pair);
+    warn_of_both::<F, E, _>(errors, captures, &files.routes, &files.pair);
     answer
 }

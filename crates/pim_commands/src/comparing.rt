@@ -14,6 +14,7 @@ ghost use Rattle.pim_commands.specs.Opening.{ComparesFiles};
 ghost use Rattle.pim_check.specs.Report.{write_failures_after};
 ghost use Rattle.pim_check.specs.Telling.{IsTold};
 
+use crate::census::begin_both;
 use crate::naming::{is_of, port_fault};
 use crate::opening::open_two;
 use crate::replaying::{config, end_of, replay_fault, router_of};
@@ -203,6 +204,7 @@ pub fn same<'a, F: Family, O: Opener, W: Drain, E: Drain>(
         Ok(files) => files,
         Err(fault) => return Err(fault),
     };
+    begin_both::<F, _>(captures, &mut files.pair);
     let answer = same_opened::<F, _, W>(
         alloc,
         captures,
@@ -211,6 +213,6 @@ pub fn same<'a, F: Family, O: Opener, W: Drain, E: Drain>(
         &mut files.pair,
         writer,
     );
-    warn_of_both(errors, captures, &files.pair);
+    warn_of_both::<F, E, _>(errors, captures, &files.routes, &files.pair);
     answer
 }

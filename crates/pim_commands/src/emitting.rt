@@ -11,6 +11,7 @@ ghost use Rattle.pim_commands.specs.Opening.{EmitsFiles};
 ghost use Rattle.pim_check.specs.Report.{write_failures_after};
 ghost use Rattle.pim_check.specs.Telling.{IsTold};
 
+use crate::census::begin_census;
 use crate::mirroring::prepare_one;
 use crate::opening::open_one;
 use crate::replaying::{end_of, replay_fault, router_of};
@@ -121,6 +122,7 @@ pub fn emit<'a, F: Family, O: Opener, W: Drain, E: Drain>(
         Ok(files) => files,
         Err(fault) => return Err(fault),
     };
+    begin_census::<F, _>(captures, &mut files.merge);
     let answer = emit_opened::<F, _, W>(
         alloc,
         captures,
@@ -129,6 +131,6 @@ pub fn emit<'a, F: Family, O: Opener, W: Drain, E: Drain>(
         &mut files.merge,
         writer,
     );
-    warn_of_one(errors, captures, &files.merge);
+    warn_of_one::<F, E, _>(errors, captures, &files.routes, &files.merge);
     answer
 }

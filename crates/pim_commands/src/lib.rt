@@ -27,6 +27,7 @@
 //! This library is apart from the program, so that tests can call it.
 #![tactic(auto)]
 
+mod census;
 mod changing;
 mod comparing;
 mod emitting;

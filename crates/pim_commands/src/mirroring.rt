@@ -15,6 +15,7 @@ ghost use Rattle.pim_commands.specs.Opening.{MirrorsFiles};
 ghost use Rattle.pim_check.specs.Report.{write_failures_after};
 ghost use Rattle.pim_check.specs.Telling.{IsTold};
 
+use crate::census::begin_census;
 use crate::naming::port_fault;
 use crate::opening::open_one;
 use crate::replaying::{configs, end_of, replay_fault, router_of};
@@ -184,6 +185,7 @@ pub fn mirror<'a, F: Family, O: Opener, W: Drain, E: Drain>(
         Ok(files) => files,
         Err(fault) => return Err(fault),
     };
+    begin_census::<F, _>(captures, &mut files.merge);
     let answer = mirror_opened::<F, _, W>(
         alloc,
         captures,
@@ -192,6 +194,6 @@ pub fn mirror<'a, F: Family, O: Opener, W: Drain, E: Drain>(
         &mut files.merge,
         writer,
     );
-    warn_of_one(errors, captures, &files.merge);
+    warn_of_one::<F, E, _>(errors, captures, &files.routes, &files.merge);
     answer
 }

@@ -17,6 +17,7 @@ ghost use Rattle.pim_commands.specs.Opening.{ReplaysFiles};
 ghost use Rattle.pim_check.specs.Report.{write_failures_after};
 ghost use Rattle.pim_check.specs.Telling.{IsTold};
 
+use crate::census::begin_census;
 use crate::naming::port_fault;
 use crate::opening::open_one;
 use crate::warnings::warn_of_one;
@@ -208,7 +209,8 @@ pub fn replay<'a, F: Family, O: Opener, W: Drain, E: Drain>(
         Ok(files) => files,
         Err(fault) => return Err(fault),
     };
+    begin_census::<F, _>(captures, &mut files.merge);
     let answer = replay_opened::<F, _, W>(alloc, captures, &files.routes, &mut files.merge, writer);
-    warn_of_one(errors, captures, &files.merge);
+    warn_of_one::<F, E, _>(errors, captures, &files.routes, &files.merge);
     answer
 }

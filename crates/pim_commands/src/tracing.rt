@@ -215,6 +215,6 @@ pub fn trace<'a, F: Family, O: Opener, W: Drain, E: Drain>(
     };
     let asked = (captures, tracing);
     let answer = trace_opened::<F, _, W>(alloc, asked, &files.routes, &mut files.merge, writer);
-    warn_of_one(errors, captures, &files.merge);
+    warn_of_one::<F, E, _>(errors, captures, &files.routes, &files.merge);
     answer
 }

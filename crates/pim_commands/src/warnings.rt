@@ -12,11 +12,13 @@ ghost use Rattle.pim_check.specs.declared.warning.Warning.TheVariants.{RunsBack,
 ghost use Rattle.pim_commands.specs.Naming.{are_in, ports_of};
 ghost use Rattle.pim_commands.specs.Warnings.{warned, number_if, record_of, count_warnings};
 ghost use Rattle.pim_commands.specs.Warnings.{time_warnings, port_warnings, place_file, warnings_from};
-ghost use Rattle.pim_commands.specs.Warnings.{warnings_text};
+ghost use Rattle.pim_commands.specs.Warnings.{warnings_text, census_warnings};
+ghost use Rattle.pim_commands.specs.Warnings.{missed_warning, unserved_warning};
 
 use crate::naming::{is_in, name_at};
-use pim_addr::{Drain, Failed, Feed};
-use pim_check::{Warning, warning_line};
+use pim_addr::{Drain, Failed, Family, Feed, Routes};
+use pim_census::Census;
+use pim_check::{Warning, missed_line, unserved_line, warning_line};
 use pim_files::Pair;
 use pim_merge::{Merge, Place, Tally};
 use pim_words::{Captures, More, Port, Side};
@@ -159,8 +161,81 @@ fn warn_of_times<W: Drain, A: Copy>(
     )
 }
 
-/// Writes the warnings on the capture of a port with a link.
-fn warn_of_files<W: Drain, A: Copy>(
+/// Writes the warning that no message of a capture is for the router with this address, if messages
+/// are for others.
+fn warn_of_missed<F: Family, W: Drain>(
+    writer: &mut W,
+    file: &str,
+    own: F::Addr,
+    census: &Census,
+) -> Result<(), Failed>
+    ensures bytes { AppendsAll (W.contents writer.old) (W.contents writer.new) result
+        (missed_warning F.family file.now (F.bytes_of own) census.now) }
+    ensures count { W.failures writer.new ≡ failures_after (W.failures writer.old) result }
+{
+    if census.misses::<F>(own) {
+        return missed_line::<F, W>(writer, file, own, &census.upstreams);
+    }
+    Ok(())
+}
+
+/// Writes the warning that a Join(\*,G) for the router with this address is of a group without an
+/// RP, if there is such a group.
+fn warn_of_unserved<F: Family, W: Drain>(
+    writer: &mut W,
+    file: &str,
+    own: F::Addr,
+    routes: &Routes<F>,
+    census: &Census,
+) -> Result<(), Failed>
+    ensures bytes { AppendsAll (W.contents writer.old) (W.contents writer.new) result
+        (unserved_warning F.family routes.now file.now (F.bytes_of own) census.now) }
+    ensures count { W.failures writer.new ≡ failures_after (W.failures writer.old) result }
+{
+    match census.without_rp::<F>(own, routes) {
+        Some(group) => unserved_line::<F, W>(writer, file, group),
+        None => Ok(()),
+    }
+}
+
+/// Writes the warnings on whom messages name.
+fn warn_of_names<F: Family, W: Drain>(
+    writer: &mut W,
+    file: &str,
+    own: F::Addr,
+    routes: &Routes<F>,
+    census: &Census,
+) -> Result<(), Failed>
+    ensures bytes { AppendsAll (W.contents writer.old) (W.contents writer.new) result
+        (missed_warning F.family file.now (F.bytes_of own) census.now
+        ++ unserved_warning F.family routes.now file.now (F.bytes_of own) census.now) }
+    ensures count { W.failures writer.new ≡ failures_after (W.failures writer.old) result }
+{
+    warn_of_missed::<F, W>(writer, file, own, census)?;
+    warn_of_unserved::<F, W>(writer, file, own, routes, census)
+}
+
+/// Writes the warnings on whom messages name, if that was counted.
+#[tactic(auto, unfolding(crate::specs::Warnings::census_warnings))]
+fn warn_of_census<F: Family, W: Drain>(
+    writer: &mut W,
+    file: &str,
+    own: F::Addr,
+    routes: &Routes<F>,
+    census: Option<Census>,
+) -> Result<(), Failed>
+    ensures bytes { AppendsAll (W.contents writer.old) (W.contents writer.new) result
+        (census_warnings F.family routes.now file.now (F.bytes_of own) census) }
+    ensures count { W.failures writer.new ≡ failures_after (W.failures writer.old) result }
+{
+    match census {
+        Some(census) => warn_of_names::<F, W>(writer, file, own, routes, &census),
+        None => Ok(()),
+    }
+}
+
+/// Writes the warnings on counts and those on times.
+fn warn_of_records<W: Drain, A: Copy>(
     writer: &mut W,
     at: usize,
     port: &Port<'_, A>,
@@ -176,20 +251,41 @@ fn warn_of_files<W: Drain, A: Copy>(
     warn_of_times(writer, at, port, further, tally)
 }
 
-/// Writes the warnings on the capture of a port.
-fn warn_of_port<W: Drain, A: Copy>(
+/// Writes the warnings on the capture of a port with a link.
+fn warn_of_files<F: Family, W: Drain>(
     writer: &mut W,
     at: usize,
-    port: &Port<'_, A>,
+    port: &Port<'_, F::Addr>,
     further: &[More<'_>],
+    routes: &Routes<F>,
     tally: Tally,
 ) -> Result<(), Failed>
     ensures bytes { AppendsAll (W.contents writer.old) (W.contents writer.new) result
-        (port_warnings (with_more at further.now port.now) tally) }
+        (count_warnings (with_more at further.now port.now) tally
+        ++ time_warnings (with_more at further.now port.now) tally
+        ++ census_warnings F.family routes.now port.now.file.now (F.bytes_of port.now.address)
+        tally.census) }
+    ensures count { W.failures writer.new ≡ failures_after (W.failures writer.old) result }
+{
+    warn_of_records(writer, at, port, further, tally)?;
+    warn_of_census::<F, W>(writer, port.file, port.address, routes, tally.census)
+}
+
+/// Writes the warnings on the capture of a port.
+fn warn_of_port<F: Family, W: Drain>(
+    writer: &mut W,
+    at: usize,
+    port: &Port<'_, F::Addr>,
+    further: &[More<'_>],
+    routes: &Routes<F>,
+    tally: Tally,
+) -> Result<(), Failed>
+    ensures bytes { AppendsAll (W.contents writer.old) (W.contents writer.new) result
+        (port_warnings F.family F.bytes_of routes.now (with_more at further.now port.now) tally) }
     ensures count { W.failures writer.new ≡ failures_after (W.failures writer.old) result }
 {
     if port.link.is_some() {
-        return warn_of_files(writer, at, port, further, tally);
+        return warn_of_files::<F, W>(writer, at, port, further, routes, tally);
     }
     Ok(())
 }
@@ -210,19 +306,22 @@ fn tally_of<R: Feed + Drop>(merge: &Merge<R>, number: usize) -> Tally
         last: None,
         ran_back: None,
         jumped: None,
+        census: None,
     }
 }
 
 /// Writes the warnings on the captures of the router's ports among these.
-fn warn_of_ports<W: Drain, R: Feed + Drop, A: Copy>(
+fn warn_of_ports<F: Family, W: Drain, R: Feed + Drop>(
     writer: &mut W,
-    ports: &[Port<'_, A>],
+    ports: &[Port<'_, F::Addr>],
     further: &[More<'_>],
     side: Option<Side>,
+    routes: &Routes<F>,
     merge: &Merge<R>,
 ) -> Result<(), Failed>
     ensures bytes { AppendsAll (W.contents writer.old) (W.contents writer.new) result
-        (warnings_from 0 (filter (are_in side) (files_from 0 further.now ports.now))
+        (warnings_from F.family F.bytes_of routes.now 0
+        (filter (are_in side) (files_from 0 further.now ports.now))
         (tallies_of merge.now.lanes)) }
     ensures count { W.failures writer.new ≡ failures_after (W.failures writer.old) result }
 {
@@ -230,7 +329,7 @@ fn warn_of_ports<W: Drain, R: Feed + Drop, A: Copy>(
     let mut at = 0;
     for port in ports {
         if is_in(side, port) {
-            warn_of_port(writer, at, port, further, tally_of(merge, number))?;
+            warn_of_port::<F, W>(writer, at, port, further, routes, tally_of(merge, number))?;
             number += 1;
         }
         at += 1;
@@ -239,59 +338,68 @@ fn warn_of_ports<W: Drain, R: Feed + Drop, A: Copy>(
 }
 
 /// Writes the warnings on the captures of a router: of one of two, or of the one of all ports.
-fn warn_of_router<W: Drain, R: Feed + Drop, A: Copy>(
+fn warn_of_router<F: Family, W: Drain, R: Feed + Drop>(
     writer: &mut W,
-    captures: &Captures<'_, A>,
+    captures: &Captures<'_, F::Addr>,
+    routes: &Routes<F>,
     side: Option<Side>,
     merge: &Merge<R>,
 ) -> Result<(), Failed>
     ensures bytes { AppendsAll (W.contents writer.old) (W.contents writer.new) result
-        (warnings_text (ports_of side (port_files captures.now)) merge.now) }
+        (warnings_text F.family F.bytes_of routes.now (ports_of side (port_files captures.now))
+        merge.now) }
     ensures count { W.failures writer.new ≡ failures_after (W.failures writer.old) result }
 {
-    warn_of_ports(writer, &captures.ports, &captures.more, side, merge)
+    warn_of_ports::<F, W, R>(writer, &captures.ports, &captures.more, side, routes, merge)
 }
 
 /// Writes the warnings on the captures of the routers a and b.
-fn warn_of_pair<W: Drain, R: Feed + Drop, A: Copy>(
+fn warn_of_pair<F: Family, W: Drain, R: Feed + Drop>(
     writer: &mut W,
-    captures: &Captures<'_, A>,
+    captures: &Captures<'_, F::Addr>,
+    routes: &Routes<F>,
     pair: &Pair<R>,
 ) -> Result<(), Failed>
     ensures bytes { AppendsAll (W.contents writer.old) (W.contents writer.new) result
-        (warnings_text (of_router Side.A (port_files captures.now)) pair.now.a
-        ++ warnings_text (of_router Side.B (port_files captures.now)) pair.now.b) }
+        (warnings_text F.family F.bytes_of routes.now (of_router Side.A (port_files captures.now))
+        pair.now.a
+        ++ warnings_text F.family F.bytes_of routes.now (of_router Side.B (port_files captures.now))
+        pair.now.b) }
     ensures count { W.failures writer.new ≡ failures_after (W.failures writer.old) result }
 {
-    warn_of_router(writer, captures, Some(Side::A), &pair.a)?;
-    warn_of_router(writer, captures, Some(Side::B), &pair.b)
+    warn_of_router::<F, W, R>(writer, captures, routes, Some(Side::A), &pair.a)?;
+    warn_of_router::<F, W, R>(writer, captures, routes, Some(Side::B), &pair.b)
 }
 
 /// Writes the warnings on the captures of a router to the device for errors. A failure of that
 /// device is ignored.
-pub(crate) fn warn_of_one<E: Drain, R: Feed + Drop, A: Copy>(
+pub(crate) fn warn_of_one<F: Family, E: Drain, R: Feed + Drop>(
     errors: &mut E,
-    captures: &Captures<'_, A>,
+    captures: &Captures<'_, F::Addr>,
+    routes: &Routes<F>,
     merge: &Merge<R>,
 )
-    ensures { IsTold (warnings_text (port_files captures.now) merge.now)
+    ensures { IsTold (warnings_text F.family F.bytes_of routes.now (port_files captures.now) merge.now)
         (E.contents errors.old) (E.contents errors.new) (E.failures errors.old)
         (E.failures errors.new) }
 {
-    let _ = warn_of_router(errors, captures, None, merge);
+    let _ = warn_of_router::<F, E, R>(errors, captures, routes, None, merge);
 }
 
 /// Writes the warnings on the captures of two routers to the device for errors. A failure of that
 /// device is ignored.
-pub(crate) fn warn_of_both<E: Drain, R: Feed + Drop, A: Copy>(
+pub(crate) fn warn_of_both<F: Family, E: Drain, R: Feed + Drop>(
     errors: &mut E,
-    captures: &Captures<'_, A>,
+    captures: &Captures<'_, F::Addr>,
+    routes: &Routes<F>,
     pair: &Pair<R>,
 )
-    ensures { IsTold (warnings_text (of_router Side.A (port_files captures.now)) pair.now.a
-        ++ warnings_text (of_router Side.B (port_files captures.now)) pair.now.b)
+    ensures { IsTold (warnings_text F.family F.bytes_of routes.now (of_router Side.A (port_files captures.now))
+        pair.now.a
+        ++ warnings_text F.family F.bytes_of routes.now (of_router Side.B (port_files captures.now))
+        pair.now.b)
         (E.contents errors.old) (E.contents errors.new) (E.failures errors.old)
         (E.failures errors.new) }
 {
-    let _ = warn_of_pair(errors, captures, pair);
+    let _ = warn_of_pair::<F, E, R>(errors, captures, routes, pair);
 }

@@ -1,4 +1,11 @@
-use Rattle.std.proofs.Common.{inl, refl, Some}
+use Rattle.std.proofs.Common.{subst, inl, refl, Some}
+use Rattle.std.specs.Prelude.{map}
+use Rattle.pim_files.specs.Opening.{port_files}
+use Rattle.pim_form.specs.Seen.{writing_seen}
+use Rattle.pim_merge.specs.Next.{MergeState}
+use Rattle.pim_router.specs.Seen.{setup_seen}
+use Rattle.pim_commands.specs.Mirroring.{MirrorsNew}
+use Rattle.pim_commands.specs.Replaying.{config_of, end_of}
 use Rattle.pim_check.specs.Telling.{IsTold}
 use Rattle.pim_commands.proofs.Warned.{nothing_told}
 use Rattle.pim_commands.proofs.Opened.{over_open, not_failed, answered}
@@ -19,4 +26,4 @@ returns-clause-text g c =
     (λ text. IsTold text (g.E.Drain.contents c.args.errors.now) (g.E.Drain.contents c.warn_of_one.new.errors) (g.E.Drain.failures c.args.errors.now) (g.E.Drain.failures c.warn_of_one.new.errors))
     (g.W.Drain.contents c.args.writer.now) (g.W.Drain.contents c.mirror_opened-answer.new.writer) c.mirror_opened-answer.result _
     (over_open g.F.Family.family g.F.Family.bytes_of g.O.Reader.Feed.remaining g.O.Reader.Feed.failures (g.O.Opener.known c.args.opener.now) (g.O.Opener.known c.open_one.new.opener)
-    c.args.captures.now (Some c.args.writing.now.upstream) _ c.in-Ok.files.routes c.in-Ok.files.merge c.mirror_opened-answer.new.merge c.in-Ok.ensures.opened (c.mirror_opened-answer.ensures.text, c.warn_of_one.ensures))
+    c.args.captures.now (Some c.args.writing.now.upstream) _ c.in-Ok.files.routes c.in-Ok.files.merge c.mirror_opened-answer.new.merge c.in-Ok.ensures.opened (subst (λ (m : MergeState). MirrorsNew (port_files c.args.captures.now) g.F.Family.family g.F.Family.bytes_of (end_of c.args.captures.now) c.args.captures.now.limit (writing_seen g.F.Family.bytes_of c.args.writing.now.upstream c.args.writing.now.own c.args.writing.now.holdtime c.args.writing.now.budget) m c.mirror_opened-answer.new.merge (setup_seen g.F.Family.bytes_of (map config_of c.args.captures.now.ports.items) c.in-Ok.files.routes c.args.captures.now.limit) (g.W.Drain.contents c.args.writer.now) (g.W.Drain.contents c.mirror_opened-answer.new.writer) c.mirror_opened-answer.result) c.begin_census.ensures.census c.mirror_opened-answer.ensures.text, c.warn_of_one.ensures))

@@ -1,4 +1,4 @@
-use Rattle.std.proofs.Common.{◌∙◌, ◌+◌, sym, ap, subst, arith}
+use Rattle.std.proofs.Common.{◌∙◌, ◌+◌, refl, sym, ap, subst, arith}
 use Rattle.std.specs.Prelude.{filter}
 use Rattle.std.specs.Io.KnownBytes.{Appends}
 use Rattle.pim_device.specs.Device.{AppendsFront}
@@ -6,39 +6,47 @@ use Rattle.pim_files.specs.Captures.{files_from, with_more}
 use Rattle.pim_merge.specs.Lane.{tallies_of}
 use Rattle.pim_commands.specs.Naming.{are_in}
 use Rattle.pim_commands.specs.Warnings.{port_warnings, warnings_from}
-use Rattle.pim_commands.proofs.Warned.{stopped, port_passed, port_stopped, port_warned}
+use Rattle.pim_commands.proofs.Warned.{left_all, stopped, port_passed, port_stopped, port_warned}
 use Rattle.pim_commands.proofs.warnings.warn_of_ports.Goals as goal
 use Rattle.pim_commands.proofs.warnings.warn_of_ports.Goals.{then-is_in+in_ok-warn_of_port, else-is_in}
 
 pub returns-in_err-warn_of_port-clause-bytes : goal.returns-in_err-warn_of_port-clause-bytes
 returns-in_err-warn_of_port-clause-bytes g c =
-    let all = warnings_from 0 (filter (are_in c.args.side) (files_from 0 c.args.further.now c.args.ports.now)) (tallies_of c.args.merge.now.lanes) in
+    let all = warnings_from g.F.Family.family g.F.Family.bytes_of c.args.routes.now 0 (filter (are_in c.args.side) (files_from 0 c.args.further.now c.args.ports.now)) (tallies_of c.args.merge.now.lanes) in
     stopped (g.W.Drain.contents c.args.writer.now) (g.W.Drain.contents c.warn_of_port.new.writer) c.from_residual.result all c.from_residual.ensures.0
-    (port_stopped c.args.side (tallies_of c.args.merge.now.lanes) c.args.further.now c.args.ports.now c.loop-port.at (c.loop-port.at + 1) c.loop-port.port-index c.loop-port.number c.port-item.result
+    (port_stopped g.F.Family.family g.F.Family.bytes_of c.args.routes.now c.args.side (tallies_of c.args.merge.now.lanes) c.args.further.now c.args.ports.now c.loop-port.at (c.loop-port.at + 1) c.loop-port.port-index c.loop-port.number c.port-item.result
     (omega arith) c.loop-port-test.true c.port-item.is
     (g.W.Drain.contents c.args.writer.now) (g.W.Drain.contents c.loop-port.writer) (g.W.Drain.contents c.warn_of_port.new.writer) all (sym c.is_in.ensures ∙ c.if-is_in.true) c.loop-port.invariant.left
-    (subst (λ tally. AppendsFront (g.W.Drain.contents c.loop-port.writer) (g.W.Drain.contents c.warn_of_port.new.writer) (port_warnings (with_more c.loop-port.at c.args.further.now c.port-item.result) tally))
+    (subst (λ tally. AppendsFront (g.W.Drain.contents c.loop-port.writer) (g.W.Drain.contents c.warn_of_port.new.writer) (port_warnings g.F.Family.family g.F.Family.bytes_of c.args.routes.now (with_more c.loop-port.at c.args.further.now c.port-item.result) tally))
     c.tally_of.ensures c.in_err-warn_of_port.ensures.bytes))
+
+pub loop-port-init : goal.loop-port-init
+loop-port-init g c = record {
+  below = omega arith;
+  few = omega arith;
+  left = left_all (g.W.Drain.contents c.args.writer.now) _;
+  count = refl;
+}
 
 pub loop-port-preserved : goal.loop-port-preserved
 loop-port-preserved g c =
-    let all = warnings_from 0 (filter (are_in c.args.side) (files_from 0 c.args.further.now c.args.ports.now)) (tallies_of c.args.merge.now.lanes) in
+    let all = warnings_from g.F.Family.family g.F.Family.bytes_of c.args.routes.now 0 (filter (are_in c.args.side) (files_from 0 c.args.further.now c.args.ports.now)) (tallies_of c.args.merge.now.lanes) in
     elim c.if-is_in.branch [
       | then-is_in+in_ok-warn_of_port w ↦ rw (w.writer-is, w.number-is) (record {
         below = omega (arith, c.loop-port.invariant.below);
         few = omega (arith, c.loop-port.invariant.few);
-        left = port_warned c.args.side (tallies_of c.args.merge.now.lanes) c.args.further.now c.args.ports.now c.loop-port.at (c.loop-port.at + 1) c.loop-port.port-index c.loop-port.number
+        left = port_warned g.F.Family.family g.F.Family.bytes_of c.args.routes.now c.args.side (tallies_of c.args.merge.now.lanes) c.args.further.now c.args.ports.now c.loop-port.at (c.loop-port.at + 1) c.loop-port.port-index c.loop-port.number
             c.port-item.result (omega arith) c.loop-port-test.true c.port-item.is
             (g.W.Drain.contents c.args.writer.now) (g.W.Drain.contents c.loop-port.writer) (g.W.Drain.contents w.warn_of_port.new.writer) all (c.loop-port.number + 1) (omega arith)
             (sym c.is_in.ensures ∙ w.if-is_in.true) c.loop-port.invariant.left
-            (subst (λ tally. Appends (g.W.Drain.contents c.loop-port.writer) (g.W.Drain.contents w.warn_of_port.new.writer) (port_warnings (with_more c.loop-port.at c.args.further.now c.port-item.result) tally))
+            (subst (λ tally. Appends (g.W.Drain.contents c.loop-port.writer) (g.W.Drain.contents w.warn_of_port.new.writer) (port_warnings g.F.Family.family g.F.Family.bytes_of c.args.routes.now (with_more c.loop-port.at c.args.further.now c.port-item.result) tally))
             w.tally_of.ensures w.in_ok-warn_of_port.ensures.bytes);
         count = w.in_ok-warn_of_port.ensures.count ∙ c.loop-port.invariant.count;
       })
       | else-is_in w ↦ rw (w.writer-is, w.number-is) (record {
         below = omega (arith, c.loop-port.invariant.below);
         few = omega (arith, c.loop-port.invariant.few);
-        left = port_passed c.args.side (tallies_of c.args.merge.now.lanes) c.args.further.now c.args.ports.now c.loop-port.at (c.loop-port.at + 1) c.loop-port.port-index c.loop-port.number
+        left = port_passed g.F.Family.family g.F.Family.bytes_of c.args.routes.now c.args.side (tallies_of c.args.merge.now.lanes) c.args.further.now c.args.ports.now c.loop-port.at (c.loop-port.at + 1) c.loop-port.port-index c.loop-port.number
             c.port-item.result (omega arith) c.loop-port-test.true c.port-item.is
             (g.W.Drain.contents c.args.writer.now) (g.W.Drain.contents c.loop-port.writer) all (sym c.is_in.ensures ∙ w.if-is_in.false) c.loop-port.invariant.left;
         count = c.loop-port.invariant.count;

@@ -13,7 +13,7 @@ abbrev pub invariant-loop-port : goal.invariant-loop-port
 invariant-loop-port g l = record {
   below : l.number ≤ l.port-index;
   few : l.at ≤ l.port-index;
-  left : IsLeft (g.W.Drain.contents l.fn.writer) (g.W.Drain.contents l.writer) (warnings_from l.number (left_from l.side l.further l.at l.port-index l.ports) (tallies_of l.merge.lanes))
-      (warnings_from 0 (filter (are_in l.side) (files_from 0 l.further l.ports)) (tallies_of l.merge.lanes));
+  left : IsLeft (g.W.Drain.contents l.fn.writer) (g.W.Drain.contents l.writer) (warnings_from g.F.Family.family g.F.Family.bytes_of l.routes l.number (left_from l.side l.further l.at l.port-index l.ports) (tallies_of l.merge.lanes))
+      (warnings_from g.F.Family.family g.F.Family.bytes_of l.routes 0 (filter (are_in l.side) (files_from 0 l.further l.ports)) (tallies_of l.merge.lanes));
   count : g.W.Drain.failures l.writer ≡ g.W.Drain.failures l.fn.writer;
 }
