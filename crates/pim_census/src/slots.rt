@@ -60,8 +60,8 @@ fn place_of_address(slots: &[Option<[u8; 16]>], address: [u8; 16]) -> usize
     place
 }
 
-/// The number of the first slot that is free or has this Join(\*,G); the number of slots if there is
-/// none.
+/// The number of the first slot that is free or has this Join(\*,G); the number of slots if
+/// there is none.
 fn place_of_star(slots: &[Option<StarJoin>], star: StarJoin) -> usize
     ensures { result ≡ place_of (same_star star) slots.now }
 {

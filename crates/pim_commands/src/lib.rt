@@ -21,8 +21,8 @@
 //! the fault of the first file that isn't open. A word or file name in it is one that they were
 //! given. A fault that names a word borrows it from the command line. A fault of the capture of a
 //! port with a link names the file of that port. After the run, warnings on the captures of such
-//! ports are written to a device for errors, and its failures are ignored. The caller gives numbers in
-//! the ranges of a plan of `pim_words`. `run_task` does what a task of such a plan asks for.
+//! ports are written to a device for errors, and its failures are ignored. The caller gives numbers
+//! in the ranges of a plan of `pim_words`. `run_task` does what a task of such a plan asks for.
 //!
 //! This library is apart from the program, so that tests can call it.
 #![tactic(auto)]

@@ -7,12 +7,12 @@ ghost use Rattle.pim_merge.specs.Tally.{tally_at};
 ghost use Rattle.pim_files.specs.Captures.{files_from, of_router, with_more};
 ghost use Rattle.pim_files.specs.Opening.{port_files};
 ghost use Rattle.pim_check.specs.Telling.{IsTold};
-ghost use Rattle.pim_check.specs.declared.warning.Warning.TheVariants.{CutShort, Fragments, CutFrames};
-ghost use Rattle.pim_check.specs.declared.warning.Warning.TheVariants.{RunsBack, Jumps};
+ghost use Rattle.pim_check.specs.declared.warning.Warning.TheVariants.{CutShort, Fragments};
+ghost use Rattle.pim_check.specs.declared.warning.Warning.TheVariants.{CutFrames, RunsBack, Jumps};
 ghost use Rattle.pim_commands.specs.Naming.{are_in, ports_of};
 ghost use Rattle.pim_commands.specs.Warnings.{warned, number_if, record_of, count_warnings};
-ghost use Rattle.pim_commands.specs.Warnings.{time_warnings, port_warnings, place_file, warnings_from};
-ghost use Rattle.pim_commands.specs.Warnings.{warnings_text, census_warnings};
+ghost use Rattle.pim_commands.specs.Warnings.{time_warnings, port_warnings, place_file};
+ghost use Rattle.pim_commands.specs.Warnings.{warnings_from, warnings_text, census_warnings};
 ghost use Rattle.pim_commands.specs.Warnings.{missed_warning, unserved_warning};
 
 use crate::naming::{is_in, name_at};

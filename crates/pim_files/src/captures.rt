@@ -67,8 +67,8 @@ pub(crate) fn add_by<R: Feed + Drop>(
     }
 }
 
-/// Opens the capture of each port, in the order of the words, each by the link of its port. A port's
-/// further files come after its own. Nothing is read.
+/// Opens the capture of each port, in the order of the words, each by the link of its port. A
+/// port's further files come after its own. Nothing is read.
 ///
 /// # Errors
 /// That of the first file that isn't open.
