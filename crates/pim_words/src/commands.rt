@@ -755,7 +755,7 @@ fn bare_command<'a>(alloc: Global) -> Command<'a>
     ensures local { (out-Command result).has_globals ≡ false }
 {
     Command::new(alloc, "pimtree")
-        .version("0.2.0")
+        .version("0.3.0")
         .about(ABOUT)
         .after_help(AFTER_HELP)
         .disable_help_subcommand(true)
