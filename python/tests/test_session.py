@@ -1,6 +1,9 @@
 """A session from Python: each command once, each fault, and what a person gets."""
 from __future__ import annotations
 
+import os
+import subprocess
+import sys
 import unittest
 
 import support
@@ -133,6 +136,21 @@ class Commands(OneSession):
             other.port("fe80::1")
             self.assertEqual(len(self.ready().neighbours()), 2)
             other.start()
+
+
+class Example(unittest.TestCase):
+    def test_example(self) -> None:
+        """Nobody is asked, and the override interval is 3 s (RFC 7761, 4.11)."""
+        variables = {**os.environ, "PYTHONPATH": os.path.join(support.TOP, "python")}
+        ran = subprocess.run([sys.executable, support.example("session.py")], capture_output=True, env=variables)
+        pending = Record(0, "star", G, None, "prune-pending", 209_000, 2_000)
+        self.assertEqual(ran.stdout.decode().splitlines(), [
+            f"{A} hello new",
+            f"{B} hello new",
+            f"{[pending]}",
+            f"[] {[Want('star', G, None, None)]}",
+            f"{[Echo(13_000, 0, 'star', G, None)]} []",
+        ])
 
 
 class Faults(OneSession):

@@ -1,0 +1,65 @@
+"""The program as a process, on the examples: its output, its errors and its status."""
+from __future__ import annotations
+
+import os
+import subprocess
+import unittest
+from typing import List, Tuple
+
+import support
+
+
+def run(*words: str, data: bytes = b"") -> Tuple[str, str, int]:
+    ran = subprocess.run([support.PROGRAM, *words], input=data, capture_output=True,
+                         cwd=os.path.join(support.TOP, "examples"))
+    return ran.stdout.decode(), ran.stderr.decode(), ran.returncode
+
+
+def words_of(name: str) -> List[str]:
+    """The words of an example's `replay`, without the command."""
+    return support.read(support.example(f"{name}.words")).split()[1:]
+
+
+class Examples(unittest.TestCase):
+    def test_replay(self) -> None:
+        for name in ("lan", "lost", "ipv6"):
+            with self.subTest(name):
+                report = support.read(support.example(f"{name}.report"))
+                self.assertEqual(run("replay", *words_of(name)), (report, "", 0))
+
+    def test_a_fault_has_status_2(self) -> None:
+        report, errors = (support.read(support.example(f"fault.{it}")) for it in ("report", "errors"))
+        self.assertEqual(run("replay", *words_of("fault")), (report, errors, 2))
+
+    def test_trace(self) -> None:
+        for name in ("lan", "lost", "ipv6"):
+            for option, kind in ((), "trace"), (("--json",), "json"):
+                path = support.example(f"{name}.{kind}")
+                if os.path.exists(path):
+                    with self.subTest(name, kind=kind):
+                        expected = support.read(path)
+                        self.assertEqual(run("trace", *option, *words_of(name)), (expected, "", 0))
+
+    def test_a_session(self) -> None:
+        text = support.read(support.example("override.session"))
+        answers = [it[3:] for it in text.splitlines() if it.startswith("#= ")]
+        output, errors, status = run("session", data=text.encode())
+        self.assertEqual((output.splitlines(), errors, status), (answers, "", 0))
+
+    def test_check_and_build(self) -> None:
+        with open(support.example("join-star.pim"), "rb") as file:
+            data = file.read()
+        text, errors, status = run("check", data=data)
+        self.assertEqual((text.count("\n"), errors, status), (3, "", 0))
+        ran = subprocess.run([support.PROGRAM, "build"], input=text.encode(), capture_output=True)
+        self.assertEqual((ran.stdout, ran.returncode), (data, 0))
+
+    def test_an_unwritten_output(self) -> None:
+        with open("/dev/full", "wb") as full:
+            ran = subprocess.run([support.PROGRAM, "trace", *words_of("lan")], stdout=full,
+                                 stderr=subprocess.PIPE, cwd=os.path.join(support.TOP, "examples"))
+        self.assertEqual((ran.stderr, ran.returncode), (b"pimtree: output\n", 2))
+
+
+if __name__ == "__main__":
+    unittest.main()
