@@ -7,6 +7,7 @@ import sys
 import warnings
 from typing import List, Optional, TextIO, Type, Union
 
+from .events import PimtreeWarning
 from .program import VERSION, PimtreeFault
 
 COMMANDS = {
@@ -51,7 +52,7 @@ def _run(name: str, words: List[str]) -> int:
 def main(words: List[str]) -> int:
     """Runs the command that the words name, and returns its status."""
     warnings.showwarning = _show_warning
-    warnings.simplefilter("always")
+    warnings.simplefilter("always", PimtreeWarning)
     if words[:1] == ["--version"]:
         print(f"pimtree (Python) {VERSION}")
         return 0

@@ -106,8 +106,9 @@ def _is_read_once(file: str) -> bool:
 
 def _copy(file: str, stdin: IO[bytes], copy: str) -> None:
     try:
-        source = stdin if file == STANDARD_INPUT else open(file, "rb")
-        with open(copy, "wb") as target:
+        with contextlib.ExitStack() as opened, open(copy, "wb") as target:
+            is_input = file == STANDARD_INPUT
+            source = stdin if is_input else opened.enter_context(open(file, "rb"))
             shutil.copyfileobj(source, target)
     except OSError as error:
         raise PimtreeFault(f"file {file}: {(error.strerror or str(error)).lower()}") from None
