@@ -25,7 +25,8 @@ FAULTY = 2
 
 def _usage() -> str:
     rows = [f"  {name:<9} {about}" for name, about in COMMANDS.items()]
-    return "\n".join(["usage: python3 -m pimtree COMMAND ..", "", *rows, "", "COMMAND --help says more."])
+    usage = "usage: python3 -m pimtree COMMAND .."
+    return "\n".join([usage, "", *rows, "", "COMMAND --help says more."])
 
 
 def _show_warning(
@@ -45,7 +46,8 @@ def _run(name: str, words: List[str]) -> int:
         print((module.__doc__ or "").strip())
         return 0
     status: int = module.main(words)
-    sys.stdout.flush()
+    if sys.stdout is not None:
+        sys.stdout.flush()
     return status
 
 

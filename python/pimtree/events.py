@@ -266,8 +266,8 @@ def trace(
     """The events of a trace, as they come.
 
     `ports` has the words of the ports, `[NAME=]ADDRESS@FILE` and `+FILE`; one may be `ADDRESS@-`,
-    whose bytes come from `stdin`. The other arguments are the options of `pimtree trace`: `since` is
-    `--from`, `groups` and `sources` are `--group` and `--source`, `everything` is `--all`.
+    whose bytes come from `stdin`. The other arguments are the options of `pimtree trace`: `since`
+    is `--from`, `groups` and `sources` are `--group` and `--source`, `everything` is `--all`.
 
     Raises `PimtreeFault` where the program refuses, after the events before that. What the program
     warns of is a `PimtreeWarning`."""

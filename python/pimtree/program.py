@@ -52,15 +52,17 @@ def find() -> str:
     named = os.environ.get("PIMTREE", "")
     path = shutil.which(named or "pimtree")
     if path is None:
-        where = f"no program {named}, which PIMTREE names" if named else "no program pimtree on PATH"
-        raise PimtreeFault(f"{where}: {_LOOK}")
+        where = f"{named}, which PIMTREE names" if named else "pimtree on PATH"
+        raise PimtreeFault(f"no program {where}: {_LOOK}")
     if path not in _checked:
         _check_version(path)
         _checked.append(path)
     return path
 
 
-def start(words: Sequence[str], stdin: Input = None, stderr: Input = None) -> "subprocess.Popen[bytes]":
+def start(
+    words: Sequence[str], stdin: Input = None, stderr: Input = None
+) -> "subprocess.Popen[bytes]":
     """Starts the program with these words, its output in a pipe."""
     command = [find(), *words]
     try:

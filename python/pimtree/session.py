@@ -278,8 +278,8 @@ class Session:
     def messages(
         self, upstream: str, own: str, holdtime: Optional[int] = None, budget: Optional[int] = None
     ) -> List[bytes]:
-        """The canonical messages that ask this upstream neighbour, sent from `own`. `holdtime` is in
-        seconds, `budget` is the most bytes of a message."""
+        """The canonical messages that ask this upstream neighbour, sent from `own`. `holdtime` is
+        in seconds, `budget` is the most bytes of a message."""
         return _messages(self.ask(f"messages {upstream} {own}{_limits(holdtime, budget)}"))
 
     def keep(self, name: str, upstream: str) -> None:

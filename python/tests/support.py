@@ -9,12 +9,13 @@ import sys
 from typing import Iterable, Tuple
 
 TOP = os.path.dirname(os.path.dirname(os.path.dirname(os.path.abspath(__file__))))
-_PLACES = [os.path.join(TOP, "crates", "pimtree", "out", "pimtree"), os.path.join(TOP, "out", "pimtree")]
+_PLACES = [os.path.join(TOP, it, "pimtree") for it in ("crates/pimtree/out", "out")]
 
 
 def _program() -> str:
     """The program that PIMTREE names, else the proved one, else the quick build."""
-    named = os.environ.get("PIMTREE") or next(filter(os.path.isfile, _PLACES), "pimtree")
+    built = [it for it in _PLACES if os.path.isfile(it)]
+    named = os.environ.get("PIMTREE") or [*built, "pimtree"][0]
     return os.path.abspath(shutil.which(named) or named)
 
 
@@ -35,7 +36,7 @@ def read(path: str) -> str:
 
 def _sum(data: bytes) -> int:
     """The Internet checksum (RFC 1071)."""
-    total = sum(struct.unpack(f">{len(data) // 2}H", data))
+    total: int = sum(struct.unpack(f">{len(data) // 2}H", data))
     total = (total >> 16) + (total & 0xFFFF)
     return ~((total >> 16) + total) & 0xFFFF
 

@@ -104,7 +104,9 @@ class Lines(Folder):
 
     def test_further_files(self) -> None:
         parts = [LAN[:4], LAN[4:5], LAN[:0], LAN[5:8], LAN[8:]]
-        made_by = [made.pcapng(it) if at in (1, 2) else made.pcap(it) for at, it in enumerate(parts)]
+        made_by = [
+            made.pcapng(it) if at in (1, 2) else made.pcap(it) for at, it in enumerate(parts)
+        ]
         files = [self.file(f"{at}", data) for at, data in enumerate(made_by)]
         words = [f"lan={OWN}@{files[0]}", *(f"+{it}" for it in files[1:])]
         numbers = [number for part in parts for number in range(1, len(part) + 1)]

@@ -42,7 +42,8 @@ def packet(source: str, message: Message) -> bytes:
 
 def entry(kind: str, address: str, joins: bool = True, group: str = G) -> JoinPrune:
     entries = (Entry(kind, address),)
-    return JoinPrune(OWN, 210, (GroupSet(group, entries if joins else (), () if joins else entries),))
+    listed = GroupSet(group, joined=entries) if joins else GroupSet(group, pruned=entries)
+    return JoinPrune(OWN, 210, (listed,))
 
 
 def story() -> "list[tuple[int, bytes]]":
@@ -80,7 +81,7 @@ class Events(unittest.TestCase):
     def test_each_kind(self) -> None:
         at = self.at
         star, rpt = ("star", G, None), ("rpt", G, S)
-        lasting = {"et": 210_000, "neighbours": 2, "overrides": None}
+        skipped = ["cut", "not-ip", "bad-header", "not-pim", "fragment", "family"]
         expected = [
             HelloHeard(*at(0), 1, A, "new", None, 1),
             HelloHeard(*at(10), 2, B, "new", None, 1),
@@ -90,10 +91,12 @@ class Events(unittest.TestCase):
             PacketHeard(*at(50), 6, OWN, "mine", None, None, None),
             Restarted(*at(50), 6, 5, 6),
             PacketHeard(*at(100), 7, B, "applied", OWN, 1, 1),
-            Transition(*at(100), 7, B, "join", *star, "no-info", "join", ppt=None, **lasting),
-            Transition(*at(100), 7, B, "prune", *rpt, "no-info", "prune-pending", ppt=3000, **lasting),
+            Transition(*at(100), 7, B, "join", *star, "no-info", "join", 210_000, None, 2, None),
+            Transition(
+                *at(100), 7, B, "prune", *rpt, "no-info", "prune-pending", 210_000, 3000, 2, None
+            ),
             PacketHeard(*at(200), 8, B, "applied", OWN, 1, 0),
-            Transition(*at(200), 8, B, "join", *star, "join", "join", ppt=None, **lasting),
+            Transition(*at(200), 8, B, "join", *star, "join", "join", 210_000, None, 2, None),
             Transition(*at(200), 8, B, "end", *rpt, "prune-pending", "no-info", None, None, 2, 7),
             PacketHeard(*at(300), 9, B, "applied", OWN, 1, 0),
             IgnoredJoin(*at(300), 9, B, G, "10.8.8.8", RP),
@@ -105,8 +108,7 @@ class Events(unittest.TestCase):
             Fired(
                 *at(210_200), "et", "star", G, None, "join", "no-info", False, Cause(8, 200, B)
             ),
-            End(*at(303_000, None), 0, 0, {**dict.fromkeys(
-                ["cut", "not-ip", "bad-header", "not-pim", "fragment", "family"], 0), "not-pim": 1}),
+            End(*at(303_000, None), 0, 0, {**dict.fromkeys(skipped, 0), "not-pim": 1}),
         ]
         found = list(trace(f"lan={OWN}@{self.path}", rp=RP, after=300_000, everything=True))
         for event, wanted in zip(found, expected):
@@ -115,7 +117,8 @@ class Events(unittest.TestCase):
         self.assertEqual({events.name_of(it) for it in found}, set(events.NAMES))
 
     def test_options(self) -> None:
-        shown = trace([f"lan={OWN}@{self.path}"], rp=RP, since="50", at="150", groups=[G], sources=[S])
+        words = [f"lan={OWN}@{self.path}"]
+        shown = trace(words, rp=RP, since="50", at="150", groups=[G], sources=[S])
         self.assertEqual([(type(it), it.ms) for it in shown], [
             (Restarted, 50), (Transition, 100), (Transition, 100), (End, 150),
         ])
@@ -125,7 +128,8 @@ class Events(unittest.TestCase):
         with open(self.path, "rb") as file:
             pairs = list(events.lines(words, file))
         with open(self.path, "rb") as file:
-            ran = subprocess.run([support.PROGRAM, "trace", *words], stdin=file, capture_output=True)
+            command = [support.PROGRAM, "trace", *words]
+            ran = subprocess.run(command, stdin=file, capture_output=True)
         self.assertEqual([line for _, line in pairs], ran.stdout.decode().splitlines())
         self.assertEqual(pairs[-1][0].ms, 3000)
 

@@ -28,7 +28,8 @@ class Examples(unittest.TestCase):
                 self.assertEqual(run("replay", *words_of(name)), (report, "", 0))
 
     def test_a_fault_has_status_2(self) -> None:
-        report, errors = (support.read(support.example(f"fault.{it}")) for it in ("report", "errors"))
+        report = support.read(support.example("fault.report"))
+        errors = support.read(support.example("fault.errors"))
         self.assertEqual(run("replay", *words_of("fault")), (report, errors, 2))
 
     def test_trace(self) -> None:

@@ -6,7 +6,7 @@ import subprocess
 import sys
 import tempfile
 import unittest
-from typing import Dict, Tuple
+from typing import Dict, List, Tuple
 
 import support
 
@@ -16,10 +16,11 @@ from pimtree.__main__ import COMMANDS
 
 def run(*words: str, **variables: str) -> Tuple[int, str, str]:
     """The status, the output and the errors of `python3 -m pimtree` with these words."""
-    given: Dict[str, str] = {**os.environ, "PYTHONPATH": os.path.join(support.TOP, "python"), **variables}
+    package = os.path.join(support.TOP, "python")
+    given: Dict[str, str] = {**os.environ, "PYTHONPATH": package, **variables}
     command = [sys.executable, "-m", "pimtree", *words]
-    ran = subprocess.run(command, capture_output=True, text=True, env=given, stdin=subprocess.DEVNULL)
-    return ran.returncode, ran.stdout, ran.stderr
+    ran = subprocess.run(command, capture_output=True, env=given, stdin=subprocess.DEVNULL)
+    return ran.returncode, ran.stdout.decode(), ran.stderr.decode()
 
 
 class Programs(unittest.TestCase):
@@ -51,10 +52,12 @@ class Programs(unittest.TestCase):
 
     def test_an_older_one(self) -> None:
         path = self.script("echo pimtree 0.2.9")
-        self.assertIn(f"{path} is version 0.2.9, but {program.VERSION} is needed", self.refused(path))
+        words = f"{path} is version 0.2.9, but {program.VERSION} is needed"
+        self.assertIn(words, self.refused(path))
 
     def test_a_later_one(self) -> None:
-        os.environ["PIMTREE"] = self.script(f'[ "$1" = --version ] && echo pimtree 1.10 || exec {support.PROGRAM} "$@"')
+        version = '[ "$1" = --version ] && echo pimtree 1.10'
+        os.environ["PIMTREE"] = self.script(f'{version} || exec {support.PROGRAM} "$@"')
         with Session() as session:
             session.port("10.0.0.1")
 
@@ -63,7 +66,8 @@ class Programs(unittest.TestCase):
         self.assertIn(f"{path} isn't the program pimtree", self.refused(path))
 
     def test_one_that_ends_at_once(self) -> None:
-        os.environ["PIMTREE"] = self.script(f"[ $1 = --version ] && echo pimtree {program.VERSION}; exit 3")
+        version = f"[ $1 = --version ] && echo pimtree {program.VERSION}"
+        os.environ["PIMTREE"] = self.script(f"{version}; exit 3")
         with Session() as session, self.assertRaises(PimtreeFault) as raised:
             session.port("10.0.0.1")
         self.assertEqual(raised.exception.words, "the program ended with status 3")
@@ -91,7 +95,9 @@ class CommandLine(unittest.TestCase):
 
     def test_no_command_shows_a_traceback(self) -> None:
         for name in COMMANDS:
-            for words in ([], ["x"], ["-o"], ["--rp"], ["-o", "/gone/x.svg", "10.0.0.2@gone"]):
+            unwritten = ["-o", "/gone/x.svg", "10.0.0.2@gone"]
+            given: List[List[str]] = [[], ["x"], ["-o"], ["--rp"], unwritten]
+            for words in given:
                 with self.subTest(name, words=words):
                     status, _, errors = run(name, *words)
                     self.assertEqual(status, 2)

@@ -124,7 +124,8 @@ class Commands(OneSession):
     def test_verdicts(self) -> None:
         session = self.ready()
         verdict = session.packet(0, A, ALL, b"\x23\0\0\0")
-        self.assertEqual((str(verdict), verdict.fault), ("malformed frame checksum", "frame checksum"))
+        self.assertEqual(verdict.fault, "frame checksum")
+        self.assertEqual(str(verdict), "malformed frame checksum")
         self.assertFalse(verdict.is_applied)
         self.assertEqual(session.packet(0, A, ALL, b"").fault, "frame short")
         self.assertIsNone(session.from_(0, "10.0.0.9", STAR).fault)
@@ -142,7 +143,8 @@ class Example(unittest.TestCase):
     def test_example(self) -> None:
         """Nobody is asked, and the override interval is 3 s (RFC 7761, 4.11)."""
         variables = {**os.environ, "PYTHONPATH": os.path.join(support.TOP, "python")}
-        ran = subprocess.run([sys.executable, support.example("session.py")], capture_output=True, env=variables)
+        command = [sys.executable, support.example("session.py")]
+        ran = subprocess.run(command, capture_output=True, env=variables)
         pending = Record(0, "star", G, None, "prune-pending", 209_000, 2_000)
         self.assertEqual(ran.stdout.decode().splitlines(), [
             f"{A} hello new",
