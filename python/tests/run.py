@@ -4,12 +4,17 @@
 """
 from __future__ import annotations
 
+import faulthandler
 import os
 import sys
 import unittest
 
+LONGEST = 300
+"""The seconds after which the tests end, since one of them waits for something that never comes."""
+
 
 def main() -> int:
+    faulthandler.dump_traceback_later(LONGEST, exit=True)
     suite = unittest.defaultTestLoader.discover(os.path.dirname(os.path.abspath(__file__)))
     result = unittest.TextTestRunner(stream=sys.stdout, buffer=True).run(suite)
     # A test can have several parts that failed.

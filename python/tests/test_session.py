@@ -2,6 +2,7 @@
 from __future__ import annotations
 
 import os
+import select
 import subprocess
 import sys
 import unittest
@@ -22,6 +23,7 @@ from pimtree import (
     Session,
     Verdict,
     Want,
+    program,
 )
 
 OWN, A, B, UP, RP = "10.0.0.1", "10.0.0.2", "10.0.0.3", "10.0.1.1", "10.9.9.9"
@@ -137,6 +139,42 @@ class Commands(OneSession):
             other.port("fe80::1")
             self.assertEqual(len(self.ready().neighbours()), 2)
             other.start()
+
+
+class AtOnce(unittest.TestCase):
+    """What was read is answered before more input comes, however it was parted."""
+
+    def setUp(self) -> None:
+        self.process = program.start(["session"], subprocess.PIPE)
+        self.addCleanup(self.process.wait)
+        assert self.process.stdin is not None and self.process.stdout is not None
+        self.addCleanup(self.process.stdout.close)
+        self.addCleanup(self.process.stdin.close)
+        self.input, self.output = self.process.stdin, self.process.stdout.fileno()
+
+    def answers(self, text: str, count: int) -> str:
+        """The lines that come after this input, without more of it."""
+        self.input.write(text.encode())
+        self.input.flush()
+        got = b""
+        while got.count(b"\n") < count and select.select([self.output], [], [], 5)[0]:
+            got += os.read(self.output, 4096)
+        return got.decode()
+
+    def test_each_command(self) -> None:
+        self.assertEqual(self.answers(f"port {OWN}\n", 1), "ok\n")
+        self.assertEqual(self.answers("start\n", 1), "ok\n")
+        self.assertEqual(self.answers("now\n", 2), "0\nok\n")
+
+    def test_several_commands(self) -> None:
+        self.assertEqual(self.answers(f"port {OWN}\nstart\n\n# now\nno", 2), "ok\nok\n")
+        self.assertEqual(self.answers("w\n", 2), "0\nok\n")
+
+    def test_a_text(self) -> None:
+        self.answers(f"port {OWN}\nstart\n", 2)
+        text = f"from 0 {A}\nhello\nholdtime 105\nsend\n"
+        self.assertEqual(self.answers(text, 2), "hello new\nok\n")
+        self.assertEqual(self.answers(text + "now\n", 4), "hello same\nok\n0\nok\n")
 
 
 class Example(unittest.TestCase):
