@@ -1,9 +1,22 @@
 -- What reads leave of the two devices.
-use Rattle.std.proofs.Common.{◌≡◌, ◌∙◌, sym, ap, refl, subst, inl, inr, ◌⊎◌, ◌<◌, ℕ, List, Option, Some, None, Ok}
+use Rattle.std.proofs.Common.{◌≡◌, ◌∙◌, sym, ap, refl, subst, inl, inr, ◌⊎◌, ◌<◌, ℕ, List, Option, Some, None, Result, Ok, Err, OnErr}
 use Rattle.std.specs.Option.{IfSome}
 use Rattle.std.specs.Io.KnownBytes.{Keeps}
 use Rattle.pim_items.specs.Reading.{LeavesLess, PassesOn}
 use Rattle.pim_items.specs.Input.{Lines, Proceeds}
+
+-- what holds anyway, holds at an error
+pub on_err : {A E : Type 0} (P : Type 0) (result : Result A E) → P → OnErr result P
+on_err P (Ok value) holds = tt
+on_err P (Err error) holds = holds
+
+-- what holds of each value that may be known
+pub if_known : {A : Type 0} {P : A → Type 0} (known : Option A) → ((value : A) → known ≡ Some value → P value) → IfSome known P
+if_known None holds = tt
+if_known (Some value) holds = holds value refl
+
+pub at_value : {A : Type 0} (P : A → Type 0) (known : Option A) (value : A) → known ≡ Some value → IfSome known P → P value
+at_value P known value is holds = subst (λ some. IfSome some P) is holds
 
 -- what follows where a value is known
 pub where_known : {A : Type 0} {P Q : A → Type 0} (known : Option A) → ((value : A) → P value → Q value) → IfSome known P → IfSome known Q

@@ -9,6 +9,9 @@ use Rattle.pim_items.specs.Input.{NoFeed, IsFeedAt}
 abbrev pub is_feed : ℕ → Bool
 is_feed byte = byte == 10
 
+pub rest_has_none : (byte : ℕ) (bytes : List ℕ) → NoFeed (byte ∷ bytes) → NoFeed bytes
+rest_has_none byte bytes none k d low = none (suc k) d (omega arith)
+
 none_in : (bytes : List ℕ) → length bytes ≤ position_or_len is_feed bytes → NoFeed bytes
 none_in [] past k d low = absurd (omega arith)
 none_in (byte ∷ bytes) past k d low = at (is_feed byte) refl (none_in bytes) k low

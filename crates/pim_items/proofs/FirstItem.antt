@@ -20,7 +20,7 @@ short_item line short = rw short refl
 long_item : (line : List ℕ) → is_long line ≡ true → line_item line ≡ a_long_line
 long_item line long = rw long refl
 
-pub is_line : (bytes : List ℕ) (found : Found) (lines : Lines) (held : Held) → IsSome bytes found lines → found.sort ≡ Other → found.is_long ≡ false → IsFirstItem bytes Line (reading_seen lines held)
+pub is_line : (bytes : List ℕ) (found : Found) (lines : Lines) (held : Held) → IsSome bytes found lines → found.sort ≡ Other → found.is_long ≡ false → IsFirstItem bytes Line (reading_seen lines held false)
 is_line bytes found lines held some other short =
     let is = some.is in
     record {
@@ -32,7 +32,7 @@ is_line bytes found lines held some other short =
       coming = is.coming;
     }
 
-pub is_long_line : (bytes : List ℕ) (found : Found) (lines : Lines) (held : Held) → IsSome bytes found lines → found.sort ≡ Other → found.is_long ≡ true → IsFirstItem bytes LongLine (reading_seen lines held)
+pub is_long_line : (bytes : List ℕ) (found : Found) (lines : Lines) (held : Held) → IsSome bytes found lines → found.sort ≡ Other → found.is_long ≡ true → IsFirstItem bytes LongLine (reading_seen lines held false)
 is_long_line bytes found lines held some other long =
     let is = some.is in
     record {

@@ -6,7 +6,7 @@ use Rattle.std.specs.Option.{IfSome}
 use Rattle.std.specs.Io.KnownBytes.{IsAtEnd, prepend_known}
 use Rattle.pim_items.specs.declared.input.Found.{Found}
 use Rattle.pim_items.specs.Items.{is_long, line_limit}
-use Rattle.pim_items.specs.Input.{Lines, NoFeed, IsFeedAt, IsCut, IsPassed, IsFound, coming_lines, sort_seen, room}
+use Rattle.pim_items.specs.Input.{Lines, NoFeed, IsFeedAt, IsCut, IsPassed, IsFound, IsTaken, HasRead, coming_lines, sort_seen, room}
 use Rattle.pim_items.proofs.Feeds.{no_feed_joined}
 
 -- what is known of the bytes to come, is known of those that the device has left
@@ -36,6 +36,21 @@ found_fed bytes reached named past found place coming fed names passes sort long
         cut = inl (left.2 ∙ ap (λ xs. xs ++ left.0) fed.feed ∙ append_assoc front (10 ∷ behind) left.0);
       };
       coming = ap (λ xs. prepend_known xs past.remaining) pending ∙ ap (prepend_known behind) (remaining ∙ left.1);
+      sort = sort ∙ ap sort_seen line;
+      is_long = long ∙ ap is_long line;
+      line = λ short. line;
+    }
+
+-- the same, where its line feed was pending
+pub taken_fed : (pending : List ℕ) (reached named past : Lines) (found : Found) (place : ℕ) → reached.pending ≡ pending → IsFeedAt place reached.pending → named ≡ record { line = take place reached.pending; pending = reached.pending; remaining = reached.remaining; unread = reached.unread; failures = reached.failures } → past ≡ record { line = named.line; pending = drop (place + 1) named.pending; remaining = named.remaining; unread = named.unread; failures = named.failures } → found.sort ≡ sort_seen past.line → found.is_long ≡ is_long past.line → IsTaken pending found past
+taken_fed pending reached named past found place same fed names passes sort long =
+    let front = take place reached.pending in
+    let line : past.line ≡ front = ap (λ (lines : Lines). lines.line) passes ∙ ap (λ (lines : Lines). lines.line) names in
+    let behind : past.pending ≡ drop (place + 1) reached.pending = ap (λ (lines : Lines). lines.pending) passes ∙ ap (λ (lines : Lines). drop (place + 1) lines.pending) names in
+    record {
+      whole = front;
+      no_feed = fed.before;
+      cut = sym same ∙ fed.feed ∙ ap (λ xs. front ++ 10 ∷ xs) (sym behind);
       sort = sort ∙ ap sort_seen line;
       is_long = long ∙ ap is_long line;
       line = λ short. line;
@@ -90,6 +105,19 @@ found_long bytes pending reached past found coming same none full passes sort lo
       sort = sort ∙ ap sort_seen same ∙ sym (sort_by_front reached.pending passed.passed (omega (arith, full)));
       is_long = long ∙ sym (lt-ltb line_limit (length (reached.pending ++ passed.passed)) size);
       line = λ short. absurd cc;
+    }
+
+-- one that is too long, of which a part was read
+pub long_early : (bytes : List ℕ) (reached past : Lines) → coming_lines reached ≡ Some bytes → NoFeed reached.pending → IfSome reached.remaining (λ later. HasRead later NoFeed past) → HasRead bytes NoFeed past
+long_early bytes reached past coming none early =
+    let left = prepended reached.pending reached.remaining bytes coming in
+    let has = subst (λ known. IfSome known (λ later. HasRead later NoFeed past)) left.1 early in
+    record {
+      read = reached.pending ++ has.read;
+      later = has.later;
+      all = left.2 ∙ ap (λ xs. reached.pending ++ xs) has.all ∙ sym (append_assoc reached.pending has.read has.later);
+      said = no_feed_joined reached.pending has.read none has.said;
+      remaining = has.remaining;
     }
 
 -- none

@@ -1,20 +1,20 @@
 -- The items of bytes whose first line was found.
-use Rattle.std.proofs.Common.{◌≡◌, ◌∙◌, sym, ap, refl, ℕ, suc, ◌<◌, Bool, true, false, List, [], ◌∷◌, ◌++◌, Option, Some, None, Ok, subst, length, arith, ◌==◌, ◌⊎◌, inl, inr, if◌then◌else◌}
+use Rattle.std.proofs.Common.{◌≡◌, ◌∙◌, sym, ap, refl, ℕ, ◌<◌, true, false, List, [], ◌∷◌, ◌++◌, Option, Some, None, Ok, subst, length, arith, ◌==◌, ◌⊎◌, inl, inr}
 use Rattle.std.specs.List.{onto_first}
 use Rattle.std.specs.Option.{IfSome}
 use Rattle.pim_items.specs.declared.held_text.Unheld.{Unheld}
 use Rattle.pim_items.specs.declared.held_text.Unheld.TheVariants.{TooLong, Memory}
 use Rattle.pim_items.specs.declared.input.Found.{Found}
 use Rattle.pim_items.specs.declared.sort.Sort.TheVariants.{Blank, From, Other}
-use Rattle.pim_items.specs.Items.{lines_of, items_from, items_of, Text, a_text, sent, with_line, text_after, line_item, is_blank, begins_text, is_send}
+use Rattle.pim_items.specs.Items.{lines_of, items_from, items_of, has_item, Text, a_text, sent, with_line, text_after, line_item, is_blank, begins_text, is_send}
 use Rattle.pim_items.specs.Reading.{Holds}
 use Rattle.pim_items.specs.Input.{NoFeed, IsCut, sort_seen, Lines, IsFound, GivesLine, coming_lines}
-use Rattle.pim_items.specs.Held.{Held, HoldsText, IsKnown, SameItems, Continues, EndsText}
+use Rattle.pim_items.specs.Held.{Held, HoldsText, IsKnown, SameItems, Continues, EndsText, PassesLines, has_send}
+use Rattle.pim_items.proofs.Feeds.{rest_has_none}
+use Rattle.pim_items.proofs.Sorts.{sort_blank, sort_from, sort_other}
+use Rattle.pim_items.proofs.Whole.{blank_passes, text_passes, passes_on}
 
 -- ---- lines
-
-rest_has_none : (byte : ℕ) (bytes : List ℕ) → NoFeed (byte ∷ bytes) → NoFeed bytes
-rest_has_none byte bytes none k d low = none (suc k) d (omega arith)
 
 fed : (line rest : List ℕ) → NoFeed line → lines_of (line ++ 10 ∷ rest) ≡ line ∷ lines_of rest
 unfolding lines_of
@@ -53,21 +53,6 @@ pub text_over : (text : Text) → items_from (Some text) (lines_of []) ≡ a_tex
 unfolding lines_of items_from
 text_over text = refl
 
-sort_blank : (blank begins : Bool) → (if blank then Blank else if begins then From else Other) ≡ Blank → blank ≡ true
-sort_blank true begins is = refl
-sort_blank false true is = absurd cc
-sort_blank false false is = absurd cc
-
-sort_from : (blank begins : Bool) → (if blank then Blank else if begins then From else Other) ≡ From → (blank ≡ false) × (begins ≡ true)
-sort_from true begins is = absurd cc
-sort_from false true is = (refl, refl)
-sort_from false false is = absurd cc
-
-sort_other : (blank begins : Bool) → (if blank then Blank else if begins then From else Other) ≡ Other → (blank ≡ false) × (begins ≡ false)
-sort_other true begins is = absurd cc
-sort_other false true is = absurd cc
-sort_other false false is = (refl, refl)
-
 pub blank_line : (line : List ℕ) (lines : List (List ℕ)) → sort_seen line ≡ Blank → items_from None (line ∷ lines) ≡ items_from None lines
 unfolding items_from
 blank_line line lines is = let blank = sort_blank (is_blank line) (begins_text line) is in rw blank refl
@@ -101,11 +86,19 @@ given_some bytes given found lines is gives = subst (λ some. GivesLine bytes (O
 pub at_known : (known : Option (List ℕ)) (bytes : List ℕ) (given : Option Found) (lines : Lines) → known ≡ Some bytes → IfSome known (λ some. GivesLine some (Ok given) lines) → GivesLine bytes (Ok given) lines
 at_known known bytes given lines is gives = subst (λ some. IfSome some (λ bytes. GivesLine bytes (Ok given) lines)) is gives
 
-pub blank_passed : (bytes later : List ℕ) (found : Found) (lines : Lines) → items_of bytes ≡ items_of later → IsFound later found lines → found.sort ≡ Blank → SameItems bytes lines
-blank_passed bytes later found lines same is blank = record {
+pub blank_passed : (bytes : List ℕ) (found : Found) (before lines : Lines) (same : SameItems bytes before) → IsFound same.later found lines → found.sort ≡ Blank → SameItems bytes lines
+blank_passed bytes found before lines same is blank = let later = same.later in record {
+  later = is.rest;
+  passes = passes_on has_item has_item has_item bytes later is.rest same.passes (blank_passes later is.whole is.rest is.cut (sym is.sort ∙ blank));
+  coming = is.coming;
+  items = same.items ∙ ap (items_from None) (first_line later is.whole is.rest is.some is.cut) ∙ blank_line is.whole (lines_of is.rest) (sym is.sort ∙ blank);
+}
+
+pub unsent_passed : (bytes : List ℕ) (found : Found) (before after : Lines) (passed : PassesLines bytes before) (is : IsFound passed.later found after) → is_send is.whole ≡ false → PassesLines bytes after
+unsent_passed bytes found before after passed is unsent = record {
   later = is.rest;
   coming = is.coming;
-  items = same ∙ ap (items_from None) (first_line later is.whole is.rest is.some is.cut) ∙ blank_line is.whole (lines_of is.rest) (sym is.sort ∙ blank);
+  passes = passes_on has_send has_send has_send bytes passed.later is.rest passed.passes (text_passes passed.later is.whole is.rest is.cut unsent);
 }
 
 pub known_line : (line bytes : List ℕ) (found : Found) (lines : Lines) (is : IsFound bytes found lines) → line ≡ lines.line → IsKnown line found.is_long is.whole

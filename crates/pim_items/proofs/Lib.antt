@@ -6,4 +6,6 @@ mod Held
 mod Itemized
 mod Passed
 mod Places
+mod Sorts
 mod Steps
+mod Whole

@@ -1,5 +1,6 @@
 -- What contracts see of the lines of a device, and what each step does; for private functions.
-use Rattle.std.specs.Prelude.{◌≡◌, ◌<◌, ◌≤◌, ◌⊎◌, ◌==◌, ℕ, ◌+◌, false, List, [], ◌∷◌, ◌++◌, length}
+use Rattle.std.specs.Prelude.{◌≡◌, ◌<◌, ◌≤◌, ◌⊎◌, ◌==◌, ℕ, ◌+◌, Bool, false, List, [], ◌∷◌, ◌++◌}
+use Rattle.std.specs.Prelude.{length}
 use Rattle.std.specs.Prelude.{take, drop}
 use Rattle.std.specs.Prelude.{⊤, Option, None, Some, Result, Ok, Err, if◌then◌else◌}
 use Rattle.std.specs.Option.{IfSome}
@@ -123,6 +124,7 @@ pub record Proceeds {W : Type 0} (contents passed_on : W → Option (List ℕ)) 
 
 -- What the loops over reads keep.
 pub record KeepsOn {W : Type 0} (contents passed_on : W → Option (List ℕ)) (failures : W → ℕ) (old new : W) (before after : Lines) : Type 0 where
+  pub at_once : (NoFeed before.pending → ⊥) → (after ≡ before) × (new ≡ old)
   pub coming : StillCome before after
   pub left : bytes_left after ≡ bytes_left before
   pub proceeds : Proceeds contents passed_on failures old new before after
@@ -140,3 +142,43 @@ pub record PassesOver {W : Type 0} (contents passed_on : W → Option (List ℕ)
   pub passing : IfSome before.remaining (λ bytes. Passing bytes after)
   pub left : after.unread ≤ before.unread
   pub proceeds : Proceeds contents passed_on failures old new before after
+
+-- ---- what lies whole in what was read
+
+-- The first line of what was pending was found, with its line feed.
+pub record IsTaken (pending : List ℕ) (found : Found) (lines : Lines) : Type 0 where
+  pub whole : List ℕ
+  pub no_feed : NoFeed whole
+  pub cut : pending ≡ whole ++ 10 ∷ lines.pending
+  pub sort : found.sort ≡ sort_seen whole
+  pub is_long : found.is_long ≡ is_long whole
+  pub line : found.is_long ≡ false → lines.line ≡ whole
+
+-- What `next_line` gives where a line feed was pending.
+abbrev pub TakesLine : List ℕ → Result (Option Found) Stopped → Lines → Type 0
+TakesLine pending (Ok (Some found)) lines = IsTaken pending found lines
+TakesLine pending result lines = ⊥
+
+-- A place was found.
+abbrev pub GivesPlace : Result (Option ℕ) Stopped → Type 0
+GivesPlace (Ok (Some place)) = ⊤
+GivesPlace result = ⊥
+
+-- Of these bytes some were read, of which this is said, and the device has left the later ones.
+pub record HasRead (bytes : List ℕ) (Said : List ℕ → Type 0) (lines : Lines) : Type 0 where
+  pub read : List ℕ
+  pub later : List ℕ
+  pub all : bytes ≡ read ++ later
+  pub said : Said read
+  pub remaining : lines.remaining ≡ Some later
+
+-- The bytes fail the test.
+abbrev pub Lacks : (List ℕ → Bool) → List ℕ → Type 0
+Lacks test bytes = test bytes ≡ false
+
+-- Some of the bytes were passed over before the later ones. With them, a front of the later bytes
+-- passes the first test where it passes the second one without them.
+pub record Passes (first second : List ℕ → Bool) (bytes later : List ℕ) : Type 0 where
+  pub passed : List ℕ
+  pub all : bytes ≡ passed ++ later
+  pub same : (front back : List ℕ) → later ≡ front ++ back → first (passed ++ front) ≡ second front

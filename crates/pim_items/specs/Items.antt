@@ -1,6 +1,6 @@
 -- The items of the input of a session: its lines, and the texts that `from` lines begin.
-use Rattle.std.specs.Prelude.{ℕ, ◌==◌, nat_lt, Bool, true, false, ◌||◌, if◌then◌else◌, List, []}
-use Rattle.std.specs.Prelude.{◌∷◌, ◌++◌, length, take}
+use Rattle.std.specs.Prelude.{◌≡◌, ℕ, ◌==◌, nat_lt, Bool, true, false, ◌||◌, if◌then◌else◌, List}
+use Rattle.std.specs.Prelude.{[], ◌∷◌, ◌++◌, length, take}
 use Rattle.std.specs.Prelude.{Option, None, Some, codes}
 use Rattle.std.specs.List.{onto_first, list_any}
 use Rattle.std.specs.Str.{bytes_eq}
@@ -100,3 +100,36 @@ items_from (Some text) (line ∷ lines) =
 -- The items of an input.
 abbrev pub items_of : List ℕ → List Item
 items_of input = items_from None (lines_of input)
+
+-- ---- items that lie whole in some bytes
+
+-- The byte, before the first of these lines, if there is one.
+abbrev pub onto_whole : ℕ → List (List ℕ) → List (List ℕ)
+onto_whole byte [] = []
+onto_whole byte (line ∷ lines) = (byte ∷ line) ∷ lines
+
+-- The lines of these bytes that have their line feed, without it.
+unfoldable pub whole_lines : List ℕ → List (List ℕ)
+whole_lines [] = []
+whole_lines (byte ∷ bytes) =
+    if byte == 10 then [] ∷ whole_lines bytes else onto_whole byte (whole_lines bytes)
+
+-- These lines have an item, whatever comes after them: a line that isn't blank and begins no text,
+-- or a `from` line with a line `send` after it.
+unfoldable pub lines_have_item : List (List ℕ) → Bool
+lines_have_item [] = false
+lines_have_item (line ∷ lines) =
+    if is_blank line then lines_have_item lines else
+    if begins_text line then list_any is_send lines else true
+
+-- An item lies whole in these bytes, with its line feed.
+abbrev pub has_item : List ℕ → Bool
+has_item bytes = lines_have_item (whole_lines bytes)
+
+-- The new bytes are the old ones without a front: the one up to the line feed with which it passes
+-- the test, and without which it fails it.
+pub record IsAfterFirst (test : List ℕ → Bool) (old new : List ℕ) : Type 0 where
+  pub front : List ℕ
+  pub all : old ≡ front ++ 10 ∷ new
+  pub before : test front ≡ false
+  pub with_feed : test (front ++ 10 ∷ []) ≡ true

@@ -1,6 +1,8 @@
 -- What contracts see of a reader of items, and what each call gives.
-use Rattle.std.specs.Prelude.{◌≡◌, ◌<◌, ◌≤◌, ◌⊎◌, ℕ, ◌+◌, false, List, [], ◌∷◌, length, min, ⊤}
+use Rattle.std.specs.Prelude.{◌≡◌, ◌<◌, ◌≤◌, ◌⊎◌, ℕ, ◌+◌, Bool, true, false, List, [], ◌∷◌, ◌++◌}
+use Rattle.std.specs.Prelude.{length, min, ⊤}
 use Rattle.std.specs.Prelude.{Option, None, Some, Result, Ok, Err}
+use Rattle.std.specs.Option.{IfSome}
 use Rattle.pim_device.specs.Device.{top_count}
 use Rattle.pim_items.specs.declared.held_text.Unheld.{Unheld}
 use Rattle.pim_items.specs.declared.held_text.Unheld.TheVariants.{TooLong, Memory}
@@ -10,19 +12,24 @@ use Rattle.pim_items.specs.declared.items.Item.{Item}
 use Rattle.pim_items.specs.declared.items.Item.TheVariants.{Line, LongLine, Text as TextOf}
 use Rattle.pim_items.specs.declared.items.TextItem.{TextItem}
 use Rattle.pim_items.specs.Items.{Text, Item as SomeItem, a_line, a_long_line, a_text, items_of}
-use Rattle.pim_items.specs.Items.{has_long_line}
+use Rattle.pim_items.specs.Items.{has_long_line, has_item, IsAfterFirst}
 use Rattle.pim_items.specs.Items.{bytes_of_lines, text_limit}
 
 -- A reader of items.
 pub record Reading : Type 0 where
-  -- the bytes of the input that belong to no item so far, where they are known
+  -- the bytes of the input that belong to no item so far, where they are known; after an early end,
+  -- only those that were not read
   pub coming : Option (List ℕ)
+  -- the bytes that were read and belong to no item so far; none after an early end
+  pub pending : List ℕ
   -- the number of bytes that may still be read
   pub unread : ℕ
-  -- that number and the number of bytes that were read and belong to no item so far
+  -- that number and the number of bytes that are pending
   pub left : ℕ
   -- the count of failures of the device that it reads
   pub failures : ℕ
+  -- whether a call has ended early, with an error
+  pub has_stopped : Bool
   -- the line of the last item, if that is a line
   pub line : List ℕ
   -- the `from` line of the last item, if that is a text whose `from` line is held
@@ -61,7 +68,7 @@ pub record IsFirstItem (bytes : List ℕ) (item : Item) (reading : Reading) : Ty
   pub coming : reading.coming ≡ Some rest
 
 -- What `next` gives where these bytes were to come: their first item, or `None` if they have none.
--- What an early end leaves isn't said.
+-- `EndsEarly` says what an early end leaves.
 abbrev pub GivesItem : List ℕ → Result (Option Item) Stopped → Reading → Type 0
 GivesItem bytes (Ok (Some item)) reading = IsFirstItem bytes item reading
 GivesItem bytes (Ok None) reading = (items_of bytes ≡ []) × (reading.coming ≡ Some [])
@@ -96,3 +103,36 @@ MayPassOn (Err Output) Untouched Passed = ⊤
 abbrev pub PassesOn : {A : Type 0} → Result (Option A) Stopped → Type 0 → Type 0 → Type 0
 PassesOn (Ok None) Untouched Passed = Passed
 PassesOn result Untouched Passed = MayPassOn result Untouched Passed
+
+-- An item was given.
+abbrev pub GivesOne : {A : Type 0} → Result (Option A) Stopped → Type 0
+GivesOne (Ok (Some item)) = ⊤
+GivesOne result = ⊥
+
+-- What `next` does where an item lies whole in what is pending: it gives an item, reads nothing, and
+-- leaves pending what was read after the item.
+pub record IsAtOnce (result : Result (Option Item) Stopped) (old new : Reading) : Type 0 where
+  pub one : GivesOne result
+  pub unread : new.unread ≡ old.unread
+  pub pending : IsAfterFirst has_item old.pending new.pending
+
+-- What an early end leaves where these bytes were to come. Those that were read are lost, and no
+-- item lies whole in them. A read may fail, and so may passing on the answers. So no call does
+-- either while an item lies whole in what was read.
+pub record EndsEarly (bytes : List ℕ) (reading : Reading) : Type 0 where
+  pub read : List ℕ
+  pub rest : List ℕ
+  pub all : bytes ≡ read ++ rest
+  pub none : has_item read ≡ false
+  pub coming : reading.coming ≡ Some rest
+
+-- Only a reader that has not stopped gives an item, or `None`. At an error it stops for good, and
+-- nothing is pending any more.
+abbrev pub Stops : {A : Type 0} → Result A Stopped → Reading → Reading → Type 0
+Stops (Ok value) old new = (old.has_stopped ≡ false) × (new.has_stopped ≡ false)
+Stops (Err stopped) old new = (new.has_stopped ≡ true) × (new.pending ≡ [])
+
+-- What is pending is a front of what is to come, and counts in `left`.
+pub record Pends (reading : Reading) : Type 0 where
+  pub front : IfSome reading.coming (λ bytes. (rest : List ℕ) × (bytes ≡ reading.pending ++ rest))
+  pub left : reading.left ≡ reading.unread + length reading.pending

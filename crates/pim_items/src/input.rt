@@ -15,6 +15,7 @@ ghost use Rattle.pim_items.specs.Reading.{PassesOn};
 ghost use Rattle.pim_items.specs.Input.{room, coming_lines, bytes_left, sort_seen, IsFeedAt};
 ghost use Rattle.pim_items.specs.Input.{NoFeed, GivesMore, IsReached};
 ghost use Rattle.pim_items.specs.Input.{HasPassedOn, StillCome, IsPassed, GivesLine};
+ghost use Rattle.pim_items.specs.Input.{HasRead, GivesPlace, TakesLine};
 
 use crate::answers::Answers;
 use crate::sort::{Sort, sort_of};
@@ -238,6 +239,8 @@ impl<R: Feed> Input<R> {
     fn fill<W: Answers>(&mut self, answers: &mut W) -> Result<usize, Stopped>
         requires { length self.old.pending ≤ line_limit }
         ensures more { IfOk result (λ count. GivesMore count self.old self.new) }
+        ensures early { OnErr result ((self.new.pending ≡ self.old.pending)
+            × Keeps self.old.remaining self.new.remaining) }
         ensures left { bytes_left self.new ≡ bytes_left self.old }
         ensures reads { CountsReads result self.new.unread self.old.failures self.new.failures }
         ensures output { W.failures answers.new
@@ -269,6 +272,10 @@ impl<R: Feed> Input<R> {
         ensures reached { IfOk result (λ place.
             IsReached place self.new (W.passed_on answers.new ≡ W.contents answers.new)) }
         ensures coming { OnOk result (StillCome self.old self.new) }
+        ensures at_once { ¬ NoFeed self.old.pending →
+            GivesPlace result × (self.new ≡ self.old) × (answers.new ≡ answers.old) }
+        ensures early { OnErr result (IfSome (coming_lines self.old)
+            (λ bytes. HasRead bytes NoFeed self.new)) }
         ensures left { bytes_left self.new ≡ bytes_left self.old }
         ensures reads { CountsReads result self.new.unread self.old.failures self.new.failures }
         ensures output { W.failures answers.new
@@ -278,7 +285,7 @@ impl<R: Feed> Input<R> {
             ((answers.new ≡ answers.old) × (self.new.unread ≡ self.old.unread))
             (W.passed_on answers.new ≡ W.contents answers.new) }
     {
-        loop {
+        'reads: loop {
             if let Some(place) = self.find_feed() {
                 return Ok(Some(place));
             }
@@ -295,6 +302,8 @@ impl<R: Feed> Input<R> {
     fn pass_line<W: Answers>(&mut self, answers: &mut W) -> Result<(), Stopped>
         ensures passed_over { OnOk result (IfSome self.old.remaining
             (λ bytes. IsPassed bytes self.new)) }
+        ensures early { OnErr result (IfSome self.old.remaining
+            (λ bytes. HasRead bytes NoFeed self.new)) }
         ensures left { bytes_left self.new ≤ self.old.unread }
         ensures reads { CountsReads result self.new.unread self.old.failures self.new.failures }
         ensures output { W.failures answers.new
@@ -314,10 +323,28 @@ impl<R: Feed> Input<R> {
         }
     }
 
+    /// Passes over all bytes that were read.
+    pub fn drop_pending(&mut self)
+        ensures { self.new ≡ record self.old { pending = [] } }
+    {
+        self.pass(self.pending().len());
+    }
+
+    /// Lets no byte be read any more.
+    pub fn close(&mut self)
+        ensures { self.new ≡ record self.old { unread = 0 } }
+    {
+        self.unread = 0;
+    }
+
     /// Finds the next line, or `None` at the end of the device. A line that is too long is passed
     /// over.
     pub fn next_line<W: Answers>(&mut self, answers: &mut W) -> Result<Option<Found>, Stopped>
         ensures line { IfSome (coming_lines self.old) (λ bytes. GivesLine bytes result self.new) }
+        ensures at_once { ¬ NoFeed self.old.pending → TakesLine self.old.pending result self.new
+            × (answers.new ≡ answers.old) × (self.new.unread ≡ self.old.unread) }
+        ensures early { OnErr result (IfSome (coming_lines self.old)
+            (λ bytes. HasRead bytes NoFeed self.new)) }
         ensures left { LeavesLess result (bytes_left self.old) (bytes_left self.new) }
         ensures reads { CountsReads result self.new.unread self.old.failures self.new.failures }
         ensures output { W.failures answers.new

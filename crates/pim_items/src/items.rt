@@ -1,14 +1,17 @@
 //! The items of a session: lines, and texts that a `from` line begins.
 
-ghost use Rattle.std.specs.Prelude.{◌≡◌, ◌≤◌, List, ℕ, false, length, IfOk};
+ghost use Rattle.std.specs.Prelude.{◌≡◌, ◌≤◌, List, ℕ, true, false, [], length, IfOk};
+ghost use Rattle.std.specs.Prelude.{OnErr, IsErr, IsOk};
 ghost use Rattle.std.specs.Option.{IfSome};
 ghost use Rattle.std.specs.Io.KnownBytes.{Keeps};
-ghost use Rattle.pim_items.specs.Items.{line_limit, text_limit, is_send, Text};
+ghost use Rattle.pim_items.specs.Items.{line_limit, text_limit, is_send, Text, has_item};
+ghost use Rattle.pim_items.specs.Items.{IsAfterFirst};
 ghost use Rattle.pim_items.specs.Reading.{GivesItem, LeavesLess, CountsReads, flush_failures_after};
-ghost use Rattle.pim_items.specs.Reading.{MayPassOn, PassesOn};
-ghost use Rattle.pim_items.specs.Input.{coming_lines, bytes_left};
+ghost use Rattle.pim_items.specs.Reading.{MayPassOn, PassesOn, GivesOne, IsAtOnce, EndsEarly};
+ghost use Rattle.pim_items.specs.Reading.{Stops, Pends};
+ghost use Rattle.pim_items.specs.Input.{coming_lines, bytes_left, HasPassedOn, HasRead, Lacks};
 ghost use Rattle.pim_items.specs.Held.{HoldsText, IsKnown, GivesText, GivesTextItem, GivesSome};
-ghost use Rattle.pim_items.specs.Held.{reading_seen};
+ghost use Rattle.pim_items.specs.Held.{reading_seen, has_send, TakesSome};
 
 use crate::answers::Answers;
 use crate::held_text::{HeldText, Unheld};
@@ -46,15 +49,20 @@ pub enum Item {
 pub struct Items<R: Feed> {
     input: Input<R>,
     held: HeldText,
+    /// Whether a call has ended early. Nothing is pending then.
+    has_stopped: bool,
 }
 
 impl<R: Feed> Model for Items<R> {
+    ghost use Rattle.std.specs.Prelude.{◌≡◌, true, []};
     ghost use Rattle.pim_items.specs.Reading.{Reading};
     ghost use Rattle.pim_items.specs.Held.{reading_seen};
 
     ghost Value = { Reading };
 
-    ghost view = { λ items. reading_seen items.input items.held };
+    ghost view = { λ items. reading_seen items.input items.held items.has_stopped };
+
+    ghost invariant = { λ items. items.has_stopped ≡ true → items.input.pending ≡ [] };
 }
 
 /// Returns whether a line ends a text. Of a line that is too long, its bytes don't matter.
@@ -73,6 +81,11 @@ fn read_text<R: Feed, W: Answers>(
     ensures text { IfSome (coming_lines input.old) (λ bytes.
         (begun : Text) → begun.is_sent ≡ false → HoldsText begun held.old →
         GivesText begun bytes result input.new held.new) }
+    ensures at_once { has_send input.old.pending ≡ true → IsOk result
+        × IsAfterFirst has_send input.old.pending input.new.pending
+        × (answers.new ≡ answers.old) × (input.new.unread ≡ input.old.unread) }
+    ensures early { OnErr result (IfSome (coming_lines input.old)
+        (λ bytes. HasRead bytes (Lacks has_send) input.new)) }
     ensures left { bytes_left input.new ≤ bytes_left input.old }
     ensures reads { CountsReads result input.new.unread input.old.failures input.new.failures }
     ensures output { W.failures answers.new ≡ flush_failures_after (W.failures answers.old) result }
@@ -102,7 +115,12 @@ fn take_text<R: Feed, W: Answers>(
 ) -> Result<Item, Stopped>
     ensures item { IfSome (coming_lines input.old) (λ bytes.
         (head : List ℕ) → IsKnown input.old.line too_long head →
-        GivesTextItem head bytes result (reading_seen input.new held.new)) }
+        GivesTextItem head bytes result (reading_seen input.new held.new false)) }
+    ensures at_once { has_send input.old.pending ≡ true → IsOk result
+        × IsAfterFirst has_send input.old.pending input.new.pending
+        × (answers.new ≡ answers.old) × (input.new.unread ≡ input.old.unread) }
+    ensures early { OnErr result (IfSome (coming_lines input.old)
+        (λ bytes. HasRead bytes (Lacks has_send) input.new)) }
     ensures left { bytes_left input.new ≤ bytes_left input.old }
     ensures reads { CountsReads result input.new.unread input.old.failures input.new.failures }
     ensures output { W.failures answers.new ≡ flush_failures_after (W.failures answers.old) result }
@@ -126,6 +144,11 @@ fn next_line<R: Feed, W: Answers>(
     answers: &mut W,
 ) -> Result<Option<Found>, Stopped>
     ensures line { IfSome (coming_lines input.old) (λ bytes. GivesSome bytes result input.new) }
+    ensures at_once { has_item input.old.pending ≡ true →
+        TakesSome input.old.pending result input.new
+        × (answers.new ≡ answers.old) × (input.new.unread ≡ input.old.unread) }
+    ensures early { OnErr result (IfSome (coming_lines input.old)
+        (λ bytes. HasRead bytes (Lacks has_item) input.new)) }
     ensures left { LeavesLess result (bytes_left input.old) (bytes_left input.new) }
     ensures reads { CountsReads result input.new.unread input.old.failures input.new.failures }
     ensures output { W.failures answers.new ≡ flush_failures_after (W.failures answers.old) result }
@@ -152,7 +175,12 @@ fn next_item<R: Feed, W: Answers>(
     answers: &mut W,
 ) -> Result<Option<Item>, Stopped>
     ensures item { IfSome (coming_lines input.old)
-        (λ bytes. GivesItem bytes result (reading_seen input.new held.new)) }
+        (λ bytes. GivesItem bytes result (reading_seen input.new held.new false)) }
+    ensures at_once { has_item input.old.pending ≡ true → GivesOne result
+        × IsAfterFirst has_item input.old.pending input.new.pending
+        × (answers.new ≡ answers.old) × (input.new.unread ≡ input.old.unread) }
+    ensures early { OnErr result (IfSome (coming_lines input.old)
+        (λ bytes. HasRead bytes (Lacks has_item) input.new)) }
     ensures left { LeavesLess result (bytes_left input.old) (bytes_left input.new) }
     ensures reads { CountsReads result input.new.unread input.old.failures input.new.failures }
     ensures output { W.failures answers.new ≡ flush_failures_after (W.failures answers.old) result }
@@ -175,6 +203,24 @@ fn next_item<R: Feed, W: Answers>(
     Ok(Some(Item::Line))
 }
 
+/// Ends early again, and lets no byte be read any more. The answers are passed on.
+fn end_again<R: Feed, W: Answers>(
+    input: &mut Input<R>,
+    answers: &mut W,
+) -> Result<Option<Item>, Stopped>
+    ensures ends { IsErr result }
+    ensures input { input.new ≡ record input.old { unread = 0 } }
+    ensures output { W.failures answers.new ≡ flush_failures_after (W.failures answers.old) result }
+    ensures contents { Keeps (W.contents answers.old) (W.contents answers.new) }
+    ensures passed { HasPassedOn result (W.passed_on answers.new ≡ W.contents answers.new) }
+{
+    input.close();
+    let Ok(()) = answers.flush() else {
+        return Err(Stopped::Output);
+    };
+    Err(Stopped::Input)
+}
+
 impl<R: Feed> Items<R> {
     /// Returns the items of a device, of which nothing was read.
     ///
@@ -184,13 +230,16 @@ impl<R: Feed> Items<R> {
     where
         R: Drop,
         ensures coming { IfOk result (λ items. items.coming ≡ R.remaining reader) }
+        ensures pending { IfOk result (λ items. items.pending ≡ []) }
         ensures unread { IfOk result (λ items. items.unread ≡ usize.MAX) }
         ensures left { IfOk result (λ items. items.left ≡ usize.MAX) }
         ensures failures { IfOk result (λ items. items.failures ≡ R.failures reader) }
+        ensures has_stopped { IfOk result (λ items. items.has_stopped ≡ false) }
     {
         Ok(Items {
             input: Input::new(alloc, reader)?,
             held: HeldText::new(alloc),
+            has_stopped: false,
         })
     }
 
@@ -219,15 +268,27 @@ impl<R: Feed> Items<R> {
         self.held.bytes()
     }
 
-    /// Reads the next item, or returns `None` at the end of the input. Before each read of the
-    /// device the answers are passed on.
+    /// Reads the next item, or returns `None` at the end of the input. It reads only while no item
+    /// lies whole in what it has, and before each read of the device the answers are passed on.
     ///
     /// # Errors
     /// - `Input`: a read failed, or 2^64 - 1 bytes were read.
     /// - `Output`: the answers could not be passed on.
+    ///
+    /// After an error what was read is lost. Each later call fails too, and reads nothing.
     pub fn next<W: Answers>(&mut self, answers: &mut W) -> Result<Option<Item>, Stopped>
         // Where the bytes of the input are known, the items are those of its lines, in order.
         ensures item { IfSome self.old.coming (λ bytes. GivesItem bytes result self.new) }
+        // An item that lies whole in what was read is given at once: nothing is read, and no answer
+        // is passed on.
+        ensures at_once { has_item self.old.pending ≡ true →
+            IsAtOnce result self.old self.new × (answers.new ≡ answers.old) }
+        // What fails, a read or the passing on, came while no item lay whole in what was read.
+        ensures early { OnErr result (IfSome self.old.coming (λ bytes. EndsEarly bytes self.new)) }
+        ensures stops { Stops result self.old self.new }
+        ensures stays { self.old.has_stopped ≡ true → (self.new.coming ≡ self.old.coming)
+            × (self.new.failures ≡ self.old.failures) }
+        ensures pends { Pends self.new }
         ensures left { LeavesLess result self.old.left self.new.left }
         ensures reads { CountsReads result self.new.unread self.old.failures self.new.failures }
         ensures output { W.failures answers.new
@@ -237,6 +298,16 @@ impl<R: Feed> Items<R> {
             ((answers.new ≡ answers.old) × (self.new.unread ≡ self.old.unread))
             (W.passed_on answers.new ≡ W.contents answers.new) }
     {
-        next_item(&mut self.input, &mut self.held, answers)
+        if self.has_stopped {
+            return end_again(&mut self.input, answers);
+        }
+        match next_item(&mut self.input, &mut self.held, answers) {
+            Ok(item) => Ok(item),
+            Err(stopped) => {
+                self.has_stopped = true;
+                self.input.drop_pending();
+                Err(stopped)
+            }
+        }
     }
 }

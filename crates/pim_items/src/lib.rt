@@ -6,8 +6,12 @@
 //! of a text that is too long, or for which memory is refused, only that.
 //!
 //! For any device: the answers are passed on before each read, so that whoever gives a command sees
-//! its answer first. Each device has failed once more exactly where the error says so. Each item
-//! leaves fewer bytes, so that a loop over items ends.
+//! its answer first. A call reads, and passes answers on, only while no item lies whole in what was
+//! read. So it never waits for more input than an item needs. Each device has failed once more
+//! exactly where the error says so. Each item leaves fewer bytes, so that a loop over items ends.
+//!
+//! After an error what was read is lost, and each later call fails too. So no piece of a text, or of
+//! a line, is ever taken for an item.
 //!
 //! A line is found in a buffer of one size, made in advance. So no line needs memory, and a line
 //! costs time in its length even if each read gives one byte. An item is a plain value, and its

@@ -1,8 +1,9 @@
-use Rattle.std.proofs.Common.{true, ◌≡◌, ap, refl, subst, inl, inr, ◌⊎◌, ℕ, ◌<◌, Option, Some, None, length, arith}
+use Rattle.std.proofs.Common.{true, ◌≡◌, ◌∙◌, ap, refl, subst, inl, inr, ◌⊎◌, ℕ, ◌<◌, Option, Some, None, length, arith}
+use Rattle.std.specs.Option.{IfSome}
 use Rattle.std.specs.Io.KnownBytes.{IsAtEnd}
-use Rattle.pim_items.specs.Input.{Lines, IsReached, IsFeedAt, NoFeed, room, coming_lines}
-use Rattle.pim_items.proofs.Devices.{where_known}
-use Rattle.pim_items.proofs.Found.{found_fed, found_unfed, found_long}
+use Rattle.pim_items.specs.Input.{Lines, IsReached, IsFeedAt, NoFeed, HasRead, room, coming_lines}
+use Rattle.pim_items.proofs.Devices.{on_err, where_known}
+use Rattle.pim_items.proofs.Found.{found_fed, found_unfed, found_long, taken_fed, long_early}
 use Rattle.pim_items.proofs.input.Input.next_line.Goals as goal
 
 fed : (P : Type 0) (reached : Option ℕ) (lines : Lines) (place : ℕ) → reached ≡ Some place → IsReached reached lines P → IsFeedAt place lines.pending
@@ -51,3 +52,19 @@ returns-clause-line g c =
 pub returns-clause-left : goal.returns-clause-left
 returns-clause-left g c =
     omega (arith, c.in_ok-pass_line.ensures.left, c.in_ok-reached.ensures.left, ap length c.pending-count.ensures.bytes, c.if-count-eq0.false)
+
+pub returns-in-Some-clause-at_once : goal.returns-in-Some-clause-at_once
+returns-in-Some-clause-at_once g c = λ fed_before.
+    let same = c.in_ok-reached.ensures.at_once fed_before in (
+      taken_fed c.args.self.now.pending c.reach_feed.new.self c.name_line.new.self c.pass.new.self c.found.result c.in-Some.place (ap (λ (lines : Lines). lines.pending) same.1)
+          (fed (g.W.Answers.passed_on c.reach_feed.new.answers ≡ g.W.Drain.contents c.reach_feed.new.answers) _ c.reach_feed.new.self _ c.in-Some.is c.in_ok-reached.ensures.reached) c.name_line.ensures c.pass.ensures c.found.ensures.sort c.found.ensures.is_long,
+      same.2,
+      ap (λ (lines : Lines). lines.unread) c.pass.ensures ∙ ap (λ (lines : Lines). lines.unread) c.name_line.ensures ∙ ap (λ (lines : Lines). lines.unread) same.1,
+    )
+
+pub returns-in_err-pass_line-clause-early : goal.returns-in_err-pass_line-clause-early
+returns-in_err-pass_line-clause-early g c =
+    let at = unfed (g.W.Answers.passed_on c.reach_feed.new.answers ≡ g.W.Drain.contents c.reach_feed.new.answers) _ c.reach_feed.new.self c.in_default.not-Some c.in_ok-reached.ensures.reached in
+    on_err (IfSome (coming_lines c.args.self.now) (λ bytes. HasRead bytes NoFeed c.pass_line.new.self)) c.from_residual-in_err-pass_line.result
+    (where_known (coming_lines c.args.self.now) (λ bytes coming. long_early bytes c.reach_feed.new.self c.pass_line.new.self coming at.0 c.in_err-pass_line.ensures.early)
+    c.in_ok-reached.ensures.coming)
