@@ -1,6 +1,7 @@
 //! Hexadecimal digits.
 
-ghost use Rattle.std.specs.Prelude.{◌≡◌, ◌<◌, ◌∷◌, [], length, true, OnOk, IfSome, IfNone};
+ghost use Rattle.std.specs.Prelude.{◌≡◌, ◌<◌, ◌∷◌, ◌++◌, List, ℕ, [], length, true, IfSome, IfNone};
+ghost use Rattle.std.specs.Prelude.{MatchResult};
 ghost use Rattle.std.specs.List.{list_all};
 ghost use Rattle.std.specs.Char.{digit_value, is_digit};
 ghost use Rattle.pim_request.specs.Forms.{IsHex, hex_bytes};
@@ -77,7 +78,8 @@ fn next_byte(digits: &[u8]) -> Option<Decoded<'_>>
 /// Memory ran out. Then `bytes` has some first of these bytes.
 pub fn decode_hex(hex: &[u8], bytes: &mut Vec<u8>) -> Result<(), AllocError>
     requires { IsHex hex.now }
-    ensures { OnOk result (bytes.new.items ≡ hex_bytes hex.now) }
+    ensures { MatchResult result (λ _. bytes.new.items ≡ hex_bytes hex.now)
+        (λ _. (rest : List ℕ) × (hex_bytes hex.now ≡ bytes.new.items ++ rest)) }
 {
     bytes.clear();
     bytes.reserve(hex.len() / 2)?;
