@@ -34,17 +34,17 @@ use Rattle.pim_answers.specs.Lines.{ok_line, fault_line}
 -- messages that were made, or why they weren't
 pub made_told : {F A N : Type 0} (family : AddressFamily) (bytes_of : A → List ℕ) (AreMade : List (List ℕ) → Type 0) (IsBig : Option (List ℕ) → Type 0) (made : Result (List (List ℕ)) (FormFault F A N))
     → IfOk made AreMade → IsBig (option_map bytes_of (told_too_big made)) → (made ≡ Err Tables → ⊥) → TellsMade family AreMade IsBig (made_text family bytes_of made)
-made_told family bytes_of AreMade IsBig (Ok messages) are big never = inl ((messages, are, refl), big)
-made_told family bytes_of AreMade IsBig (Err (TooBig group)) are big never = inr (inl (bytes_of group, big, refl))
-made_told family bytes_of AreMade IsBig (Err Memory) are big never = inr (inr refl)
+made_told family bytes_of AreMade IsBig (Ok messages) are big never = inl (inl (messages, are, refl), big)
+made_told family bytes_of AreMade IsBig (Err (TooBig group)) are big never = inr (bytes_of group, big, refl)
+made_told family bytes_of AreMade IsBig (Err Memory) are big never = inl (inr refl, big)
 made_told family bytes_of AreMade IsBig (Err Tables) are big never = absurd (never refl)
 
 -- messages that were compared, or why they weren't
 pub compared_told : {F A N : Type 0} (family : AddressFamily) (bytes_of : A → List ℕ) (writer : Writer) (router : RouterState) (kept : Kept) (compared : Result Bool (FormFault F A N))
     → IfOk compared (AreCompared family writer kept.form router) → SaysBig family bytes_of writer kept.form router compared → (compared ≡ Err Tables → ⊥) → TellsSame family writer router kept (same_text family bytes_of compared)
-compared_told family bytes_of writer router kept (Ok same) are big never = inl (same, are, refl)
-compared_told family bytes_of writer router kept (Err (TooBig group)) are big never = inr (inl (bytes_of group, big, refl))
-compared_told family bytes_of writer router kept (Err Memory) are big never = inr (inr refl)
+compared_told family bytes_of writer router kept (Ok same) are big never = inl (inl (same, are, refl), big)
+compared_told family bytes_of writer router kept (Err (TooBig group)) are big never = inr (bytes_of group, big, refl)
+compared_told family bytes_of writer router kept (Err Memory) are big never = inl (inr refl, big)
 compared_told family bytes_of writer router kept (Err Tables) are big never = absurd (never refl)
 
 -- tests that let a command pass

@@ -59,13 +59,13 @@ UnlessAny (first ∷ others) Says text = text ≡ fault_line first
 abbrev pub too_big_words : AddressFamily → List ℕ → List ℕ
 too_big_words family group = codes "too big " ++ address_text family group
 
--- The lines of the messages that `AreMade` holds for, where no star is too big. Or the first group
--- whose star is; or memory is refused.
+-- The lines of the messages that `AreMade` holds for, or memory is refused: both only where no star is
+-- too big. Or the first group whose star is.
 abbrev pub TellsMade : AddressFamily → (List (List ℕ) → Type 0) → (Option (List ℕ) → Type 0) → List ℕ → Type 0
 TellsMade family AreMade IsBig text =
-    (((messages : List (List ℕ)) × AreMade messages × (text ≡ messages_text messages ++ ok_line)) × IsBig None)
+    ((((messages : List (List ℕ)) × AreMade messages × (text ≡ messages_text messages ++ ok_line))
+    ⊎ (text ≡ memory_line)) × IsBig None)
     ⊎ ((group : List ℕ) × IsBig (Some group) × (text ≡ fault_line (too_big_words family group)))
-    ⊎ (text ≡ memory_line)
 
 -- `messages`: the canonical messages to the upstream neighbour.
 abbrev pub AnswersMessages : AddressFamily → Writing → RouterState → List ℕ → Type 0
@@ -131,6 +131,11 @@ IsFirstBig family writer form router group =
     (too_big family writer.budget form ≡ Some group)
     ⊎ (too_big family writer.budget form ≡ None) × IsTooBig family writer router (Some group)
 
+-- No star is too big, neither of what was kept nor of what is asked now.
+abbrev pub IsNoneBig : AddressFamily → Writer → List GroupForm → RouterState → Type 0
+IsNoneBig family writer form router =
+    (too_big family writer.budget form ≡ None) × IsTooBig family writer router None
+
 -- The canonical messages of what was kept, and those of what is asked now, are the same, byte for
 -- byte, where `same` is true, and only there.
 pub record AreCompared (family : AddressFamily) (writer : Writer) (form : List GroupForm) (router : RouterState)
@@ -146,14 +151,14 @@ abbrev pub same_line : Bool → List ℕ
 same_line true = line (codes "same")
 same_line false = line (codes "different")
 
--- Whether the canonical messages of what was kept are those of what is asked now. Or a star that is
--- too big, or memory is refused.
+-- Whether the canonical messages of what was kept are those of what is asked now, or memory is
+-- refused: both only where no star is too big. Or the first group whose star is.
 abbrev pub TellsSame : AddressFamily → Writer → RouterState → Kept → List ℕ → Type 0
 TellsSame family writer router kept text =
-    ((same : Bool) × AreCompared family writer kept.form router same × (text ≡ same_line same ++ ok_line))
+    ((((same : Bool) × AreCompared family writer kept.form router same × (text ≡ same_line same ++ ok_line))
+    ⊎ (text ≡ memory_line)) × IsNoneBig family writer kept.form router)
     ⊎ ((group : List ℕ) × IsFirstBig family writer kept.form router group
     × (text ≡ fault_line (too_big_words family group)))
-    ⊎ (text ≡ memory_line)
 
 -- `same`
 abbrev pub AnswersSame : AddressFamily → Named → RouterState → List Kept → List ℕ → Type 0

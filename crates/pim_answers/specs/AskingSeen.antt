@@ -17,7 +17,7 @@ use Rattle.pim_report.specs.MessageText.{messages_text}
 use Rattle.pim_answers.specs.declared.asking.WriterEnds.{WriterEnds}
 use Rattle.pim_answers.specs.declared.fault.Fault.{Fault}
 use Rattle.pim_answers.specs.declared.kept.KeptForm.{KeptForm}
-use Rattle.pim_answers.specs.Asking.{writer_of, writer_words, too_big_words, name_words, kept_now, same_line, IsFirstBig}
+use Rattle.pim_answers.specs.Asking.{writer_of, writer_words, too_big_words, name_words, kept_now, same_line, IsFirstBig, IsNoneBig}
 use Rattle.pim_answers.specs.Fault.{fault_words}
 use Rattle.pim_answers.specs.Families.{differ_from, family_words}
 use Rattle.pim_answers.specs.Kept.{Kept, lacks_place, have_their_rps}
@@ -60,7 +60,8 @@ same_text family bytes_of (Err fault) = form_fault_line family bytes_of fault
 abbrev pub SaysBig : {T F A N : Type 0} → AddressFamily → (A → List ℕ) → Writer → List GroupForm → RouterState →
     Result T (FormFault F A N) → Type 0
 SaysBig family bytes_of writer form router (Err (TooBig group)) = IsFirstBig family writer form router (bytes_of group)
-SaysBig family bytes_of writer form router result = Unit {0}
+SaysBig family bytes_of writer form router (Err Tables) = Unit {0}
+SaysBig family bytes_of writer form router result = IsNoneBig family writer form router
 
 -- What is asked of a neighbour now, with the RPs of its stars.
 pub record IsAskedNow {F A N : Type 0} (family : AddressFamily) (bytes_of : A → List ℕ) (upstream : List ℕ)

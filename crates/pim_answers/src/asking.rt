@@ -277,7 +277,8 @@ pub fn answer_change<F: Family, W: Drain>(
     }
 }
 
-/// Whether the canonical messages of a form and those of what is asked now are the same bytes.
+/// Whether the canonical messages of a form and those of what is asked now are the same bytes. A star
+/// that is too big is the fault, also where memory is refused.
 fn is_same<F: Family>(
     alloc: Global,
     router: &Router<'_, F>,
@@ -290,9 +291,12 @@ fn is_same<F: Family>(
     ensures big { SaysBig F.family F.bytes_of writer.now form.now router.now result }
     ensures tables { result ≢ Err FormFault.Tables }
 {
-    let before = pack::<F>(alloc, form, writer, router.routes())?;
+    let before = pack::<F>(alloc, form, writer, router.routes());
+    if let Err(FormFault::TooBig(group)) = &before {
+        return Err(FormFault::TooBig(*group));
+    }
     let now = router.canonical(alloc, writer)?;
-    Ok(before.same_bytes(&now))
+    Ok(before?.same_bytes(&now))
 }
 
 /// The line that says whether both are the same.
