@@ -2,12 +2,14 @@
 //! gate, each with words of its own.
 //!
 //! `run_program` gives the engines of `pim_commands` and `pim_session` the process's own devices
-//! and files. It has no contract: what a file or a device holds, no contract can name.
+//! and files. It has no contract: what a file or a device of the system holds, no contract can name.
+//! `run_session` is what it does of a session, over any devices, so that tests call it, too.
 #![tactic(auto)]
 
 mod files;
 mod output;
 mod progress;
+mod session;
 mod source;
 
 ghost use Rattle.pim_words.specs.Plan.{IsInRange};
@@ -17,9 +19,8 @@ use crate::output::{Output, Replies, is_live, reads_any, routes_of};
 use crate::progress::{Clearing, Line};
 use pim_addr::{Counted, Family, V4, V6};
 use pim_commands::{FAULTY, Fault, run_task, tell_into};
-use pim_items::{Answers, Items, Stopped};
-use pim_session::session_into;
 use pim_words::{Plan, Task, plan};
+pub use session::run_session;
 use std::io::{IsTerminal, Write};
 use std::process::ExitCode;
 use std::{env, io};
@@ -30,29 +31,12 @@ fn words_given(rt: &HostRuntime) -> io::Result<Vec<String>> {
     Ok(words.collect(rt.alloc())?)
 }
 
-/// The fault of a session that stopped, as one of the program.
-fn session_fault(stopped: Stopped) -> Fault<'static> {
-    match stopped {
-        Stopped::Input => Fault::InputRead,
-        Stopped::Output => Fault::Output,
-    }
-}
-
 /// Answers a session on standard input, on standard output, and returns the status.
-fn run_session(rt: &HostRuntime) -> Result<u8, Fault<'static>> {
+fn answer_input(rt: &HostRuntime) -> Result<u8, Fault<'static>> {
     let Ok(mut replies) = Replies::new(rt.alloc(), io::writer(rt)) else {
         return Err(Fault::Memory);
     };
-    let Ok(mut items) = Items::new(rt.alloc(), Counted::new(rt.stdin())) else {
-        return Err(Fault::Memory);
-    };
-    let ended = session_into(rt.alloc(), &mut items, &mut replies);
-    let flushed = replies.flush();
-    match ended {
-        Ok(()) if flushed.is_ok() => Ok(0),
-        Ok(()) => Err(Fault::Output),
-        Err(stopped) => Err(session_fault(stopped)),
-    }
+    run_session(rt.alloc(), Counted::new(rt.stdin()), &mut replies)
 }
 
 /// Does a task, with standard input and output and the files of the system, and returns the status.
@@ -90,7 +74,7 @@ fn run<'a>(rt: &HostRuntime, words: &'a [String]) -> Result<u8, Fault<'a>> {
     match &plan(rt.alloc(), words)? {
         Plan::V4(task) => run_on_system::<V4>(rt, task),
         Plan::V6(task) => run_on_system::<V6>(rt, task),
-        Plan::Session => run_session(rt),
+        Plan::Session => answer_input(rt),
     }
 }
 

@@ -1,12 +1,12 @@
 //! Standard output, in blocks or line by line.
 
-ghost use Rattle.std.specs.Prelude.{◌≡◌, ◌+◌, min, None};
+ghost use Rattle.std.specs.Prelude.{◌≡◌, ◌+◌, ◌⊎◌, ◌↔◌, IsTrue, min, None};
 ghost use Rattle.pim_device.specs.Device.{top_count};
 
 use crate::files::STANDARD_INPUT;
 use pim_addr::{Drain, Failed};
 use pim_items::Answers;
-use pim_words::{Captures, Port, Task};
+use pim_words::{Captures, Task};
 use std::alloc::Global;
 use std::fs::metadata;
 use std::io::{self, BufWriter, IsTerminal, Write};
@@ -64,19 +64,28 @@ pub fn reads_any<A>(task: &Task<'_, A>) -> bool {
     captures_of(task).is_some_and(|it| it.ports.iter().any(|port| port.link.is_some()))
 }
 
-/// The path of what a port is captured from.
-fn path_of<'a, A>(port: &Port<'a, A>) -> &'a str {
-    if port.link.is_some() && port.file == STANDARD_INPUT {
-        "/dev/stdin"
-    } else {
-        port.file
-    }
+/// Whether the file of this name may still grow: it is a pipe, a terminal or another device. Where it
+/// may be of any container, `-` is standard input.
+fn may_grow(rt: &HostRuntime, is_any: bool, file: &str) -> bool {
+    let is_input = is_any && file == STANDARD_INPUT;
+    let path = if is_input { "/dev/stdin" } else { file };
+    metadata(rt, path).is_ok_and(|it| !it.is_file())
 }
 
-/// Whether the capture of some port may still grow: it is a pipe, a terminal or another device.
-fn some_may_grow<A>(rt: &HostRuntime, ports: &[Port<'_, A>]) -> bool {
-    for port in ports {
-        if metadata(rt, path_of(port)).is_ok_and(|it| !it.is_file()) {
+/// Whether the first file of some port may still grow.
+fn some_first_grows<A>(rt: &HostRuntime, captures: &Captures<'_, A>) -> bool {
+    for port in &captures.ports {
+        if may_grow(rt, port.link.is_some(), port.file) {
+            return true;
+        }
+    }
+    false
+}
+
+/// Whether a further file of some port may still grow.
+fn some_further_grows<A>(rt: &HostRuntime, captures: &Captures<'_, A>) -> bool {
+    for further in &captures.more {
+        if may_grow(rt, true, further.file) {
             return true;
         }
     }
@@ -85,7 +94,7 @@ fn some_may_grow<A>(rt: &HostRuntime, ports: &[Port<'_, A>]) -> bool {
 
 /// Whether the task reads from a pipe, a terminal or another device.
 fn reads_live<A>(rt: &HostRuntime, task: &Task<'_, A>) -> bool {
-    captures_of(task).is_some_and(|it| some_may_grow(rt, &it.ports))
+    captures_of(task).is_some_and(|it| some_first_grows(rt, it) || some_further_grows(rt, it))
 }
 
 /// Whether standard output is a FIFO or a pipe. If the system doesn't say, it is none.
@@ -93,11 +102,23 @@ fn writes_into_pipe(rt: &HostRuntime) -> bool {
     metadata(rt, "/dev/stdout").is_ok_and(|it| it.file_type().is_fifo())
 }
 
-/// Whether each line is written out as soon as it is complete: to a terminal, from a pipe, and in a
-/// trace also to a pipe.
+/// Whether each line is written out as soon as it is complete: to a terminal, from what may still
+/// grow, or in a trace into a pipe.
+fn goes_out_by_lines(to_terminal: bool, from_growing: bool, traces_into_pipe: bool) -> bool
+    ensures { IsTrue result
+        ↔ (IsTrue to_terminal ⊎ (IsTrue from_growing ⊎ IsTrue traces_into_pipe)) }
+{
+    to_terminal || from_growing || traces_into_pipe
+}
+
+/// The same of a task that this process does.
 pub fn is_live<A>(rt: &HostRuntime, task: &Task<'_, A>) -> bool {
-    let is_trace = matches!(task, Task::Trace(..));
-    rt.stdout().is_terminal() || reads_live(rt, task) || is_trace && writes_into_pipe(rt)
+    let traces_into_pipe = matches!(task, Task::Trace(..)) && writes_into_pipe(rt);
+    goes_out_by_lines(
+        rt.stdout().is_terminal(),
+        reads_live(rt, task),
+        traces_into_pipe,
+    )
 }
 
 /// The device that takes the answers of a session. It keeps bytes in a block, and writes them out

@@ -4,26 +4,9 @@ use pim_addr::{ScriptedDrain, ScriptedFeed, V4, V6};
 use pim_cases::{Case, MOST_READ, Runner, files_of};
 use pim_commands::{Fault, run_task, tell_into};
 use pim_files::HeldFiles;
-use pim_items::{Items, Stopped};
-use pim_session::session_into;
+use pim_main::run_session;
 use pim_words::{Plan, plan};
 use std::alloc::Global;
-
-/// Answers a session, as the program does.
-fn answer_session(
-    alloc: Global,
-    input: ScriptedFeed<'_>,
-    output: &mut ScriptedDrain,
-) -> Result<u8, Fault<'static>> {
-    let Ok(mut items) = Items::new(alloc, input) else {
-        return Err(Fault::Memory);
-    };
-    match session_into(alloc, &mut items, output) {
-        Ok(()) => Ok(0),
-        Err(Stopped::Input) => Err(Fault::InputRead),
-        Err(Stopped::Output) => Err(Fault::Output),
-    }
-}
 
 /// Does what the words of a case ask for, as the program does.
 fn answer<'c>(
@@ -45,7 +28,7 @@ fn answer<'c>(
         Plan::V6(task) => {
             run_task::<V6, _, _, _, _>(alloc, &mut opener, task, &mut input, output, errors)
         }
-        Plan::Session => answer_session(alloc, input, output),
+        Plan::Session => run_session(alloc, input, output),
     }
 }
 

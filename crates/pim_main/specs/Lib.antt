@@ -1,0 +1,2 @@
+-- The definitions that contracts of this crate cite.
+pub mod Session
