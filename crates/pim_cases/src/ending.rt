@@ -9,8 +9,11 @@ use std::io;
 /// The most bytes that a write takes.
 const MOST_WRITTEN: usize = 5;
 
-/// What runs the words of a case.
+/// What runs the words of a case, and answers the session of a scenario.
 pub trait Runner {
+    /// Answers a session of these lines. Returns whether it answered them to their end.
+    fn answer(&self, alloc: Global, text: &[u8], answers: &mut ScriptedDrain) -> bool;
+
     /// Does what the words ask for, with this standard output and error. Returns the status.
     fn run(
         &self,

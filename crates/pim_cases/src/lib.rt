@@ -4,9 +4,10 @@
 //! its files, and the output, errors and status that it must have (`case`). A file whose name ends
 //! in `.case` is a list of cases, another one a scenario.
 //!
-//! `Tally` runs files, cases by a `Runner` that the caller gives. It writes the first difference of
-//! each that fails, and counts. This library has no contract, since no clause says what a test
-//! prints. It is apart from `pimtree_cases` so that it does not wait for the proofs of commands.
+//! `Tally` runs files by a `Runner` that the caller gives. It writes the first difference of each
+//! that fails, and counts. This library has no contract, since no clause says what a test prints:
+//! the stored run of `failing_cases` shows what it says of files that fail. It is apart from
+//! `pimtree_cases` so that it does not wait for the proofs of commands.
 #![tactic(auto)]
 
 mod case;

@@ -5,10 +5,9 @@
 //! command has an answer, whose last line is `ok` or begins with `fault `.
 
 use crate::differing::{Place, tell_line};
+use crate::ending::Runner;
 use crate::lines::{cut_line, without_feed};
-use pim_addr::{ScriptedDrain, ScriptedFeed};
-use pim_items::Items;
-use pim_session::session_into;
+use pim_addr::ScriptedDrain;
 use std::io;
 
 /// How far a scenario is compared.
@@ -66,6 +65,15 @@ impl Comparison<'_> {
         self.tell(rt, b"", without_feed(line))
     }
 
+    /// Whether all answers were compared. Otherwise it writes what comes next.
+    fn is_over(&self, rt: &HostRuntime) -> io::Result<bool> {
+        if self.is_complete && self.answers.is_empty() {
+            return Ok(true);
+        }
+        let (line, _) = cut_line(self.answers);
+        self.tell(rt, b"", without_feed(line))
+    }
+
     /// Goes on by a line of the scenario, which has this number. Returns whether all is as
     /// expected.
     fn go_on(&mut self, rt: &HostRuntime, line: &[u8], number: usize) -> io::Result<bool> {
@@ -106,20 +114,23 @@ fn compare(rt: &HostRuntime, file: &str, text: &[u8], answers: &[u8]) -> io::Res
             return Ok(false);
         }
     }
-    comparison.complete(rt)
+    comparison.is_over(rt)
 }
 
 /// Runs a scenario, and writes its first difference. Returns whether all is as expected.
-pub fn run_scenario(rt: &HostRuntime, file: &str, text: &[u8]) -> io::Result<bool> {
-    let input = ScriptedFeed::new(text, usize::MAX, usize::MAX);
+pub fn run_scenario<R: Runner>(
+    rt: &HostRuntime,
+    runner: &R,
+    file: &str,
+    text: &[u8],
+) -> io::Result<bool> {
     let mut answers = ScriptedDrain::new(rt.alloc(), usize::MAX, usize::MAX);
-    let mut items = Items::new(rt.alloc(), input)?;
-    let ended = session_into(rt.alloc(), &mut items, &mut answers);
+    let is_answered = runner.answer(rt.alloc(), text, &mut answers);
     if !compare(rt, file, text, answers.written())? {
         return Ok(false);
     }
-    if ended.is_err() {
+    if !is_answered {
         println!(rt; "{file}: the session ended early")?;
     }
-    Ok(ended.is_ok())
+    Ok(is_answered)
 }

@@ -5,7 +5,7 @@ use crate::ending::{Runner, run_case};
 use crate::scenario::run_scenario;
 use std::{fs, io};
 
-/// The numbers of scenarios, of cases, and of those that failed. The runner runs the cases.
+/// The numbers of scenarios, of cases, and of those that failed. The runner runs them.
 #[derive(Drop)]
 pub struct Tally<R: Runner + Drop> {
     runner: R,
@@ -15,7 +15,7 @@ pub struct Tally<R: Runner + Drop> {
 }
 
 impl<R: Runner + Drop> Tally<R> {
-    /// Returns a tally of nothing, whose cases this runner will run.
+    /// Returns a tally of nothing. This runner will run what it counts.
     pub fn new(runner: R) -> Self {
         Tally {
             runner,
@@ -84,7 +84,7 @@ impl<R: Runner + Drop> Tally<R> {
     fn run_scenario(&mut self, rt: &HostRuntime, file: &str) -> io::Result<()> {
         let text = fs::read(rt, file)?;
         self.scenarios = self.scenarios.saturating_add(1);
-        let is_as_expected = run_scenario(rt, file, &text)?;
+        let is_as_expected = run_scenario(rt, &self.runner, file, &text)?;
         self.count(is_as_expected);
         Ok(())
     }

@@ -37,6 +37,11 @@ fn answer<'c>(
 pub struct Commands;
 
 impl Runner for Commands {
+    fn answer(&self, alloc: Global, text: &[u8], answers: &mut ScriptedDrain) -> bool {
+        let input = ScriptedFeed::new(text, usize::MAX, usize::MAX);
+        run_session(alloc, input, answers).is_ok_and(|status| status == 0)
+    }
+
     fn run(
         &self,
         alloc: Global,
