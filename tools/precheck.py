@@ -44,6 +44,7 @@ WORDS = {
     "docs/MANUAL.md": 1500,
     "docs/PROFILE.md": 1500,
     "docs/PROVING.md": 3000,
+    "docs/PYTHON.md": 700,
     "docs/SESSION.md": 1000,
     "docs/SPEED.md": 750,
     "docs/TRACE.md": 1000,

@@ -56,10 +56,12 @@ class Examples(unittest.TestCase):
         self.assertEqual((ran.stdout, ran.returncode), (data, 0))
 
     def test_an_unwritten_output(self) -> None:
-        with open("/dev/full", "wb") as full:
-            ran = subprocess.run([support.PROGRAM, "trace", *words_of("lan")], stdout=full,
-                                 stderr=subprocess.PIPE, cwd=os.path.join(support.TOP, "examples"))
-        self.assertEqual((ran.stderr, ran.returncode), (b"pimtree: output\n", 2))
+        for words in (["trace", *words_of("lan")], ["session"]):
+            with self.subTest(words[0]), open("/dev/full", "wb") as full:
+                ran = subprocess.run([support.PROGRAM, *words], input=b"port 10.0.0.1\n",
+                                     stdout=full, stderr=subprocess.PIPE,
+                                     cwd=os.path.join(support.TOP, "examples"))
+                self.assertEqual((ran.stderr, ran.returncode), (b"pimtree: output\n", 2))
 
 
 if __name__ == "__main__":
