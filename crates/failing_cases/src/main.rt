@@ -2,8 +2,8 @@
 //! says of them, so a harness that passes over a failure is noticed.
 //!
 //! The commands are those of a small runner. In a session it answers `ok` to each line, to `twice`
-//! two times, and it ends at `last`. Of a case it writes the input to standard output and the words
-//! to standard error, and returns the number of files.
+//! two times, to `lines` after two more lines, and it ends at `last`. Of a case it writes the input
+//! to standard output and the words to standard error, and returns the number of files.
 #![tactic(auto)]
 
 use pim_addr::{Failed, ScriptedDrain, write_all};
@@ -22,6 +22,9 @@ const UNWRITTEN: u8 = 9;
 fn answer_line(line: &str, answers: &mut ScriptedDrain) -> Result<bool, Failed> {
     if line.starts_with('#') {
         return Ok(true);
+    }
+    if line == "lines" {
+        write_all(answers, b"1\n2\n")?;
     }
     write_all(answers, b"ok\n")?;
     if line == "twice" {
