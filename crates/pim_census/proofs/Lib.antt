@@ -1,2 +1,4 @@
 pub mod Places
 pub mod Steps
+pub mod Counted
+pub mod Adding

@@ -1,3 +1,5 @@
 pub mod Slots
+pub mod Places
 pub mod Census
 pub mod Missing
+pub mod Laws

@@ -1,21 +1,14 @@
 -- Slots for the first different items of a sequence. The free ones are last.
-use Rattle.std.specs.Prelude.{ℕ, suc, Bool, true, cond, ◌&&◌, List, [], ◌∷◌, ◌++◌, length, drop, replicate}
-use Rattle.std.specs.Prelude.{Option, None, Some, slice_set, bytes_eq}
+use Rattle.std.specs.Prelude.{Bool, ◌&&◌, List, [], ◌∷◌, ◌++◌, length, drop, ℕ, replicate, Option, None, Some, bytes_eq}
+use Rattle.std.specs.Prelude.{if◌then◌else◌}
 use Rattle.pim_census.specs.declared.census.StarJoin.{StarJoin}
 
--- A slot takes an item if it is free or already has that item.
-abbrev pub takes : {A : Type 0} → (A → Bool) → Option A → Bool
-takes is_it None = true
-takes is_it (Some held) = is_it held
-
--- The number of the first slot that takes an item; the number of slots if there is none.
-unfoldable pub place_of : {A : Type 0} → (A → Bool) → List (Option A) → ℕ
-place_of is_it [] = 0
-place_of is_it (slot ∷ slots) = cond (takes is_it slot) 0 (suc (place_of is_it slots))
-
--- The slots after an item is added: the first that takes it has it. If there is none, they stay.
-abbrev pub added : {A : Type 0} → (A → A → Bool) → A → List (Option A) → List (Option A)
-added same item slots = slice_set slots (place_of (same item) slots) (Some item)
+-- The slots after an item is added. The first free slot takes it, unless a slot before that has it. If
+-- no slot is free, they stay.
+unfoldable pub added : {A : Type 0} → (A → A → Bool) → A → List (Option A) → List (Option A)
+added same item [] = []
+added same item (None ∷ slots) = Some item ∷ slots
+added same item (Some held ∷ slots) = Some held ∷ (if same item held then slots else added same item slots)
 
 -- An address in a field of 16 bytes, with zeros after the bytes of IPv4.
 abbrev pub field_of : List ℕ → List ℕ

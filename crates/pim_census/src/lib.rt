@@ -10,12 +10,16 @@
 //! - `Census::misses` returns whether messages name upstream neighbours, but not this one.
 //! - `Census::without_rp` returns the group of the first Join(\*,G) for an upstream neighbour that
 //!   has no RP in a route table.
+//! - The laws `missed_is_named_by_none` and `unserved_is_joined` say what these answers mean for
+//!   the messages that were counted.
 //!
 //! A census has a fixed size, so no function allocates.
 #![tactic(auto)]
 
 mod census;
 mod counting;
+mod laws;
 mod slots;
 
 pub use census::{Census, StarJoin};
+pub use laws::{missed_is_named_by_none, unserved_is_joined};

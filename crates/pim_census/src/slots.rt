@@ -1,7 +1,8 @@
 //! Slots for the first different items of a sequence.
 
 ghost use Rattle.std.specs.Prelude.{◌≡◌, bytes_eq};
-ghost use Rattle.pim_census.specs.Slots.{field_of, takes, place_of, added, same_star};
+ghost use Rattle.pim_census.specs.Slots.{field_of, added, same_star};
+ghost use Rattle.pim_census.specs.Places.{takes, place_of};
 
 use crate::census::StarJoin;
 use pim_addr::Family;
@@ -76,6 +77,7 @@ fn place_of_star(slots: &[Option<StarJoin>], star: StarJoin) -> usize
 }
 
 /// Adds an address, unless it is there or no slot is free.
+#[tactic(auto, using(crate::proofs::Adding::address_set, crate::proofs::Adding::address_past))]
 pub(crate) fn add_address(slots: &mut [Option<[u8; 16]>], address: [u8; 16])
     ensures { slots.new ≡ added bytes_eq address slots.old }
 {
@@ -86,6 +88,7 @@ pub(crate) fn add_address(slots: &mut [Option<[u8; 16]>], address: [u8; 16])
 }
 
 /// Adds a Join(\*,G), unless it is there or no slot is free.
+#[tactic(auto, using(crate::proofs::Adding::star_set, crate::proofs::Adding::star_past))]
 pub(crate) fn add_star(slots: &mut [Option<StarJoin>], star: StarJoin)
     ensures { slots.new ≡ added same_star star slots.old }
 {

@@ -1,5 +1,5 @@
 use Rattle.std.proofs.Common.{◌≡◌, ◌+◌, drop, bytes_eq}
-use Rattle.pim_census.specs.Slots.{place_of}
+use Rattle.pim_census.specs.Places.{place_of}
 use Rattle.pim_census.proofs.slots.place_of_address.Given as goal
 
 -- the place is among the slots that are left

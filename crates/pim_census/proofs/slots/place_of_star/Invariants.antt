@@ -1,5 +1,6 @@
 use Rattle.std.proofs.Common.{◌≡◌, ◌+◌, drop}
-use Rattle.pim_census.specs.Slots.{place_of, same_star}
+use Rattle.pim_census.specs.Places.{place_of}
+use Rattle.pim_census.specs.Slots.{same_star}
 use Rattle.pim_census.proofs.slots.place_of_star.Given as goal
 
 -- the place is among the slots that are left
