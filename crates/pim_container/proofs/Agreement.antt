@@ -137,14 +137,14 @@ tagged_once millis bytes false false false false carrier more h k e = same_typed
 tagged_once millis bytes false false false true carrier more h k e =
     same_other millis bytes (drop carrier.at bytes) (ethernet_family carrier.type_number) (typed_place more 0 false) (no_family carrier.type_number e)
 
-less_is : (n a b : ℕ) → a ≤ b → nat_lt n a ≡ true → nat_lt n b ≡ true
+pub less_is : (n a b : ℕ) → a ≤ b → nat_lt n a ≡ true → nat_lt n b ≡ true
 less_is n a b h e = grind (arith, common_steps)
 
-left_is : (n : ℕ) → nat_lt n 14 ≡ false → nat_lt (n - 14) 4 ≡ nat_lt n 18
+pub left_is : (n : ℕ) → nat_lt n 14 ≡ false → nat_lt (n - 14) 4 ≡ nat_lt n 18
 left_is n e = grind (arith, common_steps)
 
 -- what `pim_capture` says of an Ethernet frame, by the test of its tag
-judged_by : Bool → List ℕ → Result Datagram Why
+unfoldable pub judged_by : Bool → List ℕ → Result Datagram Why
 judged_by once bytes =
     if nat_lt (length bytes) (if once then 18 else 14) then Err Cut
     else judge_packet (ethernet_family (big_number 2 (drop (if once then 16 else 12) bytes))) (drop (if once then 18 else 14) bytes)
@@ -176,7 +176,7 @@ same_ethernet : (millis : ℕ) (bytes : List ℕ)
 unfolding judged_by
 same_ethernet millis bytes = same_by millis bytes (frame.is_tagged bytes) refl
 
-never : (n : ℕ) → nat_lt n 0 ≡ false
+pub never : (n : ℕ) → nat_lt n 0 ≡ false
 never n = grind (arith, common_steps)
 
 same_frame : (millis : ℕ) (l : layer_type.Link) (bytes : List ℕ)
@@ -225,7 +225,7 @@ fraction_same o xs n =
     sym (front12 o (drop 4 (take (16 + n) xs))) ∙ ap (header.number o 4) (sym (drop-take 4 12 (take (16 + n) xs)))
     ∙ ap (λ it. header.number o 4 (drop 4 it)) (take-take 16 (16 + n) xs m)
 
-millis_same : (f : format.Format) (xs : List ℕ) (n : ℕ) → classic.millis_of (format_as f) (take (16 + n) xs) ≡ capture.millis_of f (take 16 xs)
+pub millis_same : (f : format.Format) (xs : List ℕ) (n : ℕ) → classic.millis_of (format_as f) (take (16 + n) xs) ≡ capture.millis_of f (take 16 xs)
 millis_same f xs n =
     let s = number_same f.endianness 4 (take (16 + n) xs) ∙ seconds_same f.endianness xs n in
     let d = number_same f.endianness 4 (drop 4 (take (16 + n) xs)) ∙ fraction_same f.endianness xs n in
@@ -233,7 +233,7 @@ millis_same f xs n =
     ∙ ap (λ it. header.number f.endianness 4 (take 16 xs) * 1000 + it / classic.per_millisecond (resolution_as f.resolution)) d
     ∙ ap (λ it. header.number f.endianness 4 (take 16 xs) * 1000 + header.number f.endianness 4 (drop 4 (take 16 xs)) / it) (per_same f.resolution)
 
-length_same : (f : format.Format) (xs : List ℕ) → classic.captured_length (format_as f) (take 16 xs) ≡ capture.captured_length f (take 16 xs)
+pub length_same : (f : format.Format) (xs : List ℕ) → classic.captured_length (format_as f) (take 16 xs) ≡ capture.captured_length f (take 16 xs)
 length_same f xs = number_same f.endianness 4 (drop 8 (take 16 xs))
 
 record_same : (f : format.Format) (xs : List ℕ) → SameTold (capture.record_told f xs) (classic.record_told (format_as f) (take (16 + capture.captured_length f (take 16 xs)) xs))
@@ -248,11 +248,11 @@ record_same f xs =
 -- ---- the results, one by one
 
 -- the results for a record of this captured length, where `cut` is the test of its head
-ones_of : Bool → Bool → Bool → capture.Told → List capture.Answer → List capture.Answer
+unfoldable pub ones_of : Bool → Bool → Bool → capture.Told → List capture.Answer → List capture.Answer
 ones_of a b d one ones =
     capture.unless_fault (judged (if a then theirs.Truncated ∷ [] else fault_if b theirs.TooLong ++ fault_if d theirs.Truncated) one) (λ told. Ok told ∷ ones)
 
-others_of : Bool → Bool → Bool → Told → List Answer → List Answer
+unfoldable pub others_of : Bool → Bool → Bool → Told → List Answer → List Answer
 others_of a b d other others =
     unless_fault (unless_faults (if a then fault.Truncated ∷ [] else fault_if b fault.TooLong ++ fault_if d fault.Truncated) (Ok other)) (λ told. Ok told ∷ others)
 
@@ -266,7 +266,7 @@ step false false true false one other ones others h s t = absurd (false≢true (
 step false false false true one other ones others h s t = absurd (false≢true (sym (h refl)))
 step false false false false one other ones others h s t = (s, t)
 
-rest_is : (size n : ℕ) → nat_lt size 16 ≡ false → nat_lt size (16 + n) ≡ nat_lt (size - 16) n
+pub rest_is : (size n : ℕ) → nat_lt size 16 ≡ false → nat_lt size (16 + n) ≡ nat_lt (size - 16) n
 rest_is size n e = grind (arith, common_steps)
 
 same_records : (left : ℕ) (f : format.Format) (xs : List ℕ) → SameAnswers (records left f xs) (pieces left (Classic (format_as f)) [] xs)
@@ -331,7 +331,7 @@ link_by false false u v w e = absurd (false≢true (sym e))
 whole_is : (xs : List ℕ) → nat_lt (length (take 24 xs)) 24 ≡ false → nat_lt (length xs) 24 ≡ false
 whole_is xs e = grind (arith, common_steps)
 
-header_same : (f : format.Format) (xs : List ℕ) → header.judge_header (take 24 xs) ≡ Ok f → judge_beginning xs ≡ Ok (format_as f)
+pub header_same : (f : format.Format) (xs : List ℕ) → header.judge_header (take 24 xs) ≡ Ok f → judge_beginning xs ≡ Ok (format_as f)
 unfolding rest_of_links
 header_same f xs e =
     let h = take 24 xs in

@@ -5,3 +5,4 @@ pub mod Whole
 pub mod Beginnings
 pub mod Agreement
 pub mod Room
+pub mod Exactly

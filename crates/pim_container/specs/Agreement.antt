@@ -1,14 +1,22 @@
 -- What `pim_capture` returns for a classic file, and what this crate returns for it. `pim_capture`
 -- reads Ethernet and raw IP alone, and passes over one 802.1Q tag.
-use Rattle.std.specs.Prelude.{◌≡◌, ℕ, false, List, [], ◌∷◌, take, Ok, Err, ⊤}
+use Rattle.std.specs.Prelude.{◌≡◌, ℕ, zero, suc, Bool, true, false, not, ◌&&◌, ◌||◌, List, [], ◌∷◌, take, drop, None, Ok, Err}
+use Rattle.std.specs.Prelude.{⊤, if◌then◌else◌}
+use Rattle.byteorder.specs.Endian.{big_number}
 use Rattle.pim_capture.specs.declared.event.Why.TheVariants.{NotIp}
 use Rattle.pim_capture.specs.declared.fault.CaptureFault.{CaptureFault}
 use Rattle.pim_capture.specs.declared.fault.CaptureFault.TheVariants as theirs
 use Rattle.pim_capture.specs.declared.header.Format.{Format}
+use Rattle.pim_capture.specs.declared.header.Link as layer_type
+use Rattle.pim_capture.specs.declared.header.Link.TheVariants as layer
+use Rattle.pim_capture.specs.declared.vlan.Vlan.{Vlan}
+use Rattle.pim_capture.specs.Frame.{is_tagged}
 use Rattle.pim_capture.specs.Header as header
 use Rattle.pim_capture.specs.Capture as capture
 use Rattle.pim_container.specs.declared.fault.Fault.{Fault}
 use Rattle.pim_container.specs.declared.fault.Fault.TheVariants as fault
+use Rattle.pim_container.specs.declared.event.Origin.{Origin}
+use Rattle.pim_container.specs.Link.{is_tag}
 use Rattle.pim_container.specs.Told.{Told, packet, skipped, section, ended}
 use Rattle.pim_container.specs.Block.{is_section}
 use Rattle.pim_container.specs.Pieces.{Answer, answers}
@@ -57,3 +65,59 @@ AfterSection ones _ = ⊥
 abbrev pub AgreesOnClassic : Type 0
 AgreesOnClassic = (bytes : List ℕ) (format : Format) → is_section bytes ≡ false
     → header.judge_header (take 24 bytes) ≡ Ok format → AfterSection (capture.answers bytes) (answers bytes)
+
+-- ---- files without further tags
+
+-- An Ethernet frame has another tag than one of 802.1Q: where `pim_capture` reads the type of what a
+-- frame carries, there is the type of a tag.
+abbrev pub has_further_tag : layer_type.Link → List ℕ → Bool
+has_further_tag layer.Ethernet frame = is_tag (big_number 2 (drop (if is_tagged frame then 16 else 12) frame))
+has_further_tag layer.Raw frame = false
+
+-- There is a fault.
+abbrev pub is_faulty : List CaptureFault → Bool
+is_faulty [] = false
+is_faulty (fault ∷ others) = true
+
+-- No frame has one, up to the first record with a fault. At most `left` records are read.
+unfoldable pub lacks_further_tags : ℕ → Format → List ℕ → Bool
+lacks_further_tags zero format bytes = true
+lacks_further_tags (suc left) format bytes =
+    capture.is_empty bytes || is_faulty (capture.record_faults format bytes)
+    || not (has_further_tag format.link (capture.frame_of format bytes))
+    && lacks_further_tags left format (capture.after_record format bytes)
+
+-- The origin of a packet with this VLAN, in a classic file over Ethernet or raw IP.
+abbrev pub of_vlan : Vlan → Origin
+of_vlan vlan = record { interface = 0; name = None; index = 0; vlan = vlan; is_copy = false }
+
+-- A result of `pim_capture` and one of this crate are the same, but for what only one of them says of
+-- a packet: the bytes of its record, and its VLAN.
+abbrev pub ExactTold : capture.Told → Told → Type 0
+ExactTold (capture.packet millis frame datagram) told =
+    (vlan : Vlan) × (told ≡ packet millis (of_vlan vlan) datagram)
+ExactTold (capture.skipped millis why) told = told ≡ skipped millis why
+ExactTold capture.ended told = told ≡ ended
+
+abbrev pub ExactAnswer : capture.Answer → Answer → Type 0
+ExactAnswer (Ok one) (Ok other) = ExactTold one other
+ExactAnswer (Err one) (Err other) = SameFault one other
+ExactAnswer _ _ = ⊥
+
+-- All results are the same, one by one.
+unfoldable pub ExactAnswers : List capture.Answer → List Answer → Type 0
+ExactAnswers [] [] = ⊤
+ExactAnswers (one ∷ ones) (other ∷ others) = ExactAnswer one other × ExactAnswers ones others
+ExactAnswers _ _ = ⊥
+
+-- The same, after the beginning of the file's only section.
+abbrev pub ExactAfterSection : List capture.Answer → List Answer → Type 0
+ExactAfterSection ones (Ok section ∷ others) = ExactAnswers ones others
+ExactAfterSection ones _ = ⊥
+
+-- The results are the same for such a file in which no frame has a further tag.
+abbrev pub AgreesExactly : Type 0
+AgreesExactly = (bytes : List ℕ) (format : Format) → is_section bytes ≡ false
+    → header.judge_header (take 24 bytes) ≡ Ok format
+    → lacks_further_tags capture.most_records format (drop 24 bytes) ≡ true
+    → ExactAfterSection (capture.answers bytes) (answers bytes)

@@ -1,12 +1,17 @@
 //! Laws of the definitions. Nothing in this module is to be called.
 
-ghost use Rattle.pim_container.specs.Agreement.{AgreesOnClassic};
+ghost use Rattle.pim_container.specs.Agreement.{AgreesOnClassic, AgreesExactly};
 ghost use Rattle.pim_container.specs.Choice.{OneLinkIsAFilter};
 
 /// For a classic file whose header `pim_capture` accepts, this crate returns the same after the
 /// beginning of the section, but for frames with further tags.
 pub fn classic_agrees()
     ensures { AgreesOnClassic }
+{}
+
+/// For such a file in which no frame has a further tag, both crates return the same.
+pub fn classic_agrees_exactly()
+    ensures { AgreesExactly }
 {}
 
 /// Where a VLAN and the number of an interface are chosen, a choice is a filter, packet by packet.

@@ -42,6 +42,6 @@ mod tags;
 pub use choice::{Choice, Chooser, Mixed};
 pub use event::{Event, Origin};
 pub use fault::Fault;
-pub use laws::{classic_agrees, one_link_is_a_filter};
+pub use laws::{classic_agrees, classic_agrees_exactly, one_link_is_a_filter};
 pub use pim_capture::{InterfaceChoice, InterfaceName, Vlan};
 pub use reader::Reader;

@@ -1,6 +1,7 @@
 pub mod Lengths
 pub mod Looking
 pub mod OneEnd
+pub mod OneLink
 pub mod Sooner
 pub mod Stopped
 pub mod Taking

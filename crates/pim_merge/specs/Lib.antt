@@ -9,3 +9,4 @@ pub mod Ends
 pub mod Laws
 pub mod Content
 pub mod Run
+pub mod OneLink

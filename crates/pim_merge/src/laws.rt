@@ -1,6 +1,7 @@
 //! Laws of the definitions. Nothing in this module is to be called.
 
 ghost use Rattle.pim_merge.specs.Laws.{MergeHasOneEnd, MergeByHasOneEnd};
+ghost use Rattle.pim_merge.specs.OneLink.{OneLinkIsReadAlike};
 
 /// The turns of a merge and its end are a function of the results of its captures.
 pub fn merge_has_one_end()
@@ -12,3 +13,11 @@ pub fn merge_has_one_end()
 pub fn merge_by_has_one_end()
     ensures { MergeByHasOneEnd }
 {}
+
+/// A classic file of one link without further tags gives the same records whether `add` or
+/// `add_any` appends it, up to a record inside which the file ends.
+pub fn one_link_is_read_alike()
+    ensures { OneLinkIsReadAlike }
+{
+    pim_container::classic_agrees_exactly();
+}

@@ -13,7 +13,9 @@
 //! `Turn::content` says what its record holds for a router of one address family.
 //! `Merge::add` appends a capture, or leaves the merge unchanged where memory is refused.
 //! `Merge::add_any` appends one of any container, with a choice of its packets. What the container
-//! gives is then cut down to the records of a capture (`specs/Chosen.antt`). `Merge::add_files`
+//! gives is then cut down to the records of a capture (`specs/Chosen.antt`). A classic file of one
+//! link gives the same there as by `Merge::add`, up to a record inside which it ends
+//! (`specs/OneLink.antt`, the law `one_link_is_read_alike`). `Merge::add_files`
 //! appends one that consists of several files, each of which goes on where the one before it ended.
 //! `Merge::tally` counts what was taken of a capture (`specs/Tally.antt`), and after
 //! `Merge::begin_census` whom its messages name. Each turn calls `pass_record` of the reader of its
@@ -43,6 +45,6 @@ mod tally;
 pub use clock::Clock;
 pub use content::{Content, Datagram};
 pub use end::End;
-pub use laws::{merge_by_has_one_end, merge_has_one_end};
+pub use laws::{merge_by_has_one_end, merge_has_one_end, one_link_is_read_alike};
 pub use merge::{Merge, MergeFault, Turn};
 pub use tally::{Place, Tally};
