@@ -20,9 +20,7 @@ use Rattle.pim_capture.specs.Capture.{records}
 use Rattle.pim_container.specs.declared.link.Endianness.TheVariants.{Big}
 use Rattle.pim_container.specs.declared.link.Link.TheVariants as link
 use Rattle.pim_container.specs.declared.container.Container.TheVariants.{Classic, Blocks}
-use Rattle.pim_container.specs.declared.fault.Fault.TheVariants as fault
 use Rattle.pim_container.specs.declared.tags.Carried.{Carried}
-use Rattle.pim_container.specs.declared.place.Place.{Place}
 use Rattle.pim_container.specs.Link.{is_tag, second_type, after_one, after_two, tagged, place_in, typed_place, untagged_place, place_of}
 use Rattle.pim_container.specs.Told.{Told, section, packet_told, placed_told, frame_told}
 use Rattle.pim_container.specs.Block.{is_section}

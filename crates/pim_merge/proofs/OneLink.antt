@@ -21,7 +21,7 @@ use Rattle.pim_container.specs.Block.{is_section}
 use Rattle.pim_container.specs.Choice.{judge_origin, first_after, is_same_vlan}
 use Rattle.pim_container.specs.Told as any
 use Rattle.pim_container.specs.Pieces as pieces
-use Rattle.pim_merge.specs.Chosen.{chosen, next_files, answers_by, fault_given, packet_given, given, first_then, put}
+use Rattle.pim_merge.specs.Chosen.{chosen, next_files, answers_by, fault_given, packet_given}
 use Rattle.pim_merge.specs.OneLink.{no_choice, IsOfVlan, as_any, all_as_any}
 
 -- ---- nothing follows the end of a classic capture
