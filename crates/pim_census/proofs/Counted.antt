@@ -1,5 +1,5 @@
 -- What a census holds of the messages that it counted.
-use Rattle.std.proofs.Common.{◌≡◌, ◌∙◌, ◌<◌, ◌+◌, ℕ, zero, suc, Bool, true, false, ◌&&◌, ◌||◌, not, cond, List, [], ◌∷◌, length, take, drop, Option, None, Some, get_or, ap, sym, refl, subst, bytes_eq, if◌then◌else◌, arith, get_or-drop, replicate, ◌==◌}
+use Rattle.std.proofs.Common.{◌≡◌, ◌∙◌, ◌<◌, ◌+◌, ℕ, zero, suc, Bool, true, false, ◌&&◌, ◌||◌, not, cond, List, [], ◌∷◌, length, take, drop, Option, None, Some, ap, sym, refl, subst, bytes_eq, if◌then◌else◌, arith, get_or-drop, replicate, ◌==◌}
 use Rattle.std.specs.Prelude.{⊤}
 use Rattle.std.specs.List.{list_any, cons_option, AllByRecursion}
 use Rattle.std.proofs.lemmas.Bool.{false≢true}
@@ -22,8 +22,8 @@ use Rattle.pim_capture.specs.Frame.{Datagram}
 use Rattle.pim_census.specs.declared.census.Census.{Census}
 use Rattle.pim_census.specs.declared.census.StarJoin.{StarJoin}
 use Rattle.pim_census.specs.Slots.{added, field_of, same_star}
-use Rattle.pim_census.specs.Census.{no_names, sound, body_message, content_message, opened_message, message_in, joins_star, star_of, stars_with, stars_after, with_message}
-use Rattle.pim_census.specs.Missing.{names, has, is_taken, misses, unless_served, group_without_rp, first_of, first_without_rp, without_rp}
+use Rattle.pim_census.specs.Census.{no_names, sound, content_message, opened_message, message_in, joins_star, star_of, stars_with, stars_after, with_message}
+use Rattle.pim_census.specs.Missing.{has, is_taken, misses, unless_served, group_without_rp, first_of, first_without_rp, without_rp}
 use Rattle.pim_census.specs.Laws.{census_over, census_of, message_counted, messages_counted, is_for, joins_group}
 
 -- ---- the messages that count

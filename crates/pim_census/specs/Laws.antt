@@ -6,7 +6,7 @@ use Rattle.pim_addr.specs.declared.family.AddressFamily.{AddressFamily}
 use Rattle.pim_addr.specs.Address.{IsAddress, AreBytes}
 use Rattle.pim_addr.specs.Families.{is_same}
 use Rattle.pim_addr.specs.Routes.{RouteTable, rp_of}
-use Rattle.pim_jp.specs.Message.{GroupSet, Message}
+use Rattle.pim_jp.specs.Message.{Message}
 use Rattle.pim_capture.specs.Frame.{Datagram}
 use Rattle.pim_census.specs.declared.census.Census.{Census}
 use Rattle.pim_census.specs.Census.{no_names, census_after, message_in, joins_star}
