@@ -10,6 +10,7 @@ pub mod Turning
 pub mod Until
 pub mod Contents
 pub mod Advancing
+pub mod Alike
 pub mod Choosing
 pub mod Failures
 pub mod Following

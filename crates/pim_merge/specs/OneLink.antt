@@ -1,11 +1,12 @@
 -- A classic file of one link gives the same records, whether `add` or `add_any` appends it.
-use Rattle.std.specs.Prelude.{◌≡◌, ℕ, true, false, List, [], ◌∷◌, take, drop, None, Ok, Err, ⊤}
-use Rattle.std.specs.List.{AllByRecursion}
+use Rattle.std.specs.Prelude.{◌≡◌, ℕ, Bool, true, false, List, [], ◌∷◌, map, take, drop, Option, None, Ok, Err, ⊤}
+use Rattle.std.specs.List.{list_any, AllByRecursion}
 use Rattle.pim_capture.specs.declared.event.Why.TheVariants.{CutShort}
+use Rattle.pim_capture.specs.declared.fault.CaptureFault.{CaptureFault}
 use Rattle.pim_capture.specs.declared.fault.CaptureFault.TheVariants as fault
 use Rattle.pim_capture.specs.declared.header.Format.{Format}
 use Rattle.pim_capture.specs.declared.vlan.Vlan.{Vlan}
-use Rattle.pim_capture.specs.Capture.{packet, skipped, ended, Answer, answers, most_records}
+use Rattle.pim_capture.specs.Capture.{Told, packet, skipped, ended, Answer, answers, most_records}
 use Rattle.pim_capture.specs.Header.{judge_header}
 use Rattle.pim_capture.specs.Next.{in_front}
 use Rattle.pim_container.specs.declared.choice.Choice.{Choice}
@@ -13,7 +14,10 @@ use Rattle.pim_container.specs.Agreement.{lacks_further_tags}
 use Rattle.pim_container.specs.Block.{is_section}
 use Rattle.pim_container.specs.Told as any
 use Rattle.pim_container.specs.Pieces as pieces
+use Rattle.pim_time.specs.declared.reading.Time.{Time}
+use Rattle.pim_merge.specs.declared.clock.Clock.{Clock}
 use Rattle.pim_merge.specs.Chosen.{answers_by}
+use Rattle.pim_merge.specs.Merge.{Taken, IsMergeBy}
 
 -- The choice of each packet.
 abbrev pub no_choice : Choice
@@ -24,11 +28,15 @@ abbrev pub IsOfVlan : Vlan → pieces.Answer → Type 0
 IsOfVlan vlan (Ok (any.packet millis origin datagram)) = origin.vlan ≡ vlan
 IsOfVlan vlan _ = ⊤
 
--- What any container gives for this result of a classic capture. It keeps the message of a packet, and
--- not all bytes of the record. A record inside which the file ends is skipped, and is no fault.
+-- What any container gives for this record of a classic capture. It keeps the message of a packet, and
+-- not all bytes of the record.
+abbrev pub told_as_any : Told → Told
+told_as_any (packet millis frame datagram) = packet millis datagram.payload datagram
+told_as_any told = told
+
+-- The same for a result. A record inside which the file ends is skipped, and is no fault.
 abbrev pub as_any : Answer → Answer
-as_any (Ok (packet millis frame datagram)) = Ok (packet millis datagram.payload datagram)
-as_any (Ok told) = Ok told
+as_any (Ok told) = Ok (told_as_any told)
 as_any (Err fault.Truncated) = Ok (skipped 0 CutShort)
 as_any (Err fault) = Err fault
 
@@ -45,3 +53,26 @@ OneLinkIsReadAlike = (bytes : List ℕ) (format : Format) (vlan : Vlan) → is_s
     → lacks_further_tags most_records format (drop 24 bytes) ≡ true
     → AllByRecursion (IsOfVlan vlan) (pieces.answers bytes)
     → answers_by no_choice bytes ≡ all_as_any (answers bytes)
+
+-- ---- the merge of such captures
+
+-- The file ends inside a record.
+abbrev pub is_truncated : Answer → Bool
+is_truncated (Err fault.Truncated) = true
+is_truncated _ = false
+
+-- No result of the capture says that its file ends inside a record.
+abbrev pub IsWhole : List Answer → Type 0
+IsWhole capture = list_any is_truncated capture ≡ false
+
+-- A record that was taken, as any container gives it.
+abbrev pub taken_as_any : Taken → Taken
+taken_as_any taken = record { capture = taken.capture; moment = taken.moment; told = told_as_any taken.told }
+
+-- A merge of what any container gives for classic captures takes the same records at the same moments
+-- as a merge of these captures, and ends in the same way. None of their files ends inside a record.
+abbrev pub MergesAlike : Type 0
+MergesAlike = (last : Option Time) (clock : Option Clock) (captures : List (List Answer)) (taken : List Taken)
+    (fault : Option (ℕ × CaptureFault)) → AllByRecursion IsWhole captures →
+    IsMergeBy last clock captures taken fault →
+    IsMergeBy last clock (map all_as_any captures) (map taken_as_any taken) fault

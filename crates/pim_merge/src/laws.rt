@@ -1,7 +1,7 @@
 //! Laws of the definitions. Nothing in this module is to be called.
 
 ghost use Rattle.pim_merge.specs.Laws.{MergeHasOneEnd, MergeByHasOneEnd};
-ghost use Rattle.pim_merge.specs.OneLink.{OneLinkIsReadAlike};
+ghost use Rattle.pim_merge.specs.OneLink.{OneLinkIsReadAlike, MergesAlike};
 
 /// The turns of a merge and its end are a function of the results of its captures.
 pub fn merge_has_one_end()
@@ -21,3 +21,9 @@ pub fn one_link_is_read_alike()
 {
     pim_container::classic_agrees_exactly();
 }
+
+/// A merge takes the same records of such captures at the same moments, and ends in the same way, if
+/// none of their files ends inside a record.
+pub fn merges_are_alike()
+    ensures { MergesAlike }
+{}

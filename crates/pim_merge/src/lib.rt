@@ -45,6 +45,6 @@ mod tally;
 pub use clock::Clock;
 pub use content::{Content, Datagram};
 pub use end::End;
-pub use laws::{merge_by_has_one_end, merge_has_one_end, one_link_is_read_alike};
+pub use laws::{merge_by_has_one_end, merge_has_one_end, merges_are_alike, one_link_is_read_alike};
 pub use merge::{Merge, MergeFault, Turn};
 pub use tally::{Place, Tally};

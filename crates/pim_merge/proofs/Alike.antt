@@ -1,0 +1,267 @@
+-- A merge of classic captures, and of the same as any container gives them.
+use Rattle.std.proofs.Common.{◌≡◌, ◌∙◌, ◌⊎◌, ◌+◌, ℕ, zero, suc, nat_lt, Bool, true, false, ◌||◌, List, [], ◌∷◌, map, Option, None, Some, Ok, Err, ap, sym, refl, subst, inl, inr, slice_index_or, if◌then◌else◌, arith}
+use Rattle.std.specs.List.{list_any, AllByRecursion}
+use Rattle.std.proofs.lemmas.Bool.{false≢true}
+use Rattle.pim_time.specs.declared.reading.Time.{Time}
+use Rattle.pim_capture.specs.declared.fault.CaptureFault.{CaptureFault}
+use Rattle.pim_capture.specs.declared.fault.CaptureFault.TheVariants as fault
+use Rattle.pim_capture.specs.Capture.{Told, packet, skipped, ended, Answer}
+use Rattle.pim_capture.specs.Next.{in_front}
+use Rattle.pim_merge.specs.declared.clock.Clock.{Clock}
+use Rattle.pim_merge.specs.Merge.{head_of, behind_head, time_told, rank_told, rank_of, or_fault, fault_from, sooner, numbered, earliest_from, Outcome, fails, takes, ends, taken, turn_at, turn_or, turn, after_turn, clock_after, moment_of, is_past, until, turn_by, Taken, ending, IsMergeBy}
+use Rattle.pim_merge.specs.OneLink.{told_as_any, as_any, all_as_any, is_truncated, IsWhole, taken_as_any}
+
+-- ---- one head
+
+in_front_first : (answer : Answer) (later : List Answer) → head_of (in_front answer later) ≡ answer
+in_front_first (Ok (packet millis frame datagram)) later = refl
+in_front_first (Ok (skipped millis why)) later = refl
+in_front_first (Ok ended) later = refl
+in_front_first (Err fault) later = refl
+
+head_alike : (capture : List Answer) → head_of (all_as_any capture) ≡ as_any (head_of capture)
+unfolding all_as_any
+head_alike [] = refl
+head_alike (answer ∷ later) = in_front_first (as_any answer) (all_as_any later)
+
+left_false : (b c : Bool) → (b || c) ≡ false → b ≡ false
+left_false true c e = e
+left_false false c e = refl
+
+right_false : (b c : Bool) → (b || c) ≡ false → c ≡ false
+right_false true c e = absurd (false≢true (sym e))
+right_false false c e = e
+
+whole_head : (capture : List Answer) → IsWhole capture → is_truncated (head_of capture) ≡ false
+whole_head [] whole = refl
+whole_head (answer ∷ later) whole = left_false (is_truncated answer) (list_any is_truncated later) whole
+
+whole_behind : (capture : List Answer) → IsWhole capture → IsWhole (behind_head capture)
+whole_behind [] whole = refl
+whole_behind (answer ∷ later) whole = right_false (is_truncated answer) (list_any is_truncated later) whole
+
+-- a fault that isn't that of a cut file stays
+err_alike : (one : CaptureFault) → is_truncated (Err one) ≡ false → as_any (Err one) ≡ Err one
+err_alike fault.Truncated whole = absurd (false≢true (sym whole))
+err_alike fault.TooLong whole = refl
+err_alike fault.Read whole = refl
+err_alike fault.Magic whole = refl
+err_alike fault.LinkType whole = refl
+err_alike (fault.LinkNumber number) whole = refl
+err_alike fault.Block whole = refl
+err_alike fault.Time whole = refl
+err_alike (fault.InterfaceNames one two) whole = refl
+err_alike (fault.Interfaces one two) whole = refl
+err_alike (fault.Vlans one two) whole = refl
+err_alike fault.Memory whole = refl
+err_alike fault.Failed whole = refl
+
+rank_told_alike : (told : Told) → rank_told (told_as_any told) ≡ rank_told told
+rank_told_alike (packet millis frame datagram) = refl
+rank_told_alike (skipped millis why) = refl
+rank_told_alike ended = refl
+
+time_alike : (told : Told) → time_told (told_as_any told) ≡ time_told told
+time_alike (packet millis frame datagram) = refl
+time_alike (skipped millis why) = refl
+time_alike ended = refl
+
+rank_alike : (answer : Answer) → is_truncated answer ≡ false → rank_of (as_any answer) ≡ rank_of answer
+rank_alike (Ok told) whole = rank_told_alike told
+rank_alike (Err fault) whole = ap rank_of (err_alike fault whole)
+
+fault_alike : (number : ℕ) (answer : Answer) (later : Option (ℕ × CaptureFault)) → is_truncated answer ≡ false → or_fault number (as_any answer) later ≡ or_fault number answer later
+fault_alike number (Ok told) later whole = refl
+fault_alike number (Err fault) later whole = ap (λ it. or_fault number it later) (err_alike fault whole)
+
+-- the turn that takes a head
+outcome_as_any : Outcome → Outcome
+outcome_as_any (takes number told) = takes number (told_as_any told)
+outcome_as_any (fails number fault) = fails number fault
+outcome_as_any ends = ends
+
+taken_alike : (number : ℕ) (answer : Answer) → is_truncated answer ≡ false → taken number (as_any answer) ≡ outcome_as_any (taken number answer)
+unfolding outcome_as_any
+taken_alike number (Ok told) whole = refl
+taken_alike number (Err fault) whole = ap (taken number) (err_alike fault whole)
+
+-- ---- all heads
+
+faults_alike : (number : ℕ) (captures : List (List Answer)) → AllByRecursion IsWhole captures → fault_from number (map head_of (map all_as_any captures)) ≡ fault_from number (map head_of captures)
+unfolding fault_from
+faults_alike number [] whole = refl
+faults_alike number (capture ∷ captures) whole =
+    ap (λ it. or_fault number it (fault_from (suc number) (map head_of (map all_as_any captures)))) (head_alike capture)
+    ∙ fault_alike number (head_of capture) (fault_from (suc number) (map head_of (map all_as_any captures))) (whole_head capture whole.0)
+    ∙ ap (or_fault number (head_of capture)) (faults_alike (suc number) captures whole.1)
+
+-- the ranks of the heads
+ranks : List (List Answer) → List (Option ℕ)
+ranks captures = map (λ capture. rank_of (head_of capture)) captures
+
+ranks_alike : (captures : List (List Answer)) → AllByRecursion IsWhole captures → ranks (map all_as_any captures) ≡ ranks captures
+unfolding ranks
+ranks_alike [] whole = refl
+ranks_alike (capture ∷ captures) whole =
+    ap (λ it. it ∷ ranks (map all_as_any captures)) (ap rank_of (head_alike capture) ∙ rank_alike (head_of capture) (whole_head capture whole.0))
+    ∙ ap (λ it. rank_of (head_of capture) ∷ it) (ranks_alike captures whole.1)
+
+head_at : (captures : List (List Answer)) (number : ℕ) → head_of (slice_index_or (map all_as_any captures) number []) ≡ as_any (head_of (slice_index_or captures number []))
+head_at [] number = refl
+head_at (capture ∷ captures) zero = head_alike capture
+head_at (capture ∷ captures) (suc number) = head_at captures number
+
+whole_at : (captures : List (List Answer)) (number : ℕ) → AllByRecursion IsWhole captures → IsWhole (slice_index_or captures number [])
+whole_at [] number whole = refl
+whole_at (capture ∷ captures) zero whole = whole.0
+whole_at (capture ∷ captures) (suc number) whole = whole_at captures number whole.1
+
+at_alike : (captures : List (List Answer)) (found : Option (ℕ × ℕ)) → AllByRecursion IsWhole captures → turn_at (map all_as_any captures) found ≡ outcome_as_any (turn_at captures found)
+unfolding outcome_as_any
+at_alike captures None whole = refl
+at_alike captures (Some (number, time)) whole =
+    ap (taken number) (head_at captures number) ∙ taken_alike number (head_of (slice_index_or captures number [])) (whole_head (slice_index_or captures number []) (whole_at captures number whole))
+
+or_alike : (captures : List (List Answer)) (failed : Option (ℕ × CaptureFault)) → AllByRecursion IsWhole captures → turn_or (map all_as_any captures) failed ≡ outcome_as_any (turn_or captures failed)
+unfolding outcome_as_any ranks
+or_alike captures (Some (number, fault)) whole = refl
+or_alike captures None whole =
+    ap (λ it. turn_at (map all_as_any captures) (earliest_from 0 it)) (ranks_alike captures whole) ∙ at_alike captures (earliest_from 0 (ranks captures)) whole
+
+turn_alike : (captures : List (List Answer)) → AllByRecursion IsWhole captures → turn (map all_as_any captures) ≡ outcome_as_any (turn captures)
+unfolding turn
+turn_alike captures whole = ap (turn_or (map all_as_any captures)) (faults_alike 0 captures whole) ∙ or_alike captures (fault_from 0 (map head_of captures)) whole
+
+if_ends : (past : Bool) (number : ℕ) (told : Told) → (if past then ends else takes number (told_as_any told)) ≡ outcome_as_any (if past then ends else takes number told)
+unfolding outcome_as_any
+if_ends true number told = refl
+if_ends false number told = refl
+
+until_alike : (last : Option Time) (clock : Option Clock) (outcome : Outcome) → until last clock (outcome_as_any outcome) ≡ outcome_as_any (until last clock outcome)
+unfolding outcome_as_any
+until_alike None clock outcome = refl
+until_alike (Some last) clock (takes number told) =
+    ap (λ it. if is_past (Some last) (clock_after clock it) then ends else takes number (told_as_any told)) (time_alike told)
+    ∙ if_ends (is_past (Some last) (clock_after clock (time_told told))) number told
+until_alike (Some last) clock (fails number fault) = refl
+until_alike (Some last) clock ends = refl
+
+turn_by_alike : (last : Option Time) (clock : Option Clock) (captures : List (List Answer)) → AllByRecursion IsWhole captures → turn_by last clock (map all_as_any captures) ≡ outcome_as_any (turn_by last clock captures)
+turn_by_alike last clock captures whole = ap (until last clock) (turn_alike captures whole) ∙ until_alike last clock (turn captures)
+
+-- ---- a head that is taken is a record
+
+takes_same : (one other : ℕ) (told told' : Told) → takes one told ≡ takes other told' → one ≡ other
+takes_same one other told told' e = cc
+
+number_of_taken : (number' number : ℕ) (answer : Answer) (told : Told) → taken number' answer ≡ takes number told → number' ≡ number
+number_of_taken number' number (Ok it) told e = takes_same number' number it told e
+number_of_taken number' number (Err fault) told e = absurd cc
+
+if_takes : (past : Bool) (number number' : ℕ) (told told' : Told) → (if past then ends else takes number told) ≡ takes number' told' → takes number told ≡ takes number' told'
+if_takes true number number' told told' e = absurd cc
+if_takes false number number' told told' e = e
+
+until_takes : (last : Option Time) (clock : Option Clock) (outcome : Outcome) (number : ℕ) (told : Told) → until last clock outcome ≡ takes number told → outcome ≡ takes number told
+until_takes None clock outcome number told e = e
+until_takes (Some last) clock (takes number' told') number told e = if_takes (is_past (Some last) (clock_after clock (time_told told'))) number' number told' told e
+until_takes (Some last) clock (fails number' fault) number told e = absurd cc
+until_takes (Some last) clock ends number told e = absurd cc
+
+if_either : (test : Bool) (one other found : ℕ × ℕ) → (if test then Some other else Some one) ≡ Some found → (Some one ≡ Some found) ⊎ (Some other ≡ Some found)
+if_either true one other found e = inr e
+if_either false one other found e = inl e
+
+one_of_both : (one other : Option (ℕ × ℕ)) (found : ℕ × ℕ) → sooner one other ≡ Some found → (one ≡ Some found) ⊎ (other ≡ Some found)
+one_of_both None other found e = inr e
+one_of_both (Some one) None found e = inl e
+one_of_both (Some one) (Some other) found e = if_either (nat_lt other.1 one.1) one other found e
+
+-- the number that was found is that of a capture whose head has a rank
+record Found (start : ℕ) (captures : List (List Answer)) (number time : ℕ) : Type 0 where
+  at : ℕ
+  is : number ≡ start + at
+  ranked : rank_of (head_of (slice_index_or captures at [])) ≡ Some time
+
+some_is : (one other : ℕ × ℕ) → Some one ≡ Some other → one ≡ other
+some_is one other e = cc
+
+first_found : (start number time : ℕ) (capture : List Answer) (captures : List (List Answer)) (rank : Option ℕ) → rank_of (head_of capture) ≡ rank → numbered start rank ≡ Some (number, time) → Found start (capture ∷ captures) number time
+first_found start number time capture captures None is e = absurd cc
+first_found start number time capture captures (Some rank) is e =
+    let pair = some_is (start, rank) (number, time) e in
+    let same : start ≡ number = ap (λ it. it.0) pair in
+    record { at = 0; is = omega (arith, same); ranked = is ∙ ap (λ it. Some it.1) pair }
+
+later_found : (start number time : ℕ) (capture : List Answer) (captures : List (List Answer)) → Found (suc start) captures number time → Found start (capture ∷ captures) number time
+later_found start number time capture captures f = record { at = suc f.at; is = omega (arith, f.is); ranked = f.ranked }
+
+found_either : (start number time : ℕ) (capture : List Answer) (captures : List (List Answer)) → (numbered start (rank_of (head_of capture)) ≡ Some (number, time)) ⊎ (earliest_from (suc start) (ranks captures) ≡ Some (number, time))
+    → (earliest_from (suc start) (ranks captures) ≡ Some (number, time) → Found (suc start) captures number time) → Found start (capture ∷ captures) number time
+found_either start number time capture captures (inl e) k = first_found start number time capture captures (rank_of (head_of capture)) refl e
+found_either start number time capture captures (inr e) k = later_found start number time capture captures (k e)
+
+has_rank : (start : ℕ) (captures : List (List Answer)) (number time : ℕ) → earliest_from start (ranks captures) ≡ Some (number, time) → Found start captures number time
+unfolding earliest_from ranks
+has_rank start [] number time e = absurd cc
+has_rank start (capture ∷ captures) number time e =
+    found_either start number time capture captures (one_of_both (numbered start (rank_of (head_of capture))) (earliest_from (suc start) (ranks captures)) (number, time) e) (has_rank (suc start) captures number time)
+
+-- what is behind a record
+behind_alike : (capture : List Answer) (time : ℕ) → rank_of (head_of capture) ≡ Some time → behind_head (all_as_any capture) ≡ all_as_any (behind_head capture)
+unfolding all_as_any
+behind_alike [] time e = absurd cc
+behind_alike (Ok (packet millis frame datagram) ∷ later) time e = refl
+behind_alike (Ok (skipped millis why) ∷ later) time e = refl
+behind_alike (Ok ended ∷ later) time e = absurd cc
+behind_alike (Err fault ∷ later) time e = absurd cc
+
+after_alike : (captures : List (List Answer)) (number time : ℕ) → rank_of (head_of (slice_index_or captures number [])) ≡ Some time → after_turn number (map all_as_any captures) ≡ map all_as_any (after_turn number captures)
+after_alike [] number time e = absurd cc
+after_alike (capture ∷ captures) zero time e = ap (λ it. it ∷ map all_as_any captures) (behind_alike capture time e)
+after_alike (capture ∷ captures) (suc number) time e = ap (λ it. all_as_any capture ∷ it) (after_alike captures number time e)
+
+whole_after : (captures : List (List Answer)) (number : ℕ) → AllByRecursion IsWhole captures → AllByRecursion IsWhole (after_turn number captures)
+whole_after [] number whole = tt
+whole_after (capture ∷ captures) zero whole = (whole_behind capture whole.0, whole.1)
+whole_after (capture ∷ captures) (suc number) whole = (whole.0, whole_after captures number whole.1)
+
+taken_at : (captures : List (List Answer)) (found : Option (ℕ × ℕ)) (number : ℕ) (told : Told) → earliest_from 0 (ranks captures) ≡ found → turn_at captures found ≡ takes number told
+    → after_turn number (map all_as_any captures) ≡ map all_as_any (after_turn number captures)
+taken_at captures None number told is e = absurd cc
+taken_at captures (Some (number', time)) number told is e =
+    let f = has_rank 0 captures number' time is in
+    let same : number' ≡ number = number_of_taken number' number (head_of (slice_index_or captures number' [])) told e in
+    let here : f.at ≡ number = omega (arith, f.is, same) in
+    after_alike captures number time (subst (λ it. rank_of (head_of (slice_index_or captures it [])) ≡ Some time) here f.ranked)
+
+taken_or : (captures : List (List Answer)) (failed : Option (ℕ × CaptureFault)) (number : ℕ) (told : Told) → turn_or captures failed ≡ takes number told
+    → after_turn number (map all_as_any captures) ≡ map all_as_any (after_turn number captures)
+unfolding ranks
+taken_or captures (Some (number', fault)) number told e = absurd cc
+taken_or captures None number told e = taken_at captures (earliest_from 0 (ranks captures)) number told refl e
+
+after_taken : (captures : List (List Answer)) (number : ℕ) (told : Told) → turn captures ≡ takes number told → after_turn number (map all_as_any captures) ≡ map all_as_any (after_turn number captures)
+unfolding turn
+after_taken captures number told e = taken_or captures (fault_from 0 (map head_of captures)) number told e
+
+-- ---- the whole merge
+
+ending_alike : (fault : Option (ℕ × CaptureFault)) → outcome_as_any (ending fault) ≡ ending fault
+unfolding outcome_as_any
+ending_alike None = refl
+ending_alike (Some (number, fault)) = refl
+
+pub merges_alike : (last : Option Time) (clock : Option Clock) (captures : List (List Answer)) (taken : List Taken) (fault : Option (ℕ × CaptureFault)) → AllByRecursion IsWhole captures
+    → IsMergeBy last clock captures taken fault → IsMergeBy last clock (map all_as_any captures) (map taken_as_any taken) fault
+unfolding IsMergeBy outcome_as_any
+merges_alike last clock captures [] fault whole is = turn_by_alike last clock captures whole ∙ ap outcome_as_any is ∙ ending_alike fault
+merges_alike last clock captures (first ∷ others) fault whole (turns, moment, more) =
+    let same : clock_after clock (time_told (told_as_any first.told)) ≡ clock_after clock (time_told first.told) = ap (clock_after clock) (time_alike first.told) in
+    let later = merges_alike last (clock_after clock (time_told first.told)) (after_turn first.capture captures) others fault (whole_after captures first.capture whole) more in
+    let behind = after_taken captures first.capture first.told (until_takes last clock (turn captures) first.capture first.told turns) in (
+      turn_by_alike last clock captures whole ∙ ap outcome_as_any turns,
+      moment ∙ ap moment_of (sym same),
+      subst (λ it. IsMergeBy last it (after_turn first.capture (map all_as_any captures)) (map taken_as_any others) fault) (sym same)
+          (subst (λ it. IsMergeBy last (clock_after clock (time_told first.told)) it (map taken_as_any others) fault) (sym behind) later),
+    )
