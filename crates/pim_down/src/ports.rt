@@ -367,7 +367,7 @@ impl<F: Family> Ports<F> {
     /// returns that firing. An earlier moment counts as now. What is still due stays due, and the
     /// next call goes on. Prune-Pending Timers fire before Expiry Timers, each in key order.
     ///
-    /// It takes no memory, and looks at one timer at most. After the timer it searches its record.
+    /// It takes no memory.
     pub fn fire_to(&mut self, moment: u64) -> Option<Firing<F::Addr>>
         requires { moment ≤ 1000000000000000 }
         ensures fires { FiresTo moment self.old (option_map (firing_seen F.bytes_of) result)

@@ -619,7 +619,7 @@ impl<'a, F: Family> Router<'a, F> {
     ///
     /// By the laws `firing_passes` and `happening_goes_on`, calls up to a moment together do what
     /// happens up to it. A loop of calls until `None` ends, since `turns_left` falls. A call takes
-    /// no memory, and looks at one timer and at no neighbour whose time isn't over.
+    /// no memory.
     pub fn fire_to(&mut self, moment: u64) -> Option<Firing<F::Addr>>
         requires { moment ≤ 10 ^ 15 }
         ensures fires { FiresTo moment self.old (option_map (firing_seen F.bytes_of) result)

@@ -21,3 +21,9 @@ module _ {A : Type 0} where
   -- The items of a block from the place on.
   unfoldable pub rest_of : Shape A → Place → List A
   rest_of shape place = drop place.at (block_at shape.blocks place.block)
+
+  -- The list has a block at the place, and this block has room for `count` more items: it holds at
+  -- most twice `half`.
+  abbrev pub HasRoom : ℕ → Shape A → Place → ℕ → Type 0
+  HasRoom half shape place count =
+      (place.block < length shape.blocks) × (length (block_at shape.blocks place.block) + count ≤ half + half)

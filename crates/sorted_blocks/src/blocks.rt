@@ -1,10 +1,10 @@
 //! The list with its public calls.
 
 ghost use Rattle.std.specs.Prelude.{◌≡◌, ◌+◌, ◌-◌, ◌*◌, ◌<◌, ◌≤◌, [], length, take, drop};
-ghost use Rattle.std.specs.Prelude.{slice_index_or, OnOk, IsOk, IsTrue, ◌↔◌, IfSome, IfNone};
+ghost use Rattle.std.specs.Prelude.{slice_index_or, OnOk, IsOk, IsTrue, ◌↔◌, IfSome, IfNone, IsSome};
 ghost use Rattle.std.specs.List.{All, insert, remove};
 ghost use Rattle.sorted_blocks.specs.Shape.{items, capacity, cut, spliced, Shape};
-ghost use Rattle.sorted_blocks.specs.Places.{before, rest_of, IsPlace, IsItem};
+ghost use Rattle.sorted_blocks.specs.Places.{before, rest_of, IsPlace, IsItem, HasRoom};
 ghost use Rattle.sorted_blocks.specs.Found.{IsFound};
 ghost use Rattle.sorted_blocks.specs.declared.place.Place.{Place};
 
@@ -101,6 +101,7 @@ impl<T: Copy, const HALF: usize> Blocks<T, HALF> {
             × IsPlace self.new behind
             × (before self.new behind ≡ before self.old place + length run.now)) }
         ensures none { IfNone result (self.new ≡ self.old) }
+        ensures room { HasRoom HALF self.old place (length run.now) → IsSome result }
         ensures capacity { capacity HALF self.new ≡ capacity HALF self.old }
     {
         self.store.insert_in_block(place, run)

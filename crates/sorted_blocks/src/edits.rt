@@ -5,10 +5,10 @@
 //! do not split and merge each time.
 
 ghost use Rattle.std.specs.Prelude.{◌≡◌, ℕ, ◌+◌, ◌-◌, ◌<◌, ◌≤◌, [], ◌∷◌, ◌++◌, length};
-ghost use Rattle.std.specs.Prelude.{slice_index_or, IsTrue, ◌↔◌, IfSome, IfNone};
+ghost use Rattle.std.specs.Prelude.{slice_index_or, IsTrue, ◌↔◌, IfSome, IfNone, IsSome};
 ghost use Rattle.std.specs.List.{insert, remove};
 ghost use Rattle.sorted_blocks.specs.Shape.{items, block_total, block_at, together, cut, spliced};
-ghost use Rattle.sorted_blocks.specs.Places.{before, rest_of, IsPlace, IsItem};
+ghost use Rattle.sorted_blocks.specs.Places.{before, rest_of, IsPlace, IsItem, HasRoom};
 ghost use Rattle.sorted_blocks.specs.Sound.{IsDense, IsDenseIn};
 
 use crate::place::Place;
@@ -43,6 +43,7 @@ impl<T: Copy, const HALF: usize> Store<T, HALF> {
             × IsPlace self.new behind
             × (before self.new behind ≡ before self.old place + length run.now)) }
         ensures none { IfNone result (self.new ≡ self.old) }
+        ensures room { HasRoom HALF self.old place (length run.now) → IsSome result }
         ensures total { block_total self.new ≡ block_total self.old }
         ensures dense { IsDense HALF self.old.blocks → IsDense HALF self.new.blocks }
     {

@@ -33,3 +33,11 @@ returns-clause-dense g c d =
     let row = block_at s.blocks p.block in
     subst (λ bs. IsDense g.row.HALF bs) (sym c.put_all.ensures.blocks)
     (dense-set g.row.HALF s.blocks p.block (spliced row p.at c.args.run.now) h (omega (arith, length-spliced row p.at c.args.run.now (at_most s p c.requires))) d)
+
+pub returns-then-place-block_count-clause-room : goal.returns-then-place-block_count-clause-room
+returns-then-place-block_count-clause-room g c room =
+    absurd (omega (arith, c.block_count.ensures.count, c.if-place-block_count.true, room.0))
+
+pub returns-then-count-room-clause-room : goal.returns-then-count-room-clause-room
+returns-then-count-room-clause-room g c room =
+    absurd (omega (arith, c.block_len-len.ensures.len, c.block_len-len.ensures.most, c.if-count-room.true, room.1))
