@@ -6,3 +6,6 @@ pub mod Beginnings
 pub mod Agreement
 pub mod Room
 pub mod Exactly
+pub mod Named
+pub mod Taken
+pub mod Needs

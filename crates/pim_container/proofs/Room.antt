@@ -7,10 +7,12 @@ use Rattle.pim_container.specs.declared.fault.Fault.TheVariants as fault
 use Rattle.pim_container.specs.declared.container.Container.{Container}
 use Rattle.pim_container.specs.declared.container.Container.TheVariants.{Blocks}
 use Rattle.pim_container.specs.Block.{is_section}
-use Rattle.pim_container.specs.Pieces.{head_length, head_faults, head_of, piece_of, piece_length, container_after}
+use Rattle.pim_container.specs.Pieces.{head_length, head_faults, piece_of, piece_length, container_after}
 use Rattle.pim_container.specs.Next.{IsOfBytes, OnMemory, Describes, NeedsMemory, NeedsToBegin, FillsAfter, behind}
+use Rattle.pim_container.specs.Room.{LacksRoom, length_named, DescribesFirst}
 use Rattle.pim_container.proofs.Whole.{head_is, whole}
 use Rattle.pim_container.proofs.Beginnings.{section_front}
+use Rattle.pim_container.proofs.Named.{named_ok}
 
 -- a fault of a part is a fault of the whole
 pub memory_passed : (A B : Type 0) (f : Fault) (P Q : Type 0) → (P → Q) → OnMemory {A = A} (Err f) P → OnMemory {A = B} (Err f) Q
@@ -72,3 +74,31 @@ pub classic_memory : (capacity : ℕ) (old mid : Option (List ℕ)) (head : List
 classic_memory capacity None mid head l s e m = tt
 classic_memory capacity (Some xs) None head l s e m = absurd e
 classic_memory capacity (Some xs) (Some ms) head l s e m = inr (ap is_section e ∙ section_front head ms (omega arith) ∙ s, m)
+
+-- ---- the room of the buffer and the list
+
+memory_by : (A B C : Type 0) (f : Fault) (P Q R : Type 0) → (P → Q → R) → OnMemory {A = A} (Err f) P → OnMemory {A = B} (Err f) Q → OnMemory {A = C} (Err f) R
+memory_by A B C fault.Memory P Q R h p q = h p q
+memory_by A B C fault.Magic P Q R h p q = tt
+memory_by A B C (fault.LinkType n) P Q R h p q = tt
+memory_by A B C fault.Truncated P Q R h p q = tt
+memory_by A B C fault.TooLong P Q R h p q = tt
+memory_by A B C fault.Block P Q R h p q = tt
+memory_by A B C fault.Time P Q R h p q = tt
+memory_by A B C fault.Read P Q R h p q = tt
+memory_by A B C fault.Failed P Q R h p q = tt
+
+pub lacks_known : (capacity size : ℕ) (c : Container) (head : List ℕ) → head_faults c head ≡ [] → size ≡ piece_length c head → capacity < size → LacksRoom capacity (Some (length_named c head))
+lacks_known capacity size c head none e less = subst (λ it. LacksRoom capacity (Some it)) (sym (named_ok c head size none e)) less
+
+pub described_first : (size : ℕ) (c c' : Container) (head bytes : List ℕ) (old new : Option (List ℕ)) → length head ≡ head_length c → head_faults c head ≡ [] → c' ≡ container_after c head
+    → size ≡ piece_length c head → FillsAfter head size old new bytes (Ok tt) → Describes c' bytes → IfSome (behind head old) (DescribesFirst c)
+described_first size c c' head bytes None new l none k e fills d = tt
+described_first size c c' head bytes (Some xs) None l none k e fills d = absurd fills.2
+described_first size c c' head bytes (Some xs) (Some ys) l none k e fills d =
+    let w = whole c [] head bytes xs ys l none (fills.0 ∙ e) fills.2 in
+    subst (λ it. Describes it (piece_of c (head ++ xs))) (k ∙ ap (container_after c) (sym (head_is c head xs l))) (subst (λ it. Describes c' it) (sym w.1) d)
+
+pub asks_place : (A B : Type 0) (f : Fault) (describes full lacks described : Type 0) → (describes → described) → OnMemory {A = A} (Err f) describes → OnMemory {A = A} (Err f) full
+    → OnMemory {A = B} (Err f) (lacks ⊎ (full × described))
+asks_place A B f describes full lacks described h d m = memory_by A A B f describes full (lacks ⊎ (full × described)) (λ x y. inr (y, h x)) d m

@@ -18,6 +18,9 @@ use Rattle.pim_container.specs.declared.piece.Found.{Found}
 use Rattle.pim_container.specs.Link.{number}
 use Rattle.pim_container.specs.Told.{event_seen}
 use Rattle.pim_container.specs.Block as block
+use Rattle.pim_container.specs.Classic as classic
+use Rattle.pim_capture.specs.Capture.{most_captured}
+use Rattle.pim_container.specs.declared.classic.Format.{Format}
 use Rattle.pim_container.specs.Pieces.{head_length, piece_length, head_faults, extent_of, container_after, piece_told, head_of, piece_of, after_piece, judge_piece, unless_faults, piece_faults, interfaces_after}
 use Rattle.pim_container.specs.Next.{IsPiece, FillsAfter, TakesPiece, behind}
 
@@ -212,3 +215,24 @@ is_piece (Blocks order) head bytes l none size e =
       subst (λ n. block.least_block n ≤ length bytes) type (subst (λ n. block.least_block (block.block_type (block.order_of order head) head) ≤ n) (sym size) least.0),
       subst (λ n. n ≤ block.most_block) (sym size) least.1,
     )
+
+-- ---- the bounds of its length
+
+least_least : (type : ℕ) → 12 ≤ block.least_block type
+least_least type = grind (arith, common_steps)
+
+-- its head is a part of it
+pub head_le : (c : Container) (head : List ℕ) → head_faults c head ≡ [] → head_length c ≤ piece_length c head
+head_le (Classic format) head none = omega arith
+head_le (Blocks order) head none =
+    let least = least_is order head none in
+    omega (arith, least.0, least_least (block.block_type (block.order_of order head) head))
+
+captured_most : (format : Format) (head : List ℕ) (b : Bool) → nat_lt most_captured (classic.captured_length format head) ≡ b → fault_if b fault.TooLong ≡ [] → classic.captured_length format head ≤ most_captured
+unfolding is_nil
+captured_most format head true e none = absurd (false≢true (ap is_nil none))
+captured_most format head false e none = no_more (classic.captured_length format head) most_captured e
+
+pub piece_most : (c : Container) (head : List ℕ) → head_faults c head ≡ [] → piece_length c head ≤ block.most_block
+piece_most (Classic format) head none = omega (arith, captured_most format head (nat_lt most_captured (classic.captured_length format head)) refl none)
+piece_most (Blocks order) head none = (least_is order head none).1

@@ -5,5 +5,6 @@ pub mod Block
 pub mod Classic
 pub mod Pieces
 pub mod Next
+pub mod Room
 pub mod Choice
 pub mod Agreement

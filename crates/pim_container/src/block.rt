@@ -1,7 +1,7 @@
 //! The blocks of a pcapng file (draft-ietf-opsawg-pcapng).
 
 ghost use Rattle.std.specs.Prelude.{◌≡◌, ◌≢◌, ◌+◌, ◌≤◌, length, take, IfOk, Some, Err, ◌⊎◌};
-ghost use Rattle.std.specs.Prelude.{vec_len, vec_capacity};
+ghost use Rattle.std.specs.Prelude.{◌<◌, ◌∷◌, ◌++◌, [], max, OnOk, OnErr, vec_len, vec_capacity};
 ghost use Rattle.pim_addr.specs.Faults.{Answers, judged};
 ghost use Rattle.pim_container.specs.Block.{is_section, order_named, least_block, head_faults};
 ghost use Rattle.pim_container.specs.Block.{head_said};
@@ -14,6 +14,7 @@ ghost use Rattle.pim_container.specs.Block.{interfaces_after, with_interface};
 ghost use Rattle.pim_container.specs.Interface.{settings_of, interface_of, HasName};
 ghost use Rattle.pim_container.specs.Told.{latest_moment, event_seen, EventLiesIn, IsBy};
 ghost use Rattle.pim_container.specs.Next.{OnMemory};
+ghost use Rattle.pim_container.specs.Room.{GrowsList, CountsList};
 
 use crate::event::Event;
 use crate::fault::Fault;
@@ -21,6 +22,7 @@ use crate::interface::{Interface, Settings, moment_of, settings_of};
 use crate::link::{Endianness, Link, link_of};
 use crate::packet::event_of;
 use pim_capture::InterfaceName;
+use std::alloc::AllocError;
 
 /// The type of a section header block, the same in both byte orders.
 const SECTION: u32 = 0x0a0d_0d0a;
@@ -245,6 +247,26 @@ fn interface_of(order: Endianness, block: &[u8], settings: Settings) -> Interfac
     }
 }
 
+/// Adds an interface to a list. One that is full grows to twice its length, and by four at least.
+fn add(interfaces: &mut Vec<Interface>, interface: Interface) -> Result<(), AllocError>
+    ensures items { OnOk result (interfaces.new.items ≡ interfaces.old.items ++ interface ∷ []) }
+    ensures full { OnErr result (vec_capacity interfaces.old ≤ vec_len interfaces.old) }
+    ensures same_list { OnErr result
+        (vec_capacity interfaces.new ≡ vec_capacity interfaces.old) }
+    ensures list { OnOk result (((vec_len interfaces.old < vec_capacity interfaces.old)
+        × (vec_capacity interfaces.new ≡ vec_capacity interfaces.old))
+        ⊎ ((vec_capacity interfaces.old ≤ vec_len interfaces.old)
+        × (vec_capacity interfaces.new
+        ≡ vec_len interfaces.old + max (vec_len interfaces.old) 4))) }
+{
+    if interfaces.capacity() <= interfaces.len() {
+        let more = interfaces.len().max(4);
+        interfaces.reserve_exact(more)?;
+    }
+    interfaces.push_reserved(interface);
+    Ok(())
+}
+
 /// The event of an interface description. The interface is added to those of the section.
 fn tell_interface(
     order: Endianness,
@@ -262,14 +284,19 @@ fn tell_interface(
     ensures moment { IfOk result (IsBy latest_moment) }
     ensures record { IfOk result (λ event. event ≢ Event.End) }
     ensures not_read { result ≢ Err Fault.Read }
+    ensures full { OnMemory result (vec_capacity interfaces.old ≤ vec_len interfaces.old) }
+    ensures list { IfOk result (λ event. GrowsList event (vec_len interfaces.old)
+        (vec_capacity interfaces.old) (vec_capacity interfaces.new)) }
+    ensures counted { IfOk result (λ event. CountsList event (vec_len interfaces.old)
+        (vec_len interfaces.new)) }
+    ensures same_list { OnErr result
+        (vec_capacity interfaces.new ≡ vec_capacity interfaces.old) }
 {
     let (front, _) = block.split_at(block.len() - 4);
     let Some(settings) = settings_of(order, front) else {
         return Err(Fault::Block);
     };
-    let Ok(()) = interfaces.push(interface_of(order, block, settings)) else {
-        return Err(Fault::Memory);
-    };
+    add(interfaces, interface_of(order, block, settings))?;
     Ok(Event::Interface {
         name: settings.name_at..settings.name_end,
     })
@@ -292,6 +319,13 @@ pub fn tell_block(
     ensures record { IfOk result (λ event. event ≢ Event.End) }
     ensures not_read { result ≢ Err Fault.Read }
     ensures memory { OnMemory result (block_type order buffer.old.items ≡ 1) }
+    ensures full { OnMemory result (vec_capacity interfaces.old ≤ vec_len interfaces.old) }
+    ensures list { IfOk result (λ event. GrowsList event (vec_len interfaces.old)
+        (vec_capacity interfaces.old) (vec_capacity interfaces.new)) }
+    ensures counted { IfOk result (λ event. CountsList event (vec_len interfaces.old)
+        (vec_len interfaces.new)) }
+    ensures same_list { OnErr result
+        (vec_capacity interfaces.new ≡ vec_capacity interfaces.old) }
     ensures length { vec_len buffer.new ≤ vec_len buffer.old }
     ensures capacity { vec_capacity buffer.new ≡ vec_capacity buffer.old }
 {

@@ -1,12 +1,13 @@
 //! The containers, and the heads of their pieces.
 
 ghost use Rattle.std.specs.Prelude.{◌≡◌, ◌≤◌, ◌⊎◌, length, IfOk, IfErr, Err, ◌≢◌, vec_len};
-ghost use Rattle.std.specs.Prelude.{vec_capacity};
+ghost use Rattle.std.specs.Prelude.{OnErr, vec_capacity};
 ghost use Rattle.pim_addr.specs.Faults.{Answers, judged};
 ghost use Rattle.pim_container.specs.Pieces.{head_length, head_faults, extent_of, piece_told};
 ghost use Rattle.pim_container.specs.Pieces.{interfaces_after};
 ghost use Rattle.pim_container.specs.Block.{most_block};
 ghost use Rattle.pim_container.specs.Next.{IsPiece, IsOfBytes, OnMemory, Describes};
+ghost use Rattle.pim_container.specs.Room.{GrowsList, CountsList};
 ghost use Rattle.pim_container.specs.Told.{event_seen, EventLiesIn, IsBy, latest_moment};
 
 use crate::block::{read_head, tell_block};
@@ -86,6 +87,13 @@ impl Container {
         ensures record { IfOk result (λ event. event ≢ Event.End) }
         ensures not_read { result ≢ Err Fault.Read }
         ensures memory { OnMemory result (Describes self buffer.old.items) }
+        ensures full { OnMemory result (vec_capacity interfaces.old ≤ vec_len interfaces.old) }
+        ensures list { IfOk result (λ event. GrowsList event (vec_len interfaces.old)
+            (vec_capacity interfaces.old) (vec_capacity interfaces.new)) }
+        ensures counted { IfOk result (λ event. CountsList event (vec_len interfaces.old)
+            (vec_len interfaces.new)) }
+        ensures same_list { OnErr result
+            (vec_capacity interfaces.new ≡ vec_capacity interfaces.old) }
         ensures length { vec_len buffer.new ≤ vec_len buffer.old }
         ensures capacity { vec_capacity buffer.new ≡ vec_capacity buffer.old }
     {

@@ -18,7 +18,9 @@
 //! The buffer is the caller's. A piece is read whole into it, since a block has its length at its
 //! end too. After a packet it ends with the captured bytes, of which the message is a range. A
 //! block above 16,777,216 bytes is refused before it is read, so that no file makes the buffer grow
-//! beyond it. Only the list of a section's interfaces takes other memory.
+//! beyond it. Where its capacity is less than a piece, it grows to exactly that length. Only the
+//! list of a section's interfaces takes other memory, where one is described while it is full
+//! (`specs/Room.antt`). After the end and after a fault nothing is read.
 //!
 //! `pim_capture` reads classic files over Ethernet and raw IP, with one 802.1Q tag. For these files
 //! both crates return the same, but for frames with further tags (the law `classic_agrees`).

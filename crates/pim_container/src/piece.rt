@@ -4,11 +4,13 @@
 //! promise that the capacity stays.
 
 ghost use Rattle.std.specs.Prelude.{◌≡◌, ◌≢◌, ◌+◌, ◌<◌, ◌≤◌, ◌⊎◌, ℕ, length, max, IfOk, OnOk};
-ghost use Rattle.std.specs.Prelude.{OnErr, IfSome, vec_len, vec_capacity};
+ghost use Rattle.std.specs.Prelude.{OnErr, IfSome, Some, vec_len, vec_capacity};
 ghost use Rattle.pim_container.specs.Pieces.{head_length};
 ghost use Rattle.pim_container.specs.Block.{most_block};
 ghost use Rattle.pim_container.specs.Next.{FillsAfter, TakesPiece, CountsReads, behind};
 ghost use Rattle.pim_container.specs.Next.{OnMemory, NeedsMemory};
+ghost use Rattle.pim_container.specs.Room.{length_named, taken_by, Takes, GrowsBy, LacksRoom};
+ghost use Rattle.pim_container.specs.Room.{GrowsList, CountsList, DescribesFirst};
 ghost use Rattle.pim_container.specs.Told.{EventLiesIn, IsBy, latest_moment};
 
 use crate::container::Container;
@@ -33,7 +35,8 @@ fn fit(buffer: &mut Vec<u8>, size: usize) -> Result<(), AllocError>
     ensures length { OnOk result (vec_len buffer.new ≡ size) }
     ensures refused { OnErr result (vec_capacity buffer.old < size) }
     ensures same_length { OnErr result (vec_len buffer.new ≡ vec_len buffer.old) }
-    ensures capacity { vec_capacity buffer.new ≤ max (vec_capacity buffer.old) size }
+    ensures capacity { OnOk result (vec_capacity buffer.new ≡ max (vec_capacity buffer.old) size) }
+    ensures same_capacity { OnErr result (vec_capacity buffer.new ≡ vec_capacity buffer.old) }
 {
     let more = size.saturating_sub(buffer.len());
     buffer.reserve_exact(more)?;
@@ -58,6 +61,9 @@ pub fn read_after<R: Feed>(
     ensures memory { OnMemory result (vec_capacity buffer.old < size) }
     ensures length { vec_len buffer.new ≤ max (vec_len buffer.old) size }
     ensures capacity { vec_capacity buffer.new ≤ max (vec_capacity buffer.old) size }
+    ensures grows { GrowsBy (Some size) (vec_capacity buffer.old) (vec_capacity buffer.new) }
+    ensures taken { Takes size result (behind head.now (R.remaining device.old))
+        (R.remaining device.new) }
 {
     fit(buffer, size)?;
     let (front, rest) = buffer.as_mut_slice().split_at_mut(head.len());
@@ -89,6 +95,20 @@ pub fn take_piece<R: Feed>(
         (NeedsMemory (vec_capacity buffer.old) container)) }
     ensures length { vec_len buffer.new ≤ max (vec_len buffer.old) most_block }
     ensures capacity { vec_capacity buffer.new ≤ max (vec_capacity buffer.old) most_block }
+    ensures grows { GrowsBy (length_named container head.now) (vec_capacity buffer.old)
+        (vec_capacity buffer.new) }
+    ensures taken { Takes (taken_by (length head.now) (length_named container head.now)) result
+        (behind head.now (R.remaining device.old)) (R.remaining device.new) }
+    ensures asked { OnMemory result
+        (LacksRoom (vec_capacity buffer.old) (Some (length_named container head.now))
+        ⊎ ((vec_capacity interfaces.old ≤ vec_len interfaces.old)
+        × IfSome (behind head.now (R.remaining device.old)) (DescribesFirst container))) }
+    ensures list { IfOk result (λ found. GrowsList found.event (vec_len interfaces.old)
+        (vec_capacity interfaces.old) (vec_capacity interfaces.new)) }
+    ensures counted { IfOk result (λ found. CountsList found.event (vec_len interfaces.old)
+        (vec_len interfaces.new)) }
+    ensures same_list { OnErr result
+        (vec_capacity interfaces.new ≡ vec_capacity interfaces.old) }
 {
     let extent = container.extent_of(head)?;
     read_after(device, head, extent.length, buffer)?;

@@ -1,9 +1,9 @@
 //! A capture that is read event by event.
 
 ghost use Rattle.std.specs.Prelude.{◌≡◌, ◌<◌, ◌≤◌, ◌⊎◌, [], length, IfOk, Ok, max, vec_len};
-ghost use Rattle.std.specs.Prelude.{IfSome, vec_capacity};
+ghost use Rattle.std.specs.Prelude.{IfSome, Some, OnErr, vec_capacity};
 ghost use Rattle.std.specs.Option.{option_map};
-ghost use Rattle.pim_container.specs.declared.reader.State.TheVariants.{Unbegun};
+ghost use Rattle.pim_container.specs.declared.reader.State.TheVariants.{Unbegun, Pieces};
 ghost use Rattle.pim_container.specs.Block.{most_block};
 ghost use Rattle.pim_container.specs.Pieces.{answers, pieces, head_length};
 ghost use Rattle.pim_container.specs.Next.{coming, seen, device_of, state_of, IsNext, IsRefusal};
@@ -11,6 +11,11 @@ ghost use Rattle.pim_container.specs.Next.{CountsReads};
 ghost use Rattle.pim_container.specs.Next.{pieces_left, IsRepeated, StaysOver, Tells, behind};
 ghost use Rattle.pim_container.specs.Next.{BeginsClassic, OnMemory, NeedsMemory, NeedsToBegin};
 ghost use Rattle.pim_container.specs.Next.{NeedsNext};
+ghost use Rattle.pim_container.specs.Room.{length_named, next_named, first_named, named, taken_by};
+ghost use Rattle.pim_container.specs.Room.{Takes, TakesNext, IsUnread, GrowsBy, GrowsFor};
+ghost use Rattle.pim_container.specs.Room.{LacksRoom, LacksPlace, GrowsList, CountsList, list_room};
+ghost use Rattle.pim_container.specs.Room.{described_by, count_in, DescribesFirst, DescribesNext};
+ghost use Rattle.pim_container.specs.Room.{needs, needs_in, needs_of, PassesNeed};
 ghost use Rattle.pim_container.specs.Told.{EventLiesIn, IsBy, latest_moment};
 
 use crate::block::is_section;
@@ -85,6 +90,25 @@ fn go_on<R: Feed>(
         (NeedsMemory (vec_capacity buffer.old) container)) }
     ensures length { vec_len buffer.new ≤ max (vec_len buffer.old) most_block }
     ensures capacity { vec_capacity buffer.new ≤ max (vec_capacity buffer.old) most_block }
+    ensures grows { GrowsBy (length_named container head.now) (vec_capacity buffer.old)
+        (vec_capacity buffer.new) }
+    ensures taken { Takes (taken_by (length head.now) (length_named container head.now)) result
+        (behind head.now (R.remaining device.old)) (R.remaining device.new) }
+    ensures asked { OnMemory result
+        (LacksRoom (vec_capacity buffer.old) (Some (length_named container head.now))
+        ⊎ ((vec_capacity interfaces.old ≤ vec_len interfaces.old)
+        × IfSome (behind head.now (R.remaining device.old)) (DescribesFirst container))) }
+    ensures list { IfOk result (λ step. GrowsList step.event (vec_len interfaces.old)
+        (vec_capacity interfaces.old) (vec_capacity interfaces.new)) }
+    ensures counted { IfOk result (λ step. CountsList step.event (vec_len interfaces.old)
+        (count_in step.state (vec_len interfaces.new))) }
+    ensures ahead { IfOk result (λ step. PassesNeed step.event
+        (option_map (needs left container (vec_len interfaces.old) interfaces.old.items)
+        (behind head.now (R.remaining device.old)))
+        (option_map (needs_in step.state (vec_len interfaces.new) interfaces.new.items)
+        (R.remaining device.new))) }
+    ensures same_list { OnErr result
+        (vec_capacity interfaces.new ≡ vec_capacity interfaces.old) }
 {
     let found = take_piece(device, container, head, interfaces, buffer)?;
     Ok(Step {
@@ -109,6 +133,9 @@ fn begin_classic<R: Feed>(
     ensures memory { OnMemory result (vec_capacity buffer.old < 24) }
     ensures length { vec_len buffer.new ≤ max (vec_len buffer.old) 24 }
     ensures capacity { vec_capacity buffer.new ≤ max (vec_capacity buffer.old) 24 }
+    ensures grows { GrowsBy (Some 24) (vec_capacity buffer.old) (vec_capacity buffer.new) }
+    ensures taken { Takes 24 result (behind head.now (R.remaining device.old))
+        (R.remaining device.new) }
 {
     read_after(device, head, 24, buffer)?;
     read_header(buffer.as_slice())
@@ -133,6 +160,23 @@ fn begin<R: Feed>(
         (NeedsToBegin (vec_capacity buffer.old))) }
     ensures length { vec_len buffer.new ≤ max (vec_len buffer.old) most_block }
     ensures capacity { vec_capacity buffer.new ≤ max (vec_capacity buffer.old) most_block }
+    ensures grows { GrowsFor (option_map first_named (R.remaining device.old))
+        (vec_capacity buffer.old) (vec_capacity buffer.new) }
+    ensures taken { TakesNext Unbegun result (R.remaining device.old) (R.remaining device.new) }
+    ensures asked { OnMemory result (LacksRoom (vec_capacity buffer.old)
+        (option_map first_named (R.remaining device.old))
+        ⊎ ((vec_capacity interfaces.old ≤ 0)
+        × IfSome (R.remaining device.old) (DescribesNext Unbegun))) }
+    ensures list { IfOk result (λ step. GrowsList step.event 0 (vec_capacity interfaces.old)
+        (vec_capacity interfaces.new)) }
+    ensures counted { IfOk result (λ step. CountsList step.event 0
+        (count_in step.state (vec_len interfaces.new))) }
+    ensures ahead { IfOk result (λ step. PassesNeed step.event
+        (option_map (needs_in Unbegun 0 []) (R.remaining device.old))
+        (option_map (needs_in step.state (vec_len interfaces.new) interfaces.new.items)
+        (R.remaining device.new))) }
+    ensures same_list { OnErr result
+        (vec_capacity interfaces.new ≡ vec_capacity interfaces.old) }
 {
     interfaces.clear();
     let mut head = [0; 12];
@@ -174,6 +218,25 @@ fn next_piece<R: Feed>(
         (NeedsMemory (vec_capacity buffer.old) container)) }
     ensures length { vec_len buffer.new ≤ max (vec_len buffer.old) most_block }
     ensures capacity { vec_capacity buffer.new ≤ max (vec_capacity buffer.old) most_block }
+    ensures grows { GrowsFor (option_map (next_named left container) (R.remaining device.old))
+        (vec_capacity buffer.old) (vec_capacity buffer.new) }
+    ensures taken { TakesNext (Pieces container left) result (R.remaining device.old)
+        (R.remaining device.new) }
+    ensures asked { OnMemory result (LacksRoom (vec_capacity buffer.old)
+        (option_map (next_named left container) (R.remaining device.old))
+        ⊎ ((vec_capacity interfaces.old ≤ vec_len interfaces.old)
+        × IfSome (R.remaining device.old) (DescribesNext (Pieces container left)))) }
+    ensures list { IfOk result (λ step. GrowsList step.event (vec_len interfaces.old)
+        (vec_capacity interfaces.old) (vec_capacity interfaces.new)) }
+    ensures counted { IfOk result (λ step. CountsList step.event (vec_len interfaces.old)
+        (count_in step.state (vec_len interfaces.new))) }
+    ensures ahead { IfOk result (λ step. PassesNeed step.event
+        (option_map (needs left container (vec_len interfaces.old) interfaces.old.items)
+        (R.remaining device.old))
+        (option_map (needs_in step.state (vec_len interfaces.new) interfaces.new.items)
+        (R.remaining device.new))) }
+    ensures same_list { OnErr result
+        (vec_capacity interfaces.new ≡ vec_capacity interfaces.old) }
 {
     let mut first = [0; 16];
     let (head, _) = first.split_at_mut(container.head_length());
@@ -199,6 +262,9 @@ impl<R: Feed> Reader<R> {
         ensures device { device_of result ≡ device }
         ensures state { state_of result ≡ Unbegun }
         ensures coming { coming R.remaining result ≡ option_map answers (R.remaining device) }
+        ensures list { list_room result ≡ 0 }
+        ensures ahead { needs_of R.remaining result
+            ≡ option_map (needs_in Unbegun 0 []) (R.remaining device) }
     {
         Reader {
             device,
@@ -214,6 +280,9 @@ impl<R: Feed> Reader<R> {
         ensures given { device.new ≡ device_of self.old }
         ensures state { state_of self.new ≡ Unbegun }
         ensures coming { coming R.remaining self.new ≡ option_map answers (R.remaining device.old) }
+        ensures list { list_room self.new ≡ list_room self.old }
+        ensures ahead { needs_of R.remaining self.new
+            ≡ option_map (needs_in Unbegun 0 []) (R.remaining device.old) }
     {
         swap(&mut self.device, device);
         self.state = State::Unbegun;
@@ -242,6 +311,25 @@ impl<R: Feed> Reader<R> {
             (NeedsNext (vec_capacity buffer.old) (state_of self.old))) }
         ensures length { vec_len buffer.new ≤ max (vec_len buffer.old) most_block }
         ensures capacity { vec_capacity buffer.new ≤ max (vec_capacity buffer.old) most_block }
+        // The capacity stays, or grows to exactly the length of the next piece.
+        ensures grows { GrowsFor (named R.remaining self.old) (vec_capacity buffer.old)
+            (vec_capacity buffer.new) }
+        // The next piece is taken. Of one that its head refuses, only the head is.
+        ensures taken { TakesNext (state_of self.old) result (R.remaining (device_of self.old))
+            (R.remaining (device_of self.new)) }
+        ensures unread { IsUnread (state_of self.old) (device_of self.old) (device_of self.new) }
+        // Memory is refused only if the buffer has less room than the next piece needs, or if that
+        // describes an interface for which the list has no room.
+        ensures asked { OnMemory result (LacksRoom (vec_capacity buffer.old)
+            (named R.remaining self.old) ⊎ LacksPlace R.remaining self.old) }
+        ensures list { IfOk result (λ event. GrowsList event (described_by self.old)
+            (list_room self.old) (list_room self.new)) }
+        ensures counted { IfOk result (λ event. CountsList event (described_by self.old)
+            (described_by self.new)) }
+        // What the other pieces need stays, up to the next record.
+        ensures ahead { IfOk result (λ event. PassesNeed event (needs_of R.remaining self.old)
+            (needs_of R.remaining self.new)) }
+        ensures same_list { OnErr result (list_room self.new ≡ list_room self.old) }
         ensures repeated { IsRepeated (state_of self.old) result }
         ensures over { StaysOver result (state_of self.new) }
     {
@@ -271,6 +359,10 @@ impl<R: Feed> Reader<R> {
         ensures coming { coming R.remaining self.new ≡ coming R.remaining self.old }
         ensures failures { R.failures (device_of self.new) ≡ R.failures (device_of self.old) }
         ensures state { state_of self.new ≡ state_of self.old }
+        ensures named { named R.remaining self.new ≡ named R.remaining self.old }
+        ensures described { described_by self.new ≡ described_by self.old }
+        ensures ahead { needs_of R.remaining self.new ≡ needs_of R.remaining self.old }
+        ensures list { list_room self.new ≡ list_room self.old }
     {
         self.device.pass_record();
     }

@@ -1,4 +1,4 @@
-use Rattle.std.proofs.Common.{arith}
+use Rattle.std.proofs.Common.{arith, vec_len}
 use Rattle.std.proofs.lemmas.Result.{err_from_is_err_and}
 use Rattle.pim_container.specs.declared.reader.State.TheVariants.{Failed}
 use Rattle.pim_container.specs.declared.reader.Step.{Step}
@@ -6,6 +6,8 @@ use Rattle.pim_container.specs.declared.piece.Found.{Found}
 use Rattle.pim_container.specs.Next.{answers_in}
 use Rattle.pim_container.proofs.Steps.{head_some, found_known, fault_known}
 use Rattle.pim_container.proofs.Room.{memory_passed}
+use Rattle.pim_container.proofs.Taken.{takes_passed}
+use Rattle.pim_container.proofs.Needs.{piece_passed}
 use Rattle.pim_container.proofs.reader.go_on.Goals as goal
 
 pub returns-in_err-found-clause-answer : goal.returns-in_err-found-clause-answer
@@ -24,3 +26,19 @@ pub returns-in_err-found-clause-memory : goal.returns-in_err-found-clause-memory
 returns-in_err-found-clause-memory g c =
     let p = err_from_is_err_and c.from_residual.result c.from_residual.ensures.1 in
     rw (p.1, p.2) (memory_passed Found Step c.in_err-found.field-0.0 _ _ (λ m. m) c.in_err-found.ensures.memory)
+
+pub returns-in_err-found-clause-taken : goal.returns-in_err-found-clause-taken
+returns-in_err-found-clause-taken g c =
+    let p = err_from_is_err_and c.from_residual.result c.from_residual.ensures.1 in
+    rw (p.1, p.2) (takes_passed Found Step _ c.in_err-found.field-0.0 _ _ c.in_err-found.ensures.taken)
+
+pub returns-in_err-found-clause-asked : goal.returns-in_err-found-clause-asked
+returns-in_err-found-clause-asked g c =
+    let p = err_from_is_err_and c.from_residual.result c.from_residual.ensures.1 in
+    rw (p.1, p.2) (memory_passed Found Step c.in_err-found.field-0.0 _ _ (λ m. m) c.in_err-found.ensures.asked)
+
+pub returns-clause-ahead : goal.returns-clause-ahead
+returns-clause-ahead g c =
+    piece_passed c.args.left c.args.container (vec_len c.args.interfaces.now) (vec_len c.take_piece.new.interfaces) c.args.interfaces.now.items c.take_piece.new.interfaces.items c.args.head.now
+    c.take_piece.new.buffer.items (g.R.Feed.remaining c.args.device.now) (g.R.Feed.remaining c.take_piece.new.device) c.in_ok-found.found (omega arith) c.in_ok-found.ensures.answer
+    c.in_ok-found.ensures.counted
