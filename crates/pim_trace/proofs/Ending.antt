@@ -5,6 +5,7 @@ use Rattle.pim_merge.specs.declared.end.End.{End}
 use Rattle.pim_merge.specs.Ends.{end_moment, clock_of, Takes}
 use Rattle.pim_merge.specs.Next.{MergeState}
 use Rattle.pim_merge.specs.Run.{CountsAll, IsTallied}
+use Rattle.pim_router.specs.Laws.{EveryStateGoesOn}
 use Rattle.pim_router.specs.State.{RouterState}
 use Rattle.std.specs.Io.KnownBytes.{Appends}
 use Rattle.pim_device.specs.Device.{AppendsFront}
@@ -16,6 +17,7 @@ use Rattle.pim_trace.specs.Passing.{PassesTime}
 use Rattle.pim_trace.specs.Telling.{HasTold, HasBegun}
 use Rattle.pim_trace.specs.Trace.{TellsTurns, TellsAll, IsTrace, ending, ledger_for, HasSome, HasTrace, Wrote, WroteFront, Traces}
 use Rattle.pim_trace.specs.Underway.{HasAll, Steps, RunsTurns, IfMore}
+use Rattle.pim_trace.proofs.Underway.{begun_first}
 use Rattle.pim_trace.proofs.Pieces.{none_told, all_told, told_then, told_begun, begun_longer, one_told, one_begun}
 
 -- a fact that holds after one more turn
@@ -38,19 +40,12 @@ module _ (line : Occurrence → List ℕ) (family : AddressFamily) (end : End) (
   ends_so merge ledger now new Memory p = p
 
   -- nothing was told, since there was no memory for the ledger
-  pub nothing_yet : HasSome line family end start state old old
+  pub nothing_yet : EveryStateGoesOn → HasSome line family end start state old old
   unfolding Takes TellsTurns
-  nothing_yet = record {
-    events = [];
-    tells = record {
-      taken = [];
-      are = λ captures coming. record { clock_then = start.clock; rest = captures; takes_them = (refl, refl); is_rest = tt };
-      ledger = ledger_for state;
-      after = state;
-      tells = (refl, refl, refl);
-    };
-    written = all_told line old old [] (none_told line old);
-  }
+  nothing_yet goes_on =
+      begun_first goes_on line family end start state old old [] [] (ledger_for state) state
+      (λ captures coming. record { clock_then = start.clock; rest = captures; takes_them = (refl, refl); is_rest = tt }) (refl, refl, refl)
+      (all_told line old old [] (none_told line old))
 
   -- the turns ended the trace
   pub turns_end_it : (merge : MergeState) (ledger : Ledger) (now after : RouterState) (new : Option (List ℕ)) (fault : TraceFault) → RunsTurns line family end start state old {A = Unit {0}} merge ledger now new (Err fault)
@@ -71,13 +66,15 @@ module _ (line : Occurrence → List ℕ) (family : AddressFamily) (end : End) (
     all_of way ledger after passes = record {
       taken = h.taken;
       are = h.are;
-      turns = h.events;
-      ledger_then = ledger_then;
-      between = between;
-      tells = h.tells;
-      way = way;
-      passes = subst (λ (m : ℕ). PassesTime m ledger_then between way ledger after) at_end passes;
-      events_are = refl;
+      runs = record {
+        turns = h.events;
+        ledger_then = ledger_then;
+        between = between;
+        tells = h.tells;
+        way = way;
+        passes = subst (λ (m : ℕ). PassesTime m ledger_then between way ledger after) at_end passes;
+        events_are = refl;
+      };
     }
 
     trace_of : (way : List Occurrence) (ledger : Ledger) (after : RouterState) → PassesTime moment ledger_then between way ledger after

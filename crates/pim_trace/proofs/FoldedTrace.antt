@@ -12,11 +12,11 @@ use Rattle.pim_router.specs.State.{RouterState}
 use Rattle.pim_events.specs.declared.event.Skip.TheVariants.{NoPacket, OtherFamily}
 use Rattle.pim_events.specs.declared.event.Skipping.{Skipping}
 use Rattle.pim_events.specs.Events.{Occurrence, record_skipped}
-use Rattle.pim_trace.specs.Causing.{TraceNamesCauses, TurnsNameCauses}
-use Rattle.pim_trace.specs.Folding.{EventsTellTheState, TurnsTellTheState}
+use Rattle.pim_trace.specs.Causing.{TraceNamesCauses, TurnsNameCauses, RunsNameCauses}
+use Rattle.pim_trace.specs.Folding.{EventsTellTheState, TurnsTellTheState, RunsLeadOn}
 use Rattle.pim_trace.specs.Ledger.{Ledger, frame_of, with_skip}
 use Rattle.pim_trace.specs.Passing.{PassesTime}
-use Rattle.pim_trace.specs.Trace.{TellsTurns, TellsAll, IsTrace, ending, ledger_for}
+use Rattle.pim_trace.specs.Trace.{TellsTurns, RunsUntil, IsTrace, ending, ledger_for}
 use Rattle.pim_trace.specs.Turn.{packet_on, Skips, TakesContent, counting, TellsTurn}
 use Rattle.pim_trace.proofs.Caused.{leading, naming}
 use Rattle.pim_trace.proofs.Folding.{leads_nowhere, leads_past, Place, place, known_at, LeadsAll, all_nowhere, all_on}
@@ -102,18 +102,22 @@ module _ (given : Given) (family : AddressFamily) where
       (all_on (place ledger state) (place then between) (place ledger' after) one more leads
       (turns_lead turns then ledger' between after more leads.ascending others))
 
+  -- turns, and the time after them
+  pub run_leads : (taken : List Taken) (until : ℕ → ℕ) (state after : RouterState) (events : List Occurrence)
+      (ledger : Ledger) → IsAscending state.machines.records →
+      RunsUntil until family state taken events ledger after →
+      LeadOn' (ledger_for state) state events ledger after
+  run_leads taken until state after events ledger up r =
+      let first = ledger_for state in
+      let turns = turns_lead taken first r.ledger_then state r.between r.turns up r.tells in
+      let moment = until r.between.machines.moment in
+      let way = time_leads moment r.ledger_then ledger r.between after r.way turns.ascending r.passes in
+      subst (λ (es : List Occurrence). LeadOn' first state es ledger after) (sym r.events_are)
+      (all_on (place first state) (place r.ledger_then r.between) (place ledger after) r.turns r.way turns way)
+
   module _ (end : End) (merge : MergeState) (state : RouterState) (up : IsAscending state.machines.records) where
     abbrev first : Ledger
     first = ledger_for state
-
-    told_lead : (events : List Occurrence) (ledger : Ledger) (after : RouterState) →
-        TellsAll family end merge state events ledger after → LeadOn' first state events ledger after
-    told_lead events ledger after t =
-        let turns = turns_lead t.taken first t.ledger_then state t.between t.turns up t.tells in
-        let moment = end_moment end (clock_of merge.clock t.taken) t.between.machines.moment in
-        let way = time_leads moment t.ledger_then ledger t.between after t.way turns.ascending t.passes in
-        subst (λ (es : List Occurrence). LeadOn' first state es ledger after) (sym t.events_are)
-        (all_on (place first state) (place t.ledger_then t.between) (place ledger after) t.turns t.way turns way)
 
     -- the end of the run tells nothing of machines
     ending_leads : (ledger : Ledger) (after : RouterState) → IsAscending after.machines.records →
@@ -128,7 +132,8 @@ module _ (given : Given) (family : AddressFamily) where
     pub trace_leads : (events : List Occurrence) (after : RouterState) →
         (t : IsTrace family end merge state events after) → LeadOn' first state events t.ledger after
     trace_leads events after t =
-        let told = told_lead t.told t.ledger after t.tells in
+        let until = end_moment end (clock_of merge.clock t.tells.taken) in
+        let told = run_leads t.tells.taken until state after t.told t.ledger up t.tells.runs in
         subst (λ (es : List Occurrence). LeadOn' first state es t.ledger after) (sym t.events_are)
         (all_on (place first state) (place t.ledger after) (place t.ledger after) t.told
         (ending t.ledger after ∷ []) told (ending_leads t.ledger after told.ascending))
@@ -141,6 +146,10 @@ pub turns_tell : Given → TurnsTellTheState
 turns_tell given family turns ledger state events ledger' after up tells =
     leading ledger ledger' state after events (turns_lead given family turns ledger ledger' state after events up tells)
 
+pub runs_lead : Given → RunsLeadOn
+runs_lead given family turns until state events ledger after up runs =
+    leading (ledger_for state) ledger state after events (run_leads given family turns until state after events ledger up runs)
+
 pub trace_names : Given → TraceNamesCauses
 trace_names given family end merge state events after up is =
     naming given.apart state is.ledger after events (trace_leads given family end merge state up events after is)
@@ -149,3 +158,8 @@ pub turns_name : Given → TurnsNameCauses
 turns_name given family turns state events ledger after up tells =
     naming given.apart state ledger after events
     (turns_lead given family turns (ledger_for state) ledger state after events up tells)
+
+pub runs_name : Given → RunsNameCauses
+runs_name given family turns until state events ledger after up runs =
+    naming given.apart state ledger after events
+    (run_leads given family turns until state after events ledger up runs)

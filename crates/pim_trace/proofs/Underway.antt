@@ -9,22 +9,24 @@ use Rattle.pim_capture.specs.Next.{latest_moment}
 use Rattle.pim_merge.specs.declared.end.End.{End}
 use Rattle.pim_merge.specs.declared.merge.Turn.{Turn}
 use Rattle.pim_merge.specs.declared.merge.MergeFault.{MergeFault}
-use Rattle.pim_merge.specs.Ends.{clock_of, Takes}
+use Rattle.pim_merge.specs.Ends.{clock_of, Takes, AreFirst}
 use Rattle.pim_merge.specs.Merge.{Taken}
 use Rattle.pim_merge.specs.Next.{MergeState, IfTaken, bytes_at}
 use Rattle.pim_merge.specs.Tally.{tallies_after}
 use Rattle.pim_merge.specs.Run.{turn_seen, taken_by, HasTaken, StopsAfter, Advances, IsTallied}
+use Rattle.pim_router.specs.Laws.{EveryStateGoesOn}
 use Rattle.pim_router.specs.State.{RouterState, Setup, setup_of}
 use Rattle.pim_events.specs.Events.{Occurrence}
 use Rattle.pim_trace.specs.declared.telling.TellFault.{TellFault}
 use Rattle.pim_trace.specs.declared.telling.TellFault.TheVariants as telling
 use Rattle.pim_trace.specs.declared.trace.TraceFault.{TraceFault}
 use Rattle.pim_trace.specs.Ledger.{Ledger}
+use Rattle.pim_trace.specs.Passing.{PassesTime, events_in, after_all}
 use Rattle.pim_trace.specs.Telling.{HasTold, HasBegun}
-use Rattle.pim_trace.specs.Trace.{TellsTurns, ledger_for, HasSome, StopsAt}
+use Rattle.pim_trace.specs.Trace.{TellsTurns, ledger_for, RunsOut, Wrote, WroteFront, HasSome, StopsAt}
 use Rattle.pim_trace.specs.Turn.{TellsTurn}
 use Rattle.pim_trace.specs.Underway.{stop_by, stopped_by, of_telling, AreAlike, IsUnderway, HasAll, Steps}
-use Rattle.pim_trace.proofs.Pieces.{none_told, all_told, told_then, told_begun}
+use Rattle.pim_trace.proofs.Pieces.{none_told, all_told, told_then, told_begun, begun_longer}
 
 -- the events of one turn more
 tells_more : (family : AddressFamily) (taken : List Taken) (next : Taken) (events one : List Occurrence) (ledger ledger_then ledger' : Ledger) (state between after : RouterState) → TellsTurns family taken ledger state events ledger_then between
@@ -84,6 +86,41 @@ untaken end start = record {
   tallies = refl;
 }
 
+-- turns, and then what is still due
+runs_out : (family : AddressFamily) (state : RouterState) (taken : List Taken) (turns way : List Occurrence) (ledger ledger' : Ledger) (between after : RouterState) (moment : ℕ)
+    → TellsTurns family taken (ledger_for state) state turns ledger between → moment ≡ between.machines.moment → PassesTime moment ledger between way ledger' after
+    → RunsOut family state taken (turns ++ way) ledger' after
+runs_out family state taken turns way ledger ledger' between after moment tells here passes = record {
+  turns = turns;
+  ledger_then = ledger;
+  between = between;
+  tells = tells;
+  way = way;
+  passes = subst (λ (m : ℕ). PassesTime m ledger between way ledger' after) here passes;
+  events_are = refl;
+}
+
+-- some first turns, of whose events a front was written
+pub begun_first : EveryStateGoesOn → (line : Occurrence → List ℕ) (family : AddressFamily) (end : End) (start : MergeState) (state : RouterState) (old new : Option (List ℕ)) (taken : List Taken) (turns : List Occurrence) (ledger : Ledger) (after : RouterState)
+    → AreFirst end start taken → TellsTurns family taken (ledger_for state) state turns ledger after → WroteFront line old new turns
+    → HasSome line family end start state old new
+begun_first goes_on line family end start state old new taken turns ledger after first tells written =
+    let due = goes_on after.machines.moment after in
+    let way = events_in ledger due.told in
+    record {
+      events = turns ++ way;
+      tells = record {
+        taken = taken;
+        are = first;
+        ledger = after_all ledger due.told;
+        after = due.after;
+        runs =
+            runs_out family state taken turns way ledger (after_all ledger due.told) after due.after after.machines.moment tells refl
+            (record { happened = due.told; happens = due.happens; events_are = refl; ledger_is = refl });
+      };
+      written = begun_longer line old new turns way written;
+    }
+
 module _ (line : Occurrence → List ℕ) (family : AddressFamily) (end : End) (start : MergeState) (state : RouterState) (old : Option (List ℕ)) where
   pub begin : (ledger : Ledger) → ledger ≡ ledger_for state → IsUnderway line family end start state old start ledger state old
   unfolding Takes TellsTurns clock_of tallies_after
@@ -102,14 +139,6 @@ module _ (line : Occurrence → List ℕ) (family : AddressFamily) (end : End) (
   }
 
   module _ (merge : MergeState) (ledger : Ledger) (now : RouterState) (new : Option (List ℕ)) (w : IsUnderway line family end start state old merge ledger now new) where
-    -- what was told so far is told of some first turns
-    some : HasSome line family end start state old new
-    some = record {
-      events = w.events;
-      tells = record { taken = w.taken; are = w.run.first; ledger = ledger; after = now; tells = w.tells };
-      written = all_told line old new w.events w.written;
-    }
-
     pub ended : (next : Option Turn) (merge' : MergeState) → next ≡ None → Advances end start w.taken merge' (Ok next) → HasAll line family end start state old merge' ledger now new
     ended next merge' none advances =
         let all = subst (λ (n : Option Turn). Advances end start w.taken merge' (Ok n)) none advances in
@@ -117,39 +146,68 @@ module _ (line : Occurrence → List ℕ) (family : AddressFamily) (end : End) (
 
     -- ---- a capture's fault
 
-    module _ (merge' : MergeState) (told : MergeFault) (stops : StopsAfter end start w.taken merge' told) where
-      stopped : told.fault ≢ Memory → StopsAt line family end start state merge' told old new
-      stopped other = record {
-        taken = w.taken;
-        are = stops.are;
-        events = w.events;
-        ledger = ledger;
-        after = now;
-        tells = w.tells;
-        written = w.written;
-        no_memory = other;
-        cause = stops.cause;
-        tallies = stops.tallies;
-        numbered = stops.numbered;
+    module _ (moment : ℕ) (here : moment ≡ now.machines.moment) (newer : Option (List ℕ)) where
+      -- the device failed at what was still due
+      pub failed_on_the_way : HasBegun line (PassesTime moment ledger now) new newer → HasSome line family end start state old newer
+      failed_on_the_way way = record {
+        events = w.events ++ way.events;
+        tells = record {
+          taken = w.taken;
+          are = w.run.first;
+          ledger = way.ledger;
+          after = way.after;
+          runs = runs_out family state w.taken w.events way.events ledger way.ledger now way.after moment w.tells here way.are;
+        };
+        written = told_begun line old new newer w.events way.events w.written way.written;
       }
 
-      by_fault : (fault : CaptureFault) → told.fault ≡ fault → Steps line family end start state old merge' ledger now new (Err (stop_by told fault))
-      by_fault Memory is = some
-      by_fault Magic is = stopped (λ e. cc)
-      by_fault LinkType is = stopped (λ e. cc)
-      by_fault Truncated is = stopped (λ e. cc)
-      by_fault TooLong is = stopped (λ e. cc)
-      by_fault Read is = stopped (λ e. cc)
-      by_fault Failed is = stopped (λ e. cc)
-      by_fault Block is = stopped (λ e. cc)
-      by_fault Time is = stopped (λ e. cc)
-      by_fault (Vlans one other) is = stopped (λ e. cc)
-      by_fault (Interfaces one other) is = stopped (λ e. cc)
-      by_fault (InterfaceNames one other) is = stopped (λ e. cc)
-      by_fault (LinkNumber number) is = stopped (λ e. cc)
+      module _ (merge' : MergeState) (told : MergeFault) (stops : StopsAfter end start w.taken merge' told) (ledger' : Ledger) (after : RouterState)
+          (way : HasTold line (PassesTime moment ledger now) ledger' after new newer) where
+        runs : RunsOut family state w.taken (w.events ++ way.events) ledger' after
+        runs = runs_out family state w.taken w.events way.events ledger ledger' now after moment w.tells here way.are
 
-      pub failed : (answer : TraceFault) → answer ≡ stopped_by told → Steps line family end start state old merge' ledger now new (Err answer)
-      failed answer is = subst (λ a. Steps line family end start state old merge' ledger now new (Err a)) (sym is) (by_fault told.fault refl)
+        so_far : Wrote line old newer (w.events ++ way.events)
+        so_far = told_then line old new newer w.events way.events w.written way.written
+
+        some : HasSome line family end start state old newer
+        some = record {
+          events = w.events ++ way.events;
+          tells = record { taken = w.taken; are = w.run.first; ledger = ledger'; after = after; runs = runs };
+          written = all_told line old newer (w.events ++ way.events) so_far;
+        }
+
+        stopped : told.fault ≢ Memory → StopsAt line family end start state merge' told old newer
+        stopped other = record {
+          taken = w.taken;
+          are = stops.are;
+          events = w.events ++ way.events;
+          ledger = ledger';
+          after = after;
+          runs = runs;
+          written = so_far;
+          no_memory = other;
+          cause = stops.cause;
+          tallies = stops.tallies;
+          numbered = stops.numbered;
+        }
+
+        by_fault : (fault : CaptureFault) → told.fault ≡ fault → Steps line family end start state old merge' ledger' after newer (Err (stop_by told fault))
+        by_fault Memory is = some
+        by_fault Magic is = stopped (λ e. cc)
+        by_fault LinkType is = stopped (λ e. cc)
+        by_fault Truncated is = stopped (λ e. cc)
+        by_fault TooLong is = stopped (λ e. cc)
+        by_fault Read is = stopped (λ e. cc)
+        by_fault Failed is = stopped (λ e. cc)
+        by_fault Block is = stopped (λ e. cc)
+        by_fault Time is = stopped (λ e. cc)
+        by_fault (Vlans one other) is = stopped (λ e. cc)
+        by_fault (Interfaces one other) is = stopped (λ e. cc)
+        by_fault (InterfaceNames one other) is = stopped (λ e. cc)
+        by_fault (LinkNumber number) is = stopped (λ e. cc)
+
+        pub failed : (answer : TraceFault) → answer ≡ stopped_by told → Steps line family end start state old merge' ledger' after newer (Err answer)
+        failed answer is = subst (λ a. Steps line family end start state old merge' ledger' after newer (Err a)) (sym is) (by_fault told.fault refl)
 
     -- ---- a turn
 
@@ -177,24 +235,16 @@ module _ (line : Occurrence → List ℕ) (family : AddressFamily) (end : End) (
         written = told_then line old new newer w.events one.events w.written one.written;
       }
 
-      begun_turn : (newer : Option (List ℕ)) → HasBegun line (TellsTurn family (turn_seen bytes given) ledger now) new newer → HasSome line family end start state old newer
-      begun_turn newer one = record {
-        events = w.events ++ one.events;
-        tells = record {
-          taken = w.taken ++ taken_by merge' given ∷ [];
-          are = run.first;
-          ledger = one.ledger;
-          after = one.after;
-          tells = turns_more one.events one.ledger one.after one.are;
-        };
-        written = told_begun line old new newer w.events one.events w.written one.written;
-      }
+      begun_turn : EveryStateGoesOn → (newer : Option (List ℕ)) → HasBegun line (TellsTurn family (turn_seen bytes given) ledger now) new newer → HasSome line family end start state old newer
+      begun_turn goes_on newer one =
+          begun_first goes_on line family end start state old newer (w.taken ++ taken_by merge' given ∷ []) (w.events ++ one.events) one.ledger one.after
+          run.first (turns_more one.events one.ledger one.after one.are) (told_begun line old new newer w.events one.events w.written one.written)
 
       by_telling : (fault : TellFault) (ledger' : Ledger) (after : RouterState) (newer : Option (List ℕ)) → HasSome line family end start state old newer → Steps line family end start state old merge' ledger' after newer (Err (of_telling fault))
       by_telling telling.Output ledger' after newer p = p
       by_telling telling.Memory ledger' after newer p = p
 
-      pub turn_stopped : (fault : TellFault) (answer : TraceFault) (ledger' : Ledger) (after : RouterState) (newer : Option (List ℕ)) → answer ≡ of_telling fault
+      pub turn_stopped : EveryStateGoesOn → (fault : TellFault) (answer : TraceFault) (ledger' : Ledger) (after : RouterState) (newer : Option (List ℕ)) → answer ≡ of_telling fault
           → HasBegun line (TellsTurn family (turn_seen bytes given) ledger now) new newer → Steps line family end start state old merge' ledger' after newer (Err answer)
-      turn_stopped fault answer ledger' after newer is one =
-          subst (λ a. Steps line family end start state old merge' ledger' after newer (Err a)) (sym is) (by_telling fault ledger' after newer (begun_turn newer one))
+      turn_stopped goes_on fault answer ledger' after newer is one =
+          subst (λ a. Steps line family end start state old merge' ledger' after newer (Err a)) (sym is) (by_telling fault ledger' after newer (begun_turn goes_on newer one))

@@ -21,7 +21,7 @@ use Rattle.pim_events.specs.Events.{Happened, Occurrence, machine_changed, timer
 use Rattle.pim_trace.specs.Ledger.{Ledger, no_cause, pending_left}
 use Rattle.pim_trace.specs.Folding.{names}
 use Rattle.pim_trace.specs.Heard.{is_pending}
-use Rattle.pim_trace.specs.Trace.{TellsTurns, IsTrace, ledger_for}
+use Rattle.pim_trace.specs.Trace.{TellsTurns, RunsUntil, IsTrace, ledger_for}
 
 -- ---- when a timer ends
 
@@ -133,9 +133,16 @@ TraceNamesCauses =
     (after : RouterState) → IsAscending state.machines.records → IsTrace family end merge state events after →
     EventsNameTheirPackets state events
 
--- So it is in some first turns, such as those before a fault of a capture.
+-- So it is in some first turns.
 abbrev pub TurnsNameCauses : Type 0
 TurnsNameCauses =
     (family : AddressFamily) (turns : List Taken) (state : RouterState) (events : List Occurrence) (ledger : Ledger)
     (after : RouterState) → IsAscending state.machines.records →
     TellsTurns family turns (ledger_for state) state events ledger after → EventsNameTheirPackets state events
+
+-- So it is in some first turns and the time after them, such as before a fault of a capture.
+abbrev pub RunsNameCauses : Type 0
+RunsNameCauses =
+    (family : AddressFamily) (turns : List Taken) (until : ℕ → ℕ) (state : RouterState) (events : List Occurrence)
+    (ledger : Ledger) (after : RouterState) → IsAscending state.machines.records →
+    RunsUntil until family state turns events ledger after → EventsNameTheirPackets state events

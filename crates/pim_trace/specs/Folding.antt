@@ -13,7 +13,7 @@ use Rattle.pim_down.specs.Records.{IsAscending, state_of_machine, state_of}
 use Rattle.pim_router.specs.State.{RouterState}
 use Rattle.pim_events.specs.Events.{Happened, Occurrence, machine_changed, timer_fired}
 use Rattle.pim_trace.specs.Ledger.{Ledger}
-use Rattle.pim_trace.specs.Trace.{TellsTurns, IsTrace}
+use Rattle.pim_trace.specs.Trace.{TellsTurns, RunsUntil, IsTrace}
 
 -- ---- one event
 
@@ -74,9 +74,16 @@ EventsTellTheState =
     (after : RouterState) → IsAscending state.machines.records → IsTrace family end merge state events after →
     LeadOn state events after
 
--- So do the events of some first turns, such as those before a fault of a capture.
+-- So do the events of some first turns.
 abbrev pub TurnsTellTheState : Type 0
 TurnsTellTheState =
     (family : AddressFamily) (turns : List Taken) (ledger : Ledger) (state : RouterState) (events : List Occurrence)
     (ledger' : Ledger) (after : RouterState) → IsAscending state.machines.records →
     TellsTurns family turns ledger state events ledger' after → LeadOn state events after
+
+-- So do those of some first turns and of the time after them, such as the events before a fault of a capture.
+abbrev pub RunsLeadOn : Type 0
+RunsLeadOn =
+    (family : AddressFamily) (turns : List Taken) (until : ℕ → ℕ) (state : RouterState) (events : List Occurrence)
+    (ledger : Ledger) (after : RouterState) → IsAscending state.machines.records →
+    RunsUntil until family state turns events ledger after → LeadOn state events after

@@ -1,5 +1,6 @@
 -- The whole trace: the events of the turns of a merge, then those of the time up to the end of the
--- run, then the end itself.
+-- run, then the end itself. Where a fault of a capture stops the run, what is still due at the
+-- moment of the last turn happens before it.
 use Rattle.std.specs.Prelude.{◌≡◌, ◌≢◌, ◌⊎◌, ⊤, ℕ, ◌+◌, min, List, [], ◌∷◌, ◌++◌, length, Option, None, Some}
 use Rattle.std.specs.Prelude.{Result, Ok, Err}
 use Rattle.std.specs.Io.KnownBytes.{Appends}
@@ -59,28 +60,37 @@ ending ledger state = record {
 abbrev pub ledger_for : RouterState → Ledger
 ledger_for state = new_ledger (length state.ports)
 
+-- The router of `state` takes these turns, and then time passes up to the moment that `until` gives
+-- for the one that they reach. These are the events of both.
+pub record RunsUntil (until : ℕ → ℕ) (family : AddressFamily) (state : RouterState) (taken : List Taken)
+    (events : List Occurrence) (ledger : Ledger) (after : RouterState) : Type 0 where
+  pub turns : List Occurrence
+  pub ledger_then : Ledger
+  pub between : RouterState
+  pub tells : TellsTurns family taken (ledger_for state) state turns ledger_then between
+  pub way : List Occurrence
+  pub passes : PassesTime (until between.machines.moment) ledger_then between way ledger after
+  pub events_are : events ≡ turns ++ way
+
+-- These are the events of the turns, and of what is still due at the moment that they reach.
+abbrev pub RunsOut : AddressFamily → RouterState → List Taken → List Occurrence → Ledger → RouterState → Type 0
+RunsOut = RunsUntil (λ moment. moment)
+
 module _ (family : AddressFamily) (end : End) (merge : MergeState) (state : RouterState) where
-  -- Some first turns of the merge have these events.
+  -- Some first turns of the merge, and what is still due then, have these events.
   pub record TellsFirst (events : List Occurrence) : Type 0 where
     pub taken : List Taken
     pub are : AreFirst end merge taken
     pub ledger : Ledger
     pub after : RouterState
-    pub tells : TellsTurns family taken (ledger_for state) state events ledger after
+    pub runs : RunsOut family state taken events ledger after
 
   -- All turns of the merge up to the end of the run, and the time up to that end, have these events.
   -- The merge ends without a fault, and `after` is the router at the end.
   pub record TellsAll (events : List Occurrence) (ledger : Ledger) (after : RouterState) : Type 0 where
     pub taken : List Taken
     pub are : AreAll end merge None taken
-    pub turns : List Occurrence
-    pub ledger_then : Ledger
-    pub between : RouterState
-    pub tells : TellsTurns family taken (ledger_for state) state turns ledger_then between
-    pub way : List Occurrence
-    pub passes : PassesTime (end_moment end (clock_of merge.clock taken) between.machines.moment) ledger_then between
-        way ledger after
-    pub events_are : events ≡ turns ++ way
+    pub runs : RunsUntil (end_moment end (clock_of merge.clock taken)) family state taken events ledger after
 
   -- The events of a whole trace.
   pub record IsTrace (events : List Occurrence) (after : RouterState) : Type 0 where
@@ -101,17 +111,17 @@ WroteFront line old new events = AppendsFront old new (flat_map line events)
 
 module _ (line : Occurrence → List ℕ) (family : AddressFamily) (end : End) (merge : MergeState)
     (state : RouterState) where
-  -- A fault of a capture ended the trace, and exactly the events of the turns before it were written.
-  -- The fault is the next answer of its capture, or a read of that capture failed in the call. It is
-  -- never a lack of memory. The tallies of `merge'` count these turns, and the fault has the number
-  -- of the record after those of its capture.
+  -- A fault of a capture ended the trace, and exactly the events of the turns before it, and of what
+  -- was still due then, were written. The fault is the next answer of its capture, or a read of that
+  -- capture failed in the call. It is never a lack of memory. The tallies of `merge'` count these
+  -- turns, and the fault has the number of the record after those of its capture.
   pub record StopsAt (merge' : MergeState) (told : MergeFault) (old new : Option (List ℕ)) : Type 0 where
     pub taken : List Taken
     pub are : AreBefore end merge told taken
     pub events : List Occurrence
     pub ledger : Ledger
     pub after : RouterState
-    pub tells : TellsTurns family taken (ledger_for state) state events ledger after
+    pub runs : RunsOut family state taken events ledger after
     pub written : Wrote line old new events
     pub no_memory : told.fault ≢ fault.Memory
     pub cause : IsRefusal {A = ⊤} (lane_at told.capture merge.lanes).failures
@@ -120,7 +130,7 @@ module _ (line : Occurrence → List ℕ) (family : AddressFamily) (end : End) (
     pub tallies : tallies_of merge'.lanes ≡ tallies_after (tallies_of merge.lanes) taken
     pub numbered : IsNumbered (tallies_of merge'.lanes) told
 
-  -- A front of the events of some first turns was written.
+  -- A front of the events of some first turns, and of what was still due then, was written.
   pub record HasSome (old new : Option (List ℕ)) : Type 0 where
     pub events : List Occurrence
     pub tells : TellsFirst family end merge state events
@@ -138,7 +148,7 @@ module _ (line : Occurrence → List ℕ) (family : AddressFamily) (end : End) (
       HasSome old new ⊎ (last : RouterState) × HasTrace last (WroteFront line old new)
 
 -- What `trace_into` returns and writes. At Ok the whole trace was written. After a fault of a
--- capture, the events of the turns before it were. After any other fault, a front of the trace was.
+-- capture, the events before it were. After any other fault, a front of the trace was.
 -- The tallies of `merge'` count the turns: all at Ok, those before the fault of a capture, or some
 -- first ones.
 abbrev pub Traces : {A : Type 0} → (Occurrence → List ℕ) → AddressFamily → End → MergeState → MergeState →

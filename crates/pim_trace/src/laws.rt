@@ -1,7 +1,7 @@
 //! Laws of the definitions. These functions do nothing; their clauses are the laws.
 
-ghost use Rattle.pim_trace.specs.Causing.{TraceNamesCauses, TurnsNameCauses};
-ghost use Rattle.pim_trace.specs.Folding.{EventsTellTheState, TurnsTellTheState};
+ghost use Rattle.pim_trace.specs.Causing.{TraceNamesCauses, TurnsNameCauses, RunsNameCauses};
+ghost use Rattle.pim_trace.specs.Folding.{EventsTellTheState, TurnsTellTheState, RunsLeadOn};
 
 /// The events of a trace tell the state of each machine: from that at the start, each event leads
 /// on to the next, and the last one leads to that at the end.
@@ -24,6 +24,17 @@ pub fn turns_tell_the_state()
     pim_down::hearing_leaves_other_ports();
 }
 
+/// So do those of some first turns and of the time after them, such as the events before a fault of
+/// a capture.
+pub fn runs_lead_on()
+    ensures { RunsLeadOn }
+{
+    pim_down::keys_are_told_apart();
+    pim_down::firing_says_more();
+    pim_down::hearing_keeps_the_order();
+    pim_down::hearing_leaves_other_ports();
+}
+
 /// The cause of each timer that fires in a trace is the packet of the last event before it that
 /// gave this timer another end, or began its machine. A message that ends a Prune-Pending overrides
 /// the packet of the last event that set its timer. The events alone show both.
@@ -39,6 +50,16 @@ pub fn trace_names_causes()
 /// So it is in some first turns of a trace.
 pub fn turns_name_causes()
     ensures { TurnsNameCauses }
+{
+    pim_down::keys_are_told_apart();
+    pim_down::firing_says_more();
+    pim_down::hearing_keeps_the_order();
+    pim_down::hearing_leaves_other_ports();
+}
+
+/// So it is in some first turns and the time after them.
+pub fn runs_name_causes()
+    ensures { RunsNameCauses }
 {
     pim_down::keys_are_told_apart();
     pim_down::firing_says_more();

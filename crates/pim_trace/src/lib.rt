@@ -3,7 +3,8 @@
 //!
 //! `trace_into` goes over the records of a merge as a replay does. It tells a `Teller` of
 //! `pim_events` what happens. The clause `Traces` of `specs/Trace.antt` says which events a run
-//! has, what was written of them at the end, and what was written before a fault.
+//! has, what was written of them at the end, and what was written before a fault. At a fault of a
+//! capture, what is due at the moment of the last record has still happened.
 //!
 //! A ledger remembers what the router doesn't: which packet set each timer, and how far each
 //! capture was read. `specs/Ledger.antt` has it as functions, so that each of its changes is one
@@ -27,6 +28,7 @@ mod trace;
 mod turns;
 
 pub use laws::{
-    events_tell_the_state, trace_names_causes, turns_name_causes, turns_tell_the_state,
+    events_tell_the_state, runs_lead_on, runs_name_causes, trace_names_causes, turns_name_causes,
+    turns_tell_the_state,
 };
 pub use trace::{TraceFault, trace_into};

@@ -23,7 +23,7 @@ use pim_addr::{Failed, Family, Feed};
 use pim_capture::CaptureFault;
 use pim_events::{Ending, Event, Happening, Teller};
 use pim_merge::{End, Merge, MergeFault};
-use pim_router::Router;
+use pim_router::{Router, every_state_goes_on};
 use std::alloc::Global;
 
 /// Why a trace stopped.
@@ -58,7 +58,8 @@ fn of_telling(fault: TellFault) -> TraceFault
     }
 }
 
-/// Takes the next turn before the end of the run, if there is one.
+/// Takes the next turn before the end of the run, if there is one. Where the merge has a fault, what
+/// is still due at the present moment happens before it.
 fn step<F: Family, R: Feed + Drop, W, T: Teller<F, W>>(
     teller: &T,
     device: &mut W,
@@ -80,9 +81,16 @@ fn step<F: Family, R: Feed + Drop, W, T: Teller<F, W>>(
     ensures tallied { (start : MergeState) (taken : List Taken) →
         HasTaken end start taken merge.old → IsTallied end start merge.new }
 {
+    every_state_goes_on();
     let next = match merge.advance(end) {
         Ok(next) => next,
-        Err(told) => return Err(stopped_by(told)),
+        Err(told) => {
+            let now = router.now();
+            let Ok(()) = pass_time(teller, device, router, ledger, now) else {
+                return Err(TraceFault::Output);
+            };
+            return Err(stopped_by(told));
+        }
     };
     let Some(turn) = next else {
         return Ok(false);
@@ -203,7 +211,8 @@ fn trace_with<F: Family, R: Feed + Drop, W, T: Teller<F, W>>(
 /// remembers, and for the machines that a message may change.
 ///
 /// # Errors
-/// - `Capture`: a capture has a fault, and exactly the events of the turns before it were told.
+/// - `Capture`: a capture has a fault, and exactly the events of the turns before it, and of what
+///   was still due at the moment of the last one, were told.
 /// - `Output` if the device fails, `Memory` if memory is refused: a front of what is written of the
 ///   events was written.
 pub fn trace_into<F: Family, R: Feed + Drop, W, T: Teller<F, W>>(
@@ -224,6 +233,7 @@ pub fn trace_into<F: Family, R: Feed + Drop, W, T: Teller<F, W>>(
     // The tallies of the captures after the run are those of the turns that were taken.
     ensures tallied { IsTallied end merge.old merge.new }
 {
+    every_state_goes_on();
     let Ok(mut ledger) = Ledger::<F>::new(alloc, router.port_count()) else {
         return Err(TraceFault::Memory);
     };
