@@ -1,6 +1,6 @@
 //! Files in memory, for tests.
 
-ghost use Rattle.std.specs.Prelude.{◌≡◌, [], ◌∷◌, Some, option_map};
+ghost use Rattle.std.specs.Prelude.{◌≡◌, [], ◌∷◌, Some, option_map, map, string_bytes};
 ghost use Rattle.pim_files.specs.Files.{AsksFor, Opens, Grows};
 ghost use Rattle.pim_files.specs.Held.{held_content, held_files, held_asked, held_known};
 
@@ -43,9 +43,16 @@ impl<'a> HeldFiles<'a> {
         }
     }
 
-    /// Returns the names that it noted.
-    pub fn asked(&self) -> &[String] {
-        &self.asked
+    /// Returns the names that it was asked for, in this order. `None` if memory was refused for the
+    /// note of one.
+    pub fn asked(&self) -> Option<&[String]>
+        ensures { option_map (λ names. map string_bytes names.now) result ≡ held_asked self.now }
+    {
+        if self.is_whole {
+            Some(&self.asked)
+        } else {
+            None
+        }
     }
 
     /// Notes a name.

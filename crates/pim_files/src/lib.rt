@@ -8,7 +8,8 @@
 //!   words. A port's link says whether its capture is a classic one or any container, and which of
 //!   its packets are taken. The further files of a port come after its own, and are one capture.
 //! - `open_one` and `open_two` do both: they make the table, then open the captures.
-//! - `HeldFiles` is an opener of files in memory, for tests.
+//! - `HeldFiles` is an opener of files in memory, for tests. `asked` returns the names that it was
+//!   asked for, in their order.
 //!
 //! Where the opener tells what files hold, the contracts say that each port has the capture of its
 //! own files, of which nothing is read. They also say which rows the table has, and the first file
