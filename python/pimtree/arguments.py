@@ -124,17 +124,38 @@ def _with_copy(word: str, copies: Mapping[str, str]) -> str:
     return word[: len(word) - len(file)] + copies[file] if file in copies else word
 
 
+def _files_of(found: Arguments) -> List[str]:
+    """The names of the files, as often as words name them: that of routes, and those of ports."""
+    routes = found.value("--routes")
+    files = [file for port in found.ports for file in port.files]
+    if [routes, *files].count(STANDARD_INPUT) > 1:
+        raise PimtreeFault(f"word {STANDARD_INPUT}")
+    return files if routes is None else [routes, *files]
+
+
+def _with_copy_of_routes(words: Sequence[str], copies: Mapping[str, str]) -> List[str]:
+    """The words with the copy of the file of routes in place of the file, where there is a copy."""
+    changed = list(words)
+    for at, word in enumerate(words):
+        name, equals, file = word.partition("=")
+        if equals and name == "--routes" and file in copies:
+            changed[at] = f"{name}={copies[file]}"
+        elif at > 0 and words[at - 1] == "--routes" and word in copies:
+            changed[at] = copies[word]
+    return changed
+
+
 @contextlib.contextmanager
 def kept(words: Sequence[str], stdin: IO[bytes]) -> Iterator[Tuple[List[str], Dict[str, str]]]:
     """The words of a trace with files that can be read again and again. Gives them with the names
     that stand for others: pipes and standard input are copied into files until the end."""
     found = read(words, {})
-    files = {file for port in found.ports for file in port.files if _is_read_once(file)}
+    files = {file for file in _files_of(found) if _is_read_once(file)}
     with tempfile.TemporaryDirectory(prefix="pimtree-") as folder:
         copies = {file: os.path.join(folder, str(at)) for at, file in enumerate(sorted(files))}
         for file, copy in copies.items():
             _copy(file, stdin, copy)
-        changed = list(found.trace)
+        changed = _with_copy_of_routes(found.trace, copies)
         for place in found.places:
             changed[place] = _with_copy(changed[place], copies)
         yield changed, {copy: file for file, copy in copies.items()}

@@ -1,6 +1,7 @@
 """The events of a trace as objects: each kind once, its faults, and that they come at once."""
 from __future__ import annotations
 
+import io
 import os
 import subprocess
 import tempfile
@@ -132,6 +133,20 @@ class Events(unittest.TestCase):
             ran = subprocess.run(command, stdin=file, capture_output=True)
         self.assertEqual([line for _, line in pairs], ran.stdout.decode().splitlines())
         self.assertEqual(pairs[-1][0].ms, 3000)
+
+    def test_lines_with_routes_on_standard_input(self) -> None:
+        port, routes = f"{OWN}@{self.path}", f"rp 224.0.0.0/4 {RP}\n".encode()
+        wanted = [line for _, line in events.lines(["--rp", RP, port], io.BytesIO())]
+        for words in ["--routes", "-", port], ["--routes=-", port]:
+            with self.subTest(words):
+                found = events.lines(words, io.BytesIO(routes))
+                self.assertEqual([line for _, line in found], wanted)
+
+    def test_standard_input_is_read_once(self) -> None:
+        for words in [f"{OWN}@-", "+-"], ["--routes", "-", f"{OWN}@-"]:
+            with self.subTest(words), self.assertRaises(PimtreeFault) as raised:
+                list(events.lines(words, io.BytesIO()))
+            self.assertEqual(raised.exception.words, "word -")
 
     def test_they_come_at_once(self) -> None:
         read_end, write_end = os.pipe()
