@@ -8,10 +8,14 @@ from typing import List, Tuple
 
 import support
 
+EXAMPLES = os.path.join(support.TOP, "examples")
+# No message of the capture is for this port, so there is a warning.
+WARNED = ["replay", "--input", "any", "--rp", "10.9.9.9", "10.0.0.4@lan.pcap"]
+
 
 def run(*words: str, data: bytes = b"") -> Tuple[str, str, int]:
     ran = subprocess.run([support.PROGRAM, *words], input=data, capture_output=True,
-                         cwd=os.path.join(support.TOP, "examples"))
+                         cwd=EXAMPLES)
     return ran.stdout.decode(), ran.stderr.decode(), ran.returncode
 
 
@@ -60,8 +64,31 @@ class Examples(unittest.TestCase):
             with self.subTest(words[0]), open("/dev/full", "wb") as full:
                 ran = subprocess.run([support.PROGRAM, *words], input=b"port 10.0.0.1\n",
                                      stdout=full, stderr=subprocess.PIPE,
-                                     cwd=os.path.join(support.TOP, "examples"))
+                                     cwd=EXAMPLES)
                 self.assertEqual((ran.stderr, ran.returncode), (b"pimtree: output\n", 2))
+
+    def test_warnings_follow_all_output(self) -> None:
+        report, warning, status = run(*WARNED)
+        self.assertEqual((warning.count("\n"), status), (1, 0))
+        ran = subprocess.run([support.PROGRAM, *WARNED], stdout=subprocess.PIPE,
+                             stderr=subprocess.STDOUT, cwd=EXAMPLES)
+        self.assertEqual((ran.stdout.decode(), ran.returncode), (report + warning, 0))
+
+    def test_an_unwritten_warning(self) -> None:
+        for errors in (">/dev/full", ">&-"):
+            with self.subTest(errors):
+                ran = subprocess.run(["sh", "-c", f'exec "$@" 2{errors}', "sh",
+                                      support.PROGRAM, *WARNED], capture_output=True, cwd=EXAMPLES)
+                self.assertEqual((ran.stdout.decode(), ran.returncode), (run(*WARNED)[0], 2))
+
+    def test_standard_input_among_files(self) -> None:
+        words = ["replay", "--input", "any", "--routes"]
+        routes = b"rp 224.0.0.0/4 10.9.9.9\n"
+        self.assertIn("\nwant star 239.1.1.1 via -\n",
+                      run(*words, "-", "10.0.0.2@lan.pcap", data=routes)[0])
+        for more in (["-", "10.0.0.2@-"], ["lan.pcap", "10.0.0.2@-", "+-"]):
+            with self.subTest(more):
+                self.assertEqual(run(*words, *more, data=routes), ("", "pimtree: word -\n", 2))
 
 
 if __name__ == "__main__":

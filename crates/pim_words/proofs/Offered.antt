@@ -202,7 +202,7 @@ plan_in_range (V6 typed) asked is same = same_in_range Ipv6 (λ address. address
 plan_in_range Session asked is same = tt
 
 of_task_in_range : (met : Text × List Row) (plan : Plan) → (asked : Task Address) × IsTaskOf met asked × IsPlanOfTask asked plan → IsPlanInRange plan
-of_task_in_range met plan (asked, (kind, name, read), made) = plan_in_range plan asked (task_in_range kind met.1 asked read) made.1
+of_task_in_range met plan (asked, (kind, name, read), made) = plan_in_range plan asked (task_in_range kind met.1 asked read) made.1.1
 
 met_in_range : (met : Option (Text × List Row)) (plan : Plan) → IsSomeAnd met (λ m. IsPlanOf m plan) → IsPlanInRange plan
 met_in_range None plan is = absurd is

@@ -4,6 +4,7 @@ pub mod Addresses
 pub mod Faults
 pub mod Ends
 pub mod Given
+pub mod Inputs
 pub mod Labels
 pub mod Links
 pub mod Ports

@@ -1,5 +1,5 @@
 -- What is to be done, by the words of the command line.
-use Rattle.std.specs.Prelude.{◌≡◌, ◌≤◌, ◌<◌, ◌⊎◌, List, [], ◌∷◌, length, ⊤, true, IfSome, IsSomeAnd, Result, Ok, Err}
+use Rattle.std.specs.Prelude.{◌≡◌, ◌≤◌, ◌<◌, ◌⊎◌, List, [], ◌∷◌, length, ⊤, true, false, IfSome, IsSomeAnd, Result, Ok, Err}
 use Rattle.std.specs.List.{AllByRecursion}
 use Rattle.std.specs.declared.alloc.AllocError.{AllocError}
 use Rattle.std.specs.declared.alloc.Global.{Global}
@@ -22,6 +22,7 @@ use Rattle.pim_words.specs.declared.task.Writing.{Writing}
 use Rattle.pim_words.specs.Ends.{IsEarly}
 use Rattle.pim_words.specs.Faults.{task_faults}
 use Rattle.pim_words.specs.Given.{kind_name, session_name}
+use Rattle.pim_words.specs.Inputs.{input_name, names_input_twice}
 use Rattle.pim_words.specs.Labels.{is_name}
 use Rattle.pim_words.specs.Reading.{IsTask, IsUnreadable}
 use Rattle.pim_words.specs.Typed.{IsPlanFor}
@@ -39,18 +40,33 @@ IsUnreadableOf met fault = (kind : Kind) × (met.0 ≡ kind_name kind) × IsUnre
 -- ---- the plan of a task
 
 -- The task has no fault, and this is its plan.
-abbrev pub IsPlanOfTask : Task Address → Plan → Type 0
-IsPlanOfTask task plan = (task_faults task ≡ []) × IsPlanFor plan task
+abbrev pub IsFaultless : Task Address → Plan → Type 0
+IsFaultless task plan = (task_faults task ≡ []) × IsPlanFor plan task
 
 -- The fault is the first of a list.
 abbrev pub IsFirstOf : List Fault → Fault → Type 0
 IsFirstOf [] fault = ⊥
 IsFirstOf (first ∷ others) fault = fault ≡ first
 
--- The fault of the task is the first one that it has, or memory is refused.
+-- The fault is the first one of the task, or memory is refused.
+abbrev pub IsFirstFault : Task Address → Fault → Type 0
+IsFirstFault task cause.Memory = ⊤
+IsFirstFault task fault = IsFirstOf (task_faults task) fault
+
+-- A second file of the task is standard input. The fault has its name.
+abbrev pub IsSecondInput : Task Address → Fault → Type 0
+IsSecondInput task (cause.Word told) = (told.now ≡ input_name) × (names_input_twice task ≡ true)
+IsSecondInput task other = ⊥
+
+-- The task reads standard input at most once, it has no fault, and this is its plan.
+abbrev pub IsPlanOfTask : Task Address → Plan → Type 0
+IsPlanOfTask task plan = (names_input_twice task ≡ false) × IsFaultless task plan
+
+-- The task reads standard input twice; otherwise the fault is its first one. Or memory is refused.
 abbrev pub IsWrongTask : Task Address → Fault → Type 0
 IsWrongTask task cause.Memory = ⊤
-IsWrongTask task fault = IsFirstOf (task_faults task) fault
+IsWrongTask task fault =
+    IsSecondInput task fault ⊎ ((names_input_twice task ≡ false) × IsFirstOf (task_faults task) fault)
 
 -- ---- the plan of a command
 

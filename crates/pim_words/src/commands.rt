@@ -454,8 +454,8 @@ unless its word gives one: a letter, then up to 31 letters, digits, . _ or -.
 
 FILE is pcapng or classic pcap: Ethernet, raw IP, Linux cooked as by
 `tcpdump -i any`, or BSD loopback, with up to two VLAN tags. `-` is standard
-input, once; a FIFO and <(zcat x.pcap.gz) work, too. A port is one link, so
-these are faults:
+input, for one FILE, that of --routes included; a FIFO and <(zcat x.pcap.gz)
+work, too. A port is one link, so these are faults:
   capture vlans 5,7       PIM packets of two VLANs, here 5 and 7
   capture interfaces 0,1  PIM packets of two interfaces
 --vlan and --interface choose one. P is the place of a port's word, from 0.

@@ -55,7 +55,8 @@ pub enum Fault<'a> {
     /// value of `--at` or `--from` and names no time. Or it is that of `--time` or `--input` and
     /// names no form or input, or the 65th value of `--group` or `--source`. Or it is a value of
     /// `--vlan` or `--interface` that picks no link: any container isn't read, it has another form,
-    /// it names a port that isn't there, or an earlier value is for the same ports.
+    /// it names a port that isn't there, or an earlier value is for the same ports. Or it is `-`,
+    /// which names standard input where any container is read, and a second file has that name.
     Word(&'a str),
     /// The addresses of the command aren't all of one family.
     Family,

@@ -13,6 +13,7 @@
 //!   (`specs/Links.antt`).
 //! - Where files are read so, a word `+FILE` names a further file of the port of the word before
 //!   it. A command has at most 4,096 further files, each of one of its ports.
+//! - There `-` names standard input, in the words and in `--routes`. At most one file has that name.
 //!
 //! Otherwise it returns a fault whose cause exists, the first in the order that `plan` lists, or
 //! `Memory`. A request for help or the version is a fault too (`Clap`). Faults that name a word,
@@ -34,6 +35,7 @@ mod addresses;
 mod commands;
 mod fault;
 mod given;
+mod inputs;
 mod judging;
 mod label;
 mod links;
@@ -50,6 +52,7 @@ mod typed;
 
 pub use addresses::Address;
 pub use fault::{ConfigCause, Fault, Refusal, Side};
+pub use inputs::{STANDARD_INPUT, reads_any};
 pub use pim_capture::Vlan;
 pub use planning::plan;
 pub use table::given_table;

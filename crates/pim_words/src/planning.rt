@@ -14,13 +14,14 @@ ghost use Rattle.pim_words.specs.CommandLine.{pimtree};
 ghost use Rattle.pim_words.specs.Faults.{are_in};
 ghost use Rattle.pim_words.specs.Given.{AsksForTask, kind_name};
 ghost use Rattle.pim_words.specs.Plan.{IsPlanOfTask, IsWrongTask, IsPlanOf, IsWrongOf, Plans};
-ghost use Rattle.pim_words.specs.Plan.{HasCause};
+ghost use Rattle.pim_words.specs.Plan.{IsFaultless, IsFirstFault, HasCause};
 ghost use Rattle.pim_words.specs.Plan.{IsPlanInRange};
 ghost use Rattle.pim_words.specs.Seen.{HasNumbers, IsGiven, IsOffered};
 
 use crate::addresses::Address;
 use crate::commands::command;
 use crate::fault::{Fault, refusal_fault};
+use crate::inputs::{STANDARD_INPUT, names_input_twice};
 use crate::judging::judge;
 use crate::reading::read_task;
 use crate::task::{Kind, Plan, Task};
@@ -84,7 +85,7 @@ fn kind_named(name: &str) -> Option<Kind>
 /// The plan of a task whose addresses aren't all IPv4, or its first fault.
 fn plan_v6<'a>(alloc: Global, task: &Task<'a, Address>) -> Result<Plan<'a>, Fault<'a>>
     requires { are_in Ipv4 task.now ≡ false }
-    ensures { MatchResult result (IsPlanOfTask task.now) (IsWrongTask task.now) }
+    ensures { MatchResult result (IsFaultless task.now) (IsFirstFault task.now) }
 {
     match task_in_family::<V6>(alloc, task) {
         Ok(typed) => match judge(task) {
@@ -96,8 +97,8 @@ fn plan_v6<'a>(alloc: Global, task: &Task<'a, Address>) -> Result<Plan<'a>, Faul
 }
 
 /// The plan of a task, or its first fault.
-fn plan_task<'a>(alloc: Global, task: &Task<'a, Address>) -> Result<Plan<'a>, Fault<'a>>
-    ensures { MatchResult result (IsPlanOfTask task.now) (IsWrongTask task.now) }
+fn plan_typed<'a>(alloc: Global, task: &Task<'a, Address>) -> Result<Plan<'a>, Fault<'a>>
+    ensures { MatchResult result (IsFaultless task.now) (IsFirstFault task.now) }
 {
     match task_in_family::<V4>(alloc, task) {
         Ok(typed) => match judge(task) {
@@ -107,6 +108,16 @@ fn plan_task<'a>(alloc: Global, task: &Task<'a, Address>) -> Result<Plan<'a>, Fa
         Err(Fault::Family) => plan_v6(alloc, task),
         Err(fault) => Err(fault),
     }
+}
+
+/// The plan of a task that reads standard input at most once, or its first fault.
+fn plan_task<'a>(alloc: Global, task: &Task<'a, Address>) -> Result<Plan<'a>, Fault<'a>>
+    ensures { MatchResult result (IsPlanOfTask task.now) (IsWrongTask task.now) }
+{
+    if names_input_twice(task) {
+        return Err(Fault::Word(STANDARD_INPUT));
+    }
+    plan_typed(alloc, task)
 }
 
 /// The plan of a command that asks for a task.
@@ -169,6 +180,7 @@ fn plan_by<'a, S: AsStr>(
 /// - `Word` of the value of `--input`, then of the values of `--vlan` and of `--interface`, in
 ///   their order.
 /// - `Word` and `Address` of the words, in their order.
+/// - `Word` with the text `-`: where any container is read, a second file has that name.
 /// - `Family`.
 /// - `NoPort` of router a, then of b, in a command with two routers.
 /// - `WriterAddress`.

@@ -1,0 +1,82 @@
+//! Standard input among the files of a command. It can be read once.
+
+ghost use Rattle.std.specs.Prelude.{◌≡◌, ◌&&◌, ◌+◌, nat_lt, count_by, false};
+ghost use Rattle.std.specs.Option.{option_map_or};
+ghost use Rattle.pim_words.specs.Inputs.{is_input, reads_any, input_count};
+ghost use Rattle.pim_words.specs.Inputs.{reads_input_twice, names_input_twice};
+
+use crate::addresses::Address;
+use crate::task::{Captures, Task};
+
+/// The name of standard input among those of files, where any container is read.
+pub const STANDARD_INPUT: &str = "-";
+
+/// Whether the name is that of standard input.
+fn is_input(name: &str) -> bool
+    ensures { result ≡ is_input name.now }
+{
+    name == STANDARD_INPUT
+}
+
+/// Whether the name is given, and is that of standard input.
+fn is_given_input(name: Option<&str>) -> bool
+    ensures { result ≡ option_map_or (λ name. is_input name.now) name.entry false }
+{
+    match name {
+        Some(name) => is_input(name),
+        None => false,
+    }
+}
+
+/// Whether any container is read: the ports have links then. Each `-` names standard input.
+pub fn reads_any<A>(captures: &Captures<'_, A>) -> bool
+    ensures { result ≡ reads_any captures.now }
+{
+    captures.ports.iter().any(|port| port.link.is_some())
+}
+
+/// How many ports have standard input as their file.
+fn count_port_inputs(captures: &Captures<'_, Address>) -> usize
+    ensures { result ≡ count_by (λ port. is_input port.file.now) captures.now.ports.items }
+{
+    captures
+        .ports
+        .iter()
+        .filter(|port| is_input(port.file))
+        .count()
+}
+
+/// How many further files are standard input.
+fn count_further_inputs(captures: &Captures<'_, Address>) -> usize
+    ensures { result ≡ count_by (λ more. is_input more.file.now) captures.now.more.items }
+{
+    captures
+        .more
+        .iter()
+        .filter(|more| is_input(more.file))
+        .count()
+}
+
+/// Whether a second file of these is standard input.
+fn reads_input_twice(captures: &Captures<'_, Address>) -> bool
+    ensures { result ≡ reads_input_twice captures.now }
+{
+    let of_routes = usize::from(is_given_input(captures.routes));
+    let of_ports = count_port_inputs(captures);
+    let further = count_further_inputs(captures);
+    reads_any(captures) && 1 < of_routes.saturating_add(of_ports).saturating_add(further)
+}
+
+/// Whether a second file of the task is standard input.
+pub(crate) fn names_input_twice(task: &Task<'_, Address>) -> bool
+    ensures { result ≡ names_input_twice task.now }
+{
+    match task {
+        Task::Check { .. } | Task::Build { .. } => false,
+        Task::Replay(captures) | Task::Trace(captures, _) => reads_input_twice(captures),
+        Task::Same(captures, _)
+        | Task::Mirror(captures, _)
+        | Task::Emit(captures, _)
+        | Task::Change(captures, _) => reads_input_twice(captures),
+    }
+}
