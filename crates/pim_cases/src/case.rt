@@ -11,6 +11,7 @@
 //! | `output`, `errors` | the lines below are what is expected there; nothing unless given |
 //! | `status N` | the expected status; 0 unless given |
 //! | `room N` | standard output fails after this number of bytes |
+//! | `error-room N` | the same of standard error |
 //! | `= TEXT` | a line of content: the text and a line feed |
 //! | `x HEX` | bytes of content; spaces are passed over |
 //! | `times N HEX` | these bytes, so often |
@@ -50,6 +51,8 @@ pub struct Case<'a> {
     pub errors: Vec<u8>,
     /// The number of bytes after which standard output fails.
     pub room: usize,
+    /// The number of bytes after which standard error fails.
+    pub error_room: usize,
     /// The expected status.
     pub status: u8,
     part: Part,
@@ -129,6 +132,7 @@ impl<'a> Case<'a> {
             output: Vec::new(alloc),
             errors: Vec::new(alloc),
             room: usize::MAX,
+            error_room: usize::MAX,
             status: 0,
             part: Part::Nothing,
         }
@@ -159,6 +163,7 @@ impl<'a> Case<'a> {
         self.output.clear();
         self.errors.clear();
         self.room = usize::MAX;
+        self.error_room = usize::MAX;
         self.status = 0;
         self.part = Part::Nothing;
         Ok(())
@@ -207,6 +212,17 @@ impl<'a> Case<'a> {
         }
     }
 
+    /// Sets the room of standard error, if this is a number.
+    fn set_error_room(&mut self, room: &str) -> bool {
+        match room.parse() {
+            Ok(room) => {
+                self.error_room = room;
+                true
+            }
+            Err(_) => false,
+        }
+    }
+
     /// Sets the expected status, if this is a number of a byte.
     fn set_status(&mut self, status: &str) -> bool {
         match status.parse() {
@@ -245,6 +261,7 @@ impl<'a> Case<'a> {
             "errors" => Ok(self.choose(Part::Errors)),
             "fails" => Ok(self.add_failure()),
             "room" => Ok(self.set_room(rest)),
+            "error-room" => Ok(self.set_error_room(rest)),
             "status" => Ok(self.set_status(rest)),
             _ => self.add_content(key, rest),
         }

@@ -35,7 +35,7 @@ struct Ended {
 /// Runs a case to its end.
 fn end_of<R: Runner>(alloc: Global, runner: &R, case: &Case<'_>) -> Ended {
     let mut output = ScriptedDrain::new(alloc, MOST_WRITTEN, case.room);
-    let mut errors = ScriptedDrain::new(alloc, MOST_WRITTEN, usize::MAX);
+    let mut errors = ScriptedDrain::new(alloc, MOST_WRITTEN, case.error_room);
     let status = runner.run(alloc, case, &mut output, &mut errors);
     Ended {
         output,

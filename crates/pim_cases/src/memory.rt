@@ -46,10 +46,10 @@ impl<'a> Held<'a> {
         ScriptedFeed::new(&self.bytes, most, self.fails_from())
     }
 
-    /// Returns the file, for an opener.
-    fn as_file(&self) -> HeldFile<'_> {
+    /// Returns the file, for an opener, by this name.
+    pub fn as_file<'h>(&'h self, name: &'h str) -> HeldFile<'h> {
         HeldFile {
-            name: self.name,
+            name,
             bytes: &self.bytes,
             fails_from: self.fails_from(),
         }
@@ -60,7 +60,7 @@ impl<'a> Held<'a> {
 pub fn files_of<'c>(alloc: Global, held: &'c [Held<'_>]) -> Result<Vec<HeldFile<'c>>, AllocError> {
     let mut files = Vec::new(alloc);
     for file in held.iter().rev() {
-        files.push(file.as_file())?;
+        files.push(file.as_file(file.name))?;
     }
     Ok(files)
 }

@@ -9,9 +9,6 @@ use std::alloc::Global;
 use std::fs::{File, metadata};
 use std::io::{BufReader, ErrorKind};
 
-/// The name of standard input among those of files.
-pub const STANDARD_INPUT: &str = "-";
-
 /// Why the system doesn't open a file.
 fn cause_of(kind: ErrorKind) -> FileCause {
     match kind {
@@ -28,17 +25,15 @@ pub struct SystemFiles<'r> {
     rt: &'r HostRuntime,
     /// Where the progress of large captures is shown.
     line: &'r Line,
-    /// Whether captures are of any container. Then `-` names standard input.
+    /// Whether captures are of any container.
     reads_any: bool,
     /// The name of the file of routes.
     routes: Option<&'r str>,
-    /// Whether standard input is open. It opens once.
-    is_lent: bool,
 }
 
 impl<'r> SystemFiles<'r> {
     /// Returns the opener of this process for a file of routes and captures, whose progress is
-    /// shown on a line. Where they are of any container, `-` names standard input.
+    /// shown on a line.
     pub fn new(
         rt: &'r HostRuntime,
         line: &'r Line,
@@ -50,7 +45,6 @@ impl<'r> SystemFiles<'r> {
             line,
             reads_any,
             routes,
-            is_lent: false,
         }
     }
 
@@ -62,7 +56,7 @@ impl<'r> SystemFiles<'r> {
     }
 
     /// Opens the file of this name.
-    fn file(&self, name: &str) -> Result<Source, FileCause> {
+    fn file(&self, name: &str) -> Result<File, FileCause> {
         let file = match File::open(self.rt, name) {
             Ok(file) => file,
             Err(error) => return Err(cause_of(error.kind())),
@@ -70,19 +64,7 @@ impl<'r> SystemFiles<'r> {
         if self.refuses(name) {
             return Err(FileCause::Directory);
         }
-        Ok(Source::of_file(file))
-    }
-
-    /// Opens the file of this name, or standard input.
-    fn source(&mut self, name: &str) -> Result<Source, FileCause> {
-        if !self.reads_any || name != STANDARD_INPUT {
-            return self.file(name);
-        }
-        if self.is_lent {
-            return Err(FileCause::Other);
-        }
-        self.is_lent = true;
-        Ok(Source::of_input(self.rt.stdin()))
+        Ok(file)
     }
 }
 
@@ -92,13 +74,44 @@ impl<'r> Opener for SystemFiles<'r> {
     ghost known = { λ _. nothing_known };
 
     fn open(&mut self, alloc: Global, name: &str) -> Result<Self::Reader, Unopened> {
-        let source = match self.source(name) {
-            Ok(source) => source,
+        let source = match self.file(name) {
+            Ok(file) => Source::of_file(file),
             Err(cause) => return Err(Unopened::File(cause)),
         };
         let progress = Progress::of(self.rt, self.line, name, source.size());
         match BufReader::new(alloc, source) {
             Ok(reader) => Ok(Watched::new(reader, progress)),
+            Err(_) => Err(Unopened::Memory),
+        }
+    }
+}
+
+/// Opens standard input, once, whatever its name.
+#[derive(Drop)]
+pub struct SystemInput<'r> {
+    rt: &'r HostRuntime,
+    is_lent: bool,
+}
+
+impl<'r> SystemInput<'r> {
+    /// Returns the opener of this process.
+    pub fn new(rt: &'r HostRuntime) -> Self {
+        SystemInput { rt, is_lent: false }
+    }
+}
+
+impl<'r> Opener for SystemInput<'r> {
+    type Reader = Watched<'r>;
+
+    ghost known = { λ _. nothing_known };
+
+    fn open(&mut self, alloc: Global, _name: &str) -> Result<Self::Reader, Unopened> {
+        if self.is_lent {
+            return Err(Unopened::File(FileCause::Other));
+        }
+        self.is_lent = true;
+        match BufReader::new(alloc, Source::of_input(self.rt.stdin())) {
+            Ok(reader) => Ok(Watched::new(reader, None)),
             Err(_) => Err(Unopened::Memory),
         }
     }

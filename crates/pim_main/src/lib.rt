@@ -3,25 +3,35 @@
 //!
 //! `run_program` gives the engines of `pim_commands` and `pim_session` the process's own devices
 //! and files. It has no contract: what a file or a device of the system holds, no contract can name.
-//! `run_session` is what it does of a session, over any devices, so that tests call it, too.
+//! What it does lies in calls over any devices, so that tests call it, too:
+//!
+//! - `run_on_devices` does a task: it passes all output on, and then writes the warnings.
+//! - `WithInput` is an opener of files and of standard input, whose name is `-` where any container
+//!   is read.
+//! - `run_session` answers a session.
 #![tactic(auto)]
 
 mod files;
+mod inputs;
 mod output;
 mod progress;
+mod running;
 mod session;
 mod source;
 
 ghost use Rattle.pim_words.specs.Plan.{IsInRange};
 
-use crate::files::SystemFiles;
-use crate::output::{Output, Replies, is_live, reads_any, routes_of};
+use crate::files::{SystemFiles, SystemInput};
+use crate::output::{is_live, routes_of};
 use crate::progress::{Clearing, Line};
+pub use inputs::WithInput;
+pub use output::{Output, task_reads_any};
 use pim_addr::{Counted, Family, V4, V6};
-use pim_commands::{FAULTY, Fault, run_task, tell_into};
+use pim_commands::{FAULTY, Fault, tell_into};
 use pim_words::{Plan, Task, plan};
+pub use running::run_on_devices;
 pub use session::run_session;
-use std::io::{IsTerminal, Write};
+use std::io::IsTerminal;
 use std::process::ExitCode;
 use std::{env, io};
 
@@ -33,10 +43,10 @@ fn words_given(rt: &HostRuntime) -> io::Result<Vec<String>> {
 
 /// Answers a session on standard input, on standard output, and returns the status.
 fn answer_input(rt: &HostRuntime) -> Result<u8, Fault<'static>> {
-    let Ok(mut replies) = Replies::new(rt.alloc(), io::writer(rt)) else {
+    let Ok(mut output) = Output::new(rt.alloc(), io::writer(rt), false) else {
         return Err(Fault::Memory);
     };
-    run_session(rt.alloc(), Counted::new(rt.stdin()), &mut replies)
+    run_session(rt.alloc(), Counted::new(rt.stdin()), &mut output)
 }
 
 /// Does a task, with standard input and output and the files of the system, and returns the status.
@@ -46,15 +56,16 @@ fn run_on_system<'a, F: Family>(rt: &HostRuntime, task: &Task<'a, F::Addr>) -> R
     let line = Line::new();
     let shared = rt.stdout().is_terminal().then_some(&line);
     let writer = Clearing::new(rt, shared, io::writer(rt));
-    let Ok(output) = Output::new(rt.alloc(), writer, is_live(rt, task)) else {
+    let Ok(mut output) = Output::new(rt.alloc(), writer, is_live(rt, task)) else {
         return Err(Fault::Memory);
     };
-    let mut output = Counted::new(output);
-    let mut files = SystemFiles::new(rt, &line, reads_any(task), routes_of(task));
+    let reads_any = task_reads_any(task);
+    let files = SystemFiles::new(rt, &line, reads_any, routes_of(task));
+    let mut files = WithInput::new(files, SystemInput::new(rt), reads_any);
     let mut input = Counted::new(rt.stdin());
     let mut errors = Counted::new(Clearing::new(rt, Some(&line), rt.stderr()));
     let alloc = rt.alloc();
-    let status = run_task::<F, _, _, _, _>(
+    let status = run_on_devices::<F, _, _, _, _>(
         alloc,
         &mut files,
         task,
@@ -63,10 +74,7 @@ fn run_on_system<'a, F: Family>(rt: &HostRuntime, task: &Task<'a, F::Addr>) -> R
         &mut errors,
     );
     line.clear(rt);
-    match output.into_inner().flush() {
-        Err(_) if status.is_ok() => Err(Fault::Output),
-        _ => status,
-    }
+    status
 }
 
 /// Does what the words ask for, and returns the status.

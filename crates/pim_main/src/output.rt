@@ -1,34 +1,42 @@
 //! Standard output, in blocks or line by line.
 
-ghost use Rattle.std.specs.Prelude.{◌≡◌, ◌+◌, ◌⊎◌, ◌↔◌, IsTrue, min, None};
+ghost use Rattle.std.specs.Prelude.{◌≡◌, ◌≤◌, ◌+◌, ◌⊎◌, ◌↔◌, IsTrue, IfOk, length, min, None};
 ghost use Rattle.pim_device.specs.Device.{top_count};
 
-use crate::files::STANDARD_INPUT;
 use pim_addr::{Drain, Failed};
 use pim_items::Answers;
-use pim_words::{Captures, Task};
+use pim_words::{Captures, STANDARD_INPUT, Task, reads_any};
 use std::alloc::Global;
 use std::fs::metadata;
 use std::io::{self, BufWriter, IsTerminal, Write};
 use std::os::unix::fs::FileTypeExt;
 
-/// A writer that keeps bytes in a block. Where it is live, it writes them out at each line feed.
+/// Standard output: the device that takes the bytes of a task or the answers of a session. It keeps
+/// them in a block, and writes them out when it is asked to; where it is live, also at each line
+/// feed. No contract can name what a terminal or a pipe holds.
 #[derive(Drop)]
 pub struct Output<W: Write + Drop> {
     blocks: BufWriter<W>,
     is_live: bool,
+    failures: u64,
 }
 
 impl<W: Write + Drop> Output<W> {
-    /// Returns such a writer over another one, or an error where memory is refused.
+    /// Returns such a device over a writer, or an error where memory is refused.
     pub fn new(alloc: Global, inner: W, is_live: bool) -> io::Result<Self> {
         let blocks = BufWriter::new(alloc, inner)?;
-        Ok(Output { blocks, is_live })
+        Ok(Output {
+            blocks,
+            is_live,
+            failures: 0,
+        })
     }
-}
 
-impl<W: Write + Drop> Write for Output<W> {
-    fn write(&mut self, bytes: &[u8]) -> io::Result<usize> {
+    /// Takes some of these bytes. Returns their number.
+    fn take(&mut self, bytes: &[u8]) -> io::Result<usize>
+        ensures bound { IfOk result (λ n. n ≤ length bytes.now) }
+        ensures failures { self.new.failures ≡ self.old.failures }
+    {
         let taken = self.blocks.write(bytes)?;
         if self.is_live && bytes.ends_with(b"\n") {
             self.blocks.flush()?;
@@ -36,8 +44,35 @@ impl<W: Write + Drop> Write for Output<W> {
         Ok(taken)
     }
 
-    fn flush(&mut self) -> io::Result<()> {
-        self.blocks.flush()
+    fn count_failure(&mut self) -> Failed
+        ensures { self.new.failures ≡ min (self.old.failures + 1) top_count }
+    {
+        self.failures = self.failures.saturating_add(1);
+        Failed
+    }
+}
+
+impl<W: Write + Drop> Drain for Output<W> {
+    ghost contents = { λ device. None };
+
+    ghost failures = { λ device. device.failures };
+
+    fn write(&mut self, bytes: &[u8]) -> Result<usize, Failed> {
+        match self.take(bytes) {
+            Ok(taken) if taken > 0 || bytes.is_empty() => Ok(taken),
+            _ => Err(self.count_failure()),
+        }
+    }
+}
+
+impl<W: Write + Drop> Answers for Output<W> {
+    ghost passed_on = { λ device. None };
+
+    fn flush(&mut self) -> Result<(), Failed> {
+        match self.blocks.flush() {
+            Ok(()) => Ok(()),
+            Err(_) => Err(self.count_failure()),
+        }
     }
 }
 
@@ -60,8 +95,8 @@ pub fn routes_of<'a, A>(task: &Task<'a, A>) -> Option<&'a str> {
 }
 
 /// Whether the captures of this task are of any container.
-pub fn reads_any<A>(task: &Task<'_, A>) -> bool {
-    captures_of(task).is_some_and(|it| it.ports.iter().any(|port| port.link.is_some()))
+pub fn task_reads_any<A>(task: &Task<'_, A>) -> bool {
+    captures_of(task).is_some_and(|it| reads_any(it))
 }
 
 /// Whether the file of this name may still grow: it is a pipe, a terminal or another device. Where it
@@ -119,54 +154,4 @@ pub fn is_live<A>(rt: &HostRuntime, task: &Task<'_, A>) -> bool {
         reads_live(rt, task),
         traces_into_pipe,
     )
-}
-
-/// The device that takes the answers of a session. It keeps bytes in a block, and writes them out
-/// when it is asked to. No contract can name what a terminal or a pipe holds.
-#[derive(Drop)]
-pub struct Replies<W: Write + Drop> {
-    blocks: BufWriter<W>,
-    failures: u64,
-}
-
-impl<W: Write + Drop> Replies<W> {
-    /// Returns such a device over a writer, or an error where memory is refused.
-    pub fn new(alloc: Global, inner: W) -> io::Result<Self> {
-        let blocks = BufWriter::new(alloc, inner)?;
-        Ok(Replies {
-            blocks,
-            failures: 0,
-        })
-    }
-
-    fn count_failure(&mut self) -> Failed
-        ensures { self.new.failures ≡ min (self.old.failures + 1) top_count }
-    {
-        self.failures = self.failures.saturating_add(1);
-        Failed
-    }
-}
-
-impl<W: Write + Drop> Drain for Replies<W> {
-    ghost contents = { λ device. None };
-
-    ghost failures = { λ device. device.failures };
-
-    fn write(&mut self, bytes: &[u8]) -> Result<usize, Failed> {
-        match self.blocks.write(bytes) {
-            Ok(taken) if taken > 0 || bytes.is_empty() => Ok(taken),
-            _ => Err(self.count_failure()),
-        }
-    }
-}
-
-impl<W: Write + Drop> Answers for Replies<W> {
-    ghost passed_on = { λ device. None };
-
-    fn flush(&mut self) -> Result<(), Failed> {
-        match self.blocks.flush() {
-            Ok(()) => Ok(()),
-            Err(_) => Err(self.count_failure()),
-        }
-    }
 }

@@ -1,12 +1,34 @@
 //! Runs cases through the product's own commands.
 
-use pim_addr::{ScriptedDrain, ScriptedFeed, V4, V6};
+ghost use Rattle.pim_words.specs.Plan.{IsInRange};
+
+use pim_addr::{Family, ScriptedDrain, ScriptedFeed, V4, V6};
 use pim_cases::{Case, MOST_READ, Runner, files_of};
-use pim_commands::{Fault, run_task, tell_into};
-use pim_files::HeldFiles;
-use pim_main::run_session;
-use pim_words::{Plan, plan};
+use pim_commands::{Fault, tell_into};
+use pim_files::{HeldFile, HeldFiles};
+use pim_main::{WithInput, run_on_devices, run_session, task_reads_any};
+use pim_words::{Plan, STANDARD_INPUT, Task, plan};
 use std::alloc::Global;
+
+/// Does the task of a case over these files. Where any container is read, standard input is one
+/// more.
+fn answer_task<'a, F: Family>(
+    alloc: Global,
+    files: &[HeldFile<'_>],
+    case: &Case<'_>,
+    task: &Task<'a, F::Addr>,
+    output: &mut ScriptedDrain,
+    errors: &mut ScriptedDrain,
+) -> Result<u8, Fault<'a>>
+    requires { IsInRange task.now }
+{
+    let input = [case.input.as_file(STANDARD_INPUT)];
+    let files = HeldFiles::new(alloc, files, MOST_READ);
+    let given = HeldFiles::new(alloc, &input, MOST_READ);
+    let mut opener = WithInput::new(files, given, task_reads_any(task));
+    let mut input = case.input.reader();
+    run_on_devices::<F, _, _, _, _>(alloc, &mut opener, task, &mut input, output, errors)
+}
 
 /// Does what the words of a case ask for, as the program does.
 fn answer<'c>(
@@ -19,16 +41,10 @@ fn answer<'c>(
     let Ok(files) = files_of(alloc, &case.files) else {
         return Err(Fault::Memory);
     };
-    let mut opener = HeldFiles::new(alloc, &files, MOST_READ);
-    let mut input = case.input.reader();
     match &plan {
-        Plan::V4(task) => {
-            run_task::<V4, _, _, _, _>(alloc, &mut opener, task, &mut input, output, errors)
-        }
-        Plan::V6(task) => {
-            run_task::<V6, _, _, _, _>(alloc, &mut opener, task, &mut input, output, errors)
-        }
-        Plan::Session => run_session(alloc, input, output),
+        Plan::V4(task) => answer_task::<V4>(alloc, &files, case, task, output, errors),
+        Plan::V6(task) => answer_task::<V6>(alloc, &files, case, task, output, errors),
+        Plan::Session => run_session(alloc, case.input.reader(), output),
     }
 }
 
