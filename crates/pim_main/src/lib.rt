@@ -8,6 +8,7 @@
 //! - `run_on_devices` does a task: it passes all output on, and then writes the warnings.
 //! - `WithInput` is an opener of files and of standard input, whose name is `-` where any container
 //!   is read.
+//! - `Output` is the device that takes the output, in blocks or line by line.
 //! - `run_session` answers a session.
 #![tactic(auto)]
 

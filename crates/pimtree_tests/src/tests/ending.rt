@@ -178,7 +178,11 @@ const ROWS: [Row; 2] = [
 fn has_noted(files: &HeldFiles<'_>, names: &[&str]) -> bool {
     match files.asked() {
         Some(asked) => {
-            asked.len() == names.len() && asked.iter().zip(names).all(|(one, other)| one == *other)
+            asked.len() == names.len()
+                && asked
+                    .iter()
+                    .zip(names)
+                    .all(|(one, other)| one.as_str() == *other)
         }
         None => false,
     }
