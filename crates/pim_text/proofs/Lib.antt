@@ -16,3 +16,5 @@ pub mod OneValue
 pub mod InFamily
 pub mod TextStates
 pub mod Told
+pub mod OneLine
+pub mod OneReading

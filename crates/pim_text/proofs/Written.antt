@@ -34,7 +34,7 @@ pub same_address : (family : AddressFamily) (address : List ℕ) → address_byt
 same_address Ipv4 address = refl
 same_address Ipv6 address = refl
 
-same_entry : (family : AddressFamily) (entry : Entry (List ℕ)) → entry_bytes (entry_in family entry) ≡ entry
+pub same_entry : (family : AddressFamily) (entry : Entry (List ℕ)) → entry_bytes (entry_in family entry) ≡ entry
 same_entry family (Star rp) = ap (λ (a : List ℕ). Star a) (same_address family rp)
 same_entry family (Source source) = ap (λ (a : List ℕ). Source a) (same_address family source)
 same_entry family (Rpt source) = ap (λ (a : List ℕ). Rpt a) (same_address family source)

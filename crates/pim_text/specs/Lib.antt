@@ -12,3 +12,4 @@ pub mod SpelledHello
 pub mod Fields
 pub mod Spell
 pub mod Laws
+pub mod OneReading

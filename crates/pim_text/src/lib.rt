@@ -14,6 +14,8 @@
 //! - Laws: the text that is written of a message states that message (`message_text_states`,
 //!   `hello_text_states`; of a Hello that was read, `hello_text_states_it`), and a text whose
 //!   addresses are all of one family states a message of that family (`stated_in_its_family`).
+//! - Laws of `one_reading`: a text names one address, states one message, has one first wrong line
+//!   and one body, and what states a message has no wrong line.
 //!
 //! A reader keeps what the lines so far ask for, and no message: the options of a Hello are each
 //! optional, in their order, and the counts of a Join/Prune message say which lines follow. So
@@ -28,6 +30,7 @@ mod laws;
 mod line;
 mod line_walk;
 mod message;
+mod one_reading;
 mod pieces;
 mod reading;
 mod reading_lines;
@@ -43,5 +46,9 @@ pub use join_prune_lines::message_text;
 pub use laws::{hello_text_states, message_text_states, stated_in_its_family};
 pub use line::{AnyAddress, Stated};
 pub use message::{Spelled, TextFault, spell};
+pub use one_reading::{
+    stated_text_has_no_wrong_line, text_has_one_body, text_has_one_wrong_line,
+    text_is_read_in_one_way, text_names_one_of_either, text_states_one_message,
+};
 pub use pieces::type_text;
 pub use reading::read_message_text;
