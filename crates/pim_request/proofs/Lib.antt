@@ -4,3 +4,6 @@ pub mod Options
 pub mod Unknown
 pub mod Prefixes
 pub mod Pairs
+pub mod OneFault
+pub mod WordsOf
+pub mod OneCommand

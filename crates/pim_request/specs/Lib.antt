@@ -2,3 +2,4 @@
 pub mod Forms
 pub mod Commands
 pub mod Steps
+pub mod OneRequest

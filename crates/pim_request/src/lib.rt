@@ -8,6 +8,8 @@
 //!   message.
 //! - `decode_hex` replaces a buffer by the bytes that the digits of a packet state.
 //! - `of_family` returns an address as one of a family exactly where it is.
+//! - Laws of `one_request`: a line states one command, or one sender, or has one fault of its words,
+//!   and not both.
 //! - `Answers`: a device that takes answers and can pass on at once what it holds.
 //!
 //! The definitions list the forms of each command, slot by slot, and judge a word by the slots that
@@ -20,6 +22,7 @@
 mod command;
 mod commands;
 mod hex;
+mod one_request;
 mod reading;
 mod slots;
 mod tails;
@@ -27,5 +30,8 @@ mod words;
 
 pub use command::{Command, Kept, Named, Packet, PortRow, Row, Sender, WordsFault, Writing};
 pub use hex::decode_hex;
+pub use one_request::{
+    line_has_one_fault, line_states_one_command, line_states_one_sender, sender_has_one_fault,
+};
 pub use pim_items::{Answers, Item, Items, Stopped, TextItem, Unheld};
 pub use reading::{of_family, read_command, read_sender};
