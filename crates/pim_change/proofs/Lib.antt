@@ -15,3 +15,4 @@ pub mod OneStar
 pub mod Spelled
 pub mod ReadBack
 pub mod SomeMessages
+pub mod OneList

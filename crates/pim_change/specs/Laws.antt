@@ -66,3 +66,9 @@ abbrev pub ChangeHasMessagesUnlessTooBig : Type 0
 ChangeHasMessagesUnlessTooBig = (family : AddressFamily) (writing : Writing) (rps : Rps) (old new : List GroupForm) →
     IsWriting family writing → ((messages : List (List ℕ)) × TellChange family writing rps old new messages)
     ↔ (changed.too_big family writing.budget (change old new) ≡ None)
+
+-- The change between two forms has at most one list of messages by a writer.
+abbrev pub OneListOfChange : Type 0
+OneListOfChange = (family : AddressFamily) (writing : Writing) (rps : Rps) (old new : List GroupForm)
+    (one other : List (List ℕ)) → TellChange family writing rps old new one →
+    TellChange family writing rps old new other → one ≡ other

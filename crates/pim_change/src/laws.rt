@@ -3,7 +3,7 @@
 ghost use Rattle.pim_change.specs.Laws.{EqualFormsChangeNothing, ChangeIsRead};
 ghost use Rattle.pim_change.specs.Laws.{ChangeMessagesAreShort};
 ghost use Rattle.pim_change.specs.Laws.{AddressesAreInOrder, ChangeHasMessagesUnlessTooBig};
-ghost use Rattle.pim_change.specs.Laws.{NewStarsAloneAreTooBig};
+ghost use Rattle.pim_change.specs.Laws.{NewStarsAloneAreTooBig, OneListOfChange};
 
 /// The change from a form to itself has no units.
 pub fn equal_forms_change_nothing()
@@ -44,4 +44,12 @@ pub fn change_has_messages_unless_too_big()
 {
     pim_frame::some_message_is_sealed();
     pim_form::units_pack_if_each_fits();
+}
+
+/// The change between two forms has at most one list of messages by a writer.
+pub fn one_list_of_change()
+    ensures { OneListOfChange }
+{
+    pim_frame::one_checksum();
+    pim_form::one_packing();
 }

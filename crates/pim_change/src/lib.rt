@@ -15,6 +15,7 @@
 //! entry.
 //!
 //! By the laws, equal forms have no change, and a change has messages exactly if it is not too big.
+//! It has at most one list of them.
 //! The group that `too_big` returns can be found without the change: it is the least one that had
 //! no star and whose star is too big. The messages between normal forms whose stars have RPs are
 //! read without a fault, and are within the budget.
@@ -35,6 +36,7 @@ pub use fitting::too_big;
 pub use laws::{
     addresses_are_in_order, change_has_messages_unless_too_big, change_is_read,
     change_messages_are_short, equal_forms_change_nothing, new_stars_alone_are_too_big,
+    one_list_of_change,
 };
 pub use packing::triggered;
 pub use unit::{Kind, Telling, Unit};
