@@ -18,3 +18,4 @@ pub mod ToFiring
 pub mod Timeouts
 pub mod Compared
 pub mod ToTell
+pub mod OneList

@@ -11,3 +11,4 @@ pub mod Course
 pub mod Laws
 pub mod Canonical
 pub mod Change
+pub mod OneList

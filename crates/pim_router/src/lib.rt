@@ -24,13 +24,15 @@
 //!
 //! Laws: a run has at most one end, runs and courses can be joined, and every list of inputs has
 //! exactly one course. What happens up to a moment is determined, calls of `fire_to` join into it,
-//! and it leads to the state to which runs lead.
+//! and it leads to the state to which runs lead. What is asked of a neighbour has at most one list of
+//! messages, and so has its change from a form.
 #![tactic(auto)]
 
 mod canonical;
 mod change;
 mod config;
 mod laws;
+mod one_list;
 mod router;
 mod step;
 mod verdict;
@@ -43,6 +45,7 @@ pub use laws::{
     passing_goes_on, run_goes_on, run_has_one_end, runs_come_nearer, runs_past_are_turns,
     the_ended_go_at_first_timeout,
 };
+pub use one_list::{one_list_is_asked, one_list_is_told};
 pub use router::Router;
 pub use step::Step;
 pub use verdict::{Malformed, Store, Verdict};
