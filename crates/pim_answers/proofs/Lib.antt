@@ -6,3 +6,4 @@ pub mod Runs
 pub mod Stores
 pub mod Tellings
 pub mod Makings
+pub mod OneAnswer

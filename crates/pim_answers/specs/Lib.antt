@@ -13,3 +13,4 @@ pub mod StoreSeen
 pub mod Asking
 pub mod AskingSeen
 pub mod Neighbours
+pub mod OneAnswer

@@ -14,6 +14,8 @@
 //!   `answer_change` writes the messages of the change from it to what is asked now, `answer_same`
 //!   whether both have the same canonical messages. Both are refused where the kept form isn't
 //!   asked of that neighbour alone by the table of now, or a star's RP is another.
+//! - Laws of `one_answer`: two answers of a command to one state, neither of them `memory`, are the
+//!   same.
 //! - `write_fault`, `write_ok` and `write_done` write the last line of an answer.
 //!
 //! A `Store` knows no router, so that it outlives each. It holds forms of both families; `Found` is
@@ -25,6 +27,7 @@ mod asking;
 mod fault;
 mod kept;
 mod neighbours;
+mod one_answer;
 mod packets;
 mod running;
 mod telling;
@@ -33,6 +36,9 @@ pub use asking::{answer_change, answer_messages, answer_same, asked_for};
 pub use fault::{Fault, write_done, write_fault, write_ok};
 pub use kept::{AnyForm, Found, KeptForm, StarRp, Store};
 pub use neighbours::write_neighbours;
+pub use one_answer::{
+    demand_has_one_answer, messages_have_one_answer, packet_has_one_answer, run_has_one_answer,
+};
 pub use packets::{FromText, answer_from, answer_packet};
 pub use running::answer_run;
 pub use telling::{answer_neighbours, answer_next, answer_now, answer_state, answer_wants};
