@@ -8,3 +8,6 @@ pub mod Asked
 mod Served
 mod Commanded
 mod Making
+pub mod OneAsked
+pub mod OneAnswered
+pub mod OneDialog

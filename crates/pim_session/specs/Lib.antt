@@ -8,3 +8,4 @@ pub mod RouterSeen
 pub mod Answers
 pub mod Dialog
 pub mod Underway
+pub mod OneDialog

@@ -7,13 +7,16 @@
 //! if a device fails, a prefix of such a text was written.
 //!
 //! The answers of a router are those of `pim_answers`; the lines of the input and their words are
-//! those of `pim_request`. A command for which memory is refused is answered `fault memory`.
+//! those of `pim_request`. A command for which memory is refused is answered `fault memory`. By a law,
+//! two dialogs of the same items that nowhere do so are the same.
 #![tactic(auto)]
 
+mod one_dialog;
 mod request;
 mod routers;
 mod serving;
 mod session;
 mod setup;
 
+pub use one_dialog::{item_has_one_answer, session_has_one_dialog};
 pub use session::session_into;

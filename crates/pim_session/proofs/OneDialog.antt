@@ -1,0 +1,39 @@
+-- A session has one dialog, but that memory may be refused.
+use Rattle.std.proofs.Common.{◌∙◌, ◌≢◌, sym, ap, subst, ℕ, List, [], ◌∷◌, ◌++◌, Result, Ok, Err, codes}
+use Rattle.pim_answers.specs.Lines.{memory_line, fault_line}
+use Rattle.pim_session.specs.declared.request.Request.{Request}
+use Rattle.pim_session.specs.Answers.{Answers}
+use Rattle.pim_session.specs.Dialog.{IsDialog}
+use Rattle.pim_session.specs.OneDialog.{IsDialogWithRoom, OneAnswerToItem, OneDialog, DialogWithRoom}
+use Rattle.pim_session.specs.State.{Session}
+use Rattle.pim_session.proofs.OneAsked.{IsNot, one_asked}
+use Rattle.pim_session.proofs.OneAsked as asking
+use Rattle.pim_session.proofs.OneAnswered.{one_answered}
+use Rattle.pim_session.proofs.OneAnswered as answering
+
+-- A fault that isn't answered by `memory` isn't that of memory.
+not_memory : (session : Session) (asked : Result Request (List ℕ)) (text : List ℕ) (after : Session) → Answers session asked text after → text ≢ memory_line → IsNot (codes "memory") asked
+not_memory session (Ok request) text after is room = tt
+not_memory session (Err words) text after is room = λ memory. room (is.0 ∙ ap fault_line memory)
+
+pub one_answer_to_item : asking.Laws → answering.Laws → OneAnswerToItem
+one_answer_to_item asked answered session item text other after end is too room more =
+    one_answered answered session is.asked too.asked text other after end
+    (one_asked asked item is.asked too.asked is.asks too.asks (not_memory session is.asked text after is.answers room) (not_memory session too.asked other end too.answers more))
+    is.answers too.answers room more
+
+pub one_dialog : OneAnswerToItem → OneDialog
+unfolding IsDialogWithRoom
+one_dialog one session [] text other after end is too = (is.0 ∙ sym too.0, is.1 ∙ sym too.1)
+one_dialog one session (item ∷ items) text other after end (first, between, others, answer, room, cut, rest) (f, b, more, reply, space, so, left) =
+    let same = one session item first f between b answer reply room space in
+    let head = same.0 in
+    let tail = one_dialog one between items others more after end rest (subst (λ (s : Session). IsDialogWithRoom s items more end) (sym same.1) left) in
+    let back = tail.0 in
+    (cut ∙ ((λ i. head i ++ back i) ∙ sym so), tail.1)
+
+pub dialog_with_room : DialogWithRoom
+unfolding IsDialogWithRoom IsDialog
+dialog_with_room session [] text after is = is
+dialog_with_room session (item ∷ items) text after (first, between, others, answer, room, cut, rest) =
+    (first, between, others, answer, cut, dialog_with_room between items others after rest)
