@@ -2,6 +2,7 @@
 use Rattle.std.proofs.Common.{◌≡◌, ◌∙◌, ◌⊎◌, ◌+◌, ℕ, zero, suc, nat_lt, Bool, true, false, ◌||◌, List, [], ◌∷◌, map, Option, None, Some, Ok, Err, ap, sym, refl, subst, inl, inr, slice_index_or, if◌then◌else◌, arith}
 use Rattle.std.specs.List.{list_any, AllByRecursion}
 use Rattle.std.proofs.lemmas.Bool.{false≢true}
+use Rattle.pim_addr.specs.declared.family.AddressFamily.{AddressFamily}
 use Rattle.pim_time.specs.declared.reading.Time.{Time}
 use Rattle.pim_capture.specs.declared.fault.CaptureFault.{CaptureFault}
 use Rattle.pim_capture.specs.declared.fault.CaptureFault.TheVariants as fault
@@ -9,6 +10,7 @@ use Rattle.pim_capture.specs.Capture.{Told, packet, skipped, ended, Answer}
 use Rattle.pim_capture.specs.Next.{in_front}
 use Rattle.pim_merge.specs.declared.clock.Clock.{Clock}
 use Rattle.pim_merge.specs.Merge.{head_of, behind_head, time_told, rank_told, rank_of, or_fault, fault_from, sooner, numbered, earliest_from, Outcome, fails, takes, ends, taken, turn_at, turn_or, turn, after_turn, clock_after, moment_of, is_past, until, turn_by, Taken, ending, IsMergeBy}
+use Rattle.pim_merge.specs.Content.{content_in}
 use Rattle.pim_merge.specs.OneLink.{told_as_any, as_any, all_as_any, is_truncated, IsWhole, taken_as_any}
 
 -- ---- one head
@@ -61,7 +63,12 @@ rank_told_alike (packet millis frame datagram) = refl
 rank_told_alike (skipped millis why) = refl
 rank_told_alike ended = refl
 
-time_alike : (told : Told) → time_told (told_as_any told) ≡ time_told told
+pub content_alike : (family : AddressFamily) (told : Told) → content_in family (told_as_any told) ≡ content_in family told
+content_alike family (packet millis frame datagram) = refl
+content_alike family (skipped millis why) = refl
+content_alike family ended = refl
+
+pub time_alike : (told : Told) → time_told (told_as_any told) ≡ time_told told
 time_alike (packet millis frame datagram) = refl
 time_alike (skipped millis why) = refl
 time_alike ended = refl

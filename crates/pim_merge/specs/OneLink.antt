@@ -1,6 +1,7 @@
 -- A classic file of one link gives the same records, whether `add` or `add_any` appends it.
 use Rattle.std.specs.Prelude.{◌≡◌, ℕ, Bool, true, false, List, [], ◌∷◌, map, take, drop, Option, None, Ok, Err, ⊤}
 use Rattle.std.specs.List.{list_any, AllByRecursion}
+use Rattle.pim_addr.specs.declared.family.AddressFamily.{AddressFamily}
 use Rattle.pim_capture.specs.declared.event.Why.TheVariants.{CutShort}
 use Rattle.pim_capture.specs.declared.fault.CaptureFault.{CaptureFault}
 use Rattle.pim_capture.specs.declared.fault.CaptureFault.TheVariants as fault
@@ -17,7 +18,8 @@ use Rattle.pim_container.specs.Pieces as pieces
 use Rattle.pim_time.specs.declared.reading.Time.{Time}
 use Rattle.pim_merge.specs.declared.clock.Clock.{Clock}
 use Rattle.pim_merge.specs.Chosen.{answers_by}
-use Rattle.pim_merge.specs.Merge.{Taken, IsMergeBy}
+use Rattle.pim_merge.specs.Content.{content_in}
+use Rattle.pim_merge.specs.Merge.{Taken, IsMergeBy, time_told}
 
 -- The choice of each packet.
 abbrev pub no_choice : Choice
@@ -76,3 +78,8 @@ MergesAlike = (last : Option Time) (clock : Option Clock) (captures : List (List
     (fault : Option (ℕ × CaptureFault)) → AllByRecursion IsWhole captures →
     IsMergeBy last clock captures taken fault →
     IsMergeBy last clock (map all_as_any captures) (map taken_as_any taken) fault
+
+-- Such a record has the same content for a router, and the same time.
+abbrev pub RecordsHoldAlike : Type 0
+RecordsHoldAlike = (family : AddressFamily) (told : Told) →
+    (content_in family (told_as_any told) ≡ content_in family told) × (time_told (told_as_any told) ≡ time_told told)

@@ -2,6 +2,7 @@
 
 ghost use Rattle.pim_merge.specs.Laws.{MergeHasOneEnd, MergeByHasOneEnd};
 ghost use Rattle.pim_merge.specs.OneLink.{OneLinkIsReadAlike, MergesAlike};
+ghost use Rattle.pim_merge.specs.OneLink.{RecordsHoldAlike};
 
 /// The turns of a merge and its end are a function of the results of its captures.
 pub fn merge_has_one_end()
@@ -26,4 +27,9 @@ pub fn one_link_is_read_alike()
 /// none of their files ends inside a record.
 pub fn merges_are_alike()
     ensures { MergesAlike }
+{}
+
+/// Such a record has the same content for a router, and the same time.
+pub fn records_hold_alike()
+    ensures { RecordsHoldAlike }
 {}

@@ -1,0 +1,5 @@
+use Rattle.pim_merge.proofs.Alike.{content_alike, time_alike}
+use Rattle.pim_merge.proofs.laws.records_hold_alike.Goals as goal
+
+pub returns : goal.returns
+returns c family told = (content_alike family told, time_alike told)
