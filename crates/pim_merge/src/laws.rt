@@ -23,8 +23,8 @@ pub fn one_link_is_read_alike()
     pim_container::classic_agrees_exactly();
 }
 
-/// A merge takes the same records of such captures at the same moments, and ends in the same way, if
-/// none of their files ends inside a record.
+/// A merge takes the same records of such captures at the same moments, and ends in the same way.
+/// None of their files ends inside a record.
 pub fn merges_are_alike()
     ensures { MergesAlike }
 {}
