@@ -1,6 +1,5 @@
 //! In which order a run opens its files, writes its output, and writes its warnings.
 
-ghost use Rattle.std.specs.Prelude.{None};
 ghost use Rattle.pim_words.specs.Plan.{IsPlanInRange};
 
 use super::running::{NEVER, all_files};
@@ -13,7 +12,7 @@ use std::alloc::Global;
 use std::cell::Cell;
 use std::io::{self, ErrorKind, Write};
 
-/// Takes output, unless it has none to take.
+/// Takes output, unless each write fails.
 #[derive(Drop)]
 struct Taker<'c> {
     /// The number of bytes that it took.
@@ -56,32 +55,39 @@ impl Write for Watcher<'_> {
     }
 }
 
-/// Does what a plan over IPv4 asks for, with standard output in blocks. Returns how it ends, if it
-/// begins.
-fn run_in_blocks<'a>(
+/// Whether a plan over IPv4 ends so, with standard output in blocks: with status 0, or as its output
+/// isn't passed on.
+fn plan_ends(
     alloc: Global,
-    plan: &Plan<'a>,
+    plan: &Plan<'_>,
     taker: Taker<'_>,
     watcher: Watcher<'_>,
-) -> Option<Result<u8, Fault<'a>>>
+    is_written: bool,
+) -> bool
     requires { IsPlanInRange plan.now }
 {
     let Plan::V4(task) = plan else {
-        return None;
+        return false;
+    };
+    let Ok(mut output) = Output::new(alloc, taker, false) else {
+        return false;
     };
     let files = all_files();
     let mut files = HeldFiles::new(alloc, &files, 7);
     let mut input = ScriptedFeed::new(b"", 1, NEVER);
-    let mut output = Output::new(alloc, taker, false).ok()?;
     let mut errors = Counted::new(watcher);
-    Some(run_on_devices::<V4, _, _, _, _>(
+    let end = run_on_devices::<V4, _, _, _, _>(
         alloc,
         &mut files,
         task,
         &mut input,
         &mut output,
         &mut errors,
-    ))
+    );
+    match end {
+        Ok(status) => is_written && status == 0,
+        Err(fault) => !is_written && matches!(fault, Fault::Output),
+    }
 }
 
 /// The words of a replay with a warning: no message is for its port.
@@ -102,9 +108,18 @@ state at 5
 skipped 0 refreshes 0
 ";
 
+/// Whether the replay ends so.
+fn ends(alloc: Global, taker: Taker<'_>, watcher: Watcher<'_>, is_written: bool) -> bool {
+    match plan(alloc, &WARNED) {
+        Ok(plan) => plan_ends(alloc, &plan, taker, watcher, is_written),
+        Err(_) => false,
+    }
+}
+
 #[test]
 fn warnings_follow_all_output(rt: HostRuntime) {
-    let (taken, before) = (Cell::new(0), Cell::new(None));
+    let taken = Cell::new(0);
+    let before = Cell::new(None);
     let taker = Taker {
         taken: &taken,
         fails: false,
@@ -113,18 +128,15 @@ fn warnings_follow_all_output(rt: HostRuntime) {
         taken: &taken,
         before: &before,
     };
-    let Ok(plan) = plan(rt.alloc(), &WARNED) else {
-        panic!(rt; "no plan")
-    };
-    let end = run_in_blocks(rt.alloc(), &plan, taker, watcher);
-    assert!(rt; matches!(end, Some(Ok(0))));
+    assert!(rt; ends(rt.alloc(), taker, watcher, true));
     assert_eq!(rt; before.get(), Some(REPORT.len()));
     assert_eq!(rt; taken.get(), REPORT.len());
 }
 
 #[test]
 fn output_that_is_not_passed_on_is_a_fault_without_warnings(rt: HostRuntime) {
-    let (taken, before) = (Cell::new(0), Cell::new(None));
+    let taken = Cell::new(0);
+    let before = Cell::new(None);
     let taker = Taker {
         taken: &taken,
         fails: true,
@@ -133,11 +145,7 @@ fn output_that_is_not_passed_on_is_a_fault_without_warnings(rt: HostRuntime) {
         taken: &taken,
         before: &before,
     };
-    let Ok(plan) = plan(rt.alloc(), &WARNED) else {
-        panic!(rt; "no plan")
-    };
-    let end = run_in_blocks(rt.alloc(), &plan, taker, watcher);
-    assert!(rt; matches!(end, Some(Err(Fault::Output))));
+    assert!(rt; ends(rt.alloc(), taker, watcher, false));
     assert_eq!(rt; before.get(), None);
 }
 
