@@ -7,8 +7,8 @@ ghost use Rattle.std.specs.Prelude.{◌≡◌, ◌⊎◌, IfOk, IfErr};
 ghost use Rattle.std.specs.Io.KnownBytes.{Keeps};
 ghost use Rattle.pim_device.specs.Device.{counted_failures, counted_inner};
 ghost use Rattle.pim_words.specs.Plan.{IsInRange};
-ghost use Rattle.pim_check.specs.declared.fault.Fault.TheVariants.{Output, Memory};
-ghost use Rattle.pim_main.specs.Running.{AreWritten, Runs, first_fault};
+ghost use Rattle.pim_main.specs.Running.{AreWritten, FailsOnce, IsUnpassed, Runs};
+ghost use Rattle.pim_main.specs.Running.{first_fault};
 
 use pim_addr::{Counted, Drain, Family, Feed, write_all};
 use pim_commands::{Fault, run_task};
@@ -24,7 +24,9 @@ fn pass_on<'a, W: Answers, E: Drain>(
     errors: &mut E,
 ) -> Result<(), Fault<'a>>
     ensures contents { Keeps (W.contents output.old) (W.contents output.new) }
-    ensures fault { IfErr result (λ fault. (fault ≡ Output) ⊎ (fault ≡ Memory)) }
+    ensures fault { IfErr result (IsUnpassed (counted_failures warnings.now)
+        (FailsOnce (W.failures output.old) (W.failures output.new)
+        ⊎ FailsOnce (E.failures errors.old) (E.failures errors.new))) }
     ensures whole { IfOk result (λ _. counted_failures warnings.now ≡ 0) }
     ensures warned { AreWritten result (counted_inner warnings.now).items
         (E.contents errors.old) (E.contents errors.new) (E.failures errors.old)
@@ -78,6 +80,8 @@ pub fn run_on_devices<'a, F: Family, O: Opener, R: Feed, W: Answers, E: Drain>(
         (O.known files.old) (O.known files.new) (R.remaining input.old)
         (λ passed warnings. AreWritten passed warnings (E.contents errors.old)
         (E.contents errors.new) (E.failures errors.old) (E.failures errors.new))
+        (W.failures output.old) (λ failed. FailsOnce failed (W.failures output.new)
+        ⊎ FailsOnce (E.failures errors.old) (E.failures errors.new))
         (W.contents output.old) (W.contents output.new) result task.now }
     ensures passed_on { IfOk result (λ _. W.passed_on output.new ≡ W.contents output.new) }
     ensures order { (errors.new ≡ errors.old) ⊎ (W.passed_on output.new ≡ W.contents output.new) }
