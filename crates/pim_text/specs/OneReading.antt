@@ -33,7 +33,7 @@ abbrev pub OneBody : Type 0
 OneBody = (family : AddressFamily) (text : List ℕ) (one other : Bool) (body spelled : List ℕ) →
     IsSpelled family text one body → IsSpelled family text other spelled → (one ≡ other) × (body ≡ spelled)
 
--- A text that is too long has no other body.
+-- The body that a text states is too long where the text is.
 abbrev pub LongBody : Type 0
 LongBody = (family : AddressFamily) (text : List ℕ) (is_hello : Bool) (body : List ℕ) →
     IsSpelled family text is_hello body → IsLong family text → 65532 < length body
