@@ -23,7 +23,8 @@
 //! (`specs/Room.antt`). After the end and after a fault nothing is read.
 //!
 //! `pim_capture` reads classic files over Ethernet and raw IP, with one 802.1Q tag. For these files
-//! both crates return the same, but for frames with further tags (the law `classic_agrees`).
+//! both crates return the same, but for frames that are not IP there (the law `classic_agrees`). In
+//! a file without further tags those are the same too (the law `classic_agrees_exactly`).
 #![tactic(auto)]
 
 mod block;
