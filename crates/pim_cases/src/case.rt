@@ -120,6 +120,17 @@ fn push_content(bytes: &mut Vec<u8>, key: &str, rest: &str) -> Result<bool, Allo
     }
 }
 
+/// Sets the room of a device, if the text is a number.
+fn set_room(room: &mut usize, text: &str) -> bool {
+    match text.parse() {
+        Ok(number) => {
+            *room = number;
+            true
+        }
+        Err(_) => false,
+    }
+}
+
 impl<'a> Case<'a> {
     /// Returns a case without words.
     pub fn new(alloc: Global) -> Self {
@@ -201,28 +212,6 @@ impl<'a> Case<'a> {
         }
     }
 
-    /// Sets the room of standard output, if this is a number.
-    fn set_room(&mut self, room: &str) -> bool {
-        match room.parse() {
-            Ok(room) => {
-                self.room = room;
-                true
-            }
-            Err(_) => false,
-        }
-    }
-
-    /// Sets the room of standard error, if this is a number.
-    fn set_error_room(&mut self, room: &str) -> bool {
-        match room.parse() {
-            Ok(room) => {
-                self.error_room = room;
-                true
-            }
-            Err(_) => false,
-        }
-    }
-
     /// Sets the expected status, if this is a number of a byte.
     fn set_status(&mut self, status: &str) -> bool {
         match status.parse() {
@@ -260,8 +249,8 @@ impl<'a> Case<'a> {
             "output" => Ok(self.choose(Part::Output)),
             "errors" => Ok(self.choose(Part::Errors)),
             "fails" => Ok(self.add_failure()),
-            "room" => Ok(self.set_room(rest)),
-            "error-room" => Ok(self.set_error_room(rest)),
+            "room" => Ok(set_room(&mut self.room, rest)),
+            "error-room" => Ok(set_room(&mut self.error_room, rest)),
             "status" => Ok(self.set_status(rest)),
             _ => self.add_content(key, rest),
         }
