@@ -1,5 +1,5 @@
 -- What a text that was read states, and why it has no body.
-use Rattle.std.proofs.Common.{◌≡◌, ◌∙◌, sym, inl, ℕ, true, false, List}
+use Rattle.std.proofs.Common.{◌≡◌, ◌∙◌, sym, inl, inr, ℕ, true, false, List}
 use Rattle.std.proofs.lemmas.Bool.{false≢true}
 use Rattle.pim_addr.specs.declared.family.AddressFamily.{AddressFamily}
 use Rattle.pim_addr.specs.declared.family.AddressFamily.TheVariants.{Ipv4, Ipv6}
@@ -9,14 +9,18 @@ use Rattle.pim_text.specs.declared.spelling.SpellFault.TheVariants as of_body
 use Rattle.pim_text.specs.Value.{TextValue, a_hello, a_message}
 use Rattle.pim_text.specs.Families.{value_is_in}
 use Rattle.pim_text.specs.Read.{States, is_hello, IsRead}
-use Rattle.pim_text.specs.Spelled.{StatesMessage}
+use Rattle.pim_text.specs.Spelled.{StatesMessage, IsMessageFault}
 use Rattle.pim_text.specs.SpelledHello.{StatesHello, IsHelloFault}
 use Rattle.pim_text.specs.Spell.{stated_in, IsTextFault, told}
 use Rattle.pim_text.specs.Laws.{StatesIn, StatedInItsFamily}
 
 pub hello_fault : (family : AddressFamily) (text : List ℕ) (fault : SpellFault) → StatesHello family text → IsHelloFault family text fault → IsTextFault family text (told fault)
 hello_fault family text of_body.TooLong (hello, states) is = inl (hello, states, is hello states)
-hello_fault family text of_body.Memory states is = tt
+hello_fault family text of_body.Memory states is = inl states
+
+pub message_fault : (family : AddressFamily) (text : List ℕ) (fault : SpellFault) → StatesMessage family text → IsMessageFault family text fault → IsTextFault family text (told fault)
+message_fault family text of_body.TooLong (message, states) is = inr (message, states, is message states)
+message_fault family text of_body.Memory states is = inr states
 
 same_family : (family : AddressFamily) (text : List ℕ) (stated : Stated) (r : IsRead text stated) → stated_in family stated ≡ value_is_in family r.value
 same_family Ipv4 text stated r = r.ipv4

@@ -1,5 +1,5 @@
 -- The body of the message that a text states, and why there is none.
-use Rattle.std.specs.Prelude.{◌≡◌, ◌<◌, ◌⊎◌, ℕ, ⊤, Bool, true, false, List, length}
+use Rattle.std.specs.Prelude.{◌≡◌, ◌<◌, ◌⊎◌, ℕ, Bool, true, false, List, length}
 use Rattle.pim_addr.specs.declared.family.AddressFamily.{AddressFamily}
 use Rattle.pim_addr.specs.declared.family.AddressFamily.TheVariants.{Ipv4, Ipv6}
 use Rattle.pim_hello.specs.Hello.{Hello}
@@ -14,6 +14,8 @@ use Rattle.pim_text.specs.declared.spelling.SpellFault.TheVariants as of_body
 use Rattle.pim_text.specs.Value.{TextValue, hello_in, message_in}
 use Rattle.pim_text.specs.Families.{value_is_in}
 use Rattle.pim_text.specs.Read.{States, IsWrongLine}
+use Rattle.pim_text.specs.Spelled.{StatesMessage}
+use Rattle.pim_text.specs.SpelledHello.{StatesHello}
 
 -- What was read: each address is of this family.
 abbrev pub stated_in : AddressFamily → Stated → Bool
@@ -32,13 +34,17 @@ IsLong family text =
     ((hello : Hello) × States text (hello_in family hello) × (65532 < length (spelling_of family hello)))
     ⊎ ((message : Message) × States text (message_in family message) × (65532 < length (canonical family message)))
 
--- Why there is no body: a wrong line, an address that isn't of the family, a body that is too long,
--- or no memory.
+-- The text states a Hello, or a Join/Prune message, of this family.
+abbrev pub StatesOne : AddressFamily → List ℕ → Type 0
+StatesOne family text = StatesHello family text ⊎ StatesMessage family text
+
+-- Why there is no body: a wrong line, an address that isn't of the family, or a body that is too
+-- long. Memory is asked for, so refused, only where the text states a message of the family.
 abbrev pub IsTextFault : AddressFamily → List ℕ → TextFault → Type 0
 IsTextFault family text (Line number) = IsWrongLine text number
 IsTextFault family text Family = (value : TextValue) × States text value × (value_is_in family value ≡ false)
 IsTextFault family text TooLong = IsLong family text
-IsTextFault family text Memory = ⊤
+IsTextFault family text Memory = StatesOne family text
 
 -- The fault of writing a body, as one of a text.
 abbrev pub told : SpellFault → TextFault

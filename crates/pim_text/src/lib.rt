@@ -10,7 +10,8 @@
 //!   missing. A last line without its line feed is wrong.
 //! - `spell` writes the body of the message that a text states, in the canonical spelling, whether
 //!   the message is legal or not. It returns the wrong line, that an address is not of the family,
-//!   or that the body is too long, each exactly where its cause is there.
+//!   or that the body is too long, each exactly where its cause is there. It may lack memory only
+//!   where the text states a message of the family.
 //! - Laws: the text that is written of a message states that message (`message_text_states`,
 //!   `hello_text_states`; of a Hello that was read, `hello_text_states_it`), and a text whose
 //!   addresses are all of one family states a message of that family (`stated_in_its_family`).

@@ -27,7 +27,7 @@ pub enum TextFault {
     /// The message would have more than 65,536 bytes with its header of 4.
     #[error("text too-long")]
     TooLong,
-    /// Memory ran out.
+    /// Memory ran out. The text states a message of the family.
     #[error("memory")]
     Memory,
 }
@@ -101,7 +101,9 @@ fn join_prune_body<F: Family>(alloc: Global, text: &[u8]) -> Result<Spelled, Tex
 /// - `Line`: the text states no message.
 /// - `Family`: an address is not of the family.
 /// - `TooLong`: the body has more than 65,532 bytes.
-/// - `Memory`: memory ran out.
+///
+/// `Memory` may come in place of `TooLong`. Lines and families are judged without memory, so the
+/// text states a message of the family then.
 pub fn spell<F: Family>(alloc: Global, text: &[u8]) -> Result<Spelled, TextFault>
     requires { length text.now < 2 ^ 32 }
     ensures spelled { IfOk result (λ s. IsSpelled F.family text.now s.is_hello s.body.items) }
