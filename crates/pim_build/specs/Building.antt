@@ -1,5 +1,5 @@
 -- What is made of the text of a message, and why it isn't made.
-use Rattle.std.specs.Prelude.{◌≡◌, ◌≤◌, ⊤, ℕ, Bool, true, false, List, [], ◌∷◌, ◌++◌, length, map}
+use Rattle.std.specs.Prelude.{◌≡◌, ◌≤◌, ℕ, Bool, true, false, List, [], ◌∷◌, ◌++◌, length, map}
 use Rattle.pim_addr.specs.declared.family.AddressFamily.{AddressFamily}
 use Rattle.pim_frame.specs.Frame.{Content, hello, join_prune, other, content, frame_faults}
 use Rattle.pim_frame.specs.Seal.{IsSealed}
@@ -15,7 +15,7 @@ use Rattle.pim_jp.specs.Message.{Message, message_of}
 use Rattle.pim_text.specs.HelloText.{hello_text}
 use Rattle.pim_text.specs.JoinPruneText.{message_text}
 use Rattle.pim_text.specs.Read.{States, IsWrongLine}
-use Rattle.pim_text.specs.Spell.{IsTextFault, IsLong}
+use Rattle.pim_text.specs.Spell.{IsTextFault, IsLong, StatesOne}
 use Rattle.pim_text.specs.Value.{TextValue, hello_in, message_in}
 use Rattle.pim_text.specs.declared.message.TextFault.{TextFault}
 use Rattle.pim_text.specs.declared.message.TextFault.TheVariants as of_text
@@ -102,13 +102,14 @@ pub record IsRefused (family : AddressFamily) (source destination text : List �
   pub refused : message_faults family source destination message ≡ fault ∷ others
 
 -- Why no message is made of a text: a wrong line, an address that isn't of the family, a message
--- that is too long, one that a receiver refuses, or no memory.
+-- that is too long, or one that a receiver refuses. Memory is refused only where the text states a
+-- message of the family.
 abbrev pub IsBuildFault : AddressFamily → List ℕ → List ℕ → List ℕ → BuildFault → Type 0
 IsBuildFault family source destination text (Line number) = IsWrongLine text number
 IsBuildFault family source destination text Family = IsTextFault family text of_text.Family
 IsBuildFault family source destination text TooLong = IsLong family text
 IsBuildFault family source destination text Read = ⊥
-IsBuildFault family source destination text Memory = ⊤
+IsBuildFault family source destination text Memory = StatesOne family text
 IsBuildFault family source destination text fault = IsRefused family source destination text fault
 
 -- The fault of a text, as one of building.

@@ -84,7 +84,9 @@ fn judge<F: Family>(src: F::Addr, dst: F::Addr, message: &[u8]) -> Result<(), Bu
 /// - `Family`: an address of the text is not of the family.
 /// - `TooLong`: the message has more than 65,536 bytes.
 /// - `Frame`, else `Hello` or `JoinPrune`: the first fault that a receiver finds in the message.
-/// - `Memory`: memory ran out.
+///
+/// `Memory` may come in place of `TooLong` and of those after it. Then the text states a message of
+/// the family.
 pub fn build_message<F: Family>(
     alloc: Global,
     src: F::Addr,

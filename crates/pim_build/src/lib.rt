@@ -8,7 +8,8 @@
 //!   states (`IsBuilt`).
 //! - Each fault is returned where its cause is there, and the first cause counts: the text is too
 //!   long, a line is wrong, an address is of the other family, the message is too long, a receiver
-//!   refuses it. `Memory` may replace any.
+//!   refuses it. Lines and families are judged without memory. So `Memory` may replace only the
+//!   last two: then the text states a message of the family.
 //!
 //! The crate knows neither words nor a writer. So a program can hand the bytes to any of its
 //! devices.
