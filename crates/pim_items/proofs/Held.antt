@@ -1,12 +1,10 @@
 -- A text that is held line by line.
-use Rattle.std.proofs.Common.{◌≡◌, ◌∙◌, sym, ap, refl, subst, ℕ, ◌<◌, ◌≤◌, Bool, true, false, ◌||◌, List, [], ◌∷◌, ◌++◌, Option, Some, None, length, arith, append_assoc, length-append}
+use Rattle.std.proofs.Common.{◌≡◌, ◌∙◌, sym, ap, refl, subst, ℕ, ◌<◌, ◌≤◌, Bool, true, false, ◌||◌, List, [], ◌∷◌, ◌++◌, length, arith, append_assoc, length-append}
 use Rattle.std.specs.List.{list_any}
 use Rattle.std.proofs.lemmas.List.Folds.{list_any-append}
-use Rattle.pim_items.specs.declared.held_text.Unheld.{Unheld}
-use Rattle.pim_items.specs.declared.held_text.Unheld.TheVariants.{TooLong, Memory}
 use Rattle.pim_items.specs.Items.{Text, text_after, with_line, bytes_of_lines, has_long_line, is_long, text_limit}
 use Rattle.pim_items.specs.Reading.{Holds}
-use Rattle.pim_items.specs.Held.{Held, HoldsText, IsKnown, HoldsLine, KeepsLine}
+use Rattle.pim_items.specs.Held.{Held, HoldsText, IsKnown, KeepsLine}
 
 -- ---- the bytes of lines
 
@@ -41,53 +39,46 @@ long_with text line =
 
 -- ---- the beginning
 
-begun_holds : (head line from_line : List ℕ) (too_long : Bool) (fault : Option Unheld) → IsKnown line too_long head → HoldsLine line from_line fault → too_long ≡ false → Holds fault (text_after head) from_line []
-begun_holds head line from_line too_long None known holds short = (holds ∙ known.same short, sym no_line, omega arith)
-begun_holds head line from_line too_long (Some TooLong) known holds short = absurd holds
-begun_holds head line from_line too_long (Some Memory) known holds short = tt
-
-pub begun : (head line from_line : List ℕ) (too_long : Bool) (fault : Option Unheld) → IsKnown line too_long head → HoldsLine line from_line fault → HoldsText (text_after head) (record { from_line = from_line; bytes = []; has_long_line = too_long; fault = fault })
-begun head line from_line too_long fault known holds = record {
+pub begun : (head line from_line : List ℕ) (too_long : Bool) → IsKnown line too_long head → from_line ≡ line → HoldsText (text_after head) (record { from_line = from_line; bytes = []; has_long_line = too_long; is_too_long = false })
+begun head line from_line too_long known same = record {
   has_long_line = known.long ∙ sym (or_false (is_long head));
-  holds = λ short. begun_holds head line from_line too_long fault known holds short;
+  holds = λ short. (same ∙ known.same short, sym no_line, omega arith);
 }
 
 -- ---- one line more
 
--- what isn't held of a text isn't held of it with one line more
-pub still_unheld : (text : Text) (line from_line bytes : List ℕ) (fault : Option Unheld) → (fault ≡ None → ⊥) → Holds fault text from_line bytes → Holds fault (with_line line text) from_line bytes
-still_unheld text line from_line bytes None some holds = absurd (some refl)
-still_unheld text line from_line bytes (Some TooLong) some holds =
+-- a text that is too long is so with one line more
+still_long : (text : Text) (line from_line bytes : List ℕ) (is_too_long : Bool) → is_too_long ≡ true → Holds is_too_long text from_line bytes → Holds is_too_long (with_line line text) from_line bytes
+still_long text line from_line bytes true long holds =
     (holds.0, omega (arith, holds.1, ap length (one_more text.lines line), length-append (bytes_of_lines text.lines) (line ++ 10 ∷ [])))
-still_unheld text line from_line bytes (Some Memory) some holds = tt
+still_long text line from_line bytes false long holds = absurd cc
 
 longer : (text : Text) (line whole : List ℕ) (too_long : Bool) (held : Held) → IsKnown line too_long whole → HoldsText text held → (held.has_long_line || too_long) ≡ has_long_line (with_line whole text)
 longer text line whole too_long held known holds =
     ap (λ test. test || too_long) holds.has_long_line ∙ ap (λ test. has_long_line text || test) known.long ∙ sym (long_with text whole)
 
 -- the line isn't added
-pub not_added : (text : Text) (line whole : List ℕ) (too_long : Bool) (held : Held) → IsKnown line too_long whole → HoldsText text held → ((held.has_long_line || too_long) ≡ false → held.fault ≡ None → ⊥) → HoldsText (with_line whole text) (record { from_line = held.from_line; bytes = held.bytes; has_long_line = held.has_long_line || too_long; fault = held.fault })
+pub not_added : (text : Text) (line whole : List ℕ) (too_long : Bool) (held : Held) → IsKnown line too_long whole → HoldsText text held → ((held.has_long_line || too_long) ≡ false → held.is_too_long ≡ true) → HoldsText (with_line whole text) (record { from_line = held.from_line; bytes = held.bytes; has_long_line = held.has_long_line || too_long; is_too_long = held.is_too_long })
 not_added text line whole too_long held known holds cause = record {
   has_long_line = longer text line whole too_long held known holds;
-  holds = λ short. still_unheld text whole held.from_line held.bytes held.fault (λ none. cause short none) (holds.holds (neither held.has_long_line too_long short).0);
+  holds = λ short. still_long text whole held.from_line held.bytes held.is_too_long (cause short) (holds.holds (neither held.has_long_line too_long short).0);
 }
 
-added_holds : (text : Text) (line whole from_line bytes kept : List ℕ) (too_long : Bool) (fault : Option Unheld) → IsKnown line too_long whole → too_long ≡ false → (from_line ≡ text.head) × (bytes ≡ bytes_of_lines text.lines) → KeepsLine bytes line kept fault → length kept ≤ text_limit → Holds fault (with_line whole text) from_line kept
-added_holds text line whole from_line bytes kept too_long None known short same keeps low =
+added_holds : (text : Text) (line whole from_line bytes kept : List ℕ) (too_long is_too_long : Bool) → IsKnown line too_long whole → too_long ≡ false → (from_line ≡ text.head) × (bytes ≡ bytes_of_lines text.lines) → KeepsLine bytes line kept is_too_long → length kept ≤ text_limit → Holds is_too_long (with_line whole text) from_line kept
+added_holds text line whole from_line bytes kept too_long false known short same keeps low =
     (same.0, keeps ∙ ap (λ xs. xs ++ (line ++ 10 ∷ [])) same.1 ∙ ap (λ xs. bytes_of_lines text.lines ++ (xs ++ 10 ∷ [])) (known.same short) ∙ sym (one_more text.lines whole), low)
-added_holds text line whole from_line bytes kept too_long (Some TooLong) known short same keeps low =
+added_holds text line whole from_line bytes kept too_long true known short same keeps low =
     let all : bytes ++ (line ++ 10 ∷ []) ≡ bytes_of_lines (text.lines ++ whole ∷ []) =
     ap (λ xs. xs ++ (line ++ 10 ∷ [])) same.1 ∙ ap (λ xs. bytes_of_lines text.lines ++ (xs ++ 10 ∷ [])) (known.same short) ∙ sym (one_more text.lines whole) in
     (same.0, subst (λ xs. text_limit < length xs) all keeps.1)
-added_holds text line whole from_line bytes kept too_long (Some Memory) known short same keeps low = tt
 
-holds_all : (text : Text) (held : Held) → held.fault ≡ None → Holds held.fault text held.from_line held.bytes → (held.from_line ≡ text.head) × (held.bytes ≡ bytes_of_lines text.lines)
-holds_all text held none holds = let all = subst (λ fault. Holds fault text held.from_line held.bytes) none holds in (all.0, all.1)
+holds_all : (text : Text) (held : Held) → held.is_too_long ≡ false → Holds held.is_too_long text held.from_line held.bytes → (held.from_line ≡ text.head) × (held.bytes ≡ bytes_of_lines text.lines)
+holds_all text held short holds = let all = subst (λ long. Holds long text held.from_line held.bytes) short holds in (all.0, all.1)
 
 -- the line is added, or isn't any more
-pub added : (text : Text) (line whole kept : List ℕ) (too_long : Bool) (fault : Option Unheld) (held : Held) → IsKnown line too_long whole → HoldsText text held → held.fault ≡ None → KeepsLine held.bytes line kept fault → length kept ≤ text_limit → HoldsText (with_line whole text) (record { from_line = held.from_line; bytes = kept; has_long_line = held.has_long_line || too_long; fault = fault })
-added text line whole kept too_long fault held known holds none keeps low = record {
+pub added : (text : Text) (line whole kept : List ℕ) (too_long is_too_long : Bool) (held : Held) → IsKnown line too_long whole → HoldsText text held → held.is_too_long ≡ false → KeepsLine held.bytes line kept is_too_long → length kept ≤ text_limit → HoldsText (with_line whole text) (record { from_line = held.from_line; bytes = kept; has_long_line = held.has_long_line || too_long; is_too_long = is_too_long })
+added text line whole kept too_long is_too_long held known holds short keeps low = record {
   has_long_line = longer text line whole too_long held known holds;
-  holds = λ short. let tests = neither held.has_long_line too_long short in
-      added_holds text line whole held.from_line held.bytes kept too_long fault known tests.1 (holds_all text held none (holds.holds tests.0)) keeps low;
+  holds = λ none. let tests = neither held.has_long_line too_long none in
+      added_holds text line whole held.from_line held.bytes kept too_long is_too_long known tests.1 (holds_all text held short (holds.holds tests.0)) keeps low;
 }

@@ -1,9 +1,7 @@
 -- The items of bytes whose first line was found.
-use Rattle.std.proofs.Common.{◌≡◌, ◌∙◌, sym, ap, refl, ℕ, ◌<◌, true, false, List, [], ◌∷◌, ◌++◌, Option, Some, None, Ok, subst, length, arith, ◌==◌, ◌⊎◌, inl, inr}
+use Rattle.std.proofs.Common.{◌≡◌, ◌∙◌, sym, ap, refl, ℕ, ◌<◌, Bool, true, false, List, [], ◌∷◌, ◌++◌, Option, Some, None, Ok, subst, length, arith, ◌==◌, ◌⊎◌, inl, inr}
 use Rattle.std.specs.List.{onto_first}
 use Rattle.std.specs.Option.{IfSome}
-use Rattle.pim_items.specs.declared.held_text.Unheld.{Unheld}
-use Rattle.pim_items.specs.declared.held_text.Unheld.TheVariants.{TooLong, Memory}
 use Rattle.pim_items.specs.declared.input.Found.{Found}
 use Rattle.pim_items.specs.declared.sort.Sort.TheVariants.{Blank, From, Other}
 use Rattle.pim_items.specs.Items.{lines_of, items_from, items_of, has_item, Text, a_text, sent, with_line, text_after, line_item, is_blank, begins_text, is_send}
@@ -105,12 +103,11 @@ pub known_line : (line bytes : List ℕ) (found : Found) (lines : Lines) (is : I
 known_line line bytes found lines is same = record { long = is.is_long; same = λ short. same ∙ is.line short }
 
 same_text : (text : Text) (held : Held) → HoldsText text held → HoldsText (sent text) held
-same_text text held holds = record { has_long_line = holds.has_long_line; holds = λ short. same_parts held.fault (holds.holds short) }
+same_text text held holds = record { has_long_line = holds.has_long_line; holds = λ short. same_parts held.is_too_long (holds.holds short) }
   where
-    same_parts : (fault : Option Unheld) → Holds fault text held.from_line held.bytes → Holds fault (sent text) held.from_line held.bytes
-    same_parts None parts = parts
-    same_parts (Some TooLong) parts = parts
-    same_parts (Some Memory) parts = parts
+    same_parts : (is_too_long : Bool) → Holds is_too_long text held.from_line held.bytes → Holds is_too_long (sent text) held.from_line held.bytes
+    same_parts false parts = parts
+    same_parts true parts = parts
 
 pub text_sent : (begun : Text) (bytes : List ℕ) (found : Found) (before after : Lines) (held : Held) (going : Continues begun bytes before held) (is : IsFound going.later found after) → is_send is.whole ≡ true → EndsText begun bytes true after held
 text_sent begun bytes found before after held going is ends = record {

@@ -3,8 +3,6 @@ use Rattle.std.specs.Prelude.{◌≡◌, ◌≢◌, ◌<◌, ◌≤◌, ◌++◌
 use Rattle.std.specs.Prelude.{length, ⊤, Option, Some, None, Result, Ok, Err}
 use Rattle.std.specs.List.{list_any}
 use Rattle.std.specs.Option.{IfSome}
-use Rattle.pim_items.specs.declared.held_text.Unheld.{Unheld}
-use Rattle.pim_items.specs.declared.held_text.Unheld.TheVariants.{TooLong, Memory}
 use Rattle.pim_items.specs.declared.input.Found.{Found}
 use Rattle.pim_items.specs.declared.input.Stopped.{Stopped}
 use Rattle.pim_items.specs.declared.sort.Sort.TheVariants.{Blank}
@@ -21,30 +19,24 @@ pub record Held : Type 0 where
   pub from_line : List ℕ
   pub bytes : List ℕ
   pub has_long_line : Bool
-  pub fault : Option Unheld
+  pub is_too_long : Bool
 
--- What is held is short.
-pub record IsShort (from_line bytes : List ℕ) : Type 0 where
+-- What is held is short, and its rooms have place for the longest line and the longest text.
+pub record HasRoom (from_line : List ℕ) (line_room : ℕ) (bytes : List ℕ) (text_room : ℕ) : Type 0 where
   pub line_short : length from_line ≤ line_limit
+  pub line_fits : line_limit ≤ line_room
   pub text_short : length bytes ≤ text_limit
+  pub text_fits : text_limit ≤ text_room
 
 -- This text is held, as far as its lines allow.
 pub record HoldsText (text : Text) (held : Held) : Type 0 where
   pub has_long_line : held.has_long_line ≡ has_long_line text
-  pub holds : held.has_long_line ≡ false → Holds held.fault text held.from_line held.bytes
+  pub holds : held.has_long_line ≡ false → Holds held.is_too_long text held.from_line held.bytes
 
--- A line was added to a text, with its line feed, or why it wasn't.
-abbrev pub KeepsLine : List ℕ → List ℕ → List ℕ → Option Unheld → Type 0
-KeepsLine old line new None = new ≡ old ++ (line ++ 10 ∷ [])
-KeepsLine old line new (Some TooLong) =
-    (new ≡ old) × (text_limit < length (old ++ (line ++ 10 ∷ [])))
-KeepsLine old line new (Some Memory) = ⊤
-
--- The line is held, or memory was refused.
-abbrev pub HoldsLine : List ℕ → List ℕ → Option Unheld → Type 0
-HoldsLine line held None = held ≡ line
-HoldsLine line held (Some TooLong) = ⊥
-HoldsLine line held (Some Memory) = ⊤
+-- A line was added to a text, with its line feed; or it wasn't, since the text is too long with it.
+abbrev pub KeepsLine : List ℕ → List ℕ → List ℕ → Bool → Type 0
+KeepsLine old line new false = new ≡ old ++ (line ++ 10 ∷ [])
+KeepsLine old line new true = (new ≡ old) × (text_limit < length (old ++ (line ++ 10 ∷ [])))
 
 -- The line is known as this one, unless it is too long.
 pub record IsKnown (line : List ℕ) (too_long : Bool) (whole : List ℕ) : Type 0 where

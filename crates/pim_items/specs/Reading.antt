@@ -4,8 +4,6 @@ use Rattle.std.specs.Prelude.{length, min, ⊤}
 use Rattle.std.specs.Prelude.{Option, None, Some, Result, Ok, Err}
 use Rattle.std.specs.Option.{IfSome}
 use Rattle.pim_device.specs.Device.{top_count}
-use Rattle.pim_items.specs.declared.held_text.Unheld.{Unheld}
-use Rattle.pim_items.specs.declared.held_text.Unheld.TheVariants.{TooLong, Memory}
 use Rattle.pim_items.specs.declared.input.Stopped.{Stopped}
 use Rattle.pim_items.specs.declared.input.Stopped.TheVariants.{Input, Output}
 use Rattle.pim_items.specs.declared.items.Item.{Item}
@@ -32,25 +30,23 @@ pub record Reading : Type 0 where
   pub has_stopped : Bool
   -- the line of the last item, if that is a line
   pub line : List ℕ
-  -- the `from` line of the last item, if that is a text whose `from` line is held
+  -- the `from` line of the last item, if that is a text without a line that is too long
   pub from_line : List ℕ
   -- the bytes of the text of the last item, if that is a text that is held
   pub text : List ℕ
 
--- What is held of a text: all of it, only its `from` line since the text is too long, or nothing
--- since memory was refused.
-abbrev pub Holds : Option Unheld → Text → List ℕ → List ℕ → Type 0
-Holds None text from_line bytes =
+-- What is held of a text: all of it; or only its `from` line, since the text is too long.
+abbrev pub Holds : Bool → Text → List ℕ → List ℕ → Type 0
+Holds false text from_line bytes =
     (from_line ≡ text.head) × (bytes ≡ bytes_of_lines text.lines) × (length bytes ≤ text_limit)
-Holds (Some TooLong) text from_line bytes =
+Holds true text from_line bytes =
     (from_line ≡ text.head) × (text_limit < length (bytes_of_lines text.lines))
-Holds (Some Memory) text from_line bytes = ⊤
 
 -- The item is this text. If one of its lines is too long, nothing more is said of it.
 pub record IsText (text : Text) (item : TextItem) (reading : Reading) : Type 0 where
   pub is_sent : item.is_sent ≡ text.is_sent
   pub has_long_line : item.has_long_line ≡ has_long_line text
-  pub held : item.has_long_line ≡ false → Holds item.fault text reading.from_line reading.text
+  pub held : item.has_long_line ≡ false → Holds item.is_too_long text reading.from_line reading.text
 
 -- The item that a call gives is this item of the input.
 abbrev pub IsItem : SomeItem → Item → Reading → Type 0

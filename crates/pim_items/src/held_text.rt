@@ -1,23 +1,21 @@
 //! A text that is held until it is answered.
+//!
+//! Room for the longest `from` line and the longest text is made in advance, so that no text needs
+//! memory.
 
-ghost use Rattle.std.specs.Prelude.{◌≡◌, ◌≤◌, ◌++◌, ◌∷◌, [], List, ℕ, false, length, OnOk};
+ghost use Rattle.std.specs.Prelude.{◌≡◌, ◌≤◌, ◌+◌, ◌++◌, ◌∷◌, [], List, ℕ, false, length};
+ghost use Rattle.std.specs.Prelude.{vec_capacity};
 ghost use Rattle.pim_items.specs.Items.{line_limit, text_limit, Text, text_after, with_line};
-ghost use Rattle.pim_items.specs.Held.{HoldsText, IsKnown, KeepsLine, HoldsLine};
+ghost use Rattle.pim_items.specs.Held.{HoldsText, IsKnown, KeepsLine};
 
 use std::alloc::{AllocError, Global};
 use std::marker::Model;
 
+/// The most bytes of a line that is held.
+const LINE_LIMIT: usize = 1_048_576;
+
 /// The most bytes of a text that is held.
 const TEXT_LIMIT: usize = 8_388_608;
-
-/// Why a text isn't held.
-#[derive(Clone, Copy, Debug, PartialEq, Eq)]
-pub enum Unheld {
-    /// The text has more than 8,388,608 bytes.
-    TooLong,
-    /// Memory was refused.
-    Memory,
-}
 
 /// A `from` line and the text after it.
 #[derive(Drop)]
@@ -25,11 +23,12 @@ pub struct HeldText {
     from_line: Vec<u8>,
     bytes: Vec<u8>,
     has_long_line: bool,
-    fault: Option<Unheld>,
+    is_too_long: bool,
 }
 
 impl Model for HeldText {
-    ghost use Rattle.pim_items.specs.Held.{Held, IsShort};
+    ghost use Rattle.std.specs.Prelude.{vec_capacity};
+    ghost use Rattle.pim_items.specs.Held.{Held, HasRoom};
 
     ghost Value = { Held };
 
@@ -37,60 +36,67 @@ impl Model for HeldText {
       from_line = text.from_line.items;
       bytes = text.bytes.items;
       has_long_line = text.has_long_line;
-      fault = text.fault;
+      is_too_long = text.is_too_long;
     } };
 
-    ghost invariant = { λ text. IsShort text.from_line.items text.bytes.items };
+    ghost invariant = { λ text. HasRoom text.from_line.items (vec_capacity text.from_line)
+        text.bytes.items (vec_capacity text.bytes) };
 }
 
-/// Adds a line and its line feed.
-fn push_line(text: &mut Vec<u8>, line: &[u8]) -> Result<(), AllocError>
-    ensures { OnOk result (text.new.items ≡ text.old.items ++ (line.now ++ 10 ∷ [])) }
+/// Adds a line and its line feed, for which there is room.
+fn push_line(text: &mut Vec<u8>, line: &[u8])
+    requires { length text.old.items + length line.now + 1 ≤ vec_capacity text.old }
+    ensures pushed { text.new.items ≡ text.old.items ++ (line.now ++ 10 ∷ []) }
+    ensures room { vec_capacity text.old ≤ vec_capacity text.new }
 {
-    text.extend_from_slice(line)?;
-    text.push(b'\n')?;
-    Ok(())
+    let Ok(()) = text.extend_from_slice(line) else {
+        unreachable!();
+    };
+    let Ok(()) = text.push(b'\n') else {
+        unreachable!();
+    };
 }
 
-/// Adds a line and its line feed to a text, or returns why the text isn't held any more.
-fn keep_line(text: &mut Vec<u8>, line: &[u8]) -> Option<Unheld>
-    requires { length text.old.items ≤ text_limit }
+/// Adds a line and its line feed to a text, or returns that the text is too long for it.
+fn keep_line(text: &mut Vec<u8>, line: &[u8]) -> bool
+    requires short { length text.old.items ≤ text_limit }
+    requires room { text_limit ≤ vec_capacity text.old }
     ensures kept { KeepsLine text.old.items line.now text.new.items result }
     ensures short { length text.new.items ≤ text_limit }
+    ensures room { text_limit ≤ vec_capacity text.new }
 {
     if line.len() >= TEXT_LIMIT - text.len() {
-        return Some(Unheld::TooLong);
+        return true;
     }
-    let Ok(()) = push_line(text, line) else {
-        text.clear();
-        return Some(Unheld::Memory);
-    };
-    None
+    push_line(text, line);
+    false
 }
 
-/// Makes this line the only one that is held, or returns why it isn't.
-fn hold_line(held: &mut Vec<u8>, line: &[u8]) -> Option<Unheld>
-    requires { length line.now ≤ line_limit }
-    ensures held { HoldsLine line.now held.new.items result }
-    ensures short { length held.new.items ≤ line_limit }
+/// Makes this line the only one that is held.
+fn hold_line(held: &mut Vec<u8>, line: &[u8])
+    requires short { length line.now ≤ line_limit }
+    requires room { line_limit ≤ vec_capacity held.old }
+    ensures held { held.new.items ≡ line.now }
+    ensures room { line_limit ≤ vec_capacity held.new }
 {
     held.clear();
     let Ok(()) = held.extend_from_slice(line) else {
-        held.clear();
-        return Some(Unheld::Memory);
+        unreachable!();
     };
-    None
 }
 
 impl HeldText {
     /// Returns an empty text.
-    pub fn new(alloc: Global) -> Self {
-        HeldText {
-            from_line: Vec::new(alloc),
-            bytes: Vec::new(alloc),
+    ///
+    /// # Errors
+    /// If memory for the room is refused.
+    pub fn new(alloc: Global) -> Result<Self, AllocError> {
+        Ok(HeldText {
+            from_line: Vec::with_capacity(alloc, LINE_LIMIT)?,
+            bytes: Vec::with_capacity(alloc, TEXT_LIMIT)?,
             has_long_line: false,
-            fault: None,
-        }
+            is_too_long: false,
+        })
     }
 
     /// Begins an empty text, after this `from` line.
@@ -101,7 +107,8 @@ impl HeldText {
     {
         self.bytes.clear();
         self.has_long_line = too_long;
-        self.fault = hold_line(&mut self.from_line, line);
+        self.is_too_long = false;
+        hold_line(&mut self.from_line, line);
     }
 
     /// Adds a line to the text, with its line feed.
@@ -110,10 +117,10 @@ impl HeldText {
             HoldsText text self.old → HoldsText (with_line whole text) self.new }
     {
         self.has_long_line |= too_long;
-        if self.has_long_line || self.fault.is_some() {
+        if self.has_long_line || self.is_too_long {
             return;
         }
-        self.fault = keep_line(&mut self.bytes, line);
+        self.is_too_long = keep_line(&mut self.bytes, line);
     }
 
     /// Returns the `from` line, if it is held.
@@ -139,10 +146,10 @@ impl HeldText {
         self.has_long_line
     }
 
-    /// Returns why the text isn't held.
-    pub fn fault(&self) -> Option<Unheld>
-        ensures { result ≡ self.now.fault }
+    /// Returns whether the text is too long.
+    pub fn is_too_long(&self) -> bool
+        ensures { result ≡ self.now.is_too_long }
     {
-        self.fault
+        self.is_too_long
     }
 }

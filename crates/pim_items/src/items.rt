@@ -14,7 +14,7 @@ ghost use Rattle.pim_items.specs.Held.{HoldsText, IsKnown, GivesText, GivesTextI
 ghost use Rattle.pim_items.specs.Held.{reading_seen, has_send, TakesSome};
 
 use crate::answers::Answers;
-use crate::held_text::{HeldText, Unheld};
+use crate::held_text::HeldText;
 use crate::input::{Found, Input, Stopped};
 use crate::sort::{is_blank, is_from};
 use pim_addr::Feed;
@@ -29,8 +29,8 @@ pub struct TextItem {
     /// Whether its `from` line or one of its own lines has more than 1,048,576 bytes. Then nothing
     /// is held of it.
     pub has_long_line: bool,
-    /// Why the text isn't held, if it isn't. After `TooLong` its `from` line is held.
-    pub fault: Option<Unheld>,
+    /// Whether it has more than 8,388,608 bytes. Then only its `from` line is held.
+    pub is_too_long: bool,
 }
 
 /// An item of the input.
@@ -134,7 +134,7 @@ fn take_text<R: Feed, W: Answers>(
     Ok(Item::Text(TextItem {
         is_sent,
         has_long_line: held.has_long_line(),
-        fault: held.fault(),
+        is_too_long: held.is_too_long(),
     }))
 }
 
@@ -225,7 +225,7 @@ impl<R: Feed> Items<R> {
     /// Returns the items of a device, of which nothing was read.
     ///
     /// # Errors
-    /// If memory for the buffer is refused.
+    /// If memory for a line, or for the longest text, is refused.
     pub fn new(alloc: Global, reader: R) -> Result<Self, AllocError>
     where
         R: Drop,
@@ -238,7 +238,7 @@ impl<R: Feed> Items<R> {
     {
         Ok(Items {
             input: Input::new(alloc, reader)?,
-            held: HeldText::new(alloc),
+            held: HeldText::new(alloc)?,
             has_stopped: false,
         })
     }

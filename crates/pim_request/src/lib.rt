@@ -33,5 +33,5 @@ pub use hex::decode_hex;
 pub use one_request::{
     line_has_one_fault, line_states_one_command, line_states_one_sender, sender_has_one_fault,
 };
-pub use pim_items::{Answers, Item, Items, Stopped, TextItem, Unheld};
+pub use pim_items::{Answers, Item, Items, Stopped, TextItem};
 pub use reading::{of_family, read_command, read_sender};

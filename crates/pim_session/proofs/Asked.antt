@@ -1,23 +1,41 @@
 -- What an item asks for, by what is held of it.
-use Rattle.std.proofs.Common.{◌≡◌, ℕ, ◌≤◌, Bool, true, false, List, length, Option, None, Some, is_some, Result, Ok, Err, sym, ap, subst, ◌∙◌, inl, inr}
+use Rattle.std.proofs.Common.{◌≡◌, ℕ, ◌<◌, ◌≤◌, Bool, true, false, List, length, codes, Result, Ok, Err, sym, ap, subst, ◌∙◌, inl, inr}
 use Rattle.pim_text.specs.Read.{IsRead}
 use Rattle.pim_request.specs.declared.command.Sender.{Sender}
-use Rattle.pim_request.specs.Commands.{StatesSender}
-use Rattle.pim_items.specs.declared.held_text.Unheld.{Unheld}
+use Rattle.pim_request.specs.declared.command.WordsFault.{WordsFault}
+use Rattle.pim_request.specs.Commands.{StatesSender, IsSenderFault}
 use Rattle.pim_items.specs.declared.items.Item.TheVariants.{Line, LongLine, Text as TextOf}
 use Rattle.pim_items.specs.declared.items.TextItem.{TextItem}
 use Rattle.pim_items.specs.Items.{Text, Item, a_line, a_long_line, a_text, bytes_of_lines, has_long_line, text_limit}
 use Rattle.pim_items.specs.Reading.{Reading, Holds, IsText, IsItem}
 use Rattle.pim_session.specs.declared.request.Request.{Request}
 use Rattle.pim_session.specs.declared.request.Request.TheVariants.{Command, From}
-use Rattle.pim_session.specs.Request.{long_line_words, AsksLine, AsksText, Asks}
+use Rattle.pim_session.specs.Request.{long_line_words, wrong_words, AsksLine, AsksText, Asks}
 use Rattle.pim_session.specs.Seen.{AsksFrom}
 
 -- ---- what is held
 
-pub all_held : (fault : Option Unheld) (text : Text) (from_line bytes : List ℕ) → Holds fault text from_line bytes → is_some fault ≡ false → (from_line ≡ text.head) × (bytes ≡ bytes_of_lines text.lines)
-all_held None text from_line bytes holds none = (holds.0, holds.1)
-all_held (Some fault) text from_line bytes holds none = absurd cc
+pub all_held : (is_too_long : Bool) (text : Text) (from_line bytes : List ℕ) → Holds is_too_long text from_line bytes → is_too_long ≡ false → (from_line ≡ text.head) × (bytes ≡ bytes_of_lines text.lines)
+all_held false text from_line bytes holds short = (holds.0, holds.1)
+all_held true text from_line bytes holds short = absurd cc
+
+head_held : (is_too_long : Bool) (text : Text) (from_line bytes : List ℕ) → Holds is_too_long text from_line bytes → from_line ≡ text.head
+head_held false text from_line bytes holds = holds.0
+head_held true text from_line bytes holds = holds.0
+
+long_held : (is_too_long : Bool) (text : Text) (from_line bytes : List ℕ) → Holds is_too_long text from_line bytes → is_too_long ≡ true → text_limit < length (bytes_of_lines text.lines)
+long_held false text from_line bytes holds long = absurd cc
+long_held true text from_line bytes holds long = holds.1
+
+-- ---- a text with a fault
+
+module _ (text : Text) (is_too_long : Bool) (from_line line bytes : List ℕ) (holds : Holds is_too_long text from_line bytes) (same : line ≡ from_line) where
+  pub words_asked : (fault : WordsFault) (words : List ℕ) → IsSenderFault line fault → words ≡ wrong_words fault → AsksText text (Err words)
+  words_asked fault words wrong is = inl (fault, subst (λ (l : List ℕ). IsSenderFault l fault) (same ∙ head_held is_too_long text from_line bytes holds) wrong, is)
+
+  pub long_asked_text : (sender : Sender) (words : List ℕ) → StatesSender line sender → is_too_long ≡ true → words ≡ codes "text too-long" → AsksText text (Err words)
+  long_asked_text sender words states long is =
+      inr (sender, subst (λ (l : List ℕ). StatesSender l sender) (same ∙ head_held is_too_long text from_line bytes holds) states, inl (long_held is_too_long text from_line bytes holds long, is))
 
 -- ---- a held text
 
@@ -34,7 +52,7 @@ from_asked text sender bytes is_sent (Ok (From from)) states is short same asks 
     }
 from_asked text sender bytes is_sent (Err words) states is short same asks =
     let limit : length (bytes_of_lines text.lines) ≤ text_limit = subst (λ (l : List ℕ). length l ≤ text_limit) is short in
-    inl (inr (sender, states, inr (limit, rw (sym is, sym same) asks)))
+    inr (sender, states, inr (limit, rw (sym is, sym same) asks))
 
 -- ---- items
 

@@ -1,6 +1,5 @@
 -- What an item asks for is one thing.
-use Rattle.std.proofs.Common.{◌≡◌, ◌∙◌, ◌≢◌, sym, ap, subst, refl, inl, inr, ℕ, Bool, true, false, List, ◌++◌, Result, Ok, Err, codes, decimal, length, arith}
-use Rattle.std.specs.Prelude.{⊤}
+use Rattle.std.proofs.Common.{◌≡◌, ◌∙◌, sym, ap, subst, refl, inl, inr, ℕ, Bool, true, false, List, ◌++◌, Result, Ok, Err, codes, decimal, length, arith}
 use Rattle.std.proofs.lemmas.Bool.{false≢true}
 use Rattle.pim_text.specs.declared.line.Stated.{Stated}
 use Rattle.pim_text.specs.Read.{IsRead, IsWrongLine}
@@ -34,11 +33,6 @@ SameAsked (Ok one) (Ok other) = SameRequest one other
 SameAsked (Err one) (Err other) = one ≡ other
 SameAsked one other = ⊥
 
--- It is no fault of these words.
-abbrev pub IsNot : List ℕ → Result Request (List ℕ) → Type 0
-IsNot words (Ok request) = ⊤
-IsNot words (Err other) = other ≢ words
-
 -- All that a lower crate says of lines and texts.
 pub record Laws : Type 0 where
   pub command : OneCommand
@@ -56,11 +50,6 @@ same_words (Word one) (Word other) same = ap (λ (w : List ℕ). codes "word " +
 same_words (Address one) (Address other) same = ap (λ (w : List ℕ). codes "address " ++ w) same
 same_words Hex Hex same = refl
 same_words one other same = absurd same
-
--- A text asks for memory, or has a fault of its own.
-text_fault : (text : Text) (words : List ℕ) → AsksText text (Err words) → words ≢ codes "memory" → IsTextFault text words
-text_fault text words (inl fault) other = fault
-text_fault text words (inr memory) other = absurd (other memory)
 
 module _ (laws : Laws) where
   -- ---- lines
@@ -119,14 +108,14 @@ module _ (laws : Laws) where
         text = same;
       }
 
-  of_text : (text : Text) (one other : Result Request (List ℕ)) → AsksText text one → AsksText text other → IsNot (codes "memory") one → IsNot (codes "memory") other → SameAsked one other
-  of_text text (Ok (Command one)) other is too room more = absurd is
-  of_text text (Ok (From one)) (Ok (Command other)) is too room more = absurd too
-  of_text text (Ok (From one)) (Ok (From other)) is too room more = one_from text one other is too
-  of_text text (Ok (From one)) (Err words) is too room more = absurd (not_both text one words is (text_fault text words too more))
-  of_text text (Err words) (Ok (Command other)) is too room more = absurd too
-  of_text text (Err words) (Ok (From other)) is too room more = absurd (not_both text other words too (text_fault text words is room))
-  of_text text (Err one) (Err other) is too room more = one_fault text one other (text_fault text one is room) (text_fault text other too more)
+  of_text : (text : Text) (one other : Result Request (List ℕ)) → AsksText text one → AsksText text other → SameAsked one other
+  of_text text (Ok (Command one)) other is too = absurd is
+  of_text text (Ok (From one)) (Ok (Command other)) is too = absurd too
+  of_text text (Ok (From one)) (Ok (From other)) is too = one_from text one other is too
+  of_text text (Ok (From one)) (Err words) is too = absurd (not_both text one words is too)
+  of_text text (Err words) (Ok (Command other)) is too = absurd too
+  of_text text (Err words) (Ok (From other)) is too = absurd (not_both text other words too is)
+  of_text text (Err one) (Err other) is too = one_fault text one other is too
 
   -- ---- items
 
@@ -135,11 +124,11 @@ module _ (laws : Laws) where
   both_long words (Err one) (Ok other) is too = absurd cc
   both_long words (Err one) (Err other) is too = let both : Path (Result Request (List ℕ)) (Err one) (Err other) = is ∙ sym too in cc
 
-  of_some_text : (long : Bool) (text : Text) (one other : Result Request (List ℕ)) → AsksTextOf long text one → AsksTextOf long text other → IsNot (codes "memory") one → IsNot (codes "memory") other → SameAsked one other
-  of_some_text true text one other is too room more = both_long long_line_words one other is too
-  of_some_text false text one other is too room more = of_text text one other is too room more
+  of_some_text : (long : Bool) (text : Text) (one other : Result Request (List ℕ)) → AsksTextOf long text one → AsksTextOf long text other → SameAsked one other
+  of_some_text true text one other is too = both_long long_line_words one other is too
+  of_some_text false text one other is too = of_text text one other is too
 
-  pub one_asked : (item : Item) (one other : Result Request (List ℕ)) → Asks item one → Asks item other → IsNot (codes "memory") one → IsNot (codes "memory") other → SameAsked one other
-  one_asked (a_line line) one other is too room more = of_line line one other is too
-  one_asked a_long_line one other is too room more = both_long long_line_words one other is too
-  one_asked (a_text text) one other is too room more = of_some_text (has_long_line text) text one other is too room more
+  pub one_asked : (item : Item) (one other : Result Request (List ℕ)) → Asks item one → Asks item other → SameAsked one other
+  one_asked (a_line line) one other is too = of_line line one other is too
+  one_asked a_long_line one other is too = both_long long_line_words one other is too
+  one_asked (a_text text) one other is too = of_some_text (has_long_line text) text one other is too

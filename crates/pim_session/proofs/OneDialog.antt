@@ -6,20 +6,15 @@ use Rattle.pim_session.specs.Answers.{Answers}
 use Rattle.pim_session.specs.Dialog.{IsDialog}
 use Rattle.pim_session.specs.OneDialog.{IsDialogWithRoom, OneAnswerToItem, OneDialog, DialogWithRoom}
 use Rattle.pim_session.specs.State.{Session}
-use Rattle.pim_session.proofs.OneAsked.{IsNot, one_asked}
+use Rattle.pim_session.proofs.OneAsked.{one_asked}
 use Rattle.pim_session.proofs.OneAsked as asking
 use Rattle.pim_session.proofs.OneAnswered.{one_answered}
 use Rattle.pim_session.proofs.OneAnswered as answering
 
--- A fault that isn't answered by `memory` isn't that of memory.
-not_memory : (session : Session) (asked : Result Request (List ℕ)) (text : List ℕ) (after : Session) → Answers session asked text after → text ≢ memory_line → IsNot (codes "memory") asked
-not_memory session (Ok request) text after is room = tt
-not_memory session (Err words) text after is room = λ memory. room (is.0 ∙ ap fault_line memory)
-
 pub one_answer_to_item : asking.Laws → answering.Laws → OneAnswerToItem
 one_answer_to_item asked answered session item text other after end is too room more =
     one_answered answered session is.asked too.asked text other after end
-    (one_asked asked item is.asked too.asked is.asks too.asks (not_memory session is.asked text after is.answers room) (not_memory session too.asked other end too.answers more))
+    (one_asked asked item is.asked too.asked is.asks too.asks)
     is.answers too.answers room more
 
 pub one_dialog : OneAnswerToItem → OneDialog

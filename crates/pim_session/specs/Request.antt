@@ -70,11 +70,11 @@ AsksLine line (Ok (From from)) = ⊥
 AsksLine line (Err words) = (fault : WordsFault) × IsWordsFault line fault
     × (words ≡ wrong_words fault)
 
--- What a text asks for, or the words of its fault. Memory may be refused for it.
+-- What a text asks for, or the words of its fault.
 abbrev pub AsksText : Text → Result Request (List ℕ) → Type 0
 AsksText text (Ok (Command command)) = ⊥
 AsksText text (Ok (From from)) = IsFrom text from
-AsksText text (Err words) = IsTextFault text words ⊎ (words ≡ codes "memory")
+AsksText text (Err words) = IsTextFault text words
 
 -- The same, where one of its lines may be too long.
 abbrev pub AsksTextOf : Bool → Text → Result Request (List ℕ) → Type 0

@@ -12,7 +12,7 @@ ghost use Rattle.pim_session.specs.Seen.{asked_seen, IsFitIfAny, AsksFrom};
 
 use pim_addr::Feed;
 use pim_answers::{Fault, FromText};
-use pim_items::{Item, Items, TextItem, Unheld};
+use pim_items::{Item, Items, TextItem};
 use pim_request::{Command, Sender, WordsFault, read_command, read_sender};
 use pim_text::{Stated, read_message_text};
 
@@ -88,14 +88,11 @@ fn request_of_text<'a, R: Feed>(
         AsksText text (asked_seen result) }
     ensures fit { IsFitIfAny result }
 {
-    if item.fault == Some(Unheld::Memory) {
-        return Err(Fault::memory());
-    }
     let sender = match read_sender(items.from_line()) {
         Ok(sender) => sender,
         Err(fault) => return Err(words_fault(fault)),
     };
-    if item.fault.is_some() {
+    if item.is_too_long {
         return Err(Fault::plain(b"text too-long"));
     }
     request_of_held(sender, items.text(), item.is_sent)

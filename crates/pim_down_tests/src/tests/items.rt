@@ -5,7 +5,7 @@ ghost use Rattle.std.specs.Prelude.{◌≡◌, ◌+◌, min, None};
 ghost use Rattle.pim_device.specs.Device.{top_count};
 
 use pim_device::{Drain, Failed, ScriptedDrain, ScriptedFeed};
-use pim_items::{Answers, Item, Items, Stopped, TextItem, Unheld};
+use pim_items::{Answers, Item, Items, Stopped, TextItem};
 use std::alloc::{AllocError, Global};
 use std::test::Fail;
 
@@ -47,11 +47,12 @@ const INPUTS: [Row<'static>; 22] = [
 /// The pieces of a text as the rows have it: of one that isn't held, only what is known.
 fn pieces<'a>(text: TextItem, from: &'a [u8], lines: &'a [u8]) -> [&'a [u8]; 5] {
     let end: &'a [u8] = if text.is_sent { b".;" } else { b",;" };
-    match text.fault {
-        _ if text.has_long_line => [b"T?;", b"", b"", b"", b""],
-        Some(Unheld::Memory) => [b"TM;", b"", b"", b"", b""],
-        Some(Unheld::TooLong) => [b"T", from, b"!;", b"", b""],
-        None => [b"T", from, b"|", lines, end],
+    if text.has_long_line {
+        [b"T?;", b"", b"", b"", b""]
+    } else if text.is_too_long {
+        [b"T", from, b"!;", b"", b""]
+    } else {
+        [b"T", from, b"|", lines, end]
     }
 }
 
