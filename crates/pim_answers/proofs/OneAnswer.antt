@@ -25,13 +25,13 @@ use Rattle.pim_text.specs.OneReading.{OneBody, LongBody}
 use Rattle.pim_text.specs.Spell.{IsLong, stated_in}
 use Rattle.pim_text.specs.Spelled.{address_bytes}
 use Rattle.pim_answers.specs.declared.packets.FromText.{FromText}
-use Rattle.pim_answers.specs.Answered.{Refused, RefusedIf, RefusedBy, OrMemory, Done}
+use Rattle.pim_answers.specs.Answered.{Refused, RefusedIf, RefusedBy, OrMemory, OrMemoryIf, Done}
 use Rattle.pim_answers.specs.Asking.{UnlessIf, UnlessAny, TellsMade, too_big_words, KeepsAsked, kept_now, TellsOf, IfUsable, AnswersFound, TellsChange, has_other_family, name_words, IsFirstBig, AreCompared, same_line, TellsSame, writer_of, writer_words}
 use Rattle.pim_answers.specs.Families.{differ_from, family_words}
 use Rattle.pim_answers.specs.Kept.{Kept, with_kept, lacks_place, is_usable}
 use Rattle.pim_answers.specs.Lines.{ok_line, fault_line, memory_line}
 use Rattle.pim_answers.specs.OneAnswer.{OneAnswer, OneText, OneRun, OnePacket, OneFrom, OneKeep, OneNext, OneWants, OneMessages, OneChange, OneSame}
-use Rattle.pim_answers.specs.Packets.{lacks_port, port_words, addresses_of, Takes, packet_of, packet_from, destination_of, type_of, IsMessageOf, TakesText, TakesShort}
+use Rattle.pim_answers.specs.Packets.{lacks_port, port_words, addresses_of, Takes, NeedsMemory, packet_of, packet_from, destination_of, type_of, IsMessageOf, TakesText, TakesShort}
 use Rattle.pim_answers.specs.Running.{Passes}
 use Rattle.pim_answers.specs.Telling.{moment_line}
 
@@ -55,6 +55,14 @@ module _ {S : Type 0} where
   pub with_room : (state : S) (Does : List ℕ → S → Type 0) (text : List ℕ) (after : S) → OrMemory state Does text after → text ≢ memory_line → Does text after
   with_room state Does text after (inl does) room = does
   with_room state Does text after (inr memory) room = absurd (room memory.0)
+
+  with_room_if : (May : Type 0) (state : S) (Does : List ℕ → S → Type 0) (text : List ℕ) (after : S) → OrMemoryIf May state Does text after → text ≢ memory_line → Does text after
+  with_room_if May state Does text after (inl does) room = does
+  with_room_if May state Does text after (inr memory) room = absurd (room memory.1)
+
+  one_or_memory_if : (May : Type 0) (state : S) (Does : List ℕ → S → Type 0) → OneAnswer Does → OneAnswer (OrMemoryIf May state Does)
+  one_or_memory_if May state Does one text other after end is too room more =
+      one text other after end (with_room_if May state Does text after is room) (with_room_if May state Does other end too more) room more
 
   pub one_or_memory : (state : S) (Does : List ℕ → S → Type 0) → OneAnswer Does → OneAnswer (OrMemory state Does)
   one_or_memory state Does one text other after end is too room more =
@@ -120,7 +128,7 @@ pub one_packet : OnePacket
 one_packet family packet router =
     one_if (differ_from family (packet.source ∷ packet.destination ∷ [])) family_words router _
     (one_if (lacks_port packet.port router) (port_words packet.port) router _
-    (one_or_memory router (Takes family (packet_of packet) router) (one_taken family (packet_of packet) router)))
+    (one_or_memory_if (NeedsMemory family (packet_of packet) router) router (Takes family (packet_of packet) router) (one_taken family (packet_of packet) router)))
 
 module _ (one : OneBody) (long : LongBody) (checksum : OneChecksum) (family : AddressFamily) (from : FromText) (router : RouterState) where
   one_message : (source destination message other : List ℕ) → IsMessageOf family from.text.now source destination message → IsMessageOf family from.text.now source destination other → message ≡ other

@@ -1,5 +1,5 @@
 -- Packets that a router takes.
-use Rattle.std.proofs.Common.{◌≡◌, ◌⊎◌, ℕ, ◌<◌, ◌≤◌, true, false, List, [], ◌∷◌, ◌++◌, length, codes, Option, Result, refl, sym, ap, subst, inl, inr, ◌∙◌, arith}
+use Rattle.std.proofs.Common.{◌≡◌, ◌⊎◌, ℕ, ◌*◌, ◌<◌, ◌≤◌, true, false, List, [], ◌∷◌, ◌++◌, length, codes, Option, Result, refl, sym, ap, subst, inl, inr, ◌∙◌, arith}
 use Rattle.std.proofs.lemmas.Bool.{le-leb, lt-leb}
 use Rattle.pim_device.specs.Device.{AppendsAll}
 use Rattle.pim_request.specs.declared.command.Packet.{Packet as Arrived}
@@ -12,12 +12,12 @@ use Rattle.pim_router.specs.Packets.{Packet, received}
 use Rattle.pim_router.specs.State.{RouterState}
 use Rattle.pim_report.specs.PacketLine.{verdict_line}
 use Rattle.pim_answers.specs.declared.packets.FromText.{FromText}
-use Rattle.pim_answers.specs.Answered.{RefusedIf, OrMemory, Answered, Refused}
+use Rattle.pim_answers.specs.Answered.{RefusedIf, OrMemory, OrMemoryIf, Answered, Refused}
 use Rattle.pim_answers.specs.Families.{differ_from, family_words}
 use Rattle.pim_answers.specs.Lines.{ok_line, fault_line}
-use Rattle.pim_answers.specs.Packets.{Takes, TakesText, TakesShort, IsMessageOf, AnswersPacket, AnswersFrom, lacks_port, port_words, packet_of, packet_from, destination_of}
+use Rattle.pim_answers.specs.Packets.{Takes, NeedsMemory, TakesText, TakesShort, IsMessageOf, AnswersPacket, AnswersFrom, lacks_port, port_words, packet_of, packet_from, destination_of}
 use Rattle.pim_answers.specs.PacketsSeen.{has_other_family}
-use Rattle.pim_answers.proofs.Told.{answered_text, answered_more, refused_if, passed_if, memory_refused}
+use Rattle.pim_answers.proofs.Told.{answered_text, answered_more, refused_if, passed_if}
 
 -- the verdict is told, and the router is as after the packet
 pub taken : (family : AddressFamily) (packet : Packet) (router after : RouterState) (told : Verdict) → (told, after) ≡ received family packet router → Takes family packet router (verdict_line told ++ ok_line) after
@@ -38,8 +38,8 @@ portless port count router is out = le-leb (length router.ports) port (subst (λ
 pub ported : (port count : ℕ) (router : RouterState) → count ≡ length router.ports → port < count → lacks_port port router ≡ false
 ported port count router is within = lt-leb (length router.ports) port (subst (λ (n : ℕ). port < n) is within)
 
--- the bytes of digits are no more than the digits
-pub short_bytes : (hex : List ℕ) → length (hex_bytes hex) ≤ length hex
+-- the bytes of digits are at most half of the digits
+pub short_bytes : (hex : List ℕ) → 2 * length (hex_bytes hex) ≤ length hex
 short_bytes [] = omega arith
 short_bytes (digit ∷ []) = omega arith
 short_bytes (high ∷ low ∷ others) = let rest = short_bytes others in omega arith
@@ -48,7 +48,7 @@ short_bytes (high ∷ low ∷ others) = let rest = short_bytes others in omega a
 
 module _ {A E : Type 0} (family : AddressFamily) (packet : Arrived) (router : RouterState) (old new : Option (List ℕ)) (r : Result A E) where
   abbrev by_memory : List ℕ → RouterState → Type 0
-  by_memory = OrMemory router (Takes family (packet_of packet) router)
+  by_memory = OrMemoryIf (NeedsMemory family (packet_of packet) router) router (Takes family (packet_of packet) router)
 
   abbrev by_port : List ℕ → RouterState → Type 0
   by_port = RefusedIf (lacks_port packet.port router) (port_words packet.port) router by_memory
@@ -67,14 +67,10 @@ module _ {A E : Type 0} (family : AddressFamily) (packet : Arrived) (router : Ro
         by_family router (refused_if (lacks_port packet.port router) (port_words packet.port) words router router by_memory old new r lacks is refl written)
 
     module _ (ported : lacks_port packet.port router ≡ false) where
-      pub packet_unheld : (words : List ℕ) → words ≡ codes "memory" → AppendsAll old new r (fault_line words) → Answered (AnswersPacket family packet router) old new r (λ _. router)
-      packet_unheld words is written = by_family router (passed_if (lacks_port packet.port router) (port_words packet.port) router by_memory old new r (λ _. router) ported
-          (memory_refused router router (Takes family (packet_of packet) router) old new r words refl is written))
-
-      pub packet_taken : (given : Packet) (after : RouterState) → given ≡ packet_of packet → Answered (OrMemory router (Takes family given router)) old new r (λ _. after)
+      pub packet_taken : (given : Packet) (after : RouterState) → given ≡ packet_of packet → Answered (OrMemoryIf (NeedsMemory family given router) router (Takes family given router)) old new r (λ _. after)
           → Answered (AnswersPacket family packet router) old new r (λ _. after)
       packet_taken given after is it = by_family after (passed_if (lacks_port packet.port router) (port_words packet.port) router by_memory old new r (λ _. after) ported
-          (subst (λ (p : Packet). Answered (OrMemory router (Takes family p router)) old new r (λ _. after)) is it))
+          (subst (λ (p : Packet). Answered (OrMemoryIf (NeedsMemory family p router) router (Takes family p router)) old new r (λ _. after)) is it))
 
 -- ---- `from`
 
@@ -107,16 +103,16 @@ module _ {A E : Type 0} (family : AddressFamily) (from : FromText) (router : Rou
           short (inr is) = inr (inr (ap fault_line is, refl))
 
       pub from_taken : (message source destination : List ℕ) (given : Packet) (after : RouterState) → IsMessageOf family from.text.now source destination message → source ≡ address_bytes from.sender.source
-          → destination ≡ destination_of family from.sender.destination → given ≡ packet_from family from.sender message → Answered (OrMemory router (Takes family given router)) old new r (λ _. after)
+          → destination ≡ destination_of family from.sender.destination → given ≡ packet_from family from.sender message → Answered (OrMemoryIf (NeedsMemory family given router) router (Takes family given router)) old new r (λ _. after)
           → Answered (AnswersFrom family from router) old new r (λ _. after)
       from_taken message source destination given after is s d p it =
           let told : IsMessageOf family from.text.now (address_bytes from.sender.source) (destination_of family from.sender.destination) message =
           subst (λ (a : List ℕ). IsMessageOf family from.text.now a (destination_of family from.sender.destination) message) s
           (subst (λ (a : List ℕ). IsMessageOf family from.text.now source a message) d is) in
-          of_text after (answered_more (OrMemory router (Takes family given router)) (TakesShort family from router) old new r (λ _. after)
+          of_text after (answered_more (OrMemoryIf (NeedsMemory family given router) router (Takes family given router)) (TakesShort family from router) old new r (λ _. after)
           (λ text end does. inr (more message given told p text end does)) it)
         where
           more : (message : List ℕ) (given : Packet) → IsMessageOf family from.text.now (address_bytes from.sender.source) (destination_of family from.sender.destination) message
-              → given ≡ packet_from family from.sender message → (text : List ℕ) (end : RouterState) → OrMemory router (Takes family given router) text end → OrMemory router (TakesText family from router) text end
+              → given ≡ packet_from family from.sender message → (text : List ℕ) (end : RouterState) → OrMemoryIf (NeedsMemory family given router) router (Takes family given router) text end → OrMemory router (TakesText family from router) text end
           more message given told p text end (inl takes) = inl (message, told, subst (λ (q : Packet). Takes family q router text end) p takes)
-          more message given told p text end (inr refused) = inr refused
+          more message given told p text end (inr (needs, is, same)) = inr (is, same)

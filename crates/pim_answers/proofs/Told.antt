@@ -1,7 +1,7 @@
 -- Answers for which something holds, from their texts.
 use Rattle.std.proofs.Common.{◌≡◌, ℕ, Bool, true, false, List, Option, Result, Ok, Err, codes, sym, ap, subst, inl, inr}
 use Rattle.pim_device.specs.Device.{AppendsAll}
-use Rattle.pim_answers.specs.Answered.{Refused, RefusedIf, OrMemory, Answered, Told}
+use Rattle.pim_answers.specs.Answered.{Refused, RefusedIf, OrMemoryIf, Answered, Told}
 use Rattle.pim_answers.specs.Lines.{fault_line}
 
 -- a text that was written
@@ -36,12 +36,12 @@ module _ {S : Type 0} where
   passed_if test words state Does old new r after fails it =
       subst (λ (b : Bool). Answered (RefusedIf b words state Does) old new r after) (sym fails) it
 
-  -- memory that was refused
-  pub memory_refused : {A E : Type 0} (state after : S) (Does : List ℕ → S → Type 0) (old new : Option (List ℕ)) (r : Result A E) (text : List ℕ) → after ≡ state → text ≡ codes "memory" → AppendsAll old new r (fault_line text)
-      → Answered (OrMemory state Does) old new r (λ _. after)
-  memory_refused state after Does old new r text same is written =
-      answered_text (OrMemory state Does) old new r after (fault_line text) (inr (ap fault_line is, same)) written
+  -- memory that was refused, where it may be
+  pub memory_refused : {A E : Type 0} (May : Type 0) (state after : S) (Does : List ℕ → S → Type 0) (old new : Option (List ℕ)) (r : Result A E) (text : List ℕ) → May → after ≡ state → text ≡ codes "memory" → AppendsAll old new r (fault_line text)
+      → Answered (OrMemoryIf May state Does) old new r (λ _. after)
+  memory_refused May state after Does old new r text may same is written =
+      answered_text (OrMemoryIf May state Does) old new r after (fault_line text) (inr (may, ap fault_line is, same)) written
 
   -- what was done, where memory might have been refused
-  pub memory_given : {A E : Type 0} (state : S) (Does : List ℕ → S → Type 0) (old new : Option (List ℕ)) (r : Result A E) (after : S) (text : List ℕ) → Does text after → AppendsAll old new r text → Answered (OrMemory state Does) old new r (λ _. after)
-  memory_given state Does old new r after text does written = answered_text (OrMemory state Does) old new r after text (inl does) written
+  pub memory_given : {A E : Type 0} (May : Type 0) (state : S) (Does : List ℕ → S → Type 0) (old new : Option (List ℕ)) (r : Result A E) (after : S) (text : List ℕ) → Does text after → AppendsAll old new r text → Answered (OrMemoryIf May state Does) old new r (λ _. after)
+  memory_given May state Does old new r after text does written = answered_text (OrMemoryIf May state Does) old new r after text (inl does) written

@@ -24,6 +24,11 @@ module _ {S : Type 0} where
   abbrev pub OrMemory : S → (List ℕ → S → Type 0) → List ℕ → S → Type 0
   OrMemory state Does text after = Does text after ⊎ (text ≡ memory_line) × (after ≡ state)
 
+  -- The same, where memory is refused only if this holds.
+  abbrev pub OrMemoryIf : Type 0 → S → (List ℕ → S → Type 0) → List ℕ → S → Type 0
+  OrMemoryIf May state Does text after =
+      Does text after ⊎ May × (text ≡ memory_line) × (after ≡ state)
+
   -- The command is done by `ok` alone, and this is the state after it.
   abbrev pub Done : S → List ℕ → S → Type 0
   Done end text after = (text ≡ ok_line) × (after ≡ end)

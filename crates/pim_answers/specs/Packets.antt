@@ -1,24 +1,28 @@
 -- The commands by which a packet arrives.
 use Rattle.std.specs.Prelude.{◌≡◌, ◌⊎◌, ℕ, ◌≤◌, Bool, true, false, ◌||◌, not, nat_le, List, [], ◌∷◌, ◌++◌, length, codes, decimal}
-use Rattle.std.specs.Prelude.{Option, None, Some}
+use Rattle.std.specs.Prelude.{Option, None, Some, IsTrue}
 use Rattle.pim_addr.specs.declared.family.AddressFamily.{AddressFamily}
 use Rattle.pim_frame.specs.declared.frame.MessageType.{MessageType}
 use Rattle.pim_frame.specs.declared.frame.MessageType.TheVariants.{Hello, JoinPrune}
-use Rattle.pim_frame.specs.Frame.{all_routers}
+use Rattle.pim_frame.specs.Frame.{all_routers, content}
 use Rattle.pim_frame.specs.Seal.{IsSealed}
 use Rattle.pim_text.specs.declared.line.AnyAddress.{AnyAddress}
 use Rattle.pim_text.specs.Spell.{IsSpelled, IsLong, stated_in}
 use Rattle.pim_request.specs.declared.command.Packet.{Packet}
 use Rattle.pim_request.specs.declared.command.Sender.{Sender}
 use Rattle.pim_request.specs.Forms.{hex_bytes}
-use Rattle.pim_router.specs.Packets.{Packet as Received, received}
+use Rattle.pim_router.specs.Packets.{Packet as Received, received, causes, may_grow}
 use Rattle.pim_router.specs.State.{RouterState}
 use Rattle.pim_report.specs.PacketLine.{verdict_line}
 use Rattle.pim_answers.specs.declared.packets.FromText.{FromText}
-use Rattle.pim_answers.specs.Answered.{Refused, RefusedIf, OrMemory}
+use Rattle.pim_answers.specs.Answered.{Refused, RefusedIf, OrMemory, OrMemoryIf}
 use Rattle.pim_text.specs.Spelled.{address_bytes}
 use Rattle.pim_answers.specs.Families.{differ_from, family_words}
 use Rattle.pim_answers.specs.Lines.{ok_line}
+
+-- The most bytes that the digits of a command state: half the most bytes of a line.
+abbrev pub room_limit : ℕ
+room_limit = 524288
 
 -- The router has no port with this number.
 abbrev pub lacks_port : ℕ → RouterState → Bool
@@ -42,12 +46,20 @@ packet_of packet = record {
   bytes = hex_bytes packet.hex.now;
 }
 
+-- Taking the packet needs memory: no cause refuses it, and it may bring a neighbour, a time or a
+-- record.
+abbrev pub NeedsMemory : AddressFamily → Received → RouterState → Type 0
+NeedsMemory family packet router =
+    (causes family packet router ≡ [])
+    × IsTrue (may_grow family packet.port packet.source router (content packet.bytes))
+
 -- `packet`
 abbrev pub AnswersPacket : AddressFamily → Packet → RouterState → List ℕ → RouterState → Type 0
 AnswersPacket family packet router =
     RefusedIf (differ_from family (packet.source ∷ packet.destination ∷ [])) family_words router
     (RefusedIf (lacks_port packet.port router) (port_words packet.port) router
-    (OrMemory router (Takes family (packet_of packet) router)))
+    (OrMemoryIf (NeedsMemory family (packet_of packet) router) router
+    (Takes family (packet_of packet) router)))
 
 -- ---- packets by the text of their message
 

@@ -5,7 +5,8 @@
 //! device fails, a prefix of that text was written, and only then does the device's count of
 //! failures rise. A command that is refused changes nothing.
 //!
-//! - `answer_packet` and `answer_from` let a port take a packet now; no timer fires.
+//! - `answer_packet` and `answer_from` let a port take a packet now; no timer fires. The message
+//!   lies in a `Room`, which has place for the longest one.
 //! - `answer_run` lets time pass, and writes each echo and each refresh.
 //! - `answer_now`, `answer_next`, `answer_state`, `answer_wants` and `answer_neighbours` tell of
 //!   the router and leave it unchanged.
@@ -19,8 +20,9 @@
 //! - `write_fault`, `write_ok` and `write_done` write the last line of an answer.
 //!
 //! A `Store` knows no router, so that it outlives each. It holds forms of both families; `Found` is
-//! what a router of one family finds under a name. Memory may be refused for a packet, a demand,
-//! messages and a form; then the answer is `fault memory`, and nothing has changed.
+//! what a router of one family finds under a name. Memory may be refused for the text of a message,
+//! a demand, messages and a form, and for a packet as `Router::take_packet` says. Then the answer
+//! is `fault memory`, and nothing has changed.
 #![tactic(auto)]
 
 mod asking;
@@ -29,6 +31,7 @@ mod kept;
 mod neighbours;
 mod one_answer;
 mod packets;
+mod room;
 mod running;
 mod telling;
 
@@ -40,5 +43,6 @@ pub use one_answer::{
     demand_has_one_answer, messages_have_one_answer, packet_has_one_answer, run_has_one_answer,
 };
 pub use packets::{FromText, answer_from, answer_packet};
+pub use room::Room;
 pub use running::answer_run;
 pub use telling::{answer_neighbours, answer_next, answer_now, answer_state, answer_wants};

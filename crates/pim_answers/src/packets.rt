@@ -1,30 +1,29 @@
 //! The commands by which a packet arrives: `packet`, and `from` with the text of a message.
 
-ghost use Rattle.std.specs.Prelude.{◌≡◌, ◌<◌, ◌≤◌, ◌^◌, ◌+◌, ◌++◌, ◌∷◌, [], true, false, length};
-ghost use Rattle.std.specs.Prelude.{drop, None};
-ghost use Rattle.std.specs.Prelude.{IfOk, IfErr, IfSome, IfNone};
+ghost use Rattle.std.specs.Prelude.{◌≡◌, ◌<◌, ◌≤◌, ◌^◌, ◌*◌, ◌++◌, ◌∷◌, [], true, false, length};
+ghost use Rattle.std.specs.Prelude.{None, IfOk, IfErr, IfSome, IfNone};
 ghost use Rattle.pim_device.specs.Device.{AppendsAll, failures_after};
-ghost use Rattle.pim_frame.specs.Seal.{IsSealed};
 ghost use Rattle.pim_text.specs.Spell.{stated_in};
 ghost use Rattle.pim_request.specs.Forms.{IsHex};
 ghost use Rattle.pim_router.specs.Seen.{packet_seen};
 ghost use Rattle.pim_report.specs.PacketLine.{verdict_line};
-ghost use Rattle.pim_answers.specs.Answered.{OrMemory, Answered};
+ghost use Rattle.pim_answers.specs.Answered.{OrMemoryIf, Answered};
 ghost use Rattle.pim_answers.specs.Families.{differ_from};
 ghost use Rattle.pim_answers.specs.Lines.{ok_line};
-ghost use Rattle.pim_answers.specs.Packets.{Takes, AnswersPacket, addresses_of, type_of};
-ghost use Rattle.pim_answers.specs.Packets.{IsMessageOf, AnswersFrom};
+ghost use Rattle.pim_answers.specs.Packets.{Takes, NeedsMemory, AnswersPacket, addresses_of};
+ghost use Rattle.pim_answers.specs.Packets.{type_of, room_limit, IsMessageOf, AnswersFrom};
 ghost use Rattle.pim_answers.specs.PacketsSeen.{IsPort, AreEnds, AreEndsOf, has_other_family};
 ghost use Rattle.pim_answers.specs.PacketsSeen.{IsFillFault};
 
 use crate::fault::{Fault, write_fault, write_ok};
+use crate::room::Room;
 use pim_addr::{AddressFamily, Drain, Failed, Family};
-use pim_frame::{MessageType, all_routers, seal};
+use pim_frame::{MessageType, all_routers};
 use pim_report::write_verdict_line;
-use pim_request::{Packet, Sender, decode_hex, of_family};
+use pim_request::{Packet, Sender, of_family};
 use pim_router::{Router, Verdict};
-use pim_text::{AnyAddress, Spelled, Stated, TextFault, spell};
-use std::alloc::{AllocError, Global};
+use pim_text::{AnyAddress, Stated, TextFault, spell};
+use std::alloc::Global;
 
 /// A packet whose message is given as a text.
 #[derive(Clone, Copy, Debug)]
@@ -87,7 +86,10 @@ fn take<F: Family, W: Drain>(
 ) -> Result<(), Failed>
     requires port { port < length router.old.ports }
     requires bytes { length message.now < 2 ^ 32 }
-    ensures answered { Answered (OrMemory router.old
+    ensures answered { Answered (OrMemoryIf
+        (NeedsMemory F.family
+        (packet_seen F.bytes_of port ends.source ends.destination message.now) router.old)
+        router.old
         (Takes F.family (packet_seen F.bytes_of port ends.source ends.destination message.now)
         router.old))
         (W.contents answers.old) (W.contents answers.new) result (λ _. router.new) }
@@ -99,18 +101,18 @@ fn take<F: Family, W: Drain>(
     }
 }
 
-/// Answers `packet`. `bytes` is room for the message.
+/// Answers `packet`, whose digits are at most 1,048,576.
 ///
 /// # Errors
 /// The device failed: a prefix of the answer was written.
 pub fn answer_packet<F: Family, W: Drain>(
     router: &mut Router<'_, F>,
     packet: &Packet<'_>,
-    bytes: &mut Vec<u8>,
+    room: &mut Room,
     answers: &mut W,
 ) -> Result<(), Failed>
     requires hex { IsHex packet.now.hex.now }
-    requires short { length packet.now.hex.now < 2 ^ 32 }
+    requires short { length packet.now.hex.now ≤ 2 * room_limit }
     ensures answered { Answered (AnswersPacket F.family packet.now router.old)
         (W.contents answers.old) (W.contents answers.new) result (λ _. router.new) }
     ensures count { W.failures answers.new ≡ failures_after (W.failures answers.old) result }
@@ -122,10 +124,8 @@ pub fn answer_packet<F: Family, W: Drain>(
         Ok(port) => port,
         Err(fault) => return write_fault(answers, &fault),
     };
-    match decode_hex(packet.hex, bytes) {
-        Ok(()) => take::<F, W>(router, port, ends, bytes, answers),
-        Err(_) => write_fault(answers, &Fault::memory()),
-    }
+    room.decode(packet.hex);
+    take::<F, W>(router, port, ends, room.message(), answers)
 }
 
 /// Whether each address of the text is of the family.
@@ -189,64 +189,31 @@ fn type_of(is_hello: bool) -> MessageType
     }
 }
 
-/// Fills `bytes` with a header's room and the body.
-fn fill(body: &[u8], bytes: &mut Vec<u8>) -> Result<(), AllocError>
-    ensures { IfOk result (λ _. (drop 4 bytes.new.items ≡ body.now)
-        × (length bytes.new.items ≡ 4 + length body.now)) }
-{
-    bytes.clear();
-    bytes.extend_from_slice(&[0; 4])?;
-    bytes.extend_from_slice(body)?;
-    Ok(())
-}
-
-/// Fills `bytes` with the sealed message.
-fn fill_sealed<F: Family>(
-    ends: Ends<F::Addr>,
-    spelled: &Spelled,
-    bytes: &mut Vec<u8>,
-) -> Result<(), AllocError>
-    requires { length spelled.now.body.items ≤ 65532 }
-    ensures sealed { IfOk result
-        (λ _. IsSealed F.family (F.bytes_of ends.source) (F.bytes_of ends.destination)
-        (type_of spelled.now.is_hello) spelled.now.body.items bytes.new.items) }
-    ensures short { IfOk result (λ _. length bytes.new.items ≤ 65536) }
-{
-    fill(&spelled.body, bytes)?;
-    seal::<F>(
-        ends.source,
-        ends.destination,
-        type_of(spelled.is_hello),
-        bytes,
-    );
-    Ok(())
-}
-
-/// Fills `bytes` with the message that a text spells.
+/// Fills the room with the message that a text spells.
 fn fill_spelled<F: Family>(
     alloc: Global,
     ends: Ends<F::Addr>,
     from: &FromText<'_>,
-    bytes: &mut Vec<u8>,
+    room: &mut Room,
 ) -> Result<(), Fault<'static>>
     requires { length from.now.text.now < 2 ^ 32 }
     ensures message { IfOk result (λ _. IsMessageOf F.family from.now.text.now
-        (F.bytes_of ends.source) (F.bytes_of ends.destination) bytes.new.items) }
-    ensures short { IfOk result (λ _. length bytes.new.items ≤ 65536) }
+        (F.bytes_of ends.source) (F.bytes_of ends.destination) room.new) }
+    ensures short { IfOk result (λ _. length room.new ≤ 65536) }
     ensures fault { IfErr result (IsFillFault F.family from.now.text.now) }
 {
-    let spelled = match spell::<F>(alloc, from.text) {
-        Ok(spelled) => spelled,
-        Err(TextFault::TooLong) => return Err(Fault::plain(b"text too-long")),
-        Err(_) => return Err(Fault::memory()),
-    };
-    match fill_sealed::<F>(ends, &spelled, bytes) {
-        Ok(()) => Ok(()),
+    match spell::<F>(alloc, from.text) {
+        Ok(spelled) => {
+            let message_type = type_of(spelled.is_hello);
+            room.fill_sealed::<F>(ends.source, ends.destination, message_type, &spelled.body);
+            Ok(())
+        }
+        Err(TextFault::TooLong) => Err(Fault::plain(b"text too-long")),
         Err(_) => Err(Fault::memory()),
     }
 }
 
-/// Answers `from` with a text that states a message. `bytes` is room for the message.
+/// Answers `from` with a text that states a message.
 ///
 /// # Errors
 /// The device failed: a prefix of the answer was written.
@@ -254,7 +221,7 @@ pub fn answer_from<F: Family, W: Drain>(
     alloc: Global,
     router: &mut Router<'_, F>,
     from: &FromText<'_>,
-    bytes: &mut Vec<u8>,
+    room: &mut Room,
     answers: &mut W,
 ) -> Result<(), Failed>
     requires { length from.now.text.now < 2 ^ 32 }
@@ -269,8 +236,8 @@ pub fn answer_from<F: Family, W: Drain>(
         Ok(port) => port,
         Err(fault) => return write_fault(answers, &fault),
     };
-    match fill_spelled::<F>(alloc, ends, from, bytes) {
-        Ok(()) => take::<F, W>(router, port, ends, bytes, answers),
+    match fill_spelled::<F>(alloc, ends, from, room) {
+        Ok(()) => take::<F, W>(router, port, ends, room.message(), answers),
         Err(fault) => write_fault(answers, &fault),
     }
 }

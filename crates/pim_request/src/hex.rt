@@ -1,12 +1,10 @@
 //! Hexadecimal digits.
 
-ghost use Rattle.std.specs.Prelude.{◌≡◌, ◌<◌, ◌∷◌, ◌++◌, List, ℕ, [], length, true, IfSome, IfNone};
-ghost use Rattle.std.specs.Prelude.{MatchResult};
+ghost use Rattle.std.specs.Prelude.{◌≡◌, ◌<◌, ◌≤◌, ◌∷◌, [], length, true, IfSome, IfNone};
+ghost use Rattle.std.specs.Prelude.{vec_capacity};
 ghost use Rattle.std.specs.List.{list_all};
 ghost use Rattle.std.specs.Char.{digit_value, is_digit};
 ghost use Rattle.pim_request.specs.Forms.{IsHex, hex_bytes};
-
-use std::alloc::AllocError;
 
 /// The byte of the first two digits of a text, and the text after them.
 #[derive(Clone, Copy)]
@@ -72,21 +70,19 @@ fn next_byte(digits: &[u8]) -> Option<Decoded<'_>>
     }
 }
 
-/// Replaces `bytes` by the bytes that pairs of hexadecimal digits state.
-///
-/// # Errors
-/// Memory ran out. Then `bytes` has some first of these bytes.
-pub fn decode_hex(hex: &[u8], bytes: &mut Vec<u8>) -> Result<(), AllocError>
-    requires { IsHex hex.now }
-    ensures { MatchResult result (λ _. bytes.new.items ≡ hex_bytes hex.now)
-        (λ _. (rest : List ℕ) × (hex_bytes hex.now ≡ bytes.new.items ++ rest)) }
+/// Replaces `bytes` by the bytes that pairs of hexadecimal digits state. It has room for them.
+pub fn decode_hex(hex: &[u8], bytes: &mut Vec<u8>)
+    requires hex { IsHex hex.now }
+    requires room { length (hex_bytes hex.now) ≤ vec_capacity bytes.old }
+    ensures decoded { bytes.new.items ≡ hex_bytes hex.now }
+    ensures room { vec_capacity bytes.old ≤ vec_capacity bytes.new }
 {
     bytes.clear();
-    bytes.reserve(hex.len() / 2)?;
     let mut left = hex;
     while let Some(decoded) = next_byte(left) {
-        bytes.push(decoded.byte)?;
+        let Ok(()) = bytes.push(decoded.byte) else {
+            unreachable!();
+        };
         left = decoded.left;
     }
-    Ok(())
 }

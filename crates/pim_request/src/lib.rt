@@ -6,7 +6,8 @@
 //!   An address may have any of its texts, of either family.
 //! - `read_sender` does the same for a line whose first word is `from`, which begins the text of a
 //!   message.
-//! - `decode_hex` replaces a buffer by the bytes that the digits of a packet state.
+//! - `decode_hex` replaces a buffer, which has room for them, by the bytes that the digits of a
+//!   packet state.
 //! - `of_family` returns an address as one of a family exactly where it is.
 //! - Laws of `one_request`: a line states one command, or one sender, or has one fault of its words,
 //!   and not both.

@@ -31,7 +31,7 @@ short_words test [] = (omega arith, tt)
 short_words test (byte ∷ text) = by_test test byte text (test byte) refl (short_words test text)
 
 -- the last of five words
-last_short : (line a b c d e : List ℕ) (others : List (List ℕ)) → length line ≤ line_limit → words_of line ≡ a ∷ others → others ≡ b ∷ c ∷ d ∷ e ∷ [] → length e < 2 ^ 32
+last_short : (line a b c d e : List ℕ) (others : List (List ℕ)) → length line ≤ line_limit → words_of line ≡ a ∷ others → others ≡ b ∷ c ∷ d ∷ e ∷ [] → length e ≤ line_limit
 last_short line a b c d e others short is words =
     let all : words_of line ≡ a ∷ b ∷ c ∷ d ∷ e ∷ [] = is ∙ ap (λ (l : List (List ℕ)). a ∷ l) words in
     let least : AreShort (length line) (a ∷ b ∷ c ∷ d ∷ e ∷ []) = subst (AreShort (length line)) all (short_words (λ byte. byte == 32) line) in

@@ -1,5 +1,5 @@
 -- The loops over items: each way on and each end.
-use Rattle.std.proofs.Common.{◌≡◌, ◌<◌, ℕ, Bool, true, false, List, ◌∷◌, Option, None, Some, Result, Ok, Err, refl, sym, subst}
+use Rattle.std.proofs.Common.{◌≡◌, ◌<◌, ℕ, Bool, true, false, List, [], ◌∷◌, map, inr, Option, None, Some, Result, Ok, Err, refl, sym, subst}
 use Rattle.std.specs.Option.{IfSome}
 use Rattle.std.specs.Io.KnownBytes.{Appends, Keeps}
 use Rattle.pim_device.specs.Device.{AppendsFront}
@@ -13,14 +13,17 @@ use Rattle.pim_session.specs.declared.request.Request.{Request}
 use Rattle.pim_session.specs.declared.request.Request.TheVariants.{Command}
 use Rattle.pim_session.specs.declared.serving.Ending.{Ending}
 use Rattle.pim_session.specs.declared.serving.Ending.TheVariants.{Refused, Reset, Input}
-use Rattle.pim_answers.specs.Answered.{Whole}
+use Rattle.pim_answers.specs.Answered.{Whole, RefusedBy, OrMemory, Done}
 use Rattle.pim_answers.specs.Kept.{Kept}
-use Rattle.pim_answers.specs.Lines.{ok_line, fault_line}
+use Rattle.pim_addr.specs.declared.family.AddressFamily.{AddressFamily}
+use Rattle.pim_router.specs.Config.{config_faults}
+use Rattle.pim_router.specs.State.{RouterState, new_router}
+use Rattle.pim_answers.specs.Lines.{ok_line, fault_line, memory_line}
 use Rattle.pim_session.specs.Answers.{Answers, session_in}
 use Rattle.pim_session.specs.Dialog.{Converses, IsAnswer}
-use Rattle.pim_session.specs.Gathering.{Starts}
+use Rattle.pim_session.specs.Gathering.{Starts, config_words, setup_of}
 use Rattle.pim_session.specs.Request.{Asks}
-use Rattle.pim_session.specs.State.{Gathered, Phase, Session, gathering}
+use Rattle.pim_session.specs.State.{Gathered, Phase, Session, gathering, serving}
 use Rattle.pim_session.specs.Underway.{Configured, GoesOn, Ended, Begins, BeginsServing, IsRefused}
 use Rattle.pim_session.proofs.Underway.{on_some, at_failed_read, at_failed_flush, started, ended_after}
 use Rattle.pim_session.proofs.Dialogs.{went_one, front_one}
@@ -102,6 +105,18 @@ module _ (gathered : Gathered) (kept : List Kept) where
   start_refused (Some bytes) old new words (Err stopped.Input) starts it = absurd it
   start_refused (Some bytes) old new words (Err stopped.Output) starts it = λ item asks.
       front_one (session_in (gathering gathered) kept) (session_in (gathering gathered) kept) item (items_of bytes) old new (fault_line words) (answer_start item (fault_line words) (gathering gathered) asks starts) it
+
+-- memory is refused where the router is made
+
+if_made : (words : List (List ℕ)) (gathered : Gathered) (phase : Phase) (Does : List ℕ → Phase → Type 0) → (phase ≡ gathering gathered → ⊥) → RefusedBy words (gathering gathered) (OrMemory (gathering gathered) Does) ok_line phase
+    → RefusedBy words (gathering gathered) (OrMemory (gathering gathered) Does) memory_line (gathering gathered)
+if_made [] gathered phase Does other it = inr (refl, refl)
+if_made (first ∷ words) gathered phase Does other it = absurd (other it.1)
+
+pub memory_instead : (fixed : Option AddressFamily) (gathered : Gathered) (family : AddressFamily) (router : RouterState) → Starts fixed gathered ok_line (serving family router) → Starts fixed gathered memory_line (gathering gathered)
+memory_instead None gathered family router it = absurd cc
+memory_instead (Some fixed) gathered family router it =
+    if_made (map config_words (config_faults fixed (setup_of gathered))) gathered (serving family router) (Done (serving fixed (new_router (setup_of gathered)))) (λ same. absurd cc) it
 
 -- ---- whether a start is asked for
 

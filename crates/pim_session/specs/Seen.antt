@@ -5,6 +5,7 @@ use Rattle.pim_request.specs.declared.command.Command.{Command as AnyCommand}
 use Rattle.pim_request.specs.declared.command.Command.TheVariants as of_line
 use Rattle.pim_request.specs.declared.command.Sender.{Sender}
 use Rattle.pim_request.specs.Forms.{IsHex}
+use Rattle.pim_items.specs.Items.{line_limit}
 use Rattle.pim_answers.specs.declared.fault.Fault.{Fault}
 use Rattle.pim_session.specs.declared.request.Request.{Request}
 use Rattle.pim_session.specs.declared.request.Request.TheVariants.{Command, From}
@@ -18,7 +19,7 @@ asked_seen (Err fault) = Err (fault_words fault)
 
 -- The command has what the calls of a router require.
 abbrev pub IsFitCommand : AnyCommand → Type 0
-IsFitCommand (of_line.Packet packet) = IsHex packet.hex.now × (length packet.hex.now < 2 ^ 32)
+IsFitCommand (of_line.Packet packet) = IsHex packet.hex.now × (length packet.hex.now ≤ line_limit)
 IsFitCommand (of_line.Run moment) = moment ≤ 10 ^ 15
 IsFitCommand command = Unit {0}
 

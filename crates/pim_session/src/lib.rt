@@ -7,9 +7,9 @@
 //! if a device fails, a prefix of such a text was written.
 //!
 //! The answers of a router are those of `pim_answers`; the lines of the input and their words are
-//! those of `pim_request`. Room for the longest item is made in advance. So `fault memory` never
-//! comes in place of a fault of words, lines, families or ports. By a law, two dialogs of the same
-//! items that nowhere answer it are the same.
+//! those of `pim_request`. Room for the longest item, and at `start` for the longest message, is
+//! made in advance. So `fault memory` never comes in place of a fault of words, lines, families or
+//! ports. By a law, two dialogs of the same items that nowhere answer it are the same.
 #![tactic(auto)]
 
 mod one_dialog;

@@ -1,13 +1,13 @@
 //! A router of either family, and its answers.
 
-ghost use Rattle.std.specs.Prelude.{◌≡◌, ◌≤◌, ◌<◌, ◌^◌, List, length, Some};
+ghost use Rattle.std.specs.Prelude.{◌≡◌, ◌≤◌, ◌<◌, ◌*◌, ◌^◌, List, length, Some};
 ghost use Rattle.pim_device.specs.Device.{failures_after};
 ghost use Rattle.pim_request.specs.Forms.{IsHex};
 ghost use Rattle.pim_answers.specs.Answered.{Answered, Told};
 ghost use Rattle.pim_answers.specs.Asking.{AnswersKeep};
 ghost use Rattle.pim_answers.specs.Fault.{fault_words};
 ghost use Rattle.pim_answers.specs.Kept.{Kept as KeptSeen, kept_as};
-ghost use Rattle.pim_answers.specs.Packets.{AnswersPacket, AnswersFrom};
+ghost use Rattle.pim_answers.specs.Packets.{AnswersPacket, AnswersFrom, room_limit};
 ghost use Rattle.pim_answers.specs.Running.{AnswersRun};
 ghost use Rattle.pim_answers.specs.StoreSeen.{store_seen, IsFound};
 ghost use Rattle.pim_session.specs.Answers.{Tells};
@@ -18,7 +18,7 @@ ghost use Rattle.pim_session.specs.SetupSeen.{rows_seen, gathered_seen, StartsRo
 use crate::setup::{AnyRows, Rows, Setup};
 use pim_addr::{Drain, Failed, Family, V4, V6};
 use pim_answers::{
-    AnyForm, Fault, Found, FromText, Store, answer_change, answer_from, answer_messages,
+    AnyForm, Fault, Found, FromText, Room, Store, answer_change, answer_from, answer_messages,
     answer_neighbours, answer_next, answer_now, answer_packet, answer_run, answer_same,
     answer_state, answer_wants, asked_for, write_fault, write_ok,
 };
@@ -103,15 +103,15 @@ pub(crate) fn run_any<W: Drain>(
     }
 }
 
-/// Answers `packet`. `bytes` is room for the message.
+/// Answers `packet`.
 pub(crate) fn packet_any<W: Drain>(
     router: &mut AnyRouter<'_>,
     packet: &Packet<'_>,
-    bytes: &mut Vec<u8>,
+    room: &mut Room,
     answers: &mut W,
 ) -> Result<(), Failed>
     requires hex { IsHex packet.now.hex.now }
-    requires short { length packet.now.hex.now < 2 ^ 32 }
+    requires short { length packet.now.hex.now ≤ 2 * room_limit }
     ensures answered { Answered (AnswersPacket (family_in router.old) packet.now
         (state_in router.old))
         (W.contents answers.old) (W.contents answers.new) result (λ _. state_in router.new) }
@@ -119,17 +119,17 @@ pub(crate) fn packet_any<W: Drain>(
     ensures count { W.failures answers.new ≡ failures_after (W.failures answers.old) result }
 {
     match router {
-        AnyRouter::Ipv4(router) => answer_packet::<V4, W>(router, packet, bytes, answers),
-        AnyRouter::Ipv6(router) => answer_packet::<V6, W>(router, packet, bytes, answers),
+        AnyRouter::Ipv4(router) => answer_packet::<V4, W>(router, packet, room, answers),
+        AnyRouter::Ipv6(router) => answer_packet::<V6, W>(router, packet, room, answers),
     }
 }
 
-/// Answers `from`. `bytes` is room for the message.
+/// Answers `from`.
 pub(crate) fn from_any<W: Drain>(
     alloc: Global,
     router: &mut AnyRouter<'_>,
     from: &FromText<'_>,
-    bytes: &mut Vec<u8>,
+    room: &mut Room,
     answers: &mut W,
 ) -> Result<(), Failed>
     requires { length from.now.text.now < 2 ^ 32 }
@@ -139,8 +139,8 @@ pub(crate) fn from_any<W: Drain>(
     ensures count { W.failures answers.new ≡ failures_after (W.failures answers.old) result }
 {
     match router {
-        AnyRouter::Ipv4(router) => answer_from::<V4, W>(alloc, router, from, bytes, answers),
-        AnyRouter::Ipv6(router) => answer_from::<V6, W>(alloc, router, from, bytes, answers),
+        AnyRouter::Ipv4(router) => answer_from::<V4, W>(alloc, router, from, room, answers),
+        AnyRouter::Ipv6(router) => answer_from::<V6, W>(alloc, router, from, room, answers),
     }
 }
 

@@ -19,7 +19,7 @@ use crate::request::{Request, request_of};
 use crate::routers::{AnyRouter, from_any, keep_any, make_router, packet_any, run_any, tell_any};
 use crate::setup::Setup;
 use pim_addr::{Drain, Failed, Feed};
-use pim_answers::{Fault, Store, write_fault, write_ok};
+use pim_answers::{Fault, Room, Store, write_fault, write_ok};
 use pim_items::{Answers, Items, Stopped};
 use pim_request::Command;
 use std::alloc::Global;
@@ -40,7 +40,7 @@ fn answer_command<W: Drain>(
     alloc: Global,
     router: &mut AnyRouter<'_>,
     store: &mut Store,
-    bytes: &mut Vec<u8>,
+    room: &mut Room,
     command: &Command<'_>,
     answers: &mut W,
 ) -> Result<(), Failed>
@@ -54,7 +54,7 @@ fn answer_command<W: Drain>(
 {
     match command {
         Command::Run(moment) => run_any(router, *moment, answers),
-        Command::Packet(packet) => packet_any(router, packet, bytes, answers),
+        Command::Packet(packet) => packet_any(router, packet, room, answers),
         Command::Keep(kept) => keep_any(alloc, router, store, kept, answers),
         _ => tell_any(alloc, router, store, command, answers),
     }
@@ -65,7 +65,7 @@ fn answer_any_command<W: Drain>(
     alloc: Global,
     router: &mut AnyRouter<'_>,
     store: &mut Store,
-    bytes: &mut Vec<u8>,
+    room: &mut Room,
     command: &Command<'_>,
     answers: &mut W,
 ) -> Result<bool, Failed>
@@ -79,7 +79,7 @@ fn answer_any_command<W: Drain>(
 {
     match command {
         Command::Reset => write_ok(answers).and(Ok(false)),
-        _ => answer_command(alloc, router, store, bytes, command, answers).and(Ok(true)),
+        _ => answer_command(alloc, router, store, room, command, answers).and(Ok(true)),
     }
 }
 
@@ -88,7 +88,7 @@ fn answer_request<W: Drain>(
     alloc: Global,
     router: &mut AnyRouter<'_>,
     store: &mut Store,
-    bytes: &mut Vec<u8>,
+    room: &mut Room,
     request: &Request<'_>,
     answers: &mut W,
 ) -> Result<bool, Failed>
@@ -102,9 +102,9 @@ fn answer_request<W: Drain>(
 {
     match request {
         Request::Command(command) => {
-            answer_any_command(alloc, router, store, bytes, command, answers)
+            answer_any_command(alloc, router, store, room, command, answers)
         }
-        Request::From(from) => from_any(alloc, router, from, bytes, answers).and(Ok(true)),
+        Request::From(from) => from_any(alloc, router, from, room, answers).and(Ok(true)),
     }
 }
 
@@ -113,7 +113,7 @@ fn answer_asked<W: Drain>(
     alloc: Global,
     router: &mut AnyRouter<'_>,
     store: &mut Store,
-    bytes: &mut Vec<u8>,
+    room: &mut Room,
     asked: Result<Request<'_>, Fault<'_>>,
     answers: &mut W,
 ) -> Result<bool, Failed>
@@ -128,7 +128,7 @@ fn answer_asked<W: Drain>(
     ensures count { W.failures answers.new ≡ failures_after (W.failures answers.old) result }
 {
     match asked {
-        Ok(request) => answer_request(alloc, router, store, bytes, &request, answers),
+        Ok(request) => answer_request(alloc, router, store, room, &request, answers),
         Err(fault) => write_fault(answers, &fault).and(Ok(true)),
     }
 }
@@ -137,6 +137,7 @@ fn answer_asked<W: Drain>(
 fn serve<R: Feed, W: Answers>(
     alloc: Global,
     router: &mut AnyRouter<'_>,
+    room: &mut Room,
     items: &mut Items<R>,
     store: &mut Store,
     answers: &mut W,
@@ -150,13 +151,12 @@ fn serve<R: Feed, W: Answers>(
     ensures reads { CountsReads result items.new.unread items.old.failures items.new.failures }
     ensures count { W.failures answers.new ≡ flush_failures_after (W.failures answers.old) result }
 {
-    let mut bytes = Vec::new(alloc);
     'items: loop {
         let Some(item) = items.next(answers)? else {
             return Ok(Ending::Input);
         };
         let asked = request_of(items, item);
-        match answer_asked(alloc, router, store, &mut bytes, asked, answers) {
+        match answer_asked(alloc, router, store, room, asked, answers) {
             Ok(true) => {}
             Ok(false) => return Ok(Ending::Reset),
             Err(_) => return Err(Stopped::Output),
@@ -180,6 +180,7 @@ fn refuse<W: Drain>(answers: &mut W, fault: &Fault<'_>) -> Result<Ending, Stoppe
 fn begin<R: Feed, W: Answers>(
     alloc: Global,
     router: &mut AnyRouter<'_>,
+    room: &mut Room,
     items: &mut Items<R>,
     store: &mut Store,
     answers: &mut W,
@@ -194,7 +195,7 @@ fn begin<R: Feed, W: Answers>(
     ensures count { W.failures answers.new ≡ flush_failures_after (W.failures answers.old) result }
 {
     match write_ok(answers) {
-        Ok(()) => serve(alloc, router, items, store, answers),
+        Ok(()) => serve(alloc, router, room, items, store, answers),
         Err(_) => Err(Stopped::Output),
     }
 }
@@ -216,8 +217,12 @@ pub(crate) fn start<R: Feed, W: Answers>(
     ensures reads { CountsReads result items.new.unread items.old.failures items.new.failures }
     ensures count { W.failures answers.new ≡ flush_failures_after (W.failures answers.old) result }
 {
-    match make_router(alloc, setup) {
-        Ok(mut router) => begin(alloc, &mut router, items, store, answers),
-        Err(fault) => refuse(answers, &fault),
+    let mut router = match make_router(alloc, setup) {
+        Ok(router) => router,
+        Err(fault) => return refuse(answers, &fault),
+    };
+    match Room::new(alloc) {
+        Ok(mut room) => begin(alloc, &mut router, &mut room, items, store, answers),
+        Err(_) => refuse(answers, &Fault::memory()),
     }
 }

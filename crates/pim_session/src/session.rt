@@ -168,9 +168,9 @@ fn answer_all<R: Feed, W: Answers>(
 /// read.
 ///
 /// A command is answered by its lines and `ok`, or by `fault` and the words of its first fault,
-/// which leaves everything as it was. `memory` is the last of these faults, but for a packet or the
-/// text of one: where its words and its text have no fault, its family is the router's and its port
-/// is there, `memory` may come in place of any answer.
+/// which leaves everything as it was. `memory` is the last of these faults, but for the text of a
+/// message: where the text has no fault, its family is the router's and its port is there, `memory`
+/// may come in place of any answer.
 ///
 /// # Errors
 /// - `Input`: a read failed, or 2^64 - 1 bytes were read. The commands that were read are answered.

@@ -20,11 +20,11 @@ returns-in-Ok-fill_spelled-clause-answered g c =
     let from = c.args.from.now in
     from_taken g.F.Family.family from c.args.router.now (g.W.Drain.contents c.args.answers.now) (g.W.Drain.contents c.take.new.answers) c.take.result
     c.in-Some.ensures.same (ported from.sender.port c.port_count.result c.args.router.now c.port_count.ensures c.in-Ok.ensures.1)
-    c.fill_spelled.new.bytes.items (g.F.Family.bytes_of c.in-Some.ends.source) (g.F.Family.bytes_of c.in-Some.ends.destination)
-    (packet_seen g.F.Family.bytes_of c.in-Ok.port c.in-Some.ends.source c.in-Some.ends.destination c.deref.result.now) c.take.new.router
+    c.fill_spelled.new.room (g.F.Family.bytes_of c.in-Some.ends.source) (g.F.Family.bytes_of c.in-Some.ends.destination)
+    (packet_seen g.F.Family.bytes_of c.in-Ok.port c.in-Some.ends.source c.in-Some.ends.destination c.message.result.now) c.take.new.router
     c.in-Ok-fill_spelled.ensures.message c.in-Some.ensures.ends.0 c.in-Some.ensures.ends.1
     (same_packet c.in-Ok.port from.sender.port (g.F.Family.bytes_of c.in-Some.ends.source) (address_bytes from.sender.source) (g.F.Family.bytes_of c.in-Some.ends.destination)
-    (destination_of g.F.Family.family from.sender.destination) c.deref.result.now c.fill_spelled.new.bytes.items c.in-Ok.ensures.0 c.in-Some.ensures.ends.0 c.in-Some.ensures.ends.1 c.deref.ensures.value)
+    (destination_of g.F.Family.family from.sender.destination) c.message.result.now c.fill_spelled.new.room c.in-Ok.ensures.0 c.in-Some.ensures.ends.0 c.in-Some.ensures.ends.1 c.message.ensures)
     c.take.ensures.answered
 
 pub returns-in-Err-fill_spelled-clause-answered : goal.returns-in-Err-fill_spelled-clause-answered

@@ -3,7 +3,7 @@ use Rattle.pim_request.specs.Forms.{hex_bytes}
 use Rattle.pim_router.specs.Seen.{packet_seen}
 use Rattle.pim_text.specs.Spelled.{address_bytes}
 use Rattle.pim_answers.specs.Fault.{fault_words}
-use Rattle.pim_answers.proofs.Taken.{packet_other, packet_portless, packet_unheld, packet_taken, portless, ported, same_packet, short_bytes}
+use Rattle.pim_answers.proofs.Taken.{packet_other, packet_portless, packet_taken, portless, ported, same_packet, short_bytes}
 use Rattle.pim_answers.proofs.packets.answer_packet.Goals as goal
 
 pub returns-in_default-clause-answered : goal.returns-in_default-clause-answered
@@ -16,24 +16,22 @@ returns-in-Err-clause-answered g c =
     packet_portless g.F.Family.family c.args.packet.now c.args.router.now (g.W.Drain.contents c.args.answers.now) (g.W.Drain.contents c.write_fault-in-Err.new.answers) c.write_fault-in-Err.result
     c.in-Some.ensures.same (fault_words c.in-Err.fault) (portless c.args.packet.now.port c.port_count.result c.args.router.now c.port_count.ensures c.in-Err.ensures.0) c.in-Err.ensures.1 c.write_fault-in-Err.ensures.bytes
 
+pub decode-requires-clause-short : goal.decode-requires-clause-short
+decode-requires-clause-short g c = let short = short_bytes c.args.packet.now.hex.now in let most = c.requires.short in omega arith
+
 pub take-requires-clause-bytes : goal.take-requires-clause-bytes
 take-requires-clause-bytes g c =
     let short = short_bytes c.args.packet.now.hex.now in
-    let value = ap (length {A = ℕ}) (c.deref.ensures.value ∙ c.in-Ok-decode_hex.ensures) in
+    let value = ap (length {A = ℕ}) (c.message.ensures ∙ c.decode.ensures) in
     let most = c.requires.short in
     omega arith
 
-pub returns-in-Err-decode_hex-clause-answered : goal.returns-in-Err-decode_hex-clause-answered
-returns-in-Err-decode_hex-clause-answered g c =
-    packet_unheld g.F.Family.family c.args.packet.now c.args.router.now (g.W.Drain.contents c.args.answers.now) (g.W.Drain.contents c.write_fault-in-Err-decode_hex.new.answers) c.write_fault-in-Err-decode_hex.result
-    c.in-Some.ensures.same (ported c.args.packet.now.port c.port_count.result c.args.router.now c.port_count.ensures c.in-Ok.ensures.1) (fault_words c.memory.result) c.memory.ensures c.write_fault-in-Err-decode_hex.ensures.bytes
-
-pub returns-in-Ok-decode_hex-clause-answered : goal.returns-in-Ok-decode_hex-clause-answered
-returns-in-Ok-decode_hex-clause-answered g c =
+pub returns-clause-answered : goal.returns-clause-answered
+returns-clause-answered g c =
     let packet = c.args.packet.now in
     packet_taken g.F.Family.family packet c.args.router.now (g.W.Drain.contents c.args.answers.now) (g.W.Drain.contents c.take.new.answers) c.take.result
     c.in-Some.ensures.same (ported packet.port c.port_count.result c.args.router.now c.port_count.ensures c.in-Ok.ensures.1)
-    (packet_seen g.F.Family.bytes_of c.in-Ok.port c.in-Some.ends.source c.in-Some.ends.destination c.deref.result.now) c.take.new.router
+    (packet_seen g.F.Family.bytes_of c.in-Ok.port c.in-Some.ends.source c.in-Some.ends.destination c.message.result.now) c.take.new.router
     (same_packet c.in-Ok.port packet.port (g.F.Family.bytes_of c.in-Some.ends.source) (address_bytes packet.source) (g.F.Family.bytes_of c.in-Some.ends.destination) (address_bytes packet.destination)
-    c.deref.result.now (hex_bytes packet.hex.now) c.in-Ok.ensures.0 c.in-Some.ensures.ends.0 c.in-Some.ensures.ends.1 (c.deref.ensures.value ∙ c.in-Ok-decode_hex.ensures))
+    c.message.result.now (hex_bytes packet.hex.now) c.in-Ok.ensures.0 c.in-Some.ensures.ends.0 c.in-Some.ensures.ends.1 (c.message.ensures ∙ c.decode.ensures))
     c.take.ensures.answered

@@ -4,16 +4,22 @@ use Rattle.pim_session.specs.Answers.{session_in}
 use Rattle.pim_session.specs.RouterSeen.{family_in, state_in}
 use Rattle.pim_session.specs.SetupSeen.{gathered_seen}
 use Rattle.pim_session.specs.State.{gathering, serving}
-use Rattle.pim_session.proofs.Served.{start_served, start_refused}
+use Rattle.pim_session.proofs.Served.{start_served, start_refused, memory_instead}
 use Rattle.pim_session.proofs.serving.start.Goals as goal
-
-pub returns-in-Ok-clause-begins : goal.returns-in-Ok-clause-begins
-returns-in-Ok-clause-begins g c =
-    start_served (gathered_seen c.args.setup.now) (store_seen c.args.store.now) c.args.items.now.coming (g.W.Drain.contents c.args.answers.now) (g.W.Drain.contents c.begin.new.answers) c.begin.new.items.coming
-    (serving (family_in c.in-Ok.router) (state_in c.in-Ok.router)) (store_seen c.begin.new.store) c.begin.result c.in-Ok.ensures
-    (c.begin.ensures.begun (session_in (gathering (gathered_seen c.args.setup.now)) (store_seen c.args.store.now)))
 
 pub returns-in-Err-clause-begins : goal.returns-in-Err-clause-begins
 returns-in-Err-clause-begins g c =
     start_refused (gathered_seen c.args.setup.now) (store_seen c.args.store.now) c.args.items.now.coming (g.W.Drain.contents c.args.answers.now) (g.W.Drain.contents c.refuse.new.answers)
     (fault_words c.in-Err.fault) c.refuse.result c.in-Err.ensures c.refuse.ensures.refused
+
+pub returns-in-Ok-new-clause-begins : goal.returns-in-Ok-new-clause-begins
+returns-in-Ok-new-clause-begins g c =
+    start_served (gathered_seen c.args.setup.now) (store_seen c.args.store.now) c.args.items.now.coming (g.W.Drain.contents c.args.answers.now) (g.W.Drain.contents c.begin.new.answers) c.begin.new.items.coming
+    (serving (family_in c.in-Ok.router) (state_in c.in-Ok.router)) (store_seen c.begin.new.store) c.begin.result c.in-Ok.ensures
+    (c.begin.ensures.begun (session_in (gathering (gathered_seen c.args.setup.now)) (store_seen c.args.store.now)))
+
+pub returns-in-Err-new-clause-begins : goal.returns-in-Err-new-clause-begins
+returns-in-Err-new-clause-begins g c =
+    let gathered = gathered_seen c.args.setup.now in
+    start_refused gathered (store_seen c.args.store.now) c.args.items.now.coming (g.W.Drain.contents c.args.answers.now) (g.W.Drain.contents c.refuse-in-Err-new.new.answers)
+    (fault_words c.memory.result) c.refuse-in-Err-new.result (rw c.memory.ensures (memory_instead gathered.family gathered (family_in c.in-Ok.router) (state_in c.in-Ok.router) c.in-Ok.ensures)) c.refuse-in-Err-new.ensures.refused
