@@ -18,8 +18,8 @@ returns-in-Ok-new-clause-begins g c =
     (serving (family_in c.in-Ok.router) (state_in c.in-Ok.router)) (store_seen c.begin.new.store) c.begin.result c.in-Ok.ensures
     (c.begin.ensures.begun (session_in (gathering (gathered_seen c.args.setup.now)) (store_seen c.args.store.now)))
 
-pub returns-in-Err-new-clause-begins : goal.returns-in-Err-new-clause-begins
-returns-in-Err-new-clause-begins g c =
+pub returns-clause-begins : goal.returns-clause-begins
+returns-clause-begins g c =
     let gathered = gathered_seen c.args.setup.now in
     start_refused gathered (store_seen c.args.store.now) c.args.items.now.coming (g.W.Drain.contents c.args.answers.now) (g.W.Drain.contents c.refuse-in-Err-new.new.answers)
     (fault_words c.memory.result) c.refuse-in-Err-new.result (rw c.memory.ensures (memory_instead gathered.family gathered (family_in c.in-Ok.router) (state_in c.in-Ok.router) c.in-Ok.ensures)) c.refuse-in-Err-new.ensures.refused
