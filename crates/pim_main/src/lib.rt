@@ -2,7 +2,7 @@
 //! gate, each with words of its own.
 //!
 //! `run_program` gives the engines of `pim_commands` and `pim_session` the process's own devices
-//! and files. It has no contract: what a file or a device of the system holds, no contract can name.
+//! and files. It has no contract, since none can name what a file or a device of the system holds.
 //! What it does lies in calls over any devices, so that tests call it, too:
 //!
 //! - `run_on_devices` does a task: it passes all output on, and then writes the warnings.

@@ -99,8 +99,8 @@ pub fn task_reads_any<A>(task: &Task<'_, A>) -> bool {
     captures_of(task).is_some_and(|it| reads_any(it))
 }
 
-/// Whether the file of this name may still grow: it is a pipe, a terminal or another device. Where it
-/// may be of any container, `-` is standard input.
+/// Whether the file of this name may still grow: it is a pipe, a terminal or another device. Where
+/// it may be of any container, `-` is standard input.
 fn may_grow(rt: &HostRuntime, is_any: bool, file: &str) -> bool {
     let is_input = is_any && file == STANDARD_INPUT;
     let path = if is_input { "/dev/stdin" } else { file };

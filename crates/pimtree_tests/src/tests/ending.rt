@@ -55,8 +55,8 @@ impl Write for Watcher<'_> {
     }
 }
 
-/// Whether a plan over IPv4 ends so, with standard output in blocks: with status 0, or as its output
-/// isn't passed on.
+/// Whether a plan over IPv4 ends so, with standard output in blocks: with status 0, or as its
+/// output isn't passed on.
 fn plan_ends(
     alloc: Global,
     plan: &Plan<'_>,
