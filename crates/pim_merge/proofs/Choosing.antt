@@ -26,7 +26,7 @@ use Rattle.pim_merge.proofs.Failures.{Moves}
 
 -- ---- the results of a container
 
-put_is : (choice : Choice) (behind : Option Origin → List Answer) (begun : Bool) (first : Option Origin) (told : any.Told)
+pub put_is : (choice : Choice) (behind : Option Origin → List Answer) (begun : Bool) (first : Option Origin) (told : any.Told)
     (later : List pieces.Answer) → (told ≡ any.ended → ⊥) →
     chosen choice behind begun first (next.in_front (Ok told) later)
     ≡ put (told_given choice first told) (chosen choice behind true (first_then choice first (Ok told)) later)
@@ -94,7 +94,7 @@ one_step n n' choice begun first first' (Some xs) (Some ys) (Some files) told by
         given_fault n n' (chosen choice (next_files choice files) begun first xs)
         (chosen choice (next_files choice files) true first' ys) (told_given choice first told) bytes f all gives
 
-not_end : (event : piece.Event) (bytes : List ℕ) → is_end event ≡ false → any.event_seen bytes event ≡ any.ended → ⊥
+pub not_end : (event : piece.Event) (bytes : List ℕ) → is_end event ≡ false → any.event_seen bytes event ≡ any.ended → ⊥
 not_end (piece_kind.Packet millis origin ip) bytes is same = cc
 not_end (piece_kind.Skipped millis why) bytes is same = cc
 not_end piece_kind.Untimed bytes is same = cc

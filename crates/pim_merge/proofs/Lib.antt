@@ -16,3 +16,4 @@ pub mod Failures
 pub mod Following
 pub mod Clocks
 pub mod Repeating
+pub mod Needing

@@ -7,6 +7,7 @@ use Rattle.pim_capture.specs.Capture.{Answer}
 use Rattle.pim_merge.specs.Lane.{LaneState, coming_on, IsComing, IsLooked, lane_left, records_to_come, failures_of, lane_at, no_lane, KeepsRoom, KeepRooms, HasFailed, FailsAt, tallies_of}
 use Rattle.pim_merge.specs.Tally.{no_tally}
 use Rattle.pim_merge.specs.Looks.{StillComes}
+use Rattle.pim_merge.proofs.Needing.{within_same}
 
 -- ---- lists of captures
 
@@ -80,7 +81,7 @@ pub record IsLookedUpTo (number : ℕ) (old now : List LaneState) : Type 0 where
   pub tallies : tallies_of now ≡ tallies_of old
 
 pub begin_looking : (lanes : List LaneState) → IsLookedUpTo 0 lanes lanes
-begin_looking lanes = record { coming = λ captures coming. coming; looked = tt; rest = refl; lighter = omega arith; reads = refl; rooms = λ n. inl refl; early = λ n fails. omega arith; tallies = refl }
+begin_looking lanes = record { coming = λ captures coming. coming; looked = tt; rest = refl; lighter = omega arith; reads = refl; rooms = λ n. (inl refl, within_same (lane_at n lanes).store.piece_room (lane_at n lanes).store.needs); early = λ n fails. omega arith; tallies = refl }
 
 pub look_more : (number : ℕ) (old now : List LaneState) (lane d : LaneState) → number < length now → IsLookedUpTo number old now
     → StillComes (get_or now number d) lane → IsLooked lane → lane_left lane ≤ lane_left (get_or now number d) → lane.failures ≡ (get_or now number d).failures

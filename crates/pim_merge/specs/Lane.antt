@@ -11,7 +11,7 @@ use Rattle.pim_capture.specs.Capture.{Told, packet, skipped, ended, Answer}
 use Rattle.pim_capture.specs.Next.{event_seen, in_front, LacksRoom}
 use Rattle.pim_merge.specs.declared.source.Source.{Source}
 use Rattle.pim_merge.specs.Source.{coming, failures_in, left_in, passes_over, room_in, size_in}
-use Rattle.pim_merge.specs.Source.{is_over_in, HadAllIf}
+use Rattle.pim_merge.specs.Source.{is_over_in, HadAllIf, Store, begun_store, store_in, AsksIf, GrowsWithin}
 use Rattle.pim_merge.specs.Merge.{time_told, rank_told}
 use Rattle.pim_merge.specs.declared.tally.Tally.{Tally}
 use Rattle.pim_merge.specs.Tally.{no_tally, tally_taken, census_begun}
@@ -31,13 +31,15 @@ pub record LaneState : Type 0 where
   -- the bytes of the record that was read last
   pub bytes : List ℕ
   -- the number of bytes that its buffer holds without new memory; of any container 0, since
-  -- nothing is said of its memory
+  -- `store` has it
   pub room : ℕ
   -- whether a call returned a fault
   pub is_over : Bool
   -- the captured length of the record that is read next, where the bytes of its reader are known;
   -- `Some None` if none is read next, and `None` for any container
   pub size : Option (Option ℕ)
+  -- what is held of any container, and what its pieces need up to its next record
+  pub store : Store
   -- what was taken of it
   pub tally : Tally
 
@@ -54,6 +56,7 @@ lane_seen remaining failures source head bytes capacity tally = record {
   room = room_in source capacity;
   is_over = is_over_in source;
   size = size_in remaining source;
+  store = store_in remaining source capacity;
   tally = tally;
 }
 
@@ -86,6 +89,7 @@ without_head lane = record {
   room = lane.room;
   is_over = lane.is_over;
   size = lane.size;
+  store = lane.store;
   tally = tally_taken lane.tally lane.head;
 }
 
@@ -110,14 +114,18 @@ IsFailedHead (Err told) = told ≡ fault.Failed
 abbrev pub HadAll : LaneState → Type 0
 HadAll lane = HadAllIf lane.passes lane.left
 
--- The head of the capture wasn't read, and its buffer has less room than that record needs. Of any
--- container only the first is said.
+-- The head of the capture wasn't read, and its buffer has less room than that record needs. Any
+-- container has less room for the record, for a piece up to it, or for an interface described there.
 abbrev pub LacksHeadRoom : LaneState → Type 0
-LacksHeadRoom lane = (lane.head ≡ None) × LacksRoom lane.room lane.size
+LacksHeadRoom lane =
+    (lane.head ≡ None) × LacksRoom lane.room lane.size × AsksIf lane.passes lane.behind lane.store
 
--- The buffer of the capture keeps its capacity, or that grows to exactly the bytes in it.
+-- The buffer of the capture keeps its capacity, or that grows to exactly the bytes in it. The buffer of
+-- pieces grows to the longest piece up to the next record at most.
 abbrev pub KeepsRoom : LaneState → LaneState → Type 0
-KeepsRoom old new = (new.room ≡ old.room) ⊎ (new.room ≡ max old.room (length new.bytes))
+KeepsRoom old new =
+    ((new.room ≡ old.room) ⊎ (new.room ≡ max old.room (length new.bytes)))
+    × GrowsWithin old.store.piece_room new.store.piece_room old.store.needs
 
 -- The time by which a head is taken, if it was read and is a record.
 abbrev pub rank_at : Option Told → Option ℕ
@@ -169,6 +177,7 @@ no_lane = record {
   room = 0;
   is_over = false;
   size = Some None;
+  store = begun_store (Some []);
   tally = no_tally;
 }
 
@@ -192,6 +201,10 @@ rooms_of lanes = map (λ (lane : LaneState). lane.room) lanes
 -- The captured length of the record that is read next of each capture.
 abbrev pub sizes_of : List LaneState → List (Option (Option ℕ))
 sizes_of lanes = map (λ (lane : LaneState). lane.size) lanes
+
+-- What each capture holds of any container, and what its pieces need up to its next record.
+abbrev pub stores_of : List LaneState → List Store
+stores_of lanes = map (λ (lane : LaneState). lane.store) lanes
 
 -- What was taken of each capture.
 abbrev pub tallies_of : List LaneState → List Tally

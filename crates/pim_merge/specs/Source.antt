@@ -1,6 +1,6 @@
 -- What contracts see of the source of a lane: a classic capture, or any container with a choice.
 use Rattle.std.specs.Prelude.{◌≡◌, ◌+◌, ◌*◌, ◌⊎◌, ⊤, ℕ, Bool, true, false, List, [], ◌∷◌, Option, None, Some, Result, Ok}
-use Rattle.std.specs.Prelude.{Err, drop, length}
+use Rattle.std.specs.Prelude.{Err, drop, length, ◌<◌, ◌≤◌, max, unwrap_or, vec_capacity}
 use Rattle.std.specs.Option.{IfSome}
 use Rattle.pim_capture.specs.declared.fault.CaptureFault.{CaptureFault}
 use Rattle.pim_capture.specs.declared.fault.CaptureFault.TheVariants as fault
@@ -9,10 +9,12 @@ use Rattle.pim_capture.specs.declared.capture.State.{State}
 use Rattle.pim_capture.specs.declared.capture.State.TheVariants.{Failed}
 use Rattle.pim_capture.specs.declared.event.Event.TheVariants.{Packet, Skipped, End}
 use Rattle.pim_capture.specs.declared.event.Why.TheVariants.{CutShort}
-use Rattle.pim_capture.specs.Capture.{Answer}
+use Rattle.pim_capture.specs.Capture.{Answer, packet}
 use Rattle.pim_capture.specs.Next as classic
 use Rattle.pim_container.specs.Choice.{choice_of, first_of}
 use Rattle.pim_container.specs.Next as any
+use Rattle.pim_container.specs.Room as pieces_room
+use Rattle.pim_container.specs.Room.{Need, Exceeds}
 use Rattle.pim_container.specs.declared.fault.Fault.{Fault}
 use Rattle.pim_merge.specs.declared.chosen.Chosen.{Chosen}
 use Rattle.pim_merge.specs.declared.source.Source.{Source}
@@ -131,10 +133,109 @@ abbrev pub room_in : {R : Type 0} → Source R → ℕ → ℕ
 room_in (Classic capture) capacity = capacity
 room_in (Any it) capacity = 0
 
+-- ---- the memory of any container
+
+-- The capacity of the buffer of pieces.
+abbrev pub piece_capacity : {R : Type 0} → Chosen R → ℕ
+piece_capacity it = vec_capacity it.piece
+
+-- How many interfaces the list of the section has room for.
+abbrev pub places : {R : Type 0} → Chosen R → ℕ
+places it = pieces_room.list_room it.reader
+
+-- These needs, unless nothing more is read of the file.
+abbrev pub needs_unless : Bool → Option (List Need) → Option (List Need)
+needs_unless false needs = needs
+needs_unless true needs = Some []
+
+-- What the pieces up to the next record need, as long as no call returned a fault.
+abbrev pub read_needs : {R : Type 0} → (R → Option (List ℕ)) → Chosen R → Option (List Need)
+read_needs remaining it = needs_unless it.is_cut (pieces_room.needs_of remaining it.reader)
+
+-- What the pieces up to the next record need.
+abbrev pub chosen_needs : {R : Type 0} → (R → Option (List ℕ)) → Chosen R → Option (List Need)
+chosen_needs remaining it = needs_unless (chosen_is_over it) (read_needs remaining it)
+
+-- One of these pieces needs more than this capacity of the buffer of pieces, or this room of the list.
+unfoldable pub SomeExceeds : ℕ → ℕ → List Need → Type 0
+SomeExceeds capacity room [] = ⊥
+SomeExceeds capacity room (need ∷ needs) = Exceeds capacity room need ⊎ SomeExceeds capacity room needs
+
+-- The answer is a packet with more bytes than this.
+abbrev pub IsLonger : ℕ → Option Answer → Type 0
+IsLonger room (Some (Ok (packet millis bytes datagram))) = room < length bytes
+IsLonger room _ = ⊥
+
+-- The first of these answers, if there is one.
+abbrev pub first_answer : List Answer → Option Answer
+first_answer [] = None
+first_answer (answer ∷ later) = Some answer
+
+-- What memory is asked for up to the next record: room for the bytes of the record, room for a piece,
+-- or a place for an interface. It says nothing if the bytes of the devices aren't known.
+abbrev pub Asks : ℕ → ℕ → ℕ → Option (List Answer) → Option (List Need) → Type 0
+Asks bytes capacity room all needs =
+    IfSome all (λ answers. IsLonger bytes (first_answer answers)) ⊎ IfSome needs (SomeExceeds capacity room)
+
+-- The same of any container.
+abbrev pub ChosenAsks : {R : Type 0} → (R → Option (List ℕ)) → ℕ → Chosen R → Type 0
+ChosenAsks remaining room it =
+    Asks room (piece_capacity it) (places it) (chosen_coming remaining it) (chosen_needs remaining it)
+
+-- The same, as long as no call returned a fault.
+abbrev pub ReadAsks : {R : Type 0} → (R → Option (List ℕ)) → ℕ → Chosen R → Type 0
+ReadAsks remaining room it =
+    Asks room (piece_capacity it) (places it) (read_coming remaining it) (read_needs remaining it)
+
+-- The needs of the pieces after the first are left.
+abbrev pub PassesNeeds : Option (List Need) → Option (List Need) → Type 0
+PassesNeeds old new = IfSome old (λ needs. new ≡ Some (drop 1 needs))
+
+-- The length of the longest of these pieces.
+unfoldable pub longest : List Need → ℕ
+longest [] = 0
+longest (need ∷ needs) = max (unwrap_or need.size 0) (longest needs)
+
+-- The capacity of the buffer of pieces grows to the longest of these pieces at most.
+abbrev pub GrowsWithin : ℕ → ℕ → Option (List Need) → Type 0
+GrowsWithin old new needs = IfSome needs (λ all. new ≤ max old (longest all))
+
 -- The captured length of the next record of a classic capture, if it is known.
 abbrev pub size_in : {R : Type 0} → (R → Option (List ℕ)) → Source R → Option (Option ℕ)
 size_in remaining (Classic capture) = classic.named remaining capture
 size_in remaining (Any it) = None
+
+-- What is held of any container from one record to the next, and what its pieces need up to that.
+pub record Store : Type 0 where
+  -- the capacity of the buffer of records
+  pub record_room : ℕ
+  -- the capacity of the buffer of pieces
+  pub piece_room : ℕ
+  -- how many interfaces the list of the section has room for
+  pub list_room : ℕ
+  -- what the pieces up to the next record need, if the bytes of the devices are known
+  pub needs : Option (List Need)
+
+-- The same before anything was read, with these needs.
+abbrev pub begun_store : Option (List Need) → Store
+begun_store needs = record { record_room = 0; piece_room = 0; list_room = 0; needs = needs }
+
+-- The same of a source whose buffer of records has this capacity. A classic capture has no pieces.
+abbrev pub store_in : {R : Type 0} → (R → Option (List ℕ)) → Source R → ℕ → Store
+store_in remaining (Classic capture) capacity =
+    record { record_room = capacity; piece_room = 0; list_room = 0; needs = Some [] }
+store_in remaining (Any it) capacity = record {
+  record_room = capacity;
+  piece_room = piece_capacity it;
+  list_room = places it;
+  needs = chosen_needs remaining it;
+}
+
+-- Any container that has these results to return asks for memory up to its next record. Of a classic
+-- capture nothing is said.
+abbrev pub AsksIf : Bool → Option (List Answer) → Store → Type 0
+AsksIf false all store = ⊤
+AsksIf true all store = Asks store.record_room store.piece_room store.list_room all store.needs
 
 -- All records that are read of a capture were read before. Of one that passes over pieces nothing
 -- is said.

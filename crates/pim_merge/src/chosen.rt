@@ -9,15 +9,18 @@
 //! of all files stay, so that no failure of a read is forgotten.
 
 ghost use Rattle.std.specs.Prelude.{◌≡◌, ◌+◌, ◌≤◌, ◌⊎◌, ⊤, Some, Ok, Err, IfOk, option_map};
-ghost use Rattle.std.specs.Prelude.{vec_len, is_err, true, false, List, ℕ, ◌∷◌, ◌*◌};
+ghost use Rattle.std.specs.Prelude.{◌<◌, [], None, length, vec_capacity, vec_len, is_err};
+ghost use Rattle.std.specs.Prelude.{true, false, List, ℕ, ◌∷◌, ◌*◌};
 ghost use Rattle.std.specs.Option.{IfSome};
 ghost use Rattle.pim_addr.specs.Faults.{Answers};
 ghost use Rattle.pim_capture.specs.declared.fault.CaptureFault.TheVariants.{Memory};
 ghost use Rattle.pim_capture.specs.Capture.{packet, most_captured};
 ghost use Rattle.pim_capture.specs.Next.{event_seen, seen, PayloadLiesIn, IsBy, latest_moment};
-ghost use Rattle.pim_capture.specs.Next.{IsNext, IsRefusal, CountsReads};
+ghost use Rattle.pim_capture.specs.Next.{IsNext, IsRefusal, CountsReads, OnMemory};
 ghost use Rattle.pim_capture.specs.Seen.{ip_seen, LiesIn, IsShort};
 ghost use Rattle.pim_container.specs.Choice.{choice_of, first_of, judge_origin, first_after};
+ghost use Rattle.pim_container.specs.declared.reader.State.TheVariants.{Unbegun};
+ghost use Rattle.pim_container.specs.Room.{needs_in};
 ghost use Rattle.pim_container.specs.Told as any;
 ghost use Rattle.pim_merge.specs.Chosen.{fault_of, is_cut, mixed_fault, told_given, first_then};
 ghost use Rattle.pim_merge.specs.Chosen.{packet_given, answers_of_files, all_known, all_failures};
@@ -25,6 +28,8 @@ ghost use Rattle.pim_merge.specs.Source.{chosen_coming, chosen_failures, chosen_
 ghost use Rattle.pim_merge.specs.Source.{Steps, step_count, count_of, read_coming};
 ghost use Rattle.pim_merge.specs.Source.{coming_at_end, is_end};
 ghost use Rattle.pim_merge.specs.Source.{chosen_is_over, IsRepeatedIf, failed};
+ghost use Rattle.pim_merge.specs.Source.{piece_capacity, places, read_needs, chosen_needs};
+ghost use Rattle.pim_merge.specs.Source.{PassesNeeds, IsLonger, ReadAsks, ChosenAsks, GrowsWithin};
 
 use pim_addr::Feed;
 use pim_capture::{CaptureFault, Event, Ip, Why};
@@ -116,6 +121,9 @@ fn keep_message(
     requires length { vec_len buffer.old ≤ most_captured }
     ensures answer { (result ≡ Err Memory) ⊎ Answers (event_seen buffer.new.items) result
         (Ok (packet millis (ip_seen piece.now ip.now).payload (ip_seen piece.now ip.now))) }
+    ensures memory { OnMemory result
+        (vec_capacity buffer.old < length (ip_seen piece.now ip.now).payload) }
+    ensures room { vec_capacity buffer.old ≤ vec_capacity buffer.new }
     ensures payload { IfOk result (PayloadLiesIn buffer.new.items) }
     ensures moment { IfOk result (IsBy latest_moment) }
     ensures length { vec_len buffer.new ≤ most_captured }
@@ -171,6 +179,10 @@ fn packet_of(
     ensures choice { choice_of chooser.new ≡ choice_of chooser.old }
     ensures first { first_of chooser.new
         ≡ first_after (choice_of chooser.old) (first_of chooser.old) origin }
+    ensures memory { OnMemory result (IsLonger (vec_capacity buffer.old)
+        (Some (packet_given millis (ip_seen piece.now ip.now)
+        (judge_origin (choice_of chooser.old) (first_of chooser.old) origin)))) }
+    ensures room { vec_capacity buffer.old ≤ vec_capacity buffer.new }
     ensures payload { IfOk result (PayloadLiesIn buffer.new.items) }
     ensures moment { IfOk result (IsBy latest_moment) }
     ensures length { vec_len buffer.new ≤ most_captured }
@@ -213,6 +225,10 @@ fn event_of(
     ensures choice { choice_of chooser.new ≡ choice_of chooser.old }
     ensures first { first_of chooser.new ≡ first_then (choice_of chooser.old)
         (first_of chooser.old) (Ok (any.event_seen piece.now piece_event)) }
+    ensures memory { OnMemory result (IsLonger (vec_capacity buffer.old)
+        (told_given (choice_of chooser.old) (first_of chooser.old)
+        (any.event_seen piece.now piece_event))) }
+    ensures room { vec_capacity buffer.old ≤ vec_capacity buffer.new }
     ensures payload { IfOk result (λ it. IfSome it (PayloadLiesIn buffer.new.items)) }
     ensures moment { IfOk result (λ it. IfSome it (IsBy latest_moment)) }
     ensures length { vec_len buffer.new ≤ most_captured }
@@ -240,6 +256,10 @@ impl<R: Feed> Chosen<R> {
             ≡ all_failures R.failures (device ∷ others.items) }
         ensures left { chosen_left result ≡ 4294967297 + vec_len others * 4294967298 }
         ensures over { chosen_is_over result ≡ false }
+        ensures piece { piece_capacity result ≡ 0 }
+        ensures places { places result ≡ 0 }
+        ensures needs { chosen_needs R.remaining result
+            ≡ option_map (needs_in Unbegun 0 []) (R.remaining device) }
     {
         Chosen {
             reader: Reader::new(alloc, device),
@@ -261,6 +281,7 @@ impl<R: Feed> Chosen<R> {
         ensures left { chosen_left self.new + step_count (Ok (Some result)) ≤ chosen_left self.old }
         ensures payload { (bytes : List ℕ) → PayloadLiesIn bytes result }
         ensures moment { IsBy latest_moment result }
+        ensures piece { piece_capacity self.new ≡ piece_capacity self.old }
     {
         if self.others.len() <= self.files_read {
             return Event::End;
@@ -285,6 +306,16 @@ impl<R: Feed> Chosen<R> {
         ensures reads { CountsReads ⊤ (chosen_failures R.failures self.old)
             (chosen_failures R.failures self.new) result }
         ensures left { chosen_left self.new + step_count result ≤ chosen_left self.old }
+        ensures memory { OnMemory result
+            (ReadAsks R.remaining (vec_capacity buffer.old) self.old) }
+        ensures piece { GrowsWithin (piece_capacity self.old) (piece_capacity self.new)
+            (read_needs R.remaining self.old) }
+        ensures needs { IfOk result (λ it. it ≡ None →
+            PassesNeeds (read_needs R.remaining self.old) (read_needs R.remaining self.new)) }
+        ensures rooms { IfOk result (λ it. it ≡ None →
+            (piece_capacity self.old ≤ piece_capacity self.new)
+            × (places self.old ≤ places self.new)
+            × (vec_capacity buffer.old ≤ vec_capacity buffer.new)) }
         ensures payload { IfOk result (λ it. IfSome it (PayloadLiesIn buffer.new.items)) }
         ensures moment { IfOk result (λ it. IfSome it (IsBy latest_moment)) }
         ensures length { vec_len buffer.new ≤ most_captured }
@@ -320,6 +351,10 @@ impl<R: Feed> Chosen<R> {
         ensures reads { CountsReads ⊤ (chosen_failures R.failures self.old)
             (chosen_failures R.failures self.new) result }
         ensures left { chosen_left self.new + count_of result ≤ chosen_left self.old }
+        ensures memory { OnMemory result
+            (ReadAsks R.remaining (vec_capacity buffer.old) self.old) }
+        ensures piece { GrowsWithin (piece_capacity self.old) (piece_capacity self.new)
+            (read_needs R.remaining self.old) }
         ensures payload { IfOk result (PayloadLiesIn buffer.new.items) }
         ensures moment { IfOk result (IsBy latest_moment) }
         ensures length { vec_len buffer.new ≤ most_captured }
@@ -345,6 +380,10 @@ impl<R: Feed> Chosen<R> {
         ensures reads { CountsReads ⊤ (chosen_failures R.failures self.old)
             (chosen_failures R.failures self.new) result }
         ensures left { chosen_left self.new + count_of result ≤ chosen_left self.old }
+        ensures memory { OnMemory result
+            (ChosenAsks R.remaining (vec_capacity buffer.old) self.old) }
+        ensures piece { GrowsWithin (piece_capacity self.old) (piece_capacity self.new)
+            (chosen_needs R.remaining self.old) }
         ensures payload { IfOk result (PayloadLiesIn buffer.new.items) }
         ensures moment { IfOk result (IsBy latest_moment) }
         ensures length { vec_len buffer.new ≤ most_captured }
@@ -367,6 +406,9 @@ impl<R: Feed> Chosen<R> {
         ensures failures { chosen_failures R.failures self.new
             ≡ chosen_failures R.failures self.old }
         ensures left { chosen_left self.new ≡ chosen_left self.old }
+        ensures piece { piece_capacity self.new ≡ piece_capacity self.old }
+        ensures places { places self.new ≡ places self.old }
+        ensures needs { chosen_needs R.remaining self.new ≡ chosen_needs R.remaining self.old }
         ensures over { chosen_is_over self.new ≡ chosen_is_over self.old }
     {
         self.reader.pass_record();

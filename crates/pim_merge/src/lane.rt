@@ -1,7 +1,7 @@
 //! A capture of a merge, with its head.
 
 ghost use Rattle.std.specs.Prelude.{◌≡◌, ◌≤◌, ◌⊎◌, ℕ, List, length, None, Some, Err, IfOk, IfErr};
-ghost use Rattle.std.specs.Prelude.{true, false, ◌∷◌};
+ghost use Rattle.std.specs.Prelude.{true, false, [], ◌∷◌};
 ghost use Rattle.std.specs.Prelude.{IsSome};
 ghost use Rattle.std.specs.Option.{option_map, IfSome};
 ghost use Rattle.pim_capture.specs.Capture.{answers, most_captured, most_records, Answer};
@@ -12,6 +12,9 @@ ghost use Rattle.pim_capture.specs.declared.capture.State.TheVariants.{Unbegun};
 ghost use Rattle.pim_merge.specs.Lane.{coming_on, without_head, IsLooked, head_time, lane_left};
 ghost use Rattle.pim_merge.specs.Lane.{LacksHeadRoom, KeepsRoom, HadAll, HasFailed};
 ghost use Rattle.pim_merge.specs.Lane.{IsFailedHead, head_rank, with_census};
+ghost use Rattle.pim_merge.specs.Source.{begun_store};
+ghost use Rattle.pim_container.specs.Room.{needs_in};
+ghost use Rattle.pim_container.specs.declared.reader.State.TheVariants as any;
 ghost use Rattle.pim_merge.specs.Merge.{time_told, time_by};
 ghost use Rattle.pim_merge.specs.Chosen.{answers_by, answers_of_files, all_known, all_failures};
 ghost use Rattle.pim_merge.specs.Looks.{StillComes, IsToldOrRefused};
@@ -92,6 +95,7 @@ impl<R: Feed + Drop> Lane<R> {
         ensures passes { result.passes ≡ false }
         ensures room { result.room ≡ 0 }
         ensures size { result.size ≡ option_map (named_in Unbegun) (R.remaining reader) }
+        ensures store { result.store ≡ begun_store (Some []) }
         ensures tally { result.tally ≡ no_tally }
     {
         Lane {
@@ -110,6 +114,8 @@ impl<R: Feed + Drop> Lane<R> {
         ensures passes { result.passes ≡ true }
         ensures room { result.room ≡ 0 }
         ensures size { result.size ≡ None }
+        ensures store { result.store
+            ≡ begun_store (option_map (needs_in any.Unbegun 0 []) (R.remaining reader)) }
         ensures tally { result.tally ≡ no_tally }
     {
         Lane::of_files(alloc, reader, Vec::new(alloc), choice)
@@ -125,6 +131,8 @@ impl<R: Feed + Drop> Lane<R> {
         ensures passes { result.passes ≡ true }
         ensures room { result.room ≡ 0 }
         ensures size { result.size ≡ None }
+        ensures store { result.store
+            ≡ begun_store (option_map (needs_in any.Unbegun 0 []) (R.remaining reader)) }
         ensures tally { result.tally ≡ no_tally }
     {
         Lane {

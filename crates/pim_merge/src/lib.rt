@@ -26,8 +26,10 @@
 //! runs back counts as the moment of the last record, so that the merge needs no clock of its
 //! caller.
 //!
-//! A merge keeps one record of each capture. It sets no limit on the number of captures; a router
-//! limits its ports itself.
+//! A merge keeps one record of each capture; of any container also the last piece, in a buffer that
+//! grows to the longest piece up to the next record, and the list of a section's interfaces. It
+//! asks for memory only where one of these lacks room (`LacksHeadRoom` in `specs/Lane.antt`). It
+//! sets no limit on the number of captures; a router limits its ports itself.
 #![tactic(auto)]
 
 mod chosen;

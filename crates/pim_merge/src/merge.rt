@@ -22,7 +22,10 @@ ghost use Rattle.pim_merge.specs.Next.{TellsTurnBy, IsFailed};
 ghost use Rattle.pim_merge.specs.Next.{bytes_at, with_fault, LacksMemory};
 ghost use Rattle.pim_merge.specs.Next.{KeepsTallies, IsNumbered};
 ghost use Rattle.pim_merge.specs.Chosen.{answers_by, answers_of_files, all_known, all_failures};
-ghost use Rattle.pim_merge.specs.Lane.{tallies_of, with_census};
+ghost use Rattle.pim_merge.specs.Lane.{tallies_of, stores_of, with_census};
+ghost use Rattle.pim_merge.specs.Source.{begun_store};
+ghost use Rattle.pim_container.specs.Room.{needs_in};
+ghost use Rattle.pim_container.specs.declared.reader.State.TheVariants as any;
 ghost use Rattle.pim_merge.specs.Tally.{no_tally, tally_at};
 
 use crate::clock::{Clock, moment_at, moment_of};
@@ -128,6 +131,8 @@ impl<R: Feed + Drop> Merge<R> {
             rooms_of self.old.lanes ++ 0 ∷ []) }
         ensures sizes { IfOk result (λ _. sizes_of self.new.lanes ≡
             sizes_of self.old.lanes ++ option_map (named_in Unbegun) (R.remaining reader) ∷ []) }
+        ensures stores { IfOk result (λ _. stores_of self.new.lanes ≡
+            stores_of self.old.lanes ++ begun_store (Some []) ∷ []) }
         ensures tallies { IfOk result (λ _. tallies_of self.new.lanes ≡
             tallies_of self.old.lanes ++ no_tally ∷ []) }
         ensures clock { self.new.clock ≡ self.old.clock }
@@ -151,6 +156,9 @@ impl<R: Feed + Drop> Merge<R> {
             rooms_of self.old.lanes ++ 0 ∷ []) }
         ensures sizes { IfOk result (λ _. sizes_of self.new.lanes ≡
             sizes_of self.old.lanes ++ None ∷ []) }
+        ensures stores { IfOk result (λ _. stores_of self.new.lanes ≡
+            stores_of self.old.lanes ++ begun_store
+            (option_map (needs_in any.Unbegun 0 []) (R.remaining reader)) ∷ []) }
         ensures tallies { IfOk result (λ _. tallies_of self.new.lanes ≡
             tallies_of self.old.lanes ++ no_tally ∷ []) }
         ensures clock { self.new.clock ≡ self.old.clock }
@@ -295,6 +303,8 @@ impl<R: Feed + Drop> Merge<R> {
         ensures cause { IfErr result (IsCause self.old.lanes self.new.lanes) }
         ensures reads { CountsFailures self.old.lanes result self.new.lanes }
         // Memory is refused only if a head wasn't read and its buffer had less room than it needs.
+        // Of any container, if a piece up to the next record needs more room, or describes an
+        // interface for which the list has none.
         ensures memory { IfErr result (LacksMemory self.old.lanes) }
         ensures rooms { KeepRooms self.old.lanes self.new.lanes }
         ensures clock { KeepsTime self.old.clock result self.new }
@@ -329,6 +339,8 @@ impl<R: Feed + Drop> Merge<R> {
         ensures cause { IfErr result (IsCause self.old.lanes self.new.lanes) }
         ensures reads { CountsFailures self.old.lanes result self.new.lanes }
         // Memory is refused only if a head wasn't read and its buffer had less room than it needs.
+        // Of any container, if a piece up to the next record needs more room, or describes an
+        // interface for which the list has none.
         ensures memory { IfErr result (LacksMemory self.old.lanes) }
         ensures rooms { KeepRooms self.old.lanes self.new.lanes }
         ensures clock { KeepsTime self.old.clock result self.new }

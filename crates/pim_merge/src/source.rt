@@ -6,6 +6,7 @@ ghost use Rattle.pim_capture.specs.Capture.{most_captured};
 ghost use Rattle.pim_capture.specs.Next.{seen, PayloadLiesIn, IsBy, latest_moment, LacksRoom};
 ghost use Rattle.pim_capture.specs.Next.{IsNext, IsRefusal, CountsReads, OnMemory};
 ghost use Rattle.pim_merge.specs.Source.{coming, failures_in, left_in, passes_over, HadAllIf};
+ghost use Rattle.pim_merge.specs.Source.{AsksIf, store_in, GrowsWithin};
 ghost use Rattle.pim_merge.specs.Source.{room_in, size_in, count_of, is_over_in, IsRepeatedIf};
 
 use crate::chosen::Chosen;
@@ -36,7 +37,13 @@ impl<R: Feed> Source<R> {
             (failures_in R.failures self.old) (failures_in R.failures self.new) result }
         ensures left { left_in self.new + count_of result ≤ left_in self.old }
         ensures memory { OnMemory result (LacksRoom (room_in self.old (vec_capacity buffer.old))
-            (size_in R.remaining self.old)) }
+            (size_in R.remaining self.old)
+            × AsksIf (passes_over self.old) (coming R.remaining self.old)
+            (store_in R.remaining self.old (vec_capacity buffer.old))) }
+        ensures piece { GrowsWithin
+            (store_in R.remaining self.old (vec_capacity buffer.old)).piece_room
+            (store_in R.remaining self.new (vec_capacity buffer.new)).piece_room
+            (store_in R.remaining self.old (vec_capacity buffer.old)).needs }
         ensures room { (room_in self.new (vec_capacity buffer.new)
             ≡ room_in self.old (vec_capacity buffer.old))
             ⊎ (room_in self.new (vec_capacity buffer.new)
@@ -63,6 +70,8 @@ impl<R: Feed> Source<R> {
         ensures room { (capacity : ℕ) → room_in self.new capacity ≡ room_in self.old capacity }
         ensures over { is_over_in self.new ≡ is_over_in self.old }
         ensures size { size_in R.remaining self.new ≡ size_in R.remaining self.old }
+        ensures store { (capacity : ℕ) → store_in R.remaining self.new capacity
+            ≡ store_in R.remaining self.old capacity }
     {
         match self {
             Source::Classic(capture) => capture.pass_record(),

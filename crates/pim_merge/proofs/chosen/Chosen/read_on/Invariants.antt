@@ -1,7 +1,8 @@
-use Rattle.std.proofs.Common.{◌≤◌, vec_len}
+use Rattle.std.proofs.Common.{◌≤◌, vec_len, vec_capacity}
 use Rattle.pim_capture.specs.Capture.{most_captured}
-use Rattle.pim_merge.specs.Source.{read_coming, chosen_failures, chosen_left}
+use Rattle.pim_merge.specs.Source.{read_coming, chosen_failures, chosen_left, piece_capacity, places, read_needs}
 use Rattle.pim_merge.proofs.Choosing.{HasPassed}
+use Rattle.pim_merge.proofs.Needing.{HasHeld}
 use Rattle.pim_merge.proofs.chosen.Chosen.read_on.Given as goal
 
 abbrev pub invariant-loop-event : goal.invariant-loop-event
@@ -10,6 +11,9 @@ invariant-loop-event g l =
     (chosen_failures g.R.Feed.failures l.fn.self) (chosen_failures g.R.Feed.failures l.self)
     (read_coming g.R.Feed.remaining l.fn.self) (read_coming g.R.Feed.remaining l.self)
     × (vec_len l.buffer ≤ most_captured)
+    × HasHeld (vec_capacity l.fn.buffer) (vec_capacity l.buffer) (piece_capacity l.fn.self) (piece_capacity l.self) (places l.fn.self) (places l.self)
+    (read_coming g.R.Feed.remaining l.fn.self) (read_coming g.R.Feed.remaining l.self)
+    (read_needs g.R.Feed.remaining l.fn.self) (read_needs g.R.Feed.remaining l.self)
 
 abbrev pub decreases-loop-event : goal.decreases-loop-event
 decreases-loop-event g l = chosen_left l.self

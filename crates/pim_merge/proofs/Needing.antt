@@ -1,0 +1,319 @@
+-- What memory is asked for up to the next record of any container.
+use Rattle.std.proofs.Common.{◌≡◌, ◌∙◌, ◌⊎◌, ◌≤◌, ◌<◌, max, ℕ, zero, suc, Bool, true, false, nat_lt, if◌then◌else◌, IfOk, IfSome, List, [], ◌∷◌, drop, length, Option, None, Some, Result, Ok, Err, is_some, unwrap_or, refl, sym, ap, subst, arith, inl, inr}
+use Rattle.std.proofs.lemmas.Bool.{false≢true}
+use Rattle.std.proofs.lemmas.Grind.{common_steps}
+use Rattle.std.specs.Option.{option_map}
+use Rattle.pim_capture.specs.declared.fault.CaptureFault.{CaptureFault}
+use Rattle.pim_capture.specs.declared.fault.CaptureFault.TheVariants as fault
+use Rattle.pim_capture.specs.declared.event.Event.{Event}
+use Rattle.pim_capture.specs.Capture.{Answer, packet, skipped, ended, most_records}
+use Rattle.pim_capture.specs.Next.{OnMemory, IsNext, IsRefusal}
+use Rattle.pim_container.specs.declared.link.Endianness.TheVariants.{Big}
+use Rattle.pim_container.specs.declared.fault.Fault.{Fault}
+use Rattle.pim_container.specs.declared.fault.Fault.TheVariants as of_any
+use Rattle.pim_container.specs.declared.event.Event as piece
+use Rattle.pim_container.specs.declared.event.Event.TheVariants as piece_kind
+use Rattle.pim_container.specs.declared.event.Origin.{Origin}
+use Rattle.pim_container.specs.declared.choice.Choice.{Choice}
+use Rattle.pim_container.specs.declared.interface.Interface.{Interface}
+use Rattle.pim_container.specs.declared.container.Container.{Container}
+use Rattle.pim_container.specs.declared.container.Container.TheVariants.{Classic, Blocks}
+use Rattle.pim_container.specs.declared.reader.State.{State}
+use Rattle.pim_container.specs.declared.reader.State.TheVariants.{Unbegun, Pieces, Ended, Failed}
+use Rattle.pim_container.specs.Told as any
+use Rattle.pim_container.specs.Pieces as pieces
+use Rattle.pim_container.specs.Block.{is_section}
+use Rattle.pim_container.specs.Next as next
+use Rattle.pim_container.specs.Room.{Need, LacksRoom, GrowsBy, GrowsFor, GrowsList, named_in, first_named, next_named, count_in, DescribesFirst, DescribesNext, PassesNeed, describes, first_need, needs, needs_in, header_need, classic_needs}
+use Rattle.pim_merge.specs.Chosen.{told_given, first_then, put, chosen, next_files}
+use Rattle.pim_merge.specs.Source.{IsGiven, is_end, failed, SomeExceeds, PassesNeeds, GrowsWithin, longest, Asks, IsLonger, first_answer, needs_unless, StaysComing, chosen_known, unless_cut}
+use Rattle.pim_merge.proofs.Choosing.{put_is, not_end, next_after}
+
+-- ---- a fault that isn't refused memory
+
+pub memory_weaker : (A B : Type 0) (f : CaptureFault) (P Q : Type 0) → (P → Q) → OnMemory {A = A} (Err f) P → OnMemory {A = B} (Err f) Q
+memory_weaker A B fault.Memory P Q h p = h p
+memory_weaker A B fault.Magic P Q h p = tt
+memory_weaker A B fault.LinkType P Q h p = tt
+memory_weaker A B fault.Truncated P Q h p = tt
+memory_weaker A B fault.TooLong P Q h p = tt
+memory_weaker A B fault.Read P Q h p = tt
+memory_weaker A B fault.Failed P Q h p = tt
+memory_weaker A B fault.Block P Q h p = tt
+memory_weaker A B fault.Time P Q h p = tt
+memory_weaker A B (fault.Vlans one other) P Q h p = tt
+memory_weaker A B (fault.Interfaces one other) P Q h p = tt
+memory_weaker A B (fault.InterfaceNames one other) P Q h p = tt
+memory_weaker A B (fault.LinkNumber number) P Q h p = tt
+
+pub memory_of : {A : Type 0} (r : Result A CaptureFault) (P Q : Type 0) → (P → Q) → OnMemory r P → OnMemory r Q
+memory_of (Ok value) P Q h p = tt
+memory_of {A = A} (Err f) P Q h p = memory_weaker A A f P Q h p
+
+pub fails_memory : (b : Bool) (f : Fault) (P Q : Type 0) → (P → Q) → next.OnMemory {A = piece.Event} (Err f) P → OnMemory (failed b f) Q
+fails_memory true f P Q h p = tt
+fails_memory false of_any.Memory P Q h p = h p
+fails_memory false of_any.Magic P Q h p = tt
+fails_memory false (of_any.LinkType n) P Q h p = tt
+fails_memory false of_any.Truncated P Q h p = tt
+fails_memory false of_any.TooLong P Q h p = tt
+fails_memory false of_any.Block P Q h p = tt
+fails_memory false of_any.Time P Q h p = tt
+fails_memory false of_any.Read P Q h p = tt
+fails_memory false of_any.Failed P Q h p = tt
+
+refused_as : (A B : Type 0) (f : CaptureFault) (n n' : ℕ) → IsRefusal {A = A} n n' (Err f) → IsRefusal {A = B} n n' (Err f)
+refused_as A B fault.Read n n' h = h
+refused_as A B fault.Memory n n' h = h
+refused_as A B fault.Magic n n' h = absurd h
+refused_as A B fault.LinkType n n' h = absurd h
+refused_as A B fault.Truncated n n' h = absurd h
+refused_as A B fault.TooLong n n' h = absurd h
+refused_as A B fault.Failed n n' h = absurd h
+refused_as A B fault.Block n n' h = absurd h
+refused_as A B fault.Time n n' h = absurd h
+refused_as A B (fault.Vlans one other) n n' h = absurd h
+refused_as A B (fault.Interfaces one other) n n' h = absurd h
+refused_as A B (fault.InterfaceNames one other) n n' h = absurd h
+refused_as A B (fault.LinkNumber number) n n' h = absurd h
+
+-- a fault after some pieces that gave no record
+pub failed_after : (A B : Type 0) (f : CaptureFault) (n n' n'' : ℕ) (all now later : Option (List Answer)) → n' ≡ n → StaysComing all now → IsRefusal {A = A} n' n'' (Err f) ⊎ IsNext now (Err f) later
+    → IsRefusal {A = B} n n'' (Err f) ⊎ IsNext all (Err f) later
+failed_after A B f n n' n'' all now later same stays (inl h) = inl (subst (λ k. IsRefusal {A = B} k n'' (Err f)) same (refused_as A B f n' n'' h))
+failed_after A B f n n' n'' all now later same stays (inr h) = inr (next_after all now later (Err f) stays h)
+
+-- ---- the next piece
+
+describes_true : (c : Container) (bytes : List ℕ) → next.Describes c bytes → describes c bytes ≡ true
+describes_true (Classic format) bytes d = absurd d
+describes_true (Blocks order) bytes d = grind (arith, common_steps)
+
+no_more : (left : ℕ) (c : Container) (bytes : List ℕ) → left ≡ 0 → next_named left c bytes ≡ None
+no_more left c bytes none = grind (arith, common_steps)
+
+lacks_none : (capacity : ℕ) (named : Option ℕ) → named ≡ None → LacksRoom capacity (Some named) → ⊥
+lacks_none capacity named none lacks = subst (λ it. LacksRoom capacity (Some it)) none lacks
+
+asks_pieces : (capacity room left : ℕ) (c : Container) (count : ℕ) (is : List Interface) (bytes : List ℕ)
+    → LacksRoom capacity (Some (next_named left c bytes)) ⊎ ((room ≤ count) × ((0 < left) × DescribesFirst c bytes))
+    → SomeExceeds capacity room (needs left c count is bytes)
+unfolding needs SomeExceeds
+asks_pieces capacity room zero c count is bytes (inl lacks) = lacks_none capacity (next_named 0 c bytes) (no_more 0 c bytes refl) lacks
+asks_pieces capacity room zero c count is bytes (inr full) = absurd (omega (arith, full.1.0))
+asks_pieces capacity room (suc left) c count is bytes (inl lacks) = inl (inl lacks)
+asks_pieces capacity room (suc left) c count is bytes (inr full) = inl (inr (full.0, describes_true _ _ full.1.1))
+
+asks_begun : (capacity room : ℕ) (xs : List ℕ) (b : Bool) → is_section xs ≡ b
+    → LacksRoom capacity (Some (if b then next_named most_records (Blocks Big) xs else (if nat_lt (length xs) 12 then None else Some 24)))
+    ⊎ ((room ≤ 0) × ((b ≡ true) × DescribesFirst (Blocks Big) xs))
+    → SomeExceeds capacity room (if b then needs most_records (Blocks Big) 0 [] xs else classic_needs xs)
+unfolding SomeExceeds
+asks_begun capacity room xs true e (inl lacks) = asks_pieces capacity room most_records (Blocks Big) 0 [] xs (inl lacks)
+asks_begun capacity room xs true e (inr full) = asks_pieces capacity room most_records (Blocks Big) 0 [] xs (inr (full.0, (omega arith, full.1.1)))
+asks_begun capacity room xs false e (inl lacks) =
+    let same = ap (λ (t : Bool). if t then next_named most_records (Blocks Big) xs else (if nat_lt (length xs) 12 then None else Some 24)) e in
+    inl (inl (subst (λ it. LacksRoom capacity (Some it)) (sym same) lacks))
+asks_begun capacity room xs false e (inr full) = absurd (false≢true full.1.0)
+
+pub asks_need : (capacity room : ℕ) (state : State) (count : ℕ) (is : List Interface) (old : Option (List ℕ))
+    → LacksRoom capacity (option_map (named_in state) old) ⊎ ((room ≤ count_in state count) × IfSome old (DescribesNext state))
+    → IfSome (option_map (needs_in state count is) old) (SomeExceeds capacity room)
+asks_need capacity room state count is None h = tt
+asks_need capacity room Unbegun count is (Some xs) (inl h) =
+    asks_begun capacity room xs (is_section xs) refl (inl h)
+asks_need capacity room Unbegun count is (Some xs) (inr h) =
+    asks_begun capacity room xs (is_section xs) refl (inr h)
+asks_need capacity room (Pieces c left) count is (Some xs) h = asks_pieces capacity room left c count is xs h
+asks_need capacity room Ended count is (Some xs) (inl h) = absurd h
+asks_need capacity room Ended count is (Some xs) (inr h) = absurd h.1
+asks_need capacity room Failed count is (Some xs) (inl h) = absurd h
+asks_need capacity room Failed count is (Some xs) (inr h) = absurd h.1
+
+-- ---- how far the buffer of pieces grows
+
+grows_bound : (named : Option ℕ) (old new : ℕ) → GrowsBy named old new → new ≤ max old (unwrap_or named 0)
+grows_bound None old new g = omega arith
+grows_bound (Some size) old new (inl g) = omega arith
+grows_bound (Some size) old new (inr g) = omega arith
+
+longest_is : (need : Need) (rest : List Need) → longest (need ∷ rest) ≡ max (unwrap_or need.size 0) (longest rest)
+unfolding longest
+longest_is need rest = refl
+
+bound_first : (need : Need) (rest : List Need) (old new : ℕ) → new ≤ max old (unwrap_or need.size 0) → new ≤ max old (longest (need ∷ rest))
+bound_first need rest old new h = let e = longest_is need rest in omega (arith, e, h)
+
+grows_pieces : (left : ℕ) (c : Container) (count : ℕ) (is : List Interface) (bytes : List ℕ) (old new : ℕ) → GrowsBy (next_named left c bytes) old new → new ≤ max old (longest (needs left c count is bytes))
+unfolding needs
+grows_pieces zero c count is bytes old new g =
+    let same : new ≡ old = subst (λ it. GrowsBy it old new) (no_more 0 c bytes refl) g in omega (arith, same)
+grows_pieces (suc left) c count is bytes old new g =
+    bound_first (first_need (suc left) c count bytes) _ old new (grows_bound (next_named (suc left) c bytes) old new g)
+
+grows_begun : (xs : List ℕ) (b : Bool) (old new : ℕ) → is_section xs ≡ b
+    → GrowsBy (if b then next_named most_records (Blocks Big) xs else (if nat_lt (length xs) 12 then None else Some 24)) old new
+    → new ≤ max old (longest (if b then needs most_records (Blocks Big) 0 [] xs else classic_needs xs))
+grows_begun xs true old new e g = grows_pieces most_records (Blocks Big) 0 [] xs old new g
+grows_begun xs false old new e g =
+    let same = ap (λ (t : Bool). if t then next_named most_records (Blocks Big) xs else (if nat_lt (length xs) 12 then None else Some 24)) e in
+    bound_first (header_need xs) _ old new (grows_bound (first_named xs) old new (subst (λ it. GrowsBy it old new) (sym same) g))
+
+pub grows_need : (old new : ℕ) (state : State) (count : ℕ) (is : List Interface) (bytes : Option (List ℕ)) → GrowsFor (option_map (named_in state) bytes) old new
+    → GrowsWithin old new (option_map (needs_in state count is) bytes)
+grows_need old new state count is None g = tt
+grows_need old new Unbegun count is (Some xs) g = grows_begun xs (is_section xs) old new refl g
+grows_need old new (Pieces c left) count is (Some xs) g = grows_pieces left c count is xs old new g
+grows_need old new Ended count is (Some xs) g = omega (arith, g)
+grows_need old new Failed count is (Some xs) g = omega (arith, g)
+
+pub within_same : (room : ℕ) (needs : Option (List Need)) → GrowsWithin room room needs
+within_same room None = tt
+within_same room (Some all) = omega arith
+
+-- ---- a piece that gives no record
+
+pub passes_given : (choice : Choice) (first : Option Origin) (e : piece.Event) (bytes : List ℕ) (old new : Option (List Need)) → told_given choice first (any.event_seen bytes e) ≡ None → is_end e ≡ false
+    → PassesNeed e old new → PassesNeeds old new
+passes_given choice first (piece_kind.Packet millis origin ip) bytes old new none more h = absurd cc
+passes_given choice first (piece_kind.Skipped millis why) bytes old new none more h = absurd cc
+passes_given choice first piece_kind.Untimed bytes old new none more h = absurd cc
+passes_given choice first piece_kind.Section bytes old new none more h = h
+passes_given choice first (piece_kind.Interface name) bytes old new none more h = h
+passes_given choice first piece_kind.Passed bytes old new none more h = h
+passes_given choice first piece_kind.End bytes old new none more h = absurd (false≢true (sym more))
+
+lacks_less : (p p' : ℕ) (size : Option ℕ) → p ≤ p' → LacksRoom p' (Some size) → LacksRoom p (Some size)
+lacks_less p p' None le h = h
+lacks_less p p' (Some n) le h = let less : p' < n = h in omega (arith, le, less)
+
+exceeds_less : (p p' l l' : ℕ) (ns : List Need) → p ≤ p' → l ≤ l' → SomeExceeds p' l' ns → SomeExceeds p l ns
+unfolding SomeExceeds
+exceeds_less p p' l l' [] le le' h = h
+exceeds_less p p' l l' (need ∷ ns) le le' (inl (inl h)) = inl (inl (lacks_less p p' need.size le h))
+exceeds_less p p' l l' (need ∷ ns) le le' (inl (inr h)) = inl (inr (omega (arith, le', h.0), h.1))
+exceeds_less p p' l l' (need ∷ ns) le le' (inr h) = inr (exceeds_less p p' l l' ns le le' h)
+
+exceeds_later : (p l : ℕ) (ns : List Need) → SomeExceeds p l (drop 1 ns) → SomeExceeds p l ns
+unfolding SomeExceeds
+exceeds_later p l [] h = h
+exceeds_later p l (need ∷ ns) h = inr h
+
+longest_later : (ns : List Need) → longest (drop 1 ns) ≤ longest ns
+longest_later [] = let same : longest (drop 1 []) ≡ longest [] = refl in omega (arith, same)
+longest_later (need ∷ ns) =
+    let same : longest (drop 1 (need ∷ ns)) ≡ longest ns = refl in
+    let e = longest_is need ns in omega (arith, same, e)
+
+longer_less : (r r' : ℕ) (o : Option Answer) → r ≤ r' → IsLonger r' o → IsLonger r o
+longer_less r r' None le h = h
+longer_less r r' (Some (Err f)) le h = h
+longer_less r r' (Some (Ok (packet millis bytes datagram))) le h = let less : r' < length bytes = h in omega (arith, le, less)
+longer_less r r' (Some (Ok (skipped millis why))) le h = h
+longer_less r r' (Some (Ok ended)) le h = h
+
+asks_back : (r r' p p' l l' : ℕ) (all later : Option (List Answer)) (needs needs' : Option (List Need)) → r ≤ r' → p ≤ p' → l ≤ l' → StaysComing all later → PassesNeeds needs needs'
+    → Asks r' p' l' later needs' → Asks r p l all needs
+asks_back r r' p p' l l' None later ns ns' a b c stays passes h = inl tt
+asks_back r r' p p' l l' (Some xs) later ns ns' a b c stays passes (inl h) =
+    inl (longer_less r r' (first_answer xs) a (subst (λ (it : Option (List Answer)). IfSome it (λ answers. IsLonger r' (first_answer answers))) stays h))
+asks_back r r' p p' l l' (Some xs) later None ns' a b c stays passes (inr h) = inr tt
+asks_back r r' p p' l l' (Some xs) later (Some ns) ns' a b c stays passes (inr h) =
+    let left : SomeExceeds p' l' (drop 1 ns) = subst (λ (it : Option (List Need)). IfSome it (SomeExceeds p' l')) passes h in
+    inr (exceeds_less p p' l l' ns b c (exceeds_later p' l' ns left))
+
+within_back : (p p' p'' : ℕ) (needs needs' : Option (List Need)) → GrowsWithin p p' needs → PassesNeeds needs needs' → GrowsWithin p' p'' needs' → GrowsWithin p p'' needs
+within_back p p' p'' None needs' g passes g' = tt
+within_back p p' p'' (Some ns) needs' g passes g' =
+    let le = longest_later ns in
+    let less : p'' ≤ max p' (longest (drop 1 ns)) = subst (λ (it : Option (List Need)). IfSome it (λ all. p'' ≤ max p' (longest all))) passes g' in
+    let one : p' ≤ max p (longest ns) = g in
+    omega (arith, one, le, less)
+
+-- ---- piece after piece
+
+-- Some pieces were read that gave no record. What is asked for from here on was so from the start.
+pub record HasHeld (r r' p p' l l' : ℕ) (all later : Option (List Answer)) (needs needs' : Option (List Need)) : Type 0 where
+  pub asks : Asks r' p' l' later needs' → Asks r p l all needs
+  pub grown : GrowsWithin p p' needs
+  pub within : (top : ℕ) → GrowsWithin p' top needs' → GrowsWithin p top needs
+
+pub begin_holding : (r p l : ℕ) (all : Option (List Answer)) (needs : Option (List Need)) → HasHeld r r p p l l all all needs needs
+begin_holding r p l all needs = record { asks = λ h. h; grown = within_same p needs; within = λ top g. g }
+
+pub hold_more : (r r' r'' p p' p'' l l' l'' : ℕ) (all now later : Option (List Answer)) (needs needs' needs'' : Option (List Need)) → HasHeld r r' p p' l l' all now needs needs'
+    → StaysComing now later → PassesNeeds needs' needs'' → GrowsWithin p' p'' needs' → (p' ≤ p'') × (l' ≤ l'') × (r' ≤ r'') → HasHeld r r'' p p'' l l'' all later needs needs''
+hold_more r r' r'' p p' p'' l l' l'' all now later needs needs' needs'' has stays passes grown le = record {
+  asks = λ h. has.asks (asks_back r' r'' p' p'' l' l'' now later needs' needs'' le.2 le.0 le.1 stays passes h);
+  grown = has.within p'' grown;
+  within = λ top g. has.within top (within_back p' p'' top needs' needs'' grown passes g);
+}
+
+-- ---- the bytes of a record
+
+longer_given : (r : ℕ) (given : Option Answer) (later : List Answer) → IsLonger r given → IsLonger r (first_answer (put given later))
+longer_given r None later h = absurd h
+longer_given r (Some (Err f)) later h = absurd h
+longer_given r (Some (Ok (packet millis bytes datagram))) later h = h
+longer_given r (Some (Ok (skipped millis why))) later h = absurd h
+longer_given r (Some (Ok ended)) later h = absurd h
+
+longer_known : (r p l : ℕ) (choice : Choice) (begun : Bool) (first : Option Origin) (old new : Option (List pieces.Answer)) (files : Option (List (List ℕ))) (told : any.Told) (needs : Option (List Need))
+    → (told ≡ any.ended → ⊥) → next.IsNext old (Ok told) new → IsLonger r (told_given choice first told) → Asks r p l (chosen_known choice begun first old files) needs
+longer_known r p l choice begun first None new files told needs more is h = inl tt
+longer_known r p l choice begun first (Some xs) None files told needs more is h = absurd is
+longer_known r p l choice begun first (Some xs) (Some ys) None told needs more is h = inl tt
+longer_known r p l choice begun first (Some xs) (Some ys) (Some files) told needs more is h =
+    let behind = next_files choice files in
+    let all = ap (chosen choice behind begun first) is ∙ put_is choice behind begun first told ys more in
+    inl (subst (λ it. IsLonger r (first_answer it)) (sym all)
+    (longer_given r (told_given choice first told) (chosen choice behind true (first_then choice first (Ok told)) ys) h))
+
+pub asks_record : (r p l : ℕ) (cut begun : Bool) (choice : Choice) (first : Option Origin) (old new : Option (List pieces.Answer)) (files : Option (List (List ℕ))) (e : piece.Event) (seen : List ℕ)
+    (needs : Option (List Need)) → cut ≡ false → is_end e ≡ false → ⊥ ⊎ next.IsNext old (Ok (any.event_seen seen e)) new → IsLonger r (told_given choice first (any.event_seen seen e))
+    → Asks r p l (chosen_known choice begun first (unless_cut cut old) files) needs
+asks_record r p l cut begun choice first old new files e seen needs uncut more (inl never) h = absurd never
+asks_record r p l cut begun choice first old new files e seen needs uncut more (inr is) h =
+    subst (λ c. Asks r p l (chosen_known choice begun first (unless_cut c old) files) needs) (sym uncut)
+    (longer_known r p l choice begun first old new files (any.event_seen seen e) needs (not_end e seen more) is h)
+
+-- ---- the needs of a file that isn't cut
+
+pub uncut_needs : (cut : Bool) (needs : Option (List Need)) → cut ≡ false → needs_unless cut needs ≡ needs
+uncut_needs cut needs uncut = ap (λ c. needs_unless c needs) uncut
+
+pub passes_uncut : (cut : Bool) (old new : Option (List Need)) → cut ≡ false → PassesNeeds old new → PassesNeeds (needs_unless cut old) (needs_unless cut new)
+passes_uncut cut old new uncut h = subst (λ c. PassesNeeds (needs_unless c old) (needs_unless c new)) (sym uncut) h
+
+-- ---- the result of a step
+
+pub given_none : (given : Option Answer) (bytes : List ℕ) (result : Result (Option Event) CaptureFault) → IsGiven given bytes result → IfOk result (λ it. it ≡ None → given ≡ None)
+given_none given bytes (Ok None) h = λ none. h
+given_none given bytes (Ok (Some event)) h = λ none. absurd cc
+given_none given bytes (Err f) h = tt
+
+pub if_ok : {A : Type 0} (r : Result A CaptureFault) (P : A → Type 0) → ((a : A) → P a) → IfOk r P
+if_ok (Ok a) P h = h a
+if_ok (Err f) P h = tt
+
+pub grows_up : (named : Option (Option ℕ)) (old new : ℕ) → GrowsFor named old new → old ≤ new
+grows_up None old new g = g.0
+grows_up (Some None) old new g = omega (arith, g)
+grows_up (Some (Some size)) old new (inl g) = omega (arith, g)
+grows_up (Some (Some size)) old new (inr g) = omega (arith, g)
+
+pub list_up : (e : piece.Event) (count old new : ℕ) → GrowsList e count old new → old ≤ new
+list_up (piece_kind.Packet millis origin ip) count old new g = omega (arith, g)
+list_up (piece_kind.Skipped millis why) count old new g = omega (arith, g)
+list_up piece_kind.Untimed count old new g = omega (arith, g)
+list_up piece_kind.Section count old new g = omega (arith, g)
+list_up (piece_kind.Interface name) count old new (inl g) = omega (arith, g.1)
+list_up (piece_kind.Interface name) count old new (inr g) = omega (arith, g.0, g.1)
+list_up piece_kind.Passed count old new g = omega (arith, g)
+list_up piece_kind.End count old new g = omega (arith, g)
+
+-- ---- a capture whose head wasn't read
+
+pub no_head : {A B : Type 0} (head : Option A) (f : A → B) → is_some head ≡ false → option_map f head ≡ None
+no_head None f none = refl
+no_head (Some a) f none = absurd cc
