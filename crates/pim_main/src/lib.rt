@@ -51,7 +51,10 @@ fn answer_input(rt: &HostRuntime) -> Result<u8, Fault<'static>> {
 }
 
 /// Does a task, with standard input and output and the files of the system, and returns the status.
-fn run_on_system<'a, F: Family>(rt: &HostRuntime, task: &Task<'a, F::Addr>) -> Result<u8, Fault<'a>>
+fn run_on_system<'a, F: Family>(
+    rt: &'a HostRuntime,
+    task: &Task<'a, F::Addr>,
+) -> Result<u8, Fault<'a>>
     requires { IsInRange task.now }
 {
     let line = Line::new();
@@ -79,7 +82,7 @@ fn run_on_system<'a, F: Family>(rt: &HostRuntime, task: &Task<'a, F::Addr>) -> R
 }
 
 /// Does what the words ask for, and returns the status.
-fn run<'a>(rt: &HostRuntime, words: &'a [String]) -> Result<u8, Fault<'a>> {
+fn run<'a>(rt: &'a HostRuntime, words: &'a [String]) -> Result<u8, Fault<'a>> {
     match &plan(rt.alloc(), words)? {
         Plan::V4(task) => run_on_system::<V4>(rt, task),
         Plan::V6(task) => run_on_system::<V6>(rt, task),
