@@ -12,10 +12,10 @@ use std::alloc::Global;
 
 /// Does the task of a case over these files. Where any container is read, standard input is one
 /// more.
-fn answer_task<'a, F: Family>(
+fn answer_task<'a, 'f, F: Family>(
     alloc: Global,
-    files: &[HeldFile<'_>],
-    case: &Case<'_>,
+    files: &'f [HeldFile<'f>],
+    case: &'f Case<'f>,
     task: &Task<'a, F::Addr>,
     output: &mut ScriptedDrain,
     errors: &mut ScriptedDrain,
