@@ -277,8 +277,8 @@ pub fn answer_change<F: Family, W: Drain>(
     }
 }
 
-/// Whether the canonical messages of a form and those of what is asked now are the same bytes. A star
-/// that is too big is the fault, also where memory is refused.
+/// Whether the canonical messages of a form and those of what is asked now are the same bytes. A
+/// star that is too big is the fault, also where memory is refused.
 fn is_same<F: Family>(
     alloc: Global,
     router: &Router<'_, F>,

@@ -10,8 +10,8 @@
 //! read. So it never waits for more input than an item needs. Each device has failed once more
 //! exactly where the error says so. Each item leaves fewer bytes, so that a loop over items ends.
 //!
-//! After an error what was read is lost, and each later call fails too. So no piece of a text, or of
-//! a line, is ever taken for an item.
+//! After an error what was read is lost, and each later call fails too. So no piece of a text, or
+//! of a line, is ever taken for an item.
 //!
 //! A line is found in a buffer of one size, made in advance, as is the room for a text. So no item
 //! needs memory, and a line costs time in its length even if each read gives one byte. An item is a

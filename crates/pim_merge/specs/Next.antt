@@ -62,8 +62,8 @@ IsCause old new told =
     IsRefusal {A = ⊤} (lane_at told.capture old).failures (lane_at told.capture new).failures (Err told.fault)
     ⊎ ((captures : List (List Answer)) → IsComing old captures → with_fault told captures ≡ captures)
 
--- Memory is refused only where the head of the fault's capture wasn't read, and its buffer had less
--- room than that record needs.
+-- Memory is refused only where the head of the fault's capture wasn't read. Its buffer had less room
+-- than that record needs, or of any container, a piece up to the record or an interface lacked it.
 abbrev pub LacksMemory : List LaneState → MergeFault → Type 0
 LacksMemory old told = OnMemory {A = ⊤} (Err told.fault) (LacksHeadRoom (lane_at told.capture old))
 

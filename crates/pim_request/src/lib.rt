@@ -9,8 +9,8 @@
 //! - `decode_hex` replaces a buffer, which has room for them, by the bytes that the digits of a
 //!   packet state.
 //! - `of_family` returns an address as one of a family exactly where it is.
-//! - Laws of `one_request`: a line states one command, or one sender, or has one fault of its words,
-//!   and not both.
+//! - Laws of `one_request`: a line states one command, or one sender, or has one fault of its
+//!   words, and not both.
 //! - `Answers`: a device that takes answers and can pass on at once what it holds.
 //!
 //! The definitions list the forms of each command, slot by slot, and judge a word by the slots that

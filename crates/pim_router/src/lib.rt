@@ -24,8 +24,8 @@
 //!
 //! Laws: a run has at most one end, runs and courses can be joined, and every list of inputs has
 //! exactly one course. What happens up to a moment is determined, calls of `fire_to` join into it,
-//! and it leads to the state to which runs lead. What is asked of a neighbour has at most one list of
-//! messages, and so has its change from a form.
+//! and it leads to the state to which runs lead. What is asked of a neighbour has at most one list
+//! of messages, and so has its change from a form.
 #![tactic(auto)]
 
 mod canonical;

@@ -58,8 +58,8 @@ fn of_telling(fault: TellFault) -> TraceFault
     }
 }
 
-/// Takes the next turn before the end of the run, if there is one. Where the merge has a fault, what
-/// is still due at the present moment happens before it.
+/// Takes the next turn before the end of the run, if there is one. Where the merge has a fault,
+/// what is still due at the present moment happens before it.
 fn step<F: Family, R: Feed + Drop, W, T: Teller<F, W>>(
     teller: &T,
     device: &mut W,

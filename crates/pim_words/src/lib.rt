@@ -13,7 +13,8 @@
 //!   (`specs/Links.antt`).
 //! - Where files are read so, a word `+FILE` names a further file of the port of the word before
 //!   it. A command has at most 4,096 further files, each of one of its ports.
-//! - There `-` names standard input, in the words and in `--routes`. At most one file has that name.
+//! - There `-` names standard input, in the words and in `--routes`. At most one file has that
+//!   name.
 //!
 //! Otherwise it returns a fault whose cause exists, the first in the order that `plan` lists, or
 //! `Memory`. A request for help or the version is a fault too (`Clap`). Faults that name a word,

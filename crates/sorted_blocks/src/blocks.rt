@@ -122,7 +122,8 @@ impl<T: Copy, const HALF: usize> Blocks<T, HALF> {
     }
 
     /// Takes out `count` items of one block from this place on, and returns the place of the item
-    /// that followed them. It moves as much as `remove`, and twice as much where it empties a block.
+    /// that followed them. It moves as much as `remove`, and twice as much where it empties a
+    /// block.
     pub fn remove_in_block(&mut self, place: Place, count: usize) -> Place
         requires item { IsItem self.old place }
         requires within { count ≤ length (rest_of self.old place) }

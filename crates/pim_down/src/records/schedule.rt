@@ -179,8 +179,8 @@ impl<A: Copy, O: KeyOrder<A>, const HALF: usize> Schedule<A, O, HALF> {
             .change(slab, key, number, machine.expires_at, to.expires_at);
     }
 
-    /// Gives Expiry Timers of the records with these numbers, all with one end, another end. It takes
-    /// as many of the first ones as are side by side in a block, and returns their number.
+    /// Gives Expiry Timers of the records with these numbers, all with one end, another end. It
+    /// takes as many of the first ones as are side by side in a block, and returns their number.
     pub(crate) fn put_off(
         &mut self,
         slab: &Slab<Held<A>>,

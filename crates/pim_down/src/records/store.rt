@@ -246,9 +246,9 @@ impl<A: Copy, O: KeyOrder<A>> Store<A, O> {
         self.list.set(place, Held { key, machine });
     }
 
-    /// Puts off the Expiry Timers of the first ones of these records; all of them end at one moment.
-    /// It takes as many as are side by side in a block of the index, with timers side by side in a
-    /// block of the schedule. Returns their number.
+    /// Puts off the Expiry Timers of the first ones of these records; all of them end at one
+    /// moment. It takes as many as are side by side in a block of the index, with timers side by
+    /// side in a block of the schedule. Returns their number.
     pub(crate) fn put_off(&mut self, place: Place, count: usize, from: u64, to: u64) -> usize
         requires place { IsItem self.old place }
         requires within { at self.old place + count ≤ length self.old.items }

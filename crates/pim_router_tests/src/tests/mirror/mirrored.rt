@@ -17,8 +17,8 @@ const FOURTH: [u8; 4] = [10, 0, 0, 8];
 /// A fresh router and what comes to it.
 #[derive(Clone, Copy)]
 enum Given {
-    /// The room for records, the holdtime of another neighbour, and the deliveries: of a message and
-    /// a moment each.
+    /// The room for records, the holdtime of another neighbour, and the deliveries: of a message
+    /// and a moment each.
     Deliveries(usize, u16, &'static [(usize, u64)]),
     /// Besides 10.0.0.7 this neighbour is there, too. Both messages come at 0.
     Beside([u8; 4]),
