@@ -47,6 +47,9 @@ mod tally;
 pub use clock::Clock;
 pub use content::{Content, Datagram};
 pub use end::End;
-pub use laws::{merge_by_has_one_end, merge_has_one_end, merges_are_alike, one_link_is_read_alike};
+pub use laws::{
+    merge_by_has_one_end, merge_has_one_end, merges_are_alike, one_link_is_read_alike,
+    records_hold_alike,
+};
 pub use merge::{Merge, MergeFault, Turn};
 pub use tally::{Place, Tally};
