@@ -22,7 +22,7 @@ use Rattle.pim_answers.specs.declared.fault.Fault.{Fault}
 use Rattle.pim_answers.specs.declared.kept.Found.{Found}
 use Rattle.pim_answers.specs.declared.kept.Found.TheVariants.{Unknown, Other, Form}
 use Rattle.pim_answers.specs.declared.kept.KeptForm.{KeptForm}
-use Rattle.pim_text.specs.Spelled.{address_bytes}
+use Rattle.pim_lines.specs.AnyAddress.{address_bytes}
 use Rattle.pim_addr.specs.Families.{is_same}
 use Rattle.pim_answers.specs.AskingSeen.{made_text, same_text, SaysBig, IsFirst, has_same_tables}
 use Rattle.pim_answers.specs.Fault.{fault_words}

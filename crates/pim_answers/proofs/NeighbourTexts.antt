@@ -7,7 +7,7 @@ use Rattle.pim_addr.specs.Text.{address_text}
 use Rattle.pim_hello.specs.Hello.{Delays}
 use Rattle.pim_hello.specs.Neighbours.{Table, no_neighbours}
 use Rattle.pim_text.specs.HelloText.{bit, delays_text}
-use Rattle.pim_report.specs.Pieces.{number_or}
+use Rattle.pim_lines.specs.Pieces.{number_or}
 use Rattle.pim_answers.specs.Neighbours.{option_words, place_words, neighbour_line, tables_text}
 
 -- an option that is there, by the words of its line

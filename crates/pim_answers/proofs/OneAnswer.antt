@@ -23,10 +23,11 @@ use Rattle.pim_router.specs.Packets.{Packet as Received}
 use Rattle.pim_router.specs.State.{RouterState}
 use Rattle.pim_text.specs.OneReading.{OneBody, LongBody}
 use Rattle.pim_text.specs.Spell.{IsLong, stated_in}
-use Rattle.pim_text.specs.Spelled.{address_bytes}
+use Rattle.pim_lines.specs.AnyAddress.{address_bytes}
 use Rattle.pim_answers.specs.declared.packets.FromText.{FromText}
 use Rattle.pim_answers.specs.Answered.{Refused, RefusedIf, RefusedBy, OrMemory, OrMemoryIf, Done}
-use Rattle.pim_answers.specs.Asking.{UnlessIf, UnlessAny, TellsMade, too_big_words, KeepsAsked, kept_now, TellsOf, IfUsable, AnswersFound, TellsChange, has_other_family, name_words, IsFirstBig, AreCompared, same_line, TellsSame, writer_of, writer_words}
+use Rattle.pim_answers.specs.Asking.{UnlessIf, UnlessAny, TellsMade, too_big_words, KeepsAsked, kept_now, TellsOf, IfUsable, AnswersFound, TellsChange, has_other_family, name_words, IsFirstBig, AreCompared, TellsSame, writer_of, writer_words}
+use Rattle.pim_report.specs.SameLine.{same_line}
 use Rattle.pim_answers.specs.Families.{differ_from, family_words}
 use Rattle.pim_answers.specs.Kept.{Kept, with_kept, lacks_place, is_usable}
 use Rattle.pim_answers.specs.Lines.{ok_line, fault_line, memory_line}

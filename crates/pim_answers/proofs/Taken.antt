@@ -5,7 +5,7 @@ use Rattle.pim_device.specs.Device.{AppendsAll}
 use Rattle.pim_request.specs.declared.command.Packet.{Packet as Arrived}
 use Rattle.pim_request.specs.Forms.{hex_bytes}
 use Rattle.pim_text.specs.Spell.{IsLong}
-use Rattle.pim_text.specs.Spelled.{address_bytes}
+use Rattle.pim_lines.specs.AnyAddress.{address_bytes}
 use Rattle.pim_addr.specs.declared.family.AddressFamily.{AddressFamily}
 use Rattle.pim_router.specs.declared.verdict.Verdict.{Verdict}
 use Rattle.pim_router.specs.Packets.{Packet, received}

@@ -14,9 +14,10 @@ use Rattle.pim_router.specs.Canonical.{asked, IsAskedBy, IsTooBig}
 use Rattle.pim_router.specs.Change.{IsToldOf, IsTooBigToTell}
 use Rattle.pim_router.specs.State.{RouterState}
 use Rattle.pim_report.specs.MessageText.{messages_text}
-use Rattle.pim_report.specs.Pieces.{line}
+use Rattle.pim_lines.specs.Pieces.{line}
+use Rattle.pim_report.specs.SameLine.{same_line}
 use Rattle.pim_answers.specs.Answered.{Refused, RefusedIf, RefusedBy, OrMemory}
-use Rattle.pim_text.specs.Spelled.{address_bytes}
+use Rattle.pim_lines.specs.AnyAddress.{address_bytes}
 use Rattle.pim_answers.specs.Families.{differ_from, family_words}
 use Rattle.pim_answers.specs.Answered.{Done}
 use Rattle.pim_answers.specs.Kept.{kept_as, with_kept, lacks_place, stars_of, is_usable}
@@ -145,11 +146,6 @@ pub record AreCompared (family : AddressFamily) (writer : Writer) (form : List G
   pub of_kept : AreCanonical family writer (known_in family router.routes) form before
   pub of_now : IsAskedBy family writer router now
   pub compared : IsTrue same ↔ (before ≡ now)
-
--- The line that says whether both are the same.
-abbrev pub same_line : Bool → List ℕ
-same_line true = line (codes "same")
-same_line false = line (codes "different")
 
 -- Whether the canonical messages of what was kept are those of what is asked now, or memory is
 -- refused: both only where no star is too big. Or the first group whose star is.

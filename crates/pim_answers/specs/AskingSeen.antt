@@ -8,7 +8,7 @@ use Rattle.pim_form.specs.NormalForm.{GroupForm, IsFormOf}
 use Rattle.pim_form.specs.Toward.{via_in, is_toward}
 use Rattle.pim_form.specs.declared.fault.FormFault.{FormFault}
 use Rattle.pim_form.specs.declared.fault.FormFault.TheVariants.{TooBig, Memory, Tables}
-use Rattle.pim_text.specs.Spelled.{address_bytes}
+use Rattle.pim_lines.specs.AnyAddress.{address_bytes}
 use Rattle.pim_request.specs.declared.command.Kept.{Kept as Keeping}
 use Rattle.pim_request.specs.declared.command.Writing.{Writing}
 use Rattle.pim_router.specs.Canonical.{asked}
@@ -17,7 +17,8 @@ use Rattle.pim_report.specs.MessageText.{messages_text}
 use Rattle.pim_answers.specs.declared.asking.WriterEnds.{WriterEnds}
 use Rattle.pim_answers.specs.declared.fault.Fault.{Fault}
 use Rattle.pim_answers.specs.declared.kept.KeptForm.{KeptForm}
-use Rattle.pim_answers.specs.Asking.{writer_of, writer_words, too_big_words, name_words, kept_now, same_line, IsFirstBig, IsNoneBig}
+use Rattle.pim_answers.specs.Asking.{writer_of, writer_words, too_big_words, name_words, kept_now, IsFirstBig, IsNoneBig}
+use Rattle.pim_report.specs.SameLine.{same_line}
 use Rattle.pim_answers.specs.Fault.{fault_words}
 use Rattle.pim_answers.specs.Families.{differ_from, family_words}
 use Rattle.pim_answers.specs.Kept.{Kept, lacks_place, have_their_rps}

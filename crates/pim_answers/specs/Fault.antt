@@ -1,6 +1,6 @@
 -- Faults, as the code keeps them. No public clause names them.
 use Rattle.std.specs.Prelude.{ℕ, List, [], ◌++◌, Result, Ok, Err}
-use Rattle.pim_report.specs.Pieces.{number_or}
+use Rattle.pim_lines.specs.Pieces.{number_or}
 use Rattle.pim_answers.specs.declared.fault.Fault.{Fault}
 use Rattle.pim_answers.specs.Lines.{ok_line, fault_line}
 

@@ -1,6 +1,6 @@
 -- The last line of each answer.
 use Rattle.std.specs.Prelude.{ℕ, List, ◌++◌, codes, decimal}
-use Rattle.pim_report.specs.Pieces.{line}
+use Rattle.pim_lines.specs.Pieces.{line}
 
 -- `ok`, after the lines of a command that was done.
 abbrev pub ok_line : List ℕ

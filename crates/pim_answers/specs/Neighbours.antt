@@ -8,7 +8,7 @@ use Rattle.pim_hello.specs.Neighbours.{Neighbour, Table}
 use Rattle.pim_text.specs.Text.{line}
 use Rattle.pim_text.specs.HelloText.{number_text, delays_text}
 use Rattle.pim_router.specs.State.{RouterState}
-use Rattle.pim_report.specs.Pieces.{number_or}
+use Rattle.pim_lines.specs.Pieces.{number_or}
 
 -- The words of an option in the line of a neighbour: a space, then the option's line in the text of
 -- a Hello, without the line feed. They are nothing if the option is absent.

@@ -6,7 +6,7 @@ use Rattle.pim_frame.specs.declared.frame.MessageType.{MessageType}
 use Rattle.pim_frame.specs.declared.frame.MessageType.TheVariants.{Hello, JoinPrune}
 use Rattle.pim_frame.specs.Frame.{all_routers, content}
 use Rattle.pim_frame.specs.Seal.{IsSealed}
-use Rattle.pim_text.specs.declared.line.AnyAddress.{AnyAddress}
+use Rattle.pim_lines.specs.declared.either.AnyAddress.{AnyAddress}
 use Rattle.pim_text.specs.Spell.{IsSpelled, IsLong, stated_in}
 use Rattle.pim_request.specs.declared.command.Packet.{Packet}
 use Rattle.pim_request.specs.declared.command.Sender.{Sender}
@@ -16,7 +16,7 @@ use Rattle.pim_router.specs.State.{RouterState}
 use Rattle.pim_report.specs.PacketLine.{verdict_line}
 use Rattle.pim_answers.specs.declared.packets.FromText.{FromText}
 use Rattle.pim_answers.specs.Answered.{Refused, RefusedIf, OrMemory, OrMemoryIf}
-use Rattle.pim_text.specs.Spelled.{address_bytes}
+use Rattle.pim_lines.specs.AnyAddress.{address_bytes}
 use Rattle.pim_answers.specs.Families.{differ_from, family_words}
 use Rattle.pim_answers.specs.Lines.{ok_line}
 

@@ -1,9 +1,9 @@
 -- What contracts of private functions say of packets.
 use Rattle.std.specs.Prelude.{◌≡◌, ◌⊎◌, ℕ, ◌<◌, ◌≤◌, Bool, ◌||◌, not, List, codes, Option, None, Some, Result, Ok, Err}
 use Rattle.pim_addr.specs.declared.family.AddressFamily.{AddressFamily}
-use Rattle.pim_text.specs.declared.line.AnyAddress.{AnyAddress}
+use Rattle.pim_lines.specs.declared.either.AnyAddress.{AnyAddress}
 use Rattle.pim_text.specs.Spell.{IsLong, stated_in}
-use Rattle.pim_text.specs.Spelled.{address_bytes}
+use Rattle.pim_lines.specs.AnyAddress.{address_bytes}
 use Rattle.pim_answers.specs.declared.fault.Fault.{Fault}
 use Rattle.pim_answers.specs.declared.packets.Ends.{Ends}
 use Rattle.pim_answers.specs.declared.packets.FromText.{FromText}

@@ -7,7 +7,7 @@ use Rattle.pim_form.specs.NormalForm.{GroupForm, IsFormOf}
 use Rattle.pim_form.specs.Wants.{wants}
 use Rattle.pim_router.specs.State.{RouterState}
 use Rattle.pim_report.specs.DemandText.{demand_text}
-use Rattle.pim_report.specs.Pieces.{line, number_or}
+use Rattle.pim_lines.specs.Pieces.{line, number_or}
 use Rattle.pim_report.specs.RecordLine.{record_line}
 use Rattle.pim_answers.specs.Lines.{ok_line, memory_line}
 use Rattle.pim_answers.specs.Neighbours.{neighbours_text}

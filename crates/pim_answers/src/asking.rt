@@ -8,7 +8,8 @@ ghost use Rattle.pim_down.specs.Known.{known_in};
 ghost use Rattle.pim_form.specs.Toward.{via_in, is_toward};
 ghost use Rattle.pim_report.specs.MessageText.{messages_text};
 ghost use Rattle.pim_answers.specs.Answered.{Told};
-ghost use Rattle.pim_answers.specs.Asking.{has_other_family, writer_of, same_line, AnswersMessages};
+ghost use Rattle.pim_answers.specs.Asking.{has_other_family, writer_of, AnswersMessages};
+ghost use Rattle.pim_report.specs.SameLine.{same_line};
 ghost use Rattle.pim_answers.specs.Asking.{AnswersFound};
 ghost use Rattle.pim_answers.specs.Asking.{TellsChange, TellsSame, IfUsable, AreCompared};
 ghost use Rattle.pim_answers.specs.AskingSeen.{AreEnds, MakesWriter, form_fault_line, made_text};
@@ -22,8 +23,9 @@ use crate::fault::{Fault, write_fault, write_ok};
 use crate::kept::{Found, KeptForm, Store, have_their_rps, stars_of};
 use pim_addr::{Drain, Failed, Family, Routes, write_all};
 use pim_form::{FormFault, Messages, NormalForm, Writer, is_toward, pack};
-use pim_report::{Shown, write_messages};
-use pim_request::{Kept, Named, Writing, of_family};
+use pim_lines::{Shown, of_family};
+use pim_report::{same_line, write_messages};
+use pim_request::{Kept, Named, Writing};
 use pim_router::Router;
 use std::alloc::{AllocError, Global};
 
@@ -297,13 +299,6 @@ fn is_same<F: Family>(
     }
     let now = router.canonical(alloc, writer)?;
     Ok(before?.same_bytes(&now))
-}
-
-/// The line that says whether both are the same.
-fn same_line(same: bool) -> &'static [u8]
-    ensures { result.now ≡ same_line same }
-{
-    if same { b"same\n" } else { b"different\n" }
 }
 
 /// Writes `same` or `different`, and `ok`.

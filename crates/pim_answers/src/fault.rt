@@ -1,7 +1,7 @@
 //! The last line of an answer: `ok`, or `fault` and the words of the fault.
 
 ghost use Rattle.std.specs.Prelude.{◌≡◌, ◌++◌, [], codes, decimal};
-ghost use Rattle.pim_report.specs.Pieces.{number_or};
+ghost use Rattle.pim_lines.specs.Pieces.{number_or};
 ghost use Rattle.pim_device.specs.Device.{AppendsAll, failures_after};
 ghost use Rattle.pim_answers.specs.Fault.{fault_words, done_text};
 ghost use Rattle.pim_answers.specs.Families.{family_words};
@@ -9,7 +9,7 @@ ghost use Rattle.pim_answers.specs.Lines.{ok_line, fault_line};
 
 use itoa::Buffer;
 use pim_addr::{Drain, Failed, write_all};
-use pim_report::{number_or, write_pieces};
+use pim_lines::{number_or, write_pieces};
 
 /// Why a command is refused: words, and the bytes or the number that they name.
 #[derive(Clone, Copy, Debug)]

@@ -38,7 +38,6 @@ mod telling;
 pub use asking::{answer_change, answer_messages, answer_same, asked_for};
 pub use fault::{Fault, write_done, write_fault, write_ok};
 pub use kept::{AnyForm, Found, KeptForm, StarRp, Store};
-pub use neighbours::write_neighbours;
 pub use one_answer::{
     demand_has_one_answer, messages_have_one_answer, packet_has_one_answer, run_has_one_answer,
 };

@@ -14,7 +14,7 @@ ghost use Rattle.pim_answers.specs.Neighbours.{neighbours_text};
 use itoa::Buffer;
 use pim_addr::{Drain, Failed, Family, write_all};
 use pim_hello::{KnownNeighbour, KnownNeighbours, LanDelay, Parameters};
-use pim_report::{Shown, number_or, write_pieces};
+use pim_lines::{Shown, number_or, write_pieces};
 use pim_router::Router;
 
 /// The same number, in more bits.

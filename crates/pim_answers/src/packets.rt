@@ -17,12 +17,13 @@ ghost use Rattle.pim_answers.specs.PacketsSeen.{IsFillFault};
 
 use crate::fault::{Fault, write_fault, write_ok};
 use crate::room::Room;
-use pim_addr::{AddressFamily, Drain, Failed, Family};
+use pim_addr::{Drain, Failed, Family};
 use pim_frame::{MessageType, all_routers};
+use pim_lines::{AnyAddress, of_family};
 use pim_report::write_verdict_line;
-use pim_request::{Packet, Sender, of_family};
+use pim_request::{Packet, Sender};
 use pim_router::{Router, Verdict};
-use pim_text::{AnyAddress, Stated, TextFault, spell};
+use pim_text::{Stated, TextFault, spell, stated_in};
 use std::alloc::Global;
 
 /// A packet whose message is given as a text.
@@ -128,16 +129,6 @@ pub fn answer_packet<F: Family, W: Drain>(
     take::<F, W>(router, port, ends, room.message(), answers)
 }
 
-/// Whether each address of the text is of the family.
-fn is_stated_in<F: Family>(stated: Stated) -> bool
-    ensures { result ≡ stated_in F.family stated }
-{
-    match F::family() {
-        AddressFamily::Ipv4 => stated.all_ipv4,
-        AddressFamily::Ipv6 => stated.all_ipv6,
-    }
-}
-
 /// The source, and ALL-PIM-ROUTERS, if the source is of the family.
 fn ends_to_all<F: Family>(source: AnyAddress) -> Option<Ends<F::Addr>>
     ensures ends { IfSome result (AreEndsOf F.family F.bytes_of source None) }
@@ -171,7 +162,7 @@ fn ends_of_text<F: Family>(from: &FromText<'_>) -> Option<Ends<F::Addr>>
     ensures same { IfSome result (λ _. has_other_family F.family from.now ≡ false) }
     ensures other { IfNone result (has_other_family F.family from.now ≡ true) }
 {
-    if is_stated_in::<F>(from.stated) {
+    if stated_in::<F>(from.stated) {
         ends_of::<F>(&from.sender)
     } else {
         None

@@ -17,7 +17,8 @@ use itoa::Buffer;
 use pim_addr::{Drain, Failed, Family, Routes};
 use pim_down::Records;
 use pim_form::NormalForm;
-use pim_report::{number_or, write_demand, write_pieces, write_record_line};
+use pim_lines::{number_or, write_pieces};
+use pim_report::{write_demand, write_record_line};
 use pim_router::Router;
 use std::alloc::Global;
 

@@ -13,12 +13,13 @@ use Rattle.pim_hello.specs.Spelling.{AreAddresses, ParametersFit}
 use Rattle.pim_jp.specs.declared.entry.Entry.{Entry}
 use Rattle.pim_jp.specs.declared.entry.Entry.TheVariants.{Star, Source, Rpt}
 use Rattle.pim_jp.specs.Message.{GroupSet, Message}
-use Rattle.pim_text.specs.declared.line.AnyAddress.{AnyAddress}
-use Rattle.pim_text.specs.declared.line.AnyAddress.TheVariants.{V4, V6}
+use Rattle.pim_lines.specs.declared.either.AnyAddress.{AnyAddress}
+use Rattle.pim_lines.specs.declared.either.AnyAddress.TheVariants.{V4, V6}
 use Rattle.pim_text.specs.declared.line.Line.{Line}
 use Rattle.pim_text.specs.declared.line.Line.TheVariants as of_line
-use Rattle.pim_text.specs.Lines.{lines, Names, IsLine, IsEntry, AreLines}
-use Rattle.pim_text.specs.Value.{option_line, delays_line_of, set_lines, value_lines, address_in, entry_in, set_in, hello_in, message_in}
+use Rattle.pim_text.specs.Lines.{lines, IsLine, IsEntry, AreLines}
+use Rattle.pim_lines.specs.AnyAddress.{Names, address_in}
+use Rattle.pim_text.specs.Value.{option_line, delays_line_of, set_lines, value_lines, entry_in, set_in, hello_in, message_in}
 use Rattle.pim_text.specs.Read.{States}
 use Rattle.pim_build.proofs.ReadBack.{HasAddress, IsSizedSet, IsSizedMessage}
 

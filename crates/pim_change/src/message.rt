@@ -25,8 +25,7 @@ use crate::entries::{push_all_joined, push_all_pruned};
 use crate::unit::Unit;
 use pim_addr::{Family, Routes};
 use pim_form::Writer;
-use pim_frame::{MessageType, all_routers, seal};
-use pim_jp::{Entry, head_length, put_head, put_set, set_length};
+use pim_jp::{Entry, head_length, put_set, set_length};
 use std::alloc::{AllocError, Global};
 
 /// Appends the group set with these entries. The only refusal is for lack of memory.
@@ -127,26 +126,6 @@ fn append_sets<F: Family>(
     Ok(count)
 }
 
-/// Writes the head of a message before its sets, and seals it from the writer's own address to
-/// ALL-PIM-ROUTERS.
-fn finish<F: Family>(writer: &Writer<F>, sets: u8, bytes: &mut [u8])
-    requires room { 4 + canonical_head_length F.family ≤ length bytes.old }
-    requires counted { length bytes.old < 2 ^ 32 }
-    ensures { IsSealed F.family writer.now.own (all_routers F.family) JoinPrune
-        (canonical_head F.family writer.now.upstream sets writer.now.holdtime
-        ++ drop (4 + canonical_head_length F.family) bytes.old) bytes.new }
-{
-    let (_, body) = bytes.split_at_mut(4);
-    let (head, _) = body.split_at_mut(head_length::<F>());
-    put_head::<F>(writer.upstream(), sets, writer.holdtime(), head);
-    seal::<F>(
-        writer.own(),
-        all_routers::<F>(),
-        MessageType::JoinPrune,
-        bytes,
-    );
-}
-
 /// The message of a run of units, which fits the writer's budget. The only refusal is for lack of
 /// memory.
 pub(crate) fn message<F: Family>(
@@ -162,6 +141,6 @@ pub(crate) fn message<F: Family>(
     writer.is_writing();
     let mut bytes = vec![in alloc; 0u8; 4 + head_length::<F>()]?;
     let sets = append_sets::<F>(alloc, routes, units, &mut bytes)?;
-    finish::<F>(writer, sets, &mut bytes);
+    writer.seal_message(sets, &mut bytes);
     Ok(bytes)
 }

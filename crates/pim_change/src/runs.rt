@@ -3,9 +3,9 @@
 //! A unit is weighed as a unit of a form, so that the definitions of pim_form for packing serve
 //! changes, too.
 
-ghost use Rattle.std.specs.Prelude.{◌≡◌, ◌≤◌, ◌<◌, ◌+◌, ◌*◌, true, not, None, List, length, take};
+ghost use Rattle.std.specs.Prelude.{◌≡◌, ◌≤◌, ◌<◌, ◌+◌, true, not, None, List, length, take};
 ghost use Rattle.std.specs.Prelude.{drop};
-ghost use Rattle.pim_form.specs.Units.{WantUnit, empty_message_size, empty_set_size, entry_size};
+ghost use Rattle.pim_form.specs.Units.{WantUnit};
 ghost use Rattle.pim_form.specs.Units.{unit_entries};
 ghost use Rattle.pim_form.specs.Units.{run_groups, run_entries, is_of_group};
 ghost use Rattle.pim_form.specs.Packing.{fits, StopsBefore};
@@ -15,23 +15,8 @@ ghost use Rattle.pim_change.specs.Told.{weight, weights};
 ghost use Rattle.pim_change.specs.Runs.{last_group};
 
 use crate::unit::{Telling, Unit};
-use pim_addr::{Family, group_length, source_length};
-use pim_jp::head_length;
-
-/// The most groups of a message.
-const MOST_GROUPS: usize = 255;
-
-/// The number of bytes of a message with this number of groups and entries.
-fn message_size<F: Family>(groups: usize, entries: usize) -> usize
-    requires groups { groups ≤ 255 }
-    requires entries { entries ≤ 200000 }
-    ensures { result ≡ empty_message_size F.family + groups * empty_set_size F.family
-        + entries * entry_size F.family }
-{
-    let head = head_length::<F>() + 4;
-    let set = group_length::<F>() + 4;
-    head + groups * set + entries * source_length::<F>()
-}
+use pim_addr::Family;
+use pim_form::{MOST_GROUPS, message_size};
 
 /// Whether a run with this number of groups and entries fits a message of this budget.
 fn has_room<F: Family>(groups: usize, entries: usize, budget: usize) -> bool

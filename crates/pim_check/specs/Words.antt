@@ -10,8 +10,8 @@ use Rattle.pim_files.specs.declared.opener.FileCause.{FileCause}
 use Rattle.pim_files.specs.declared.opener.FileCause.TheVariants as opening
 use Rattle.pim_routes_file.specs.declared.fault.RoutesFault.{RoutesFault}
 use Rattle.pim_routes_file.specs.declared.fault.RoutesFault.TheVariants as routes
-use Rattle.pim_words.specs.declared.addresses.Address.{Address as Either}
-use Rattle.pim_words.specs.declared.addresses.Address.TheVariants as either
+use Rattle.pim_lines.specs.declared.either.AnyAddress.{AnyAddress}
+use Rattle.pim_lines.specs.declared.either.AnyAddress.TheVariants as either
 use Rattle.pim_words.specs.declared.fault.Side.{Side}
 use Rattle.pim_words.specs.declared.fault.Side.TheVariants as side
 use Rattle.pim_words.specs.declared.fault.ConfigCause.{ConfigCause}
@@ -79,7 +79,7 @@ file_words opening.Directory = codes ": is a directory"
 file_words opening.Other = codes ""
 
 -- The text of an address of either family.
-abbrev pub address_words : Either → List ℕ
+abbrev pub address_words : AnyAddress → List ℕ
 address_words (either.V4 address) = address_text Ipv4 address
 address_words (either.V6 address) = address_text Ipv6 address
 

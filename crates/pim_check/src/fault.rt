@@ -19,10 +19,10 @@ use pim_files::FileCause;
 use pim_frame::FrameFault;
 use pim_hello::HelloFault;
 use pim_jp::JpFault;
+use pim_lines::AnyAddress;
 use pim_report::write_malformed_words;
 use pim_router::Malformed;
 use pim_routes_file::RoutesFault;
-use pim_words::Address;
 
 /// Why a run ended early.
 #[derive(Debug, Drop)]
@@ -63,7 +63,7 @@ pub enum Fault<'a> {
     /// The body of a Join/Prune message has a fault.
     JoinPrune(JpFault),
     /// The star of this group, with all its exceptions, doesn't fit a message.
-    TooBig(Address),
+    TooBig(AnyAddress),
     /// The fresh router has no room. Its port would need this number of records.
     Full(usize),
     /// The input has more than 65,536 bytes.
@@ -318,18 +318,18 @@ fn write_named<W: Drain>(
 }
 
 /// Writes the text of an address at the start of a buffer, and returns its length.
-fn address_at_front(address: Address, text: &mut [u8; 39]) -> usize
+fn address_at_front(address: AnyAddress, text: &mut [u8; 39]) -> usize
     ensures short { result ≤ 39 }
     ensures text { take result text.new ≡ address_words address }
 {
     match address {
-        Address::V4(address) => write_text::<V4>(address, text),
-        Address::V6(address) => write_text::<V6>(address, text),
+        AnyAddress::V4(address) => write_text::<V4>(address, text),
+        AnyAddress::V6(address) => write_text::<V6>(address, text),
     }
 }
 
 /// Writes the words and an address, and ends the line.
-fn write_address<W: Drain>(writer: &mut W, words: &[u8], address: Address) -> Result<(), Failed>
+fn write_address<W: Drain>(writer: &mut W, words: &[u8], address: AnyAddress) -> Result<(), Failed>
     ensures bytes { AppendsAll (W.contents writer.old) (W.contents writer.new) result
         (line (words.now ++ address_words address)) }
     ensures count { W.failures writer.new ≡ failures_after (W.failures writer.old) result }

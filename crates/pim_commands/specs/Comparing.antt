@@ -3,7 +3,8 @@
 use Rattle.std.specs.Prelude.{◌≡◌, ◌⊎◌, ℕ, List, ◌++◌, map, filter, Option, Result, Ok, Err}
 use Rattle.pim_addr.specs.Routes.{RouteTable}
 use Rattle.pim_addr.specs.declared.family.AddressFamily.{AddressFamily}
-use Rattle.pim_files.specs.Captures.{PortFiles, is_of}
+use Rattle.pim_files.specs.Captures.{PortFiles}
+use Rattle.pim_words.specs.Faults.{is_of}
 use Rattle.pim_form.specs.Messages.{Writing}
 use Rattle.pim_form.specs.Writer.{has_bad_address}
 use Rattle.pim_merge.specs.declared.end.End.{End}
@@ -16,7 +17,7 @@ use Rattle.pim_router.specs.Seen.{setup_seen}
 use Rattle.pim_router.specs.State.{Setup, RouterState, new_router}
 use Rattle.pim_words.specs.declared.fault.Side.{Side}
 use Rattle.pim_words.specs.declared.task.Port.{Port}
-use Rattle.pim_words.specs.Typed.{address_in}
+use Rattle.pim_lines.specs.AnyAddress.{address_in}
 use Rattle.pim_check.specs.declared.fault.Fault.{Fault}
 use Rattle.pim_check.specs.declared.fault.Fault.TheVariants.{TooBig}
 use Rattle.pim_commands.specs.Naming.{port_fault}

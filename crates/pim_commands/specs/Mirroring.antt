@@ -11,7 +11,7 @@ use Rattle.pim_replay.specs.MirrorText.{TellsMirror}
 use Rattle.pim_router.specs.Config.{config_faults}
 use Rattle.pim_router.specs.State.{Setup, RouterState, new_router}
 use Rattle.pim_files.specs.Captures.{PortFiles}
-use Rattle.pim_words.specs.Typed.{address_in}
+use Rattle.pim_lines.specs.AnyAddress.{address_in}
 use Rattle.pim_check.specs.declared.fault.Fault.{Fault}
 use Rattle.pim_check.specs.declared.fault.Fault.TheVariants.{TooBig, Full}
 use Rattle.pim_commands.specs.Naming.{port_fault}

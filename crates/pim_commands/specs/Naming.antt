@@ -4,7 +4,8 @@ use Rattle.std.specs.Borrow.{Bor}
 use Rattle.pim_capture.specs.declared.vlan.Vlan.{Vlan}
 use Rattle.pim_capture.specs.declared.fault.CaptureFault.{CaptureFault}
 use Rattle.pim_capture.specs.declared.fault.CaptureFault.TheVariants as of_capture
-use Rattle.pim_files.specs.Captures.{PortFiles, is_of, of_router}
+use Rattle.pim_files.specs.Captures.{PortFiles, of_router}
+use Rattle.pim_words.specs.Faults.{is_of}
 use Rattle.pim_merge.specs.declared.merge.MergeFault.{MergeFault}
 use Rattle.pim_words.specs.declared.fault.Side.{Side}
 use Rattle.pim_words.specs.declared.task.More.{More}

@@ -6,7 +6,8 @@ use Rattle.std.specs.Prelude.{Option, None, Some, Result, Ok, Err}
 use Rattle.pim_addr.specs.declared.family.AddressFamily.{AddressFamily}
 use Rattle.pim_addr.specs.Routes.{RouteTable}
 use Rattle.pim_files.specs.declared.fault.OpenFault.{OpenFault}
-use Rattle.pim_files.specs.Captures.{PortFiles, is_of, of_router, HoldFiles}
+use Rattle.pim_files.specs.Captures.{PortFiles, of_router, HoldFiles}
+use Rattle.pim_words.specs.Faults.{is_of}
 use Rattle.pim_files.specs.Files.{Known, AsksFor, AsksFront}
 use Rattle.pim_files.specs.Opening.{file_names, port_files, IsUnopened}
 use Rattle.pim_files.specs.Table.{IsTable}

@@ -3,7 +3,8 @@
 ghost use Rattle.std.specs.Prelude.{◌≡◌, length, filter};
 ghost use Rattle.pim_form.specs.Seen.{writing_seen};
 ghost use Rattle.pim_words.specs.Plan.{IsBounded, IsLimited, IsWritable};
-ghost use Rattle.pim_files.specs.Captures.{is_of, of_router};
+ghost use Rattle.pim_files.specs.Captures.{of_router};
+ghost use Rattle.pim_words.specs.Faults.{is_of};
 ghost use Rattle.pim_files.specs.Opening.{port_files};
 ghost use Rattle.pim_commands.specs.Replaying.{end_of};
 ghost use Rattle.pim_commands.specs.Comparing.{side_setup};
@@ -34,7 +35,7 @@ use std::alloc::Global;
 /// The faults of `pim_replay::change_into`. If the writer or a router can't be made, the result is
 /// the first fault of the writer, then of router a, then of b, or it is `Memory`. Then nothing was
 /// written, and no capture was read.
-pub fn change_opened<'a, F: Family, R: Feed + Drop, W: Drain>(
+pub(crate) fn change_opened<'a, F: Family, R: Feed + Drop, W: Drain>(
     alloc: Global,
     captures: &Captures<'a, F::Addr>,
     writing: &Writing<F::Addr>,

@@ -6,7 +6,8 @@ ghost use Rattle.pim_form.specs.Writer.{has_bad_address};
 ghost use Rattle.pim_router.specs.State.{Setup};
 ghost use Rattle.pim_words.specs.Plan.{IsBounded, IsLimited, IsWritable};
 ghost use Rattle.pim_commands.specs.Replaying.{end_of, config_of, IsFirstCause};
-ghost use Rattle.pim_files.specs.Captures.{is_of, of_router};
+ghost use Rattle.pim_files.specs.Captures.{of_router};
+ghost use Rattle.pim_words.specs.Faults.{is_of};
 ghost use Rattle.pim_files.specs.Opening.{port_files};
 ghost use Rattle.pim_commands.specs.Comparing.{same_fault, compared, causes, side_setup, ComparesNew};
 ghost use Rattle.pim_commands.specs.Opened.{IsUnwritten};
@@ -15,18 +16,19 @@ ghost use Rattle.pim_check.specs.Report.{write_failures_after};
 ghost use Rattle.pim_check.specs.Telling.{IsTold};
 
 use crate::census::begin_both;
-use crate::naming::{is_of, port_fault};
+use crate::naming::port_fault;
 use crate::opening::open_two;
 use crate::replaying::{config, end_of, replay_fault, router_of};
 use crate::warnings::warn_of_both;
-use crate::writing::{address_of, writer_of};
+use crate::writing::writer_of;
 use pim_addr::{Drain, Family, Feed, Routes};
 use pim_check::Fault;
 use pim_files::{Opener, Pair};
 use pim_form::Writer;
+use pim_lines::any_address;
 use pim_replay::{SameFault, same_into};
 use pim_router::PortConfig;
-use pim_words::{Captures, Port, Side, Writing};
+use pim_words::{Captures, Port, Side, Writing, is_of};
 use std::alloc::{AllocError, Global};
 
 /// The program's fault for a fault of the comparison.
@@ -37,7 +39,7 @@ fn same_fault<'a, F: Family>(captures: &Captures<'a, F::Addr>, fault: SameFault<
     match fault {
         SameFault::Replay(fault) => replay_fault(captures, Some(Side::A), fault),
         SameFault::Second(told) => port_fault(captures, Some(Side::B), told),
-        SameFault::TooBig(group) => Fault::TooBig(address_of::<F>(group)),
+        SameFault::TooBig(group) => Fault::TooBig(any_address::<F>(group)),
     }
 }
 
@@ -123,7 +125,7 @@ pub(crate) fn prepare_both<F: Family>(
 /// The faults of `pim_replay::same_into`. If the writer or a router can't be made, the result is
 /// the first fault of the writer, then of router a, then of b, or it is `Memory`. Then nothing was
 /// written, and no capture was read.
-pub fn same_opened<'a, F: Family, R: Feed + Drop, W: Drain>(
+pub(crate) fn same_opened<'a, F: Family, R: Feed + Drop, W: Drain>(
     alloc: Global,
     captures: &Captures<'a, F::Addr>,
     writing: &Writing<F::Addr>,

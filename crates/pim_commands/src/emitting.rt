@@ -16,10 +16,10 @@ use crate::mirroring::prepare_one;
 use crate::opening::open_one;
 use crate::replaying::{end_of, replay_fault, router_of};
 use crate::warnings::warn_of_one;
-use crate::writing::address_of;
 use pim_addr::{Drain, Family, Feed, Routes};
 use pim_check::Fault;
 use pim_files::Opener;
+use pim_lines::any_address;
 use pim_merge::Merge;
 use pim_replay::{EmitFault, emit_into};
 use pim_words::{Captures, Writing};
@@ -31,7 +31,7 @@ fn emit_fault<'a, F: Family>(captures: &Captures<'a, F::Addr>, fault: EmitFault<
 {
     match fault {
         EmitFault::Replay(fault) => replay_fault(captures, None, fault),
-        EmitFault::TooBig(group) => Fault::TooBig(address_of::<F>(group)),
+        EmitFault::TooBig(group) => Fault::TooBig(any_address::<F>(group)),
     }
 }
 
@@ -56,7 +56,7 @@ pub fn emitted<'a, F: Family>(
 /// The faults of `pim_replay::emit_into`. If the writer or the router can't be made, the result is
 /// the first fault of the writer, then of the router, or it is `Memory`. Then nothing was written,
 /// and no capture was read.
-pub fn emit_opened<'a, F: Family, R: Feed + Drop, W: Drain>(
+pub(crate) fn emit_opened<'a, F: Family, R: Feed + Drop, W: Drain>(
     alloc: Global,
     captures: &Captures<'a, F::Addr>,
     writing: &Writing<F::Addr>,

@@ -9,13 +9,10 @@
 //!   those of `pim_check`, which this crate passes on.
 //! - `trace_ends_as_replay` is a law: `trace` ends with the router whose state `replay` prints.
 //!
-//! `replay_opened` and the other calls named `_opened` run on captures that are open, one for each
-//! port. They return the status of the engine or its fault, and write what `pim_replay` or
-//! `pim_trace` writes. They write nothing if the writer or a router can't be made. A device's count
-//! of failures rises exactly where its failure is the result.
-//!
-//! The calls without that suffix open the files first, by an opener that the caller gives
-//! (`pim_files`). They promise what an `_opened` call does over the table and the captures of the
+//! The calls open the files by an opener that the caller gives (`pim_files`). Then they return the
+//! status of the engine or its fault, and write what `pim_replay` or `pim_trace` writes. They write
+//! nothing if the writer or a router can't be made. A device's count of failures rises exactly
+//! where its failure is the result. The contracts say so over the table and the captures of the
 //! files that are named, where the opener tells what files hold. The file of routes is opened
 //! first, then the files of the ports in the order of the words. Or they write nothing and return
 //! the fault of the first file that isn't open. A word or file name in it is one that they were
@@ -41,15 +38,15 @@ mod tracing;
 mod warnings;
 mod writing;
 
-pub use changing::{change, change_opened};
-pub use comparing::{same, same_opened};
-pub use emitting::{emit, emit_opened};
+pub use changing::change;
+pub use comparing::same;
+pub use emitting::emit;
 pub use laws::trace_ends_as_replay;
-pub use mirroring::{mirror, mirror_opened};
+pub use mirroring::mirror;
 pub use pim_check::{
     CaptureCause, FAULTY, Fault, Warning, build_into, build_task, check_into, check_task,
     fault_line, tell_into, warning_line,
 };
-pub use replaying::{replay, replay_opened};
+pub use replaying::replay;
 pub use running::run_task;
-pub use tracing::{trace, trace_opened};
+pub use tracing::trace;

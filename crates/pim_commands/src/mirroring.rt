@@ -20,11 +20,12 @@ use crate::naming::port_fault;
 use crate::opening::open_one;
 use crate::replaying::{configs, end_of, replay_fault, router_of};
 use crate::warnings::warn_of_one;
-use crate::writing::{address_of, writer_of};
+use crate::writing::writer_of;
 use pim_addr::{Drain, Family, Feed, Routes};
 use pim_check::Fault;
 use pim_files::Opener;
 use pim_form::Writer;
+use pim_lines::any_address;
 use pim_merge::Merge;
 use pim_replay::{MirrorTextFault, mirror_into};
 use pim_router::PortConfig;
@@ -45,7 +46,7 @@ fn mirror_fault<'a, F: Family>(
     match fault {
         MirrorTextFault::Replay(fault) => replay_fault(captures, first, fault),
         MirrorTextFault::Second(told) => port_fault(captures, second, told),
-        MirrorTextFault::TooBig(group) => Fault::TooBig(address_of::<F>(group)),
+        MirrorTextFault::TooBig(group) => Fault::TooBig(any_address::<F>(group)),
         MirrorTextFault::Full { needed } => Fault::Full(needed),
     }
 }
@@ -108,7 +109,7 @@ pub(crate) fn prepare_one<F: Family>(
 /// The faults of `pim_replay::mirror_into`. If the writer or the router can't be made, the result
 /// is the first fault of the writer, then of the router, or it is `Memory`. Then nothing was
 /// written, and no capture was read.
-pub fn mirror_opened<'a, F: Family, R: Feed + Drop, W: Drain>(
+pub(crate) fn mirror_opened<'a, F: Family, R: Feed + Drop, W: Drain>(
     alloc: Global,
     captures: &Captures<'a, F::Addr>,
     writing: &Writing<F::Addr>,

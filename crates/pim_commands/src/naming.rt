@@ -1,7 +1,8 @@
 //! The program's fault for a fault of a capture. It names the file of a port with a link.
 
 ghost use Rattle.std.specs.Prelude.{◌≡◌, filter};
-ghost use Rattle.pim_files.specs.Captures.{files_from, is_of, with_more};
+ghost use Rattle.pim_files.specs.Captures.{files_from, with_more};
+ghost use Rattle.pim_words.specs.Faults.{is_of};
 ghost use Rattle.pim_files.specs.Opening.{port_files};
 ghost use Rattle.pim_commands.specs.Naming.{tag_of, cause_of, name_at, file_of, file_at, in_file};
 ghost use Rattle.pim_commands.specs.Naming.{port_fault, ports_of, is_in, are_in};
@@ -10,17 +11,7 @@ use pim_capture::{CaptureFault, Vlan};
 use pim_check::{CaptureCause, Fault};
 use pim_files::is_further;
 use pim_merge::MergeFault;
-use pim_words::{Captures, More, Port, Side};
-
-/// Whether the port belongs to this router.
-pub(crate) fn is_of<A: Copy>(side: Side, port: &Port<'_, A>) -> bool
-    ensures { result ≡ is_of side port.now }
-{
-    match (side, port.side) {
-        (Side::A, Side::A) | (Side::B, Side::B) => true,
-        _ => false,
-    }
-}
+use pim_words::{Captures, More, Port, Side, is_of};
 
 /// The number of the tag in which a VLAN differs from another one.
 fn tag_of(vlan: Vlan, other: Vlan) -> u16

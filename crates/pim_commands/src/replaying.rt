@@ -144,7 +144,7 @@ pub fn router_of<'r, F: Family>(
 /// # Errors
 /// The faults of `pim_replay::replay_into`. If the router can't be made, the result is its first
 /// fault or `Memory`. Then nothing was written, and no capture was read.
-pub fn replay_opened<'a, F: Family, R: Feed + Drop, W: Drain>(
+pub(crate) fn replay_opened<'a, F: Family, R: Feed + Drop, W: Drain>(
     alloc: Global,
     captures: &Captures<'a, F::Addr>,
     routes: &Routes<F>,

@@ -7,7 +7,7 @@ ghost use Rattle.std.specs.Prelude.{◌≡◌, ◌≤◌, length, map, IfOk, IfS
 ghost use Rattle.std.specs.List.{AllByRecursion};
 ghost use Rattle.pim_capture.specs.Next.{latest_moment};
 ghost use Rattle.pim_router.specs.Seen.{setup_seen};
-ghost use Rattle.pim_words.specs.Labels.{is_name};
+ghost use Rattle.pim_lines.specs.PortNames.{is_port_name};
 ghost use Rattle.pim_words.specs.Plan.{AreNames, IsBounded, IsLimited};
 ghost use Rattle.pim_files.specs.Opening.{port_files};
 ghost use Rattle.pim_commands.specs.Replaying.{end_of, config_of};
@@ -24,8 +24,9 @@ use crate::warnings::warn_of_one;
 use pim_addr::{Drain, Family, Feed, Routes};
 use pim_check::Fault;
 use pim_event_lines::{JsonPrinter, TextPrinter};
-use pim_events::{Filter, Name};
+use pim_events::Filter;
 use pim_files::Opener;
+use pim_lines::Name;
 use pim_merge::Merge;
 use pim_router::Router;
 use pim_trace::{TraceFault, trace_into};
@@ -45,7 +46,7 @@ fn form_of(form: TimeForm) -> pim_event_lines::TimeForm
 
 /// The name of a port: the one that its word gives, or else its number.
 fn name_of(port: usize, given: Option<&str>) -> Name
-    requires { IfSome given (λ text. is_name text.now ≡ true) }
+    requires { IfSome given (λ text. is_port_name text.now ≡ true) }
     ensures { result ≡ name_of port given.entry }
 {
     let Some(text) = given else {
@@ -59,7 +60,7 @@ fn name_of(port: usize, given: Option<&str>) -> Name
 
 /// The names of the ports.
 fn names_of(alloc: Global, given: &[Option<&str>]) -> Result<Vec<Name>, AllocError>
-    requires { AllByRecursion (λ name. IfSome name (λ text. is_name text.now ≡ true)) given.now }
+    requires { AllByRecursion (λ name. IfSome name (λ text. is_port_name text.now ≡ true)) given.now }
     ensures { IfOk result (λ names. names.items ≡ names_of 0 given.now) }
 {
     let mut names = Vec::new(alloc);
@@ -149,7 +150,7 @@ fn trace_by<F: Family, R: Feed + Drop, W: Drain>(
 /// # Errors
 /// The faults of `pim_trace::trace_into`. If the router can't be made, the result is its first
 /// fault or `Memory`. Then nothing was written, and no capture was read.
-pub fn trace_opened<'a, F: Family, R: Feed + Drop, W: Drain>(
+pub(crate) fn trace_opened<'a, F: Family, R: Feed + Drop, W: Drain>(
     alloc: Global,
     asked: (&Captures<'a, F::Addr>, &Tracing<'_, F::Addr>),
     routes: &Routes<F>,

@@ -297,17 +297,7 @@ fn tally_of<R: Feed + Drop>(merge: &Merge<R>, number: usize) -> Tally
     if number < merge.count() {
         return merge.tally(number);
     }
-    Tally {
-        file: 0,
-        records: 0,
-        fragments: 0,
-        cut_frames: 0,
-        cut_short: None,
-        last: None,
-        ran_back: None,
-        jumped: None,
-        census: None,
-    }
+    Tally::new()
 }
 
 /// Writes the warnings on the captures of the router's ports among these.

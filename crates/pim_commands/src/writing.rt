@@ -3,31 +3,12 @@
 ghost use Rattle.std.specs.Prelude.{◌≡◌};
 ghost use Rattle.pim_form.specs.Seen.{writing_seen};
 ghost use Rattle.pim_words.specs.Plan.{IsWritable};
-ghost use Rattle.pim_words.specs.Typed.{address_in};
 ghost use Rattle.pim_commands.specs.Writing.{IsWriterOf};
 
-use pim_addr::{AddressFamily, Family};
+use pim_addr::Family;
 use pim_check::Fault;
 use pim_form::{Writer, WriterFault};
-use pim_words::{Address, Writing};
-
-/// The address, as one of either family.
-pub fn address_of<F: Family>(address: F::Addr) -> Address
-    ensures { result ≡ address_in F.family (F.bytes_of address) }
-{
-    match F::family() {
-        AddressFamily::Ipv4 => {
-            let mut bytes = [0; 4];
-            F::put(address, &mut bytes);
-            Address::V4(bytes)
-        }
-        AddressFamily::Ipv6 => {
-            let mut bytes = [0; 16];
-            F::put(address, &mut bytes);
-            Address::V6(bytes)
-        }
-    }
-}
+use pim_words::Writing;
 
 /// The writer, or the fault `WriterAddress` if its addresses aren't two different valid sources.
 pub fn writer_of<F: Family>(writing: &Writing<F::Addr>) -> Result<Writer<F>, Fault<'static>>

@@ -30,6 +30,7 @@ mod ports;
 mod records;
 mod running;
 
+pub use hearing::end::has_star_join;
 pub use hearing::hear::event_of;
 pub use machines::event::{Event, Timing};
 pub use machines::fault::HearFault;

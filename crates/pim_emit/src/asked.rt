@@ -21,7 +21,7 @@ use crate::rpts::{Rpts, next_rpt, rpts_of};
 use crate::stars::{Stars, stars_of, wants_shared};
 use pim_addr::{Family, Routes};
 use pim_down::Ports;
-use pim_form::{Tree, upstream_of};
+use pim_form::{Tree, is_neighbour, upstream_of};
 use std::marker::Model;
 
 /// What the machines of all ports want of an upstream neighbour (RFC 7761, 4.1). Contracts see its
@@ -44,16 +44,6 @@ impl<'a, F: Family> Model for Asked<'a, F> {
       table = asked.routes.now;
       machines = asked.ports;
     } };
-}
-
-/// Whether the route leads to this neighbour.
-fn is_neighbour<F: Family>(asked: Option<F::Addr>, upstream: F::Addr) -> bool
-    ensures { result ≡ is_neighbour (F.bytes_of upstream) (option_map F.bytes_of asked) }
-{
-    match asked {
-        Some(neighbour) => neighbour == upstream,
-        None => false,
-    }
 }
 
 impl<'a, F: Family> Asked<'a, F> {

@@ -17,10 +17,8 @@ use crate::piece::{Piece, next_piece};
 use crate::position::Position;
 use crate::set::{ToldSources, write_set};
 use pim_addr::{Family, group_length, source_length};
+use pim_form::MOST_GROUPS;
 use pim_jp::{head_length, set_length};
-
-/// The greatest number of groups in a message, whose field has 8 bits (RFC 7761, 4.9.5).
-const MOST_GROUPS: usize = 255;
 
 /// How far a message is made.
 #[derive(Clone, Copy)]

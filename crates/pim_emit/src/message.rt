@@ -18,8 +18,6 @@ use crate::draft::{empty_draft, room, tell_next};
 use crate::position::Position;
 use pim_addr::Family;
 use pim_form::Writer;
-use pim_frame::{MessageType, all_routers, seal};
-use pim_jp::{head_length, put_head};
 
 /// The least group above the bound, or of all, whose star, with all its exceptions, doesn't fit a
 /// message of this budget alone, if there is one. The groups are walked only if some port has
@@ -58,27 +56,6 @@ pub(crate) fn too_big<F: Family>(asked: &Asked<'_, F>, budget: usize) -> Option<
     too_big_above::<F>(asked, budget, None)
 }
 
-/// Writes the fields before the sets of a message, and seals it from the writer's own address to
-/// ALL-PIM-ROUTERS.
-fn finish<F: Family>(writer: &Writer<F>, sets: u8, bytes: &mut [u8])
-    requires room { body_start F.family ≤ length bytes.old }
-    requires counted { length bytes.old < 2 ^ 32 }
-    ensures sealed { IsSealed F.family writer.now.own (all_routers F.family) JoinPrune
-        (canonical_head F.family writer.now.upstream sets writer.now.holdtime
-        ++ drop (body_start F.family) bytes.old) bytes.new }
-    ensures length { length bytes.new ≡ length bytes.old }
-{
-    let (_, body) = bytes.split_at_mut(4);
-    let (head, _) = body.split_at_mut(head_length::<F>());
-    put_head::<F>(writer.upstream(), sets, writer.holdtime(), head);
-    seal::<F>(
-        writer.own(),
-        all_routers::<F>(),
-        MessageType::JoinPrune,
-        bytes,
-    );
-}
-
 /// Writes the next message at the front of the buffer, whose length is at least the writer's
 /// budget. Returns the length of the message and moves the position after it; `None` if no unit is
 /// left.
@@ -108,7 +85,7 @@ pub(crate) fn next_message<F: Family>(
         return None;
     }
     let (message, _) = bytes.split_at_mut(draft.end);
-    finish::<F>(writer, draft.groups as u8, message);
+    writer.seal_message(draft.groups as u8, message);
     *position = draft.position;
     Some(draft.end)
 }

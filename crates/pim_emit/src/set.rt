@@ -21,7 +21,7 @@ use crate::asked::Asked;
 use crate::hints::PORTS;
 use crate::piece::Piece;
 use pim_addr::{Family, group_length, source_length};
-use pim_jp::{Entry, put_entry, put_group_and_counts};
+use pim_jp::{Entry, put_entry_at, put_group_and_counts};
 use std::mem::size_of_val;
 
 /// The number of ports for which a small array suffices.
@@ -44,9 +44,7 @@ fn write_entry_at<F: Family>(entry: Entry<F::Addr>, at: usize, bytes: &mut [u8])
         ≡ take at bytes.old ++ canonical_entry F.family (entry_seen F.bytes_of entry) }
     ensures length { length bytes.new ≡ length bytes.old }
 {
-    let (_, behind) = bytes.split_at_mut(at);
-    let (place, _) = behind.split_at_mut(source_length::<F>());
-    put_entry::<F>(entry, place);
+    put_entry_at::<F>(entry, at, bytes);
 }
 
 /// Writes the sources of a piece, at most `most`, from the index `at` on. `nexts` keeps what comes

@@ -12,7 +12,8 @@ use crate::hints::PORTS;
 use crate::machines::{Held, is_starred};
 use crate::nearby::Nearby;
 use pim_addr::Family;
-use pim_down::{State, What};
+use pim_down::What;
+use pim_form::is_pruned;
 
 /// Which ports have (*,G) of a group in Join or Prune-Pending.
 #[derive(Clone, Copy)]
@@ -57,13 +58,6 @@ pub(crate) fn stars_of<F: Family>(ports: &Nearby<'_, F>, group: F::Addr) -> Star
     let on = starred_ports::<F>(ports, group);
     let first = first_set(&on, ports.port_count());
     Stars { first, on }
-}
-
-/// Whether an (S,G,rpt) machine in this state prunes the source from the shared tree.
-fn is_pruned(state: Option<State>) -> bool
-    ensures { result ≡ is_pruned state }
-{
-    matches!(state, Some(State::Prune))
 }
 
 /// Whether the port wants the traffic of this source on the shared tree of the group. `starred`

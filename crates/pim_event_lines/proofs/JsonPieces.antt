@@ -2,9 +2,9 @@
 use Rattle.std.proofs.Common.{◌≡◌, ℕ, List, [], ◌∷◌, ◌++◌, Some, codes, decimal, refl, ◌∙◌}
 use Rattle.pim_addr.specs.declared.family.AddressFamily.{AddressFamily}
 use Rattle.pim_jp.specs.Message.{Message}
-use Rattle.pim_report.specs.Pieces.{line}
+use Rattle.pim_lines.specs.Pieces.{line}
 use Rattle.pim_events.specs.Parts.{state_in}
-use Rattle.pim_events.specs.ShortText.{short_text}
+use Rattle.pim_lines.specs.ShortText.{short_text}
 use Rattle.pim_events.specs.declared.event.Fired.{Fired}
 use Rattle.pim_events.specs.declared.event.Greeting.{Greeting}
 use Rattle.pim_events.specs.declared.event.Ignored.{Ignored}

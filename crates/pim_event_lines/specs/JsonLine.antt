@@ -13,14 +13,14 @@ use Rattle.pim_hello.specs.declared.heard.Heard.{Heard}
 use Rattle.pim_hello.specs.declared.heard.Heard.TheVariants.{New, Same, Restarted, Gone}
 use Rattle.pim_jp.specs.Message.{Message}
 use Rattle.pim_report.specs.PacketLine.{verdict_words}
-use Rattle.pim_report.specs.Pieces.{line, number_or}
+use Rattle.pim_lines.specs.Pieces.{line, number_or}
 use Rattle.pim_report.specs.RecordLine.{time_left}
 use Rattle.pim_time.specs.Text.{seconds_text}
 use Rattle.pim_event_lines.specs.Counts.{joined_in, pruned_in}
 use Rattle.pim_events.specs.Events.{Happened, Judged, Occurrence, hello_taken, packet_judged, machine_changed}
 use Rattle.pim_events.specs.Events.{join_ignored, own_restart, record_skipped, neighbour_gone, timer_fired, run_ended}
 use Rattle.pim_events.specs.Parts.{state_in, pending_in}
-use Rattle.pim_events.specs.ShortText.{short_text}
+use Rattle.pim_lines.specs.ShortText.{short_text}
 use Rattle.pim_event_lines.specs.TextLine.{state_text, name_of}
 use Rattle.pim_transitions.specs.declared.transition.By.{By}
 use Rattle.pim_transitions.specs.declared.transition.By.TheVariants as by

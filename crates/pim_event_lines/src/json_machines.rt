@@ -8,7 +8,7 @@ ghost use Rattle.pim_event_lines.specs.JsonLine.{change_json, source_json, outco
 ghost use Rattle.pim_event_lines.specs.JsonLine.{transition_json, time_out_json, timer_json};
 ghost use Rattle.pim_event_lines.specs.JsonLine.{effect_json, fired_json, held_json, counts_json};
 ghost use Rattle.pim_event_lines.specs.JsonLine.{ending_json};
-ghost use Rattle.pim_report.specs.Pieces.{line};
+ghost use Rattle.pim_lines.specs.Pieces.{line};
 
 use crate::words::{
     bool_json, by_word, expiry_json, kind_word, pending_json, state_text, timer_word,
@@ -16,8 +16,8 @@ use crate::words::{
 use itoa::Buffer;
 use pim_addr::{Drain, Failed, Family, write_all};
 use pim_down::What;
-use pim_events::{Ending, Fired, ShortText, SkipCounts, TimeOut, Transition, state_in};
-use pim_report::{number_or, write_pieces};
+use pim_events::{Ending, Fired, SkipCounts, TimeOut, Transition, state_in};
+use pim_lines::{ShortText, number_or, write_pieces};
 
 /// Writes the source of a machine, or `null`.
 fn write_source<F: Family, W: Drain>(writer: &mut W, what: What<F::Addr>) -> Result<(), Failed>

@@ -7,15 +7,16 @@ ghost use Rattle.pim_event_lines.specs.JsonLine.{sender_json, hello_json, messag
 ghost use Rattle.pim_event_lines.specs.JsonLine.{verdict_json, judged_json, entry_json};
 ghost use Rattle.pim_event_lines.specs.JsonLine.{address_json, ignored_json, restart_json};
 ghost use Rattle.pim_event_lines.specs.JsonLine.{skipped_json};
-ghost use Rattle.pim_report.specs.Pieces.{line};
+ghost use Rattle.pim_lines.specs.Pieces.{line};
 
 use crate::counts::{joined_in, pruned_in};
 use crate::words::{meaning_word, skip_word, wide};
 use itoa::Buffer;
 use pim_addr::{Drain, Failed, Family, write_all};
-use pim_events::{Greeting, Ignored, Judgment, OwnRestart, ShortText, Skipping};
+use pim_events::{Greeting, Ignored, Judgment, OwnRestart, Skipping};
 use pim_jp::JpView;
-use pim_report::{number_or, write_pieces, write_verdict_words};
+use pim_lines::{ShortText, number_or, write_pieces};
+use pim_report::write_verdict_words;
 
 /// Writes the members of a Hello that was taken.
 pub(crate) fn write_hello_json<F: Family, W: Drain>(

@@ -15,8 +15,8 @@ use crate::moments::Stamp;
 use crate::words::name_of;
 use itoa::Buffer;
 use pim_addr::{Drain, Failed, Family, write_all};
-use pim_events::{Event, Filter, Happening, Name, Teller, is_shown};
-use pim_report::write_pieces;
+use pim_events::{Event, Filter, Happening, Teller, is_shown};
+use pim_lines::{Name, write_pieces};
 
 /// Writes the moment of an event and the time since 1970.
 fn write_time<F: Family, W: Drain>(writer: &mut W, event: &Event<'_, F>) -> Result<(), Failed>

@@ -1,10 +1,11 @@
 //! The moments of events, as text.
 
-ghost use Rattle.std.specs.Prelude.{◌≡◌, ◌≤◌, ◌++◌, length, drop};
+ghost use Rattle.std.specs.Prelude.{◌≡◌, ◌≤◌, length};
 ghost use Rattle.pim_event_lines.specs.Moments.{utc_text, epoch_text, date_or_dash, moment_text};
 ghost use Rattle.pim_time.specs.Text.{seconds_text};
 
 use itoa::Buffer;
+use pim_lines::put_front;
 use pim_time::{write_date, write_seconds};
 use std::marker::Model;
 
@@ -21,15 +22,6 @@ pub enum TimeForm {
 
 /// The first millisecond of the year 10000, which a date of four digits can't name.
 const YEAR_10000: u64 = 253_402_300_800_000;
-
-/// Copies bytes to the front of a buffer. The rest is unchanged.
-fn put_front(buffer: &mut [u8], bytes: &[u8])
-    requires { length bytes.now ≤ length buffer.old }
-    ensures { buffer.new ≡ bytes.now ++ drop (length bytes.now) buffer.old }
-{
-    let (front, _) = buffer.split_at_mut(bytes.len());
-    front.copy_from_slice(bytes);
-}
 
 /// The text of a moment. Contracts see the text.
 #[derive(Drop)]

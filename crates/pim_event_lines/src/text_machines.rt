@@ -8,15 +8,15 @@ ghost use Rattle.pim_event_lines.specs.TextLine.{overrides_part, change_text, ti
 ghost use Rattle.pim_event_lines.specs.TextLine.{transition_line, time_out_line, effect_text};
 ghost use Rattle.pim_event_lines.specs.TextLine.{fired_line, cause_line, held_text, counts_text};
 ghost use Rattle.pim_event_lines.specs.TextLine.{ending_line};
-ghost use Rattle.pim_report.specs.Pieces.{line};
+ghost use Rattle.pim_lines.specs.Pieces.{line};
 ghost use Rattle.std.specs.Prelude.{if◌then◌else◌, ◌==◌, codes};
 
 use crate::words::{by_words, cause_words, echo_text, show_what, state_text, timer_words};
 use itoa::Buffer;
 use pim_addr::{Drain, Failed, Family, write_all};
 use pim_down::{Machine, Pending};
-use pim_events::{Ending, Fired, ShortText, SkipCounts, TimeOut, Transition, pending_in, state_in};
-use pim_report::{number_or, write_pieces};
+use pim_events::{Ending, Fired, SkipCounts, TimeOut, Transition, pending_in, state_in};
+use pim_lines::{ShortText, number_or, write_pieces};
 
 /// Writes the time left on the Expiry Timer of a machine that is held.
 fn write_expiry<W: Drain>(writer: &mut W, after: Option<Machine>) -> Result<(), Failed>

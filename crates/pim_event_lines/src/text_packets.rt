@@ -8,17 +8,18 @@ ghost use Rattle.pim_event_lines.specs.TextLine.{hello_line, verdict_text, messa
 ghost use Rattle.pim_event_lines.specs.TextLine.{judged_line, rp_part, ignored_line, restart_line};
 ghost use Rattle.pim_event_lines.specs.TextLine.{skipped_line, entry_text, generation_part};
 ghost use Rattle.pim_event_lines.specs.TextLine.{restarted_part};
-ghost use Rattle.pim_report.specs.Pieces.{line};
+ghost use Rattle.pim_lines.specs.Pieces.{line};
 ghost use Rattle.std.specs.Prelude.{codes, option_map};
 
 use crate::counts::{joined_in, pruned_in};
-use crate::words::{heard_words, skip_words, wide};
+use crate::words::{skip_words, wide};
 use itoa::Buffer;
 use pim_addr::{Drain, Failed, Family, write_all};
-use pim_events::{Greeting, Ignored, Judgment, OwnRestart, ShortText, Skipping};
+use pim_events::{Greeting, Ignored, Judgment, OwnRestart, Skipping};
 use pim_hello::Heard;
 use pim_jp::JpView;
-use pim_report::{number_or, write_pieces, write_verdict_words};
+use pim_lines::{ShortText, number_or, write_pieces};
+use pim_report::{heard_words, write_verdict_words};
 
 /// Writes the sender of a Hello and what it means.
 fn write_greeting<F: Family, W: Drain>(
@@ -38,7 +39,7 @@ fn write_greeting<F: Family, W: Drain>(
         b" ",
         from.text(),
         b": ",
-        heard_words(&verdict),
+        heard_words(verdict),
     ];
     write_pieces(writer, &pieces)
 }

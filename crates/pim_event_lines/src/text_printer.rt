@@ -14,8 +14,8 @@ use crate::text_packets::{
 };
 use crate::words::name_of;
 use pim_addr::{Drain, Failed, Family};
-use pim_events::{Event, Filter, Happening, Name, Teller, is_shown};
-use pim_report::write_pieces;
+use pim_events::{Event, Filter, Happening, Teller, is_shown};
+use pim_lines::{Name, write_pieces};
 
 /// Writes the moment of an event and the name of its port.
 fn write_head<F: Family, W: Drain>(

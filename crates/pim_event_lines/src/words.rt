@@ -9,30 +9,17 @@ ghost use Rattle.pim_event_lines.specs.TextLine.{cause_words, echo_part, echo_te
 ghost use Rattle.pim_event_lines.specs.TextLine.{name_of};
 ghost use Rattle.pim_events.specs.Parts.{pending_in};
 ghost use Rattle.pim_report.specs.EchoLine.{kind_of};
-ghost use Rattle.pim_report.specs.PacketLine.{heard_words};
-ghost use Rattle.pim_report.specs.RecordLine.{state_name, time_left};
+ghost use Rattle.pim_report.specs.RecordLine.{time_left};
 
 use itoa::Buffer;
 use pim_addr::Family;
 use pim_capture::Why;
 use pim_down::{Machine, State, Timer, What};
-use pim_events::{Name, ShortText, Skip, pending_in};
+use pim_events::{Skip, pending_in};
 use pim_hello::Heard;
-use pim_report::number_or;
+use pim_lines::{Name, ShortText, number_or};
+use pim_report::state_name;
 use pim_transitions::By;
-
-/// The name of a state.
-fn state_name(state: &State) -> &[u8]
-    ensures { result.now ≡ state_name state.now }
-{
-    match state {
-        State::Join => b"join",
-        State::PrunePending => b"prune-pending",
-        State::Prune => b"prune",
-        State::PruneTmp => b"prune-tmp",
-        State::PrunePendingTmp => b"prune-pending-tmp",
-    }
-}
 
 /// The name of a state, where `None` is NoInfo.
 pub(crate) fn state_text(state: &Option<State>) -> &[u8]
@@ -63,18 +50,6 @@ pub(crate) fn by_word(by: &By) -> &[u8]
         By::Join => b"join",
         By::Prune => b"prune",
         By::End => b"end",
-    }
-}
-
-/// What a Hello means for its sender, in text.
-pub(crate) fn heard_words(heard: &Heard) -> &[u8]
-    ensures { result.now ≡ heard_words heard.now }
-{
-    match heard {
-        Heard::New => b"hello new",
-        Heard::Same => b"hello same",
-        Heard::Restarted => b"hello restarted",
-        Heard::Gone => b"hello gone",
     }
 }
 

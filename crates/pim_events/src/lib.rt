@@ -3,20 +3,15 @@
 //! - `Event` is a value: what happened, when, on which port, and why.
 //! - `Filter` says which events a user wants to see; `is_shown` tells whether an event is one of
 //!   them. `specs/Filter.antt` defines it.
-//! - `Teller` takes events, and writes a text of each to a device. `Silent` writes nothing of them.
-//! - `ShortText` has the text of an address: that of RFC 5952 for IPv6. It names the address.
-//! - `Name` is the name of a port. It has no byte that a JSON string has to escape.
+//! - `Teller` takes events, and writes a text of each to a device.
 //!
 //! The crate does not compute events. It is separate from their lines, so that what computes them
 //! does not wait for the proofs of lines.
 #![tactic(auto)]
 
-mod buffers;
 mod event;
 mod filter;
-mod name;
 mod parts;
-mod short_text;
 mod teller;
 
 pub use event::{
@@ -24,7 +19,5 @@ pub use event::{
     SkipCounts, Skipping, TimeOut, Transition,
 };
 pub use filter::{Filter, is_shown};
-pub use name::Name;
 pub use parts::{pending_in, state_in};
-pub use short_text::{ShortText, run_is_longest, short_text_names};
-pub use teller::{Silent, Teller};
+pub use teller::Teller;

@@ -27,21 +27,3 @@ pub trait Teller<F: Family, W> {
             (line self.now (event_seen F.bytes_of event.now)) }
         ensures count { failures device.new ≡ failures_after (failures device.old) result };
 }
-
-/// Takes events and writes nothing. It needs no device.
-#[derive(Clone, Copy, Debug, PartialEq, Eq)]
-pub struct Silent;
-
-impl<F: Family> Teller<F, ()> for Silent {
-    ghost use Rattle.std.specs.Prelude.{[], Some};
-
-    ghost line = { λ silent event. [] };
-
-    ghost contents = { λ device. Some [] };
-
-    ghost failures = { λ device. 0 };
-
-    fn tell(&self, _device: &mut (), _event: &Event<'_, F>) -> Result<(), Failed> {
-        Ok(())
-    }
-}

@@ -9,7 +9,8 @@ use Rattle.pim_words.specs.declared.task.Captures.{Captures}
 use Rattle.pim_words.specs.declared.task.More.{More}
 use Rattle.pim_words.specs.declared.task.Port.{Port}
 use Rattle.pim_files.specs.declared.fault.OpenFault.{OpenFault}
-use Rattle.pim_files.specs.Captures.{PortFiles, all_files, files_from, is_of, names_of, of_router, HoldFiles, StopsAt}
+use Rattle.pim_files.specs.Captures.{PortFiles, all_files, files_from, names_of, of_router, HoldFiles, StopsAt}
+use Rattle.pim_words.specs.Faults.{is_of}
 use Rattle.pim_files.specs.Files.{Files, Known, AsksFor, AsksFront}
 use Rattle.pim_files.specs.Table.{IsTable, table_names}
 use Rattle.pim_files.specs.Opening.{port_files, file_names, IsUnopened, IsOpen, AreOpen}

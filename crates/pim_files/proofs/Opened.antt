@@ -15,9 +15,9 @@ use Rattle.pim_words.specs.declared.fault.Side.{Side}
 use Rattle.pim_words.specs.declared.task.Link.{Link}
 use Rattle.pim_words.specs.declared.task.More.{More}
 use Rattle.pim_words.specs.declared.task.Port.{Port}
-use Rattle.pim_words.specs.Faults.{is_side}
+use Rattle.pim_words.specs.Faults.{is_side, is_of}
 use Rattle.pim_files.specs.Files.{Files}
-use Rattle.pim_files.specs.Captures.{PortFiles, NamedFile, with_more, files_from, files_of, all_files, names_of, choice_of, results_by, results_of, AreReaders, HaveFiles, AreFiles, HoldFiles, is_of, are_of, of_router, one_of, AddsLane, AddsUntaken}
+use Rattle.pim_files.specs.Captures.{PortFiles, NamedFile, with_more, files_from, files_of, all_files, names_of, choice_of, results_by, results_of, AreReaders, HaveFiles, AreFiles, HoldFiles, are_of, of_router, one_of, AddsLane, AddsUntaken}
 
 -- ---- what was taken
 

@@ -11,7 +11,7 @@ use Rattle.pim_words.specs.declared.fault.Side.{Side}
 use Rattle.pim_words.specs.declared.task.Link.{Link}
 use Rattle.pim_words.specs.declared.task.More.{More}
 use Rattle.pim_words.specs.declared.task.Port.{Port}
-use Rattle.pim_words.specs.Faults.{is_side}
+use Rattle.pim_words.specs.Faults.{is_side, is_of}
 use Rattle.pim_files.specs.declared.fault.OpenFault.{OpenFault}
 use Rattle.pim_files.specs.declared.fault.OpenFault.TheVariants as opening
 use Rattle.pim_files.specs.declared.opener.FileCause.{FileCause}
@@ -147,10 +147,6 @@ abbrev pub HoldFiles : {A : Type 0} → Option Files → List (PortFiles A) → 
 HoldFiles known ports lanes = IfSome known (λ files. AreFiles files ports lanes)
 
 -- ---- two routers
-
--- Whether the port belongs to this router.
-abbrev pub is_of : {A : Type 0} → Side → Port A → Bool
-is_of side port = is_side side port.side
 
 -- The same of a port with its further files.
 abbrev pub are_of : {A : Type 0} → Side → PortFiles A → Bool

@@ -7,7 +7,8 @@ use Rattle.pim_merge.specs.Next.{MergeState, IsUntaken}
 use Rattle.pim_words.specs.declared.fault.Side.TheVariants as side
 use Rattle.pim_words.specs.declared.task.Captures.{Captures}
 use Rattle.pim_files.specs.declared.fault.OpenFault.{OpenFault}
-use Rattle.pim_files.specs.Captures.{PortFiles, all_files, files_from, is_of, names_of, of_router, HoldFiles, StopsAt}
+use Rattle.pim_files.specs.Captures.{PortFiles, all_files, files_from, names_of, of_router, HoldFiles, StopsAt}
+use Rattle.pim_words.specs.Faults.{is_of}
 use Rattle.pim_files.specs.Files.{Files, Known, AsksFor}
 use Rattle.pim_files.specs.Table.{IsTable, IsTableFault, table_names}
 

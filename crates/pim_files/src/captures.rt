@@ -72,7 +72,7 @@ pub(crate) fn add_by<R: Feed + Drop>(
 ///
 /// # Errors
 /// That of the first file that isn't open.
-pub fn open_all<'a, A, O: Opener>(
+pub(crate) fn open_all<'a, A, O: Opener>(
     alloc: Global,
     opener: &mut O,
     ports: &[Port<'a, A>],

@@ -4,10 +4,10 @@
 //! - `Opener` opens files by name. It tells what they hold, and which names it was asked for, only
 //!   where it can: files in memory do, files of the system do not.
 //! - `table` makes the route table. It reads the file of routes, if one is named.
-//! - `open_all` opens the captures of one router, `open_both` those of two, in the order of the
-//!   words. A port's link says whether its capture is a classic one or any container, and which of
-//!   its packets are taken. The further files of a port come after its own, and are one capture.
-//! - `open_one` and `open_two` do both: they make the table, then open the captures.
+//! - `open_one` makes the table and opens the captures of one router, `open_two` those of two, in
+//!   the order of the words. A port's link says whether its capture is a classic one or any
+//!   container, and which of its packets are taken. The further files of a port come after its own,
+//!   and are one capture.
 //! - `HeldFiles` is an opener of files in memory, for tests. `asked` returns the names that it was
 //!   asked for, in their order.
 //!
@@ -28,11 +28,10 @@ mod pair;
 mod port;
 mod route_table;
 
-pub use captures::open_all;
 pub use fault::OpenFault;
 pub use held::{HeldFile, HeldFiles};
 pub use opener::{FileCause, Opener, Unopened};
 pub use opening::{OpenOne, OpenTwo, open_one, open_two};
-pub use pair::{Pair, open_both};
-pub use port::{is_further, open_port};
+pub use pair::Pair;
+pub use port::is_further;
 pub use route_table::{first_rows, table};

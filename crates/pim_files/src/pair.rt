@@ -3,7 +3,8 @@
 ghost use Rattle.std.specs.Prelude.{◌≡◌, ◌+◌, ◌<◌, length, filter, IfOk, IfErr, vec_len};
 ghost use Rattle.pim_merge.specs.Next.{IsUntaken};
 ghost use Rattle.pim_files.specs.Files.{AsksAll};
-ghost use Rattle.pim_files.specs.Captures.{all_files, files_from, names_of, is_of, of_router};
+ghost use Rattle.pim_files.specs.Captures.{all_files, files_from, names_of, of_router};
+ghost use Rattle.pim_words.specs.Faults.{is_of};
 ghost use Rattle.pim_files.specs.Captures.{one_of, results_by};
 ghost use Rattle.pim_files.specs.Captures.{HoldFiles, StopsAt, AddsLane, AddsUntaken};
 
@@ -61,7 +62,7 @@ pub(crate) fn add_to<R: Feed + Drop>(
 ///
 /// # Errors
 /// That of the first file that isn't open.
-pub fn open_both<'a, A, O: Opener>(
+pub(crate) fn open_both<'a, A, O: Opener>(
     alloc: Global,
     opener: &mut O,
     ports: &[Port<'a, A>],

@@ -96,7 +96,7 @@ pub fn is_further<A>(number: usize, port: &Port<'_, A>, one: &More<'_>) -> bool
 /// # Errors
 /// That of the first file that isn't open. If the port has a link, that is `Port` with the name of
 /// the file, otherwise `File` with the whole word of the port; or `Memory`.
-pub fn open_port<'a, A, O: Opener>(
+pub(crate) fn open_port<'a, A, O: Opener>(
     alloc: Global,
     opener: &mut O,
     number: usize,

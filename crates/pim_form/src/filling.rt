@@ -9,13 +9,10 @@ ghost use Rattle.pim_form.specs.declared.place.Place.{Place};
 
 use crate::place::Place;
 use crate::plan::Plan;
-use crate::sizes::message_size;
+use crate::sizes::{MOST_GROUPS, message_size};
 use pim_addr::{Family, source_length};
 use std::alloc::{AllocError, Global};
 use std::marker::Model;
-
-/// The most groups of a message.
-const MOST_GROUPS: usize = 255;
 
 /// A plan under construction. Its last message is open.
 #[derive(Drop)]

@@ -15,7 +15,7 @@ ghost use Rattle.pim_form.specs.KeptToward.{IsStarPushed, IsPushed};
 use crate::form::NormalForm;
 use crate::groups::GroupView;
 use crate::place::Place;
-use crate::toward::{is_asked, is_rp_reached};
+use crate::toward::{is_neighbour, is_rp_reached};
 use pim_addr::{Family, Routes};
 use pim_down::Ports;
 use std::alloc::{AllocError, Global};
@@ -32,7 +32,7 @@ fn push_reached<F: Family>(
         (via_in F.family routes.now) (F.bytes_of upstream) (F.bytes_of source)) sources.now) }
 {
     for &source in sources {
-        if is_asked::<F>(routes.via(source), upstream) {
+        if is_neighbour::<F>(routes.via(source), upstream) {
             row.push(source)?;
         }
     }

@@ -59,12 +59,12 @@ pub use laws::{
 pub use messages::Messages;
 pub use packing::pack;
 pub use settling::settled;
-pub use sizes::star_fits;
-pub use toward::{is_toward, upstream_of};
+pub use sizes::{MOST_GROUPS, message_size, star_fits};
+pub use toward::{is_neighbour, is_toward, upstream_of};
 pub use toward_laws::{
     form_of_what_is_asked, one_row_asks_one_neighbour, same_messages_same_asked,
     test_tells_who_is_asked,
 };
 pub use tree::Tree;
-pub use wanting::wants;
+pub use wanting::{is_pruned, wants};
 pub use writer::{Writer, WriterFault};

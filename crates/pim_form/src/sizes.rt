@@ -8,10 +8,13 @@ use crate::form::NormalForm;
 use crate::groups::GroupView;
 use pim_addr::{Family, group_length, source_length, unicast_length};
 
-/// The number of bytes of a message with this number of groups and entries.
-pub(crate) fn message_size<F: Family>(groups: usize, entries: usize) -> usize
+/// The most groups of a message, whose field has 8 bits (RFC 7761, 4.9.5).
+pub const MOST_GROUPS: usize = 255;
+
+/// Returns the number of bytes of a message with this number of groups and entries.
+pub fn message_size<F: Family>(groups: usize, entries: usize) -> usize
     requires groups { groups ≤ 255 }
-    requires entries { entries ≤ 100001 }
+    requires entries { entries ≤ 200000 }
     ensures { result ≡ empty_message_size F.family + groups * empty_set_size F.family
         + entries * entry_size F.family }
 {

@@ -30,8 +30,8 @@ pub fn upstream_of<F: Family>(
     }
 }
 
-/// Whether there is an upstream neighbour and it is this one.
-pub(crate) fn is_asked<F: Family>(asked: Option<F::Addr>, upstream: F::Addr) -> bool
+/// Returns whether there is an upstream neighbour and it is this one.
+pub fn is_neighbour<F: Family>(asked: Option<F::Addr>, upstream: F::Addr) -> bool
     ensures { result ≡ is_neighbour (F.bytes_of upstream) (option_map F.bytes_of asked) }
 {
     match asked {
@@ -50,7 +50,7 @@ pub(crate) fn is_rp_reached<F: Family>(
         (via_rp (via_in F.family routes.now) (known_in F.family routes.now (F.bytes_of group))) }
 {
     let asked = upstream_of::<F>(routes, group, group, Tree::Shared);
-    is_asked::<F>(asked, upstream)
+    is_neighbour::<F>(asked, upstream)
 }
 
 /// Whether this neighbour is RPF'(S,G) of all these sources.
@@ -59,7 +59,7 @@ fn all_reached<F: Family>(sources: &[F::Addr], routes: &Routes<F>, upstream: F::
         (via_in F.family routes.now source)) (map F.bytes_of sources.now) }
 {
     for &source in sources {
-        if !is_asked::<F>(routes.via(source), upstream) {
+        if !is_neighbour::<F>(routes.via(source), upstream) {
             return false;
         }
     }

@@ -14,8 +14,8 @@ pub(crate) fn is_joined(state: Option<State>) -> bool
     matches!(state, Some(State::Join | State::PrunePending))
 }
 
-/// Whether this state puts a port into prunes(S,G,rpt).
-pub(crate) fn is_pruned(state: Option<State>) -> bool
+/// Returns whether this state puts a port into prunes(S,G,rpt) (RFC 7761, 4.1.6).
+pub fn is_pruned(state: Option<State>) -> bool
     ensures { result ≡ is_pruned state }
 {
     matches!(state, Some(State::Prune))

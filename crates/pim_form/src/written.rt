@@ -11,8 +11,8 @@ ghost use Rattle.pim_frame.specs.declared.frame.MessageType.TheVariants.{JoinPru
 ghost use Rattle.pim_down.specs.Known.{known_in};
 ghost use Rattle.pim_jp.specs.Canonical.{IsMessageSet, canonical_entry, canonical_set, canonical};
 ghost use Rattle.pim_jp.specs.Canonical.{canonical_set_length};
-ghost use Rattle.pim_jp.specs.Canonical.{canonical_sets_length};
-ghost use Rattle.pim_jp.specs.Seen.{entry_seen};
+ghost use Rattle.pim_jp.specs.Canonical.{canonical_sets_length, canonical_head};
+ghost use Rattle.pim_jp.specs.Canonical.{canonical_head_length};
 ghost use Rattle.pim_form.specs.NormalForm.{IsNormal};
 ghost use Rattle.pim_form.specs.Units.{group_units, units_of, run_entries, run_groups, run_size};
 ghost use Rattle.pim_form.specs.Packing.{fits};
@@ -29,20 +29,32 @@ use crate::sizes::message_size;
 use crate::writer::Writer;
 use pim_addr::{Family, Routes, group_length, source_length};
 use pim_frame::{MessageType, all_routers, seal};
-use pim_jp::{Entry, head_length, put_entry, put_group_and_counts, put_head, set_length};
+use pim_jp::{
+    Entry, head_length, put_entry, put_entry_at, put_group_and_counts, put_head, set_length,
+};
 use std::alloc::AllocError;
 
-/// Writes an entry at this place.
-fn write_entry_at<F: Family>(entry: Entry<F::Addr>, at: usize, bytes: &mut [u8])
-    requires { at + source_length F.family ≤ length bytes.old }
-    ensures written { bytes.new ≡ take at bytes.old
-        ++ canonical_entry F.family (entry_seen F.bytes_of entry)
-        ++ drop (at + source_length F.family) bytes.old }
-    ensures length { length bytes.new ≡ length bytes.old }
-{
-    let (_, behind) = bytes.split_at_mut(at);
-    let (place, _) = behind.split_at_mut(source_length::<F>());
-    put_entry::<F>(entry, place);
+impl<F: Family> Writer<F> {
+    /// Writes the fields before the sets of a message, and seals it from the own address to
+    /// ALL-PIM-ROUTERS. `sets` is the number of its group sets, which are in `bytes` already.
+    pub fn seal_message(&self, sets: u8, bytes: &mut [u8])
+        requires room { 4 + canonical_head_length F.family ≤ length bytes.old }
+        requires counted { length bytes.old < 2 ^ 32 }
+        ensures sealed { IsSealed F.family self.now.own (all_routers F.family) JoinPrune
+            (canonical_head F.family self.now.upstream sets self.now.holdtime
+            ++ drop (4 + canonical_head_length F.family) bytes.old) bytes.new }
+        ensures length { length bytes.new ≡ length bytes.old }
+    {
+        let (_, body) = bytes.split_at_mut(4);
+        let (head, _) = body.split_at_mut(head_length::<F>());
+        put_head::<F>(self.upstream(), sets, self.holdtime(), head);
+        seal::<F>(
+            self.own(),
+            all_routers::<F>(),
+            MessageType::JoinPrune,
+            bytes,
+        );
+    }
 }
 
 /// Writes sources as (S,G) entries, one after another.
@@ -51,7 +63,7 @@ fn write_sources<F: Family>(sources: &[F::Addr], bytes: &mut [u8])
     ensures { bytes.new ≡ flat_map (canonical_source_entry F.family) (map F.bytes_of sources.now) }
 {
     for (index, source) in sources.iter().enumerate() {
-        write_entry_at::<F>(Entry::Source(*source), index * source_length::<F>(), bytes);
+        put_entry_at::<F>(Entry::Source(*source), index * source_length::<F>(), bytes);
     }
 }
 
@@ -61,7 +73,7 @@ fn write_exceptions<F: Family>(exceptions: &[F::Addr], bytes: &mut [u8])
     ensures { bytes.new ≡ flat_map (canonical_rpt_entry F.family) (map F.bytes_of exceptions.now) }
 {
     for (index, exception) in exceptions.iter().enumerate() {
-        write_entry_at::<F>(Entry::Rpt(*exception), index * source_length::<F>(), bytes);
+        put_entry_at::<F>(Entry::Rpt(*exception), index * source_length::<F>(), bytes);
     }
 }
 

@@ -50,4 +50,6 @@ pub use laws::{
 };
 pub use sets::{SetView, Sets};
 pub use view::JpView;
-pub use writing::{head_length, put_entry, put_group_and_counts, put_head, put_set, set_length};
+pub use writing::{
+    head_length, put_entry, put_entry_at, put_group_and_counts, put_head, put_set, set_length,
+};

@@ -84,7 +84,7 @@ pub fn put_entry<F: Family>(entry: Entry<F::Addr>, bytes: &mut [u8])
 }
 
 /// Writes an entry at the offset `at`.
-fn put_entry_at<F: Family>(entry: Entry<F::Addr>, at: usize, bytes: &mut [u8])
+pub fn put_entry_at<F: Family>(entry: Entry<F::Addr>, at: usize, bytes: &mut [u8])
     requires { at + source_length F.family ≤ length bytes.old }
     ensures written { bytes.new ≡ take at bytes.old
         ++ canonical_entry F.family (entry_seen F.bytes_of entry)

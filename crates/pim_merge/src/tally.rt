@@ -214,8 +214,8 @@ pub(crate) fn count_head(tally: &mut Tally, head: &Option<Event>, bytes: &[u8])
 }
 
 impl Tally {
-    /// The tally of a capture of which nothing was taken. It has no census.
-    pub(crate) fn new() -> Self
+    /// Returns the tally of a capture of which nothing was taken. It has no census.
+    pub fn new() -> Self
         ensures { result ≡ no_tally }
     {
         Tally {

@@ -18,7 +18,7 @@ use Rattle.pim_replay.specs.declared.mirror_text.MirrorTextFault.TheVariants.{Re
 use Rattle.pim_replay.specs.declared.replay.ReplayFault.TheVariants.{Capture, Output, Memory}
 use Rattle.pim_replay.specs.FreshHearing.{HaveRoom, IsFull}
 use Rattle.pim_report.specs.MessageText.{messages_text}
-use Rattle.pim_report.specs.Pieces.{line}
+use Rattle.pim_lines.specs.Pieces.{line}
 use Rattle.pim_replay.specs.Quiet.{RunsAll}
 use Rattle.pim_replay.specs.Replay.{StopsAt}
 

@@ -17,14 +17,9 @@ use Rattle.pim_replay.specs.declared.replay.ReplayFault.{ReplayFault}
 use Rattle.pim_replay.specs.declared.replay.ReplayFault.TheVariants.{Capture, Output, Memory}
 use Rattle.pim_replay.specs.declared.same.SameFault.{SameFault}
 use Rattle.pim_replay.specs.declared.same.SameFault.TheVariants.{Replay, Second, TooBig}
-use Rattle.pim_report.specs.Pieces.{line}
+use Rattle.pim_report.specs.SameLine.{same_line}
 use Rattle.pim_replay.specs.Quiet.{RunsAll}
 use Rattle.pim_replay.specs.Replay.{StopsAt}
-
--- The line of the result: `same` or `different`.
-abbrev pub answer_line : Bool → List ℕ
-answer_line true = line (codes "same")
-answer_line false = line (codes "different")
 
 -- The status of the result: 0 if the demands are the same, 1 if they differ.
 abbrev pub answer_status : Bool → ℕ
@@ -59,7 +54,7 @@ module _ (family : AddressFamily) (end : End) (writing : Writing) (merge merge' 
       Result ℕ (SameFault F A N) → Type 0
   Compares bytes_of old new (Ok status) =
       Both (Answers family writing after after_of
-      (λ same. (status ≡ answer_status same) × Appends old new (answer_line same)))
+      (λ same. (status ≡ answer_status same) × Appends old new (same_line same)))
   Compares bytes_of old new (Err (TooBig group)) =
       Both (IsFirstTooBig family writing after after_of (Some (bytes_of group))) × Keeps old new
   Compares bytes_of old new (Err (Replay (Capture told))) =
@@ -67,7 +62,7 @@ module _ (family : AddressFamily) (end : End) (writing : Writing) (merge merge' 
   Compares bytes_of old new (Err (Second told)) =
       RunsAll family end merge merge' state after × StopsAt family end other state_of other' told × Keeps old new
   Compares bytes_of old new (Err (Replay Output)) =
-      Both (Answers family writing after after_of (λ same. AppendsFront old new (answer_line same)))
+      Both (Answers family writing after after_of (λ same. AppendsFront old new (same_line same)))
   Compares bytes_of old new (Err (Replay Memory)) = IsTallied end merge merge' × IsTallied end other other' × Keeps old new
 
 -- How often the device has failed after the call: once more if the result is `Output`, otherwise as
@@ -107,9 +102,9 @@ Judges bytes_of family writing one other (Err (Replay Memory)) = Unit {0}
 
 -- What the step returns and writes that writes the result.
 abbrev pub Says : {F A N : Type 0} → Bool → Option (List ℕ) → Option (List ℕ) → Result ℕ (SameFault F A N) → Type 0
-Says same old new (Ok status) = (status ≡ answer_status same) × Appends old new (answer_line same)
+Says same old new (Ok status) = (status ≡ answer_status same) × Appends old new (same_line same)
 Says same old new (Err (TooBig group)) = ⊥
 Says same old new (Err (Second told)) = ⊥
 Says same old new (Err (Replay (Capture told))) = ⊥
-Says same old new (Err (Replay Output)) = AppendsFront old new (answer_line same)
+Says same old new (Err (Replay Output)) = AppendsFront old new (same_line same)
 Says same old new (Err (Replay Memory)) = ⊥

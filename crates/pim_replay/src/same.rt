@@ -10,13 +10,14 @@ ghost use Rattle.pim_merge.specs.Ends.{IsBoundedEnd};
 ghost use Rattle.pim_form.specs.declared.fault.FormFault.TheVariants as form;
 ghost use Rattle.pim_replay.specs.Same.{Compares, Judges, Says, of_form, of_second};
 ghost use Rattle.pim_replay.specs.Same.{failures_of_answer};
-ghost use Rattle.pim_replay.specs.Same.{answer_line, answer_status};
+ghost use Rattle.pim_replay.specs.Same.{answer_status};
 
 use crate::quiet::replay_quietly;
 use crate::replay::ReplayFault;
 use pim_addr::{Drain, Family, Feed, write_all};
 use pim_form::{FormFault, Writer};
 use pim_merge::{End, Merge, MergeFault};
+use pim_report::same_line;
 use pim_router::{Router, same_wants};
 use std::alloc::Global;
 
@@ -79,13 +80,6 @@ fn judge<F: Family>(
     }
 }
 
-/// The line of the result.
-fn answer_line(same: bool) -> &'static [u8]
-    ensures { result.now ≡ answer_line same }
-{
-    if same { b"same\n" } else { b"different\n" }
-}
-
 /// The status of the result.
 fn answer_status(same: bool) -> u8
     ensures { result ≡ answer_status same }
@@ -98,7 +92,7 @@ fn say<F: Family, W: Drain>(same: bool, writer: &mut W) -> Result<u8, SameFault<
     ensures said { Says same (W.contents writer.old) (W.contents writer.new) result }
     ensures count { W.failures writer.new ≡ failures_of_answer (W.failures writer.old) result }
 {
-    let Ok(()) = write_all(writer, answer_line(same)) else {
+    let Ok(()) = write_all(writer, same_line(same)) else {
         return Err(SameFault::Replay(ReplayFault::Output));
     };
     Ok(answer_status(same))

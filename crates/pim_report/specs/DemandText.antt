@@ -11,7 +11,7 @@ use Rattle.pim_down.specs.declared.machines.key.What.TheVariants.{Star, Source}
 use Rattle.pim_form.specs.NormalForm.{GroupForm}
 use Rattle.pim_form.specs.Toward.{via_in, via_rp}
 use Rattle.pim_report.specs.EchoLine.{what_words}
-use Rattle.pim_report.specs.Pieces.{line}
+use Rattle.pim_lines.specs.Pieces.{line}
 
 -- The address of an upstream neighbour, or `-` if there is none.
 abbrev pub neighbour_words : AddressFamily → Option (List ℕ) → List ℕ

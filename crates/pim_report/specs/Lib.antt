@@ -1,5 +1,4 @@
 -- The definitions of `pim_report`.
-pub mod Pieces
 pub mod Said
 pub mod Malformed
 pub mod PacketLine
@@ -8,4 +7,5 @@ pub mod RefreshLine
 pub mod RecordLine
 pub mod DemandText
 pub mod MessageText
+pub mod SameLine
 pub mod StateText

@@ -1,16 +1,9 @@
 -- The lines of messages: their lengths, their bytes in hexadecimal, and their number.
-use Rattle.std.specs.Prelude.{ℕ, ◌+◌, ◌/◌, ◌%◌, nat_lt, if◌then◌else◌, List, [], ◌∷◌, ◌++◌}
+use Rattle.std.specs.Prelude.{ℕ, List, [], ◌++◌}
 use Rattle.std.specs.Prelude.{length, codes, decimal, Option, None, Some}
 use Rattle.std.specs.List.{flat_map}
-use Rattle.pim_report.specs.Pieces.{line}
-
--- The character of a hexadecimal digit, in lower case.
-abbrev pub hex_digit : ℕ → ℕ
-hex_digit value = if nat_lt value 10 then value + 48 else value + 87
-
--- The two digits of a byte.
-abbrev pub hex_of : ℕ → List ℕ
-hex_of byte = hex_digit (byte / 16) ∷ hex_digit (byte % 16) ∷ []
+use Rattle.pim_lines.specs.Hex.{hex_of}
+use Rattle.pim_lines.specs.Pieces.{line}
 
 -- The words before the digits of a message of this length in bytes.
 abbrev pub length_words : ℕ → List ℕ

@@ -8,7 +8,7 @@ use Rattle.pim_router.specs.declared.verdict.Store.{Store}
 use Rattle.pim_router.specs.declared.verdict.Store.TheVariants.{Neighbours, Records}
 use Rattle.pim_router.specs.declared.verdict.Verdict.{Verdict}
 use Rattle.pim_router.specs.declared.verdict.Verdict.TheVariants as verdict
-use Rattle.pim_report.specs.Pieces.{line}
+use Rattle.pim_lines.specs.Pieces.{line}
 use Rattle.pim_report.specs.Malformed.{malformed_words}
 
 -- What a Hello means for its sender on the port (RFC 7761, 4.3.1).

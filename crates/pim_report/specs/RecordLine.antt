@@ -8,7 +8,7 @@ use Rattle.pim_down.specs.declared.machines.machine.State.TheVariants.{Join, Pru
 use Rattle.pim_down.specs.declared.machines.machine.Pending.{Pending}
 use Rattle.pim_down.specs.declared.machines.machine.Machine.{Machine}
 use Rattle.pim_down.specs.declared.machines.machine.Record.{Record}
-use Rattle.pim_report.specs.Pieces.{line, number_or}
+use Rattle.pim_lines.specs.Pieces.{line, number_or}
 use Rattle.pim_report.specs.EchoLine.{what_words}
 
 -- The name of a downstream state of Figure 2, Figure 3 or Figure 4 (RFC 7761, 4.5.1 to 4.5.3). No

@@ -1,7 +1,7 @@
 -- A short text that is put together without memory.
 use Rattle.std.specs.Prelude.{ℕ, List, [], ◌++◌}
 use Rattle.pim_report.specs.declared.said.Said.{Said}
-use Rattle.pim_report.specs.Pieces.{number_or}
+use Rattle.pim_lines.specs.Pieces.{number_or}
 
 -- Words, a name, more words and a number, as far as they are present.
 abbrev pub said_text : Said → List ℕ

@@ -12,7 +12,7 @@ use Rattle.pim_router.specs.State.{RouterState}
 use Rattle.pim_report.specs.declared.state_text.Counts.{Counts}
 use Rattle.pim_report.specs.declared.state_text.TextFault.{TextFault}
 use Rattle.pim_report.specs.declared.state_text.TextFault.TheVariants.{Output, Memory}
-use Rattle.pim_report.specs.Pieces.{line}
+use Rattle.pim_lines.specs.Pieces.{line}
 use Rattle.pim_report.specs.RecordLine.{record_line}
 use Rattle.pim_report.specs.DemandText.{demand_text}
 

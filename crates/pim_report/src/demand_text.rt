@@ -9,10 +9,10 @@ ghost use Rattle.pim_report.specs.DemandText.{source_line};
 ghost use Rattle.pim_report.specs.DemandText.{star_text, group_text, demand_text};
 
 use crate::echo_line::show_what;
-use crate::pieces::{Shown, write_pieces};
 use pim_addr::{Drain, Failed, Family, Routes};
 use pim_down::What;
 use pim_form::{GroupView, NormalForm, Tree, upstream_of};
+use pim_lines::{Shown, write_pieces};
 
 /// The end of a line of the demand: the upstream neighbour to which it is sent, or nothing.
 #[derive(Drop)]

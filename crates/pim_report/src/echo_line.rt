@@ -6,10 +6,10 @@ ghost use Rattle.pim_device.specs.Device.{AppendsAll, failures_after};
 ghost use Rattle.pim_down.specs.Seen.{what_seen};
 ghost use Rattle.pim_report.specs.EchoLine.{what_words, source_words, kind_of, echo_line};
 
-use crate::pieces::{Shown, write_pieces};
 use itoa::Buffer;
 use pim_addr::{Drain, Failed, Family};
 use pim_down::What;
+use pim_lines::{Shown, write_pieces};
 
 /// A machine of a group in words, with its source if it has one. Contracts see everything but the
 /// group.

@@ -3,7 +3,6 @@
 //!
 //! `specs/` defines each line byte by byte. At Ok the whole text was written. If the device fails,
 //! a prefix of it was, and only then does the device's count of failures rise.
-//! - `write_pieces` writes a text piece by piece, and `Shown` has the text of an address.
 //! - `write_packet_line` and `write_verdict_line` write the verdict on a packet,
 //!   `write_verdict_words` its words, and `write_malformed_words` those of its fault.
 //! - `write_echo_line` and `write_refresh_line` write what a router reports when time passes.
@@ -20,18 +19,18 @@ mod echo_line;
 mod malformed;
 mod message_text;
 mod packet_line;
-mod pieces;
 mod record_line;
 mod refresh_line;
 mod said;
+mod same;
 mod state_text;
 
 pub use demand_text::write_demand;
 pub use echo_line::write_echo_line;
 pub use malformed::write_malformed_words;
 pub use message_text::write_messages;
-pub use packet_line::{write_packet_line, write_verdict_line, write_verdict_words};
-pub use pieces::{Shown, number_or, write_pieces};
-pub use record_line::write_record_line;
+pub use packet_line::{heard_words, write_packet_line, write_verdict_line, write_verdict_words};
+pub use record_line::{state_name, write_record_line};
 pub use refresh_line::write_refresh_line;
+pub use same::same_line;
 pub use state_text::{Counts, TextFault, write_state};

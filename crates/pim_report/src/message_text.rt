@@ -1,44 +1,18 @@
 //! The lines of messages.
 
-ghost use Rattle.std.specs.Prelude.{◌≡◌, ◌<◌, slice_get};
+ghost use Rattle.std.specs.Prelude.{◌≡◌, slice_get};
 ghost use Rattle.std.specs.List.{flat_map};
 ghost use Rattle.pim_device.specs.Device.{AppendsAll, failures_after};
-ghost use Rattle.pim_report.specs.MessageText.{hex_digit, hex_of, length_words, message_line};
+ghost use Rattle.pim_lines.specs.Hex.{hex_of};
+ghost use Rattle.pim_report.specs.MessageText.{length_words, message_line};
 ghost use Rattle.pim_report.specs.MessageText.{told_line};
 ghost use Rattle.pim_report.specs.MessageText.{count_line, messages_text};
-ghost use Rattle.pim_report.specs.Pieces.{line};
+ghost use Rattle.pim_lines.specs.Pieces.{line};
 
-use crate::pieces::write_pieces;
 use itoa::Buffer;
 use pim_addr::{Drain, Failed, write_all};
 use pim_form::Messages;
-
-/// A hexadecimal digit, in lower case.
-fn hex_digit(value: u8) -> u8
-    requires { value < 16 }
-    ensures { result ≡ hex_digit value }
-{
-    if value < 10 { value + 48 } else { value + 87 }
-}
-
-/// The two hexadecimal digits of a byte.
-fn hex_of(byte: u8) -> [u8; 2]
-    ensures { result ≡ hex_of byte }
-{
-    [hex_digit(byte / 16), hex_digit(byte % 16)]
-}
-
-/// Writes bytes in hexadecimal.
-fn write_hex<W: Drain>(writer: &mut W, bytes: &[u8]) -> Result<(), Failed>
-    ensures bytes { AppendsAll (W.contents writer.old) (W.contents writer.new) result
-        (flat_map hex_of bytes.now) }
-    ensures count { W.failures writer.new ≡ failures_after (W.failures writer.old) result }
-{
-    for &byte in bytes {
-        write_all(writer, &hex_of(byte))?;
-    }
-    Ok(())
-}
+use pim_lines::{write_hex, write_pieces};
 
 /// Writes bytes in hexadecimal, then a line feed.
 fn write_hex_line<W: Drain>(writer: &mut W, bytes: &[u8]) -> Result<(), Failed>

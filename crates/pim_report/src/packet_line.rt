@@ -8,15 +8,15 @@ ghost use Rattle.pim_report.specs.PacketLine.{verdict_words};
 ghost use Rattle.pim_report.specs.PacketLine.{sender_words, verdict_line, packet_line};
 
 use crate::malformed::malformed_said;
-use crate::pieces::{Shown, write_pieces};
 use crate::said::Said;
 use itoa::Buffer;
 use pim_addr::{Drain, Failed, Family};
 use pim_hello::Heard;
+use pim_lines::{Shown, write_pieces};
 use pim_router::{Store, Verdict};
 
 /// What a Hello means for its sender on the port.
-fn heard_words(heard: Heard) -> &'static [u8]
+pub fn heard_words(heard: Heard) -> &'static [u8]
     ensures { result.now ≡ heard_words heard }
 {
     match heard {

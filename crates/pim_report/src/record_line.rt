@@ -9,13 +9,13 @@ ghost use Rattle.pim_down.specs.Seen.{told_seen};
 ghost use Rattle.pim_report.specs.RecordLine.{state_name, time_left, record_line};
 
 use crate::echo_line::show_what;
-use crate::pieces::{Shown, number_or, write_pieces};
 use itoa::Buffer;
 use pim_addr::{Drain, Failed, Family};
 use pim_down::{Pending, Record, State};
+use pim_lines::{Shown, number_or, write_pieces};
 
 /// The name of a machine's state.
-fn state_name(state: &State) -> &[u8]
+pub fn state_name(state: &State) -> &[u8]
     ensures { result.now ≡ state_name state.now }
 {
     match state {

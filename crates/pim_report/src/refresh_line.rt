@@ -4,9 +4,9 @@ ghost use Rattle.std.specs.Prelude.{◌≡◌};
 ghost use Rattle.pim_device.specs.Device.{AppendsAll, failures_after};
 ghost use Rattle.pim_report.specs.RefreshLine.{refresh_line};
 
-use crate::pieces::write_pieces;
 use itoa::Buffer;
 use pim_addr::{Drain, Failed};
+use pim_lines::write_pieces;
 
 /// Writes the line of a Refresh at this moment, in milliseconds (RFC 7761, 4.11).
 ///

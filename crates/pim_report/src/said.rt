@@ -1,13 +1,13 @@
 //! A short text that is put together without memory: words, a name, more words, and a number.
 
 ghost use Rattle.std.specs.Prelude.{◌≡◌, ◌++◌, [], decimal};
-ghost use Rattle.pim_report.specs.Pieces.{number_or};
+ghost use Rattle.pim_lines.specs.Pieces.{number_or};
 ghost use Rattle.pim_device.specs.Device.{AppendsAll, failures_after};
 ghost use Rattle.pim_report.specs.Said.{said_text};
 
-use crate::pieces::{number_or, write_pieces};
 use itoa::Buffer;
 use pim_addr::{Drain, Failed};
+use pim_lines::{number_or, write_pieces};
 
 /// Words, a name, more words, and a number. Each of them may be missing.
 #[derive(Clone, Copy, Debug)]

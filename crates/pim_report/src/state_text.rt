@@ -9,12 +9,12 @@ ghost use Rattle.pim_report.specs.StateText.{text_with};
 ghost use Rattle.pim_report.specs.StateText.{WritesState, failures_of};
 
 use crate::demand_text::write_demand;
-use crate::pieces::write_pieces;
 use crate::record_line::write_record_line;
 use itoa::Buffer;
 use pim_addr::{Drain, Failed, Family, Routes};
 use pim_down::{Ports, Records};
 use pim_form::NormalForm;
+use pim_lines::write_pieces;
 use pim_router::Router;
 use std::alloc::Global;
 

@@ -3,8 +3,8 @@ use Rattle.std.proofs.Common.{◌≡◌, ◌∙◌, sym, ap, subst, refl, inl, i
 use Rattle.std.specs.Str.{bytes_eq}
 use Rattle.std.proofs.lemmas.Bool.{eqb-false}
 use Rattle.std.proofs.lemmas.Fmt.{decimal_injective}
-use Rattle.pim_text.specs.declared.line.AnyAddress.{AnyAddress}
-use Rattle.pim_text.specs.Lines.{Names}
+use Rattle.pim_lines.specs.declared.either.AnyAddress.{AnyAddress}
+use Rattle.pim_lines.specs.AnyAddress.{Names}
 use Rattle.pim_text.specs.OneReading.{OneName}
 use Rattle.pim_request.specs.declared.command.PortRow.{PortRow}
 use Rattle.pim_request.specs.declared.command.Row.{Row}

@@ -7,8 +7,8 @@ use Rattle.std.specs.Str.Parse.{AllDigits}
 use Rattle.std.proofs.lemmas.Bool.{ne_eqb}
 use Rattle.std.proofs.lemmas.Fmt.{decimal_is_IsNumeral}
 use Rattle.std.proofs.lemmas.List.Splits.{slice_split-cons_no, join_with_byte-slice_split}
-use Rattle.pim_text.specs.declared.line.AnyAddress.{AnyAddress}
-use Rattle.pim_text.specs.Lines.{Names}
+use Rattle.pim_lines.specs.declared.either.AnyAddress.{AnyAddress}
+use Rattle.pim_lines.specs.AnyAddress.{Names}
 use Rattle.pim_request.specs.declared.command.WordsFault.TheVariants.{Word, Address}
 use Rattle.pim_request.specs.Forms.{Slot, prefix, digits, HasAddress, most, pieces_of, IsPrefix}
 use Rattle.pim_request.specs.Steps.{IsSlotFault}

@@ -2,8 +2,8 @@
 use Rattle.std.specs.Prelude.{◌≡◌, ◌⊎◌, ⊤, ℕ, ◌+◌, ◌*◌, ◌<◌, ◌≤◌, ◌==◌, ◌++◌, List, [], ◌∷◌, decimal}
 use Rattle.std.specs.List.{slice_split}
 use Rattle.std.specs.Char.{digit_value}
-use Rattle.pim_text.specs.Lines.{Names}
-use Rattle.pim_text.specs.declared.line.AnyAddress.{AnyAddress}
+use Rattle.pim_lines.specs.AnyAddress.{Names}
+use Rattle.pim_lines.specs.declared.either.AnyAddress.{AnyAddress}
 use Rattle.pim_request.specs.declared.command.WordsFault.{WordsFault}
 use Rattle.pim_request.specs.declared.command.WordsFault.TheVariants.{Word, Address, Hex}
 

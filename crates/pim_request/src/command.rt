@@ -1,6 +1,6 @@
 //! The commands of a session.
 
-use pim_text::AnyAddress;
+use pim_lines::AnyAddress;
 
 /// A port with its delays.
 #[derive(Clone, Copy, Debug, PartialEq, Eq)]

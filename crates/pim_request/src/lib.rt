@@ -8,7 +8,6 @@
 //!   message.
 //! - `decode_hex` replaces a buffer, which has room for them, by the bytes that the digits of a
 //!   packet state.
-//! - `of_family` returns an address as one of a family exactly where it is.
 //! - Laws of `one_request`: a line states one command, or one sender, or has one fault of its
 //!   words, and not both.
 //! - `Answers`: a device that takes answers and can pass on at once what it holds.
@@ -35,4 +34,4 @@ pub use one_request::{
     line_has_one_fault, line_states_one_command, line_states_one_sender, sender_has_one_fault,
 };
 pub use pim_items::{Answers, Item, Items, Stopped, TextItem};
-pub use reading::{of_family, read_command, read_sender};
+pub use reading::{read_command, read_sender};

@@ -1,8 +1,6 @@
 //! The command that a line states.
 
-ghost use Rattle.std.specs.Prelude.{◌≡◌, ℕ, List, [], true, false, IfOk, IfErr, IfSome, IfNone};
-ghost use Rattle.pim_text.specs.Families.{is_in};
-ghost use Rattle.pim_text.specs.Spelled.{address_bytes};
+ghost use Rattle.std.specs.Prelude.{◌≡◌, ℕ, List, [], IfOk, IfErr, IfSome, IfNone};
 ghost use Rattle.pim_request.specs.Forms.{IsFault};
 ghost use Rattle.pim_request.specs.Commands.{no_words, States, StatesSender};
 ghost use Rattle.pim_request.specs.Commands.{IsWordsFault, IsSenderFault};
@@ -16,8 +14,6 @@ use crate::commands::{
 };
 use crate::slots::line_end;
 use crate::words::{cut_at, is_word};
-use pim_addr::{AddressFamily, Family};
-use pim_text::AnyAddress;
 
 /// Returns this command, if no word is left.
 fn alone<'a>(left: Option<&'a [u8]>, command: Command<'a>) -> Result<Command<'a>, WordsFault<'a>>
@@ -148,22 +144,4 @@ pub fn read_sender(line: &[u8]) -> Result<Sender, WordsFault<'_>>
         return Err(WordsFault::Word(cut.word));
     }
     read_origin(cut.word, cut.left)
-}
-
-/// Returns an address as one of this family, if it is.
-pub fn of_family<F: Family>(address: AnyAddress) -> Option<F::Addr>
-    ensures same { IfSome result (λ a. F.bytes_of a ≡ address_bytes address) }
-    ensures within { IfSome result (λ a. is_in F.family address ≡ true) }
-    ensures other { IfNone result (is_in F.family address ≡ false) }
-{
-    match F::family() {
-        AddressFamily::Ipv4 => match address {
-            AnyAddress::V4(bytes) => Some(F::take(&bytes)),
-            AnyAddress::V6(_) => None,
-        },
-        AddressFamily::Ipv6 => match address {
-            AnyAddress::V4(_) => None,
-            AnyAddress::V6(bytes) => Some(F::take(&bytes)),
-        },
-    }
 }

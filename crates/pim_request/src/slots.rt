@@ -2,7 +2,7 @@
 //! where a word is missing.
 
 ghost use Rattle.std.specs.Prelude.{◌≡◌, ◌≤◌, ◌∷◌, ℕ, List, [], decimal, IfOk, IfErr};
-ghost use Rattle.pim_text.specs.Lines.{Names};
+ghost use Rattle.pim_lines.specs.AnyAddress.{Names};
 ghost use Rattle.pim_request.specs.Forms.{IsHex, IsPrefix, IsFault};
 ghost use Rattle.pim_request.specs.Forms.Slot.{address, number, prefix, name, digits};
 ghost use Rattle.pim_request.specs.Commands.{no_words};
@@ -11,7 +11,8 @@ ghost use Rattle.pim_request.specs.Steps.{words_left, IsSlotFault};
 use crate::command::WordsFault;
 use crate::hex::is_hex;
 use crate::words::{Cut, cut_at, next_word};
-use pim_text::{AnyAddress, read_address, read_decimal};
+use pim_lines::AnyAddress;
+use pim_text::{read_address, read_decimal};
 
 /// The greatest moment, number of a port, and length of a prefix: 10^15.
 pub(crate) const MOST: u64 = 1_000_000_000_000_000;

@@ -2,7 +2,7 @@
 //! wrong word where a word is missing.
 
 ghost use Rattle.std.specs.Prelude.{◌≡◌, ◌∷◌, ℕ, List, [], codes, IfOk, IfErr};
-ghost use Rattle.pim_text.specs.Lines.{Names};
+ghost use Rattle.pim_lines.specs.AnyAddress.{Names};
 ghost use Rattle.pim_request.specs.Forms.{IsFault};
 ghost use Rattle.pim_request.specs.Forms.Slot.{address};
 ghost use Rattle.pim_request.specs.Commands.{delays_forms, destination_forms, budget_forms};
@@ -14,7 +14,7 @@ ghost use Rattle.pim_request.specs.Steps.{words_left, IsFrontFault, IsHoldtime, 
 use crate::command::{WordsFault, Writing};
 use crate::slots::{Number, line_end, next_address, next_number};
 use crate::words::{is_word, next_word};
-use pim_text::AnyAddress;
+use pim_lines::AnyAddress;
 
 /// The propagation delay of a port in milliseconds, where none is given.
 const PROPAGATION: u16 = 500;

@@ -9,8 +9,7 @@ use Rattle.pim_addr.specs.declared.route_fault.RouteFault.TheVariants.{Length, K
 use Rattle.pim_addr.specs.Address.{mask_length, is_source}
 use Rattle.pim_addr.specs.Faults.{fault_if}
 use Rattle.pim_addr.specs.Routes.{IsRefusedBy, Prefix, RouteTable, prefix_faults, room_faults, is_group_prefix, rp_faults, via_faults, with_rp, with_via}
-use Rattle.pim_text.specs.Families.{is_in}
-use Rattle.pim_text.specs.Spelled.{address_bytes}
+use Rattle.pim_lines.specs.AnyAddress.{is_in, address_bytes}
 use Rattle.pim_request.specs.declared.command.Row.{Row}
 use Rattle.pim_answers.specs.declared.fault.Fault.{Fault}
 use Rattle.pim_answers.specs.Fault.{fault_words, done_text}

@@ -3,7 +3,7 @@ use Rattle.std.proofs.Common.{◌≡◌, ◌∙◌, ◌≢◌, sym, ap, subst, i
 use Rattle.pim_addr.specs.declared.family.AddressFamily.{AddressFamily}
 use Rattle.pim_addr.specs.declared.route_fault.RouteFault.{RouteFault}
 use Rattle.pim_addr.specs.Routes.{RouteTable, with_rp, with_via, rp_faults, via_faults}
-use Rattle.pim_text.specs.declared.line.AnyAddress.{AnyAddress}
+use Rattle.pim_lines.specs.declared.either.AnyAddress.{AnyAddress}
 use Rattle.pim_text.specs.declared.line.Stated.{Stated}
 use Rattle.pim_request.specs.declared.command.PortRow.{PortRow}
 use Rattle.pim_request.specs.declared.command.Row.{Row}
@@ -12,7 +12,7 @@ use Rattle.pim_request.specs.declared.command.Writing.{Writing}
 use Rattle.pim_request.specs.declared.command.Command.{Command as AnyCommand}
 use Rattle.pim_request.specs.declared.command.Command.TheVariants.{Port, Rp, Via, Limit, Start, Run, Packet, Now, Next, State, Wants, Neighbours, Messages, Keep, Change, Same, Reset}
 use Rattle.pim_request.specs.OneRequest.{SameCommand}
-use Rattle.pim_text.specs.Spelled.{address_bytes}
+use Rattle.pim_lines.specs.AnyAddress.{address_bytes}
 use Rattle.pim_router.specs.Config.{config_faults}
 use Rattle.pim_router.specs.State.{RouterState, new_router}
 use Rattle.pim_answers.specs.declared.packets.FromText.{FromText}

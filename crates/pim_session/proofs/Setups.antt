@@ -3,7 +3,7 @@ use Rattle.std.proofs.Common.{◌≡◌, ℕ, true, false, List, [], ◌∷◌, 
 use Rattle.pim_addr.specs.declared.family.AddressFamily.{AddressFamily}
 use Rattle.pim_addr.specs.declared.route_fault.RouteFault.{RouteFault}
 use Rattle.pim_addr.specs.Routes.{RouteTable}
-use Rattle.pim_text.specs.Families.{is_in}
+use Rattle.pim_lines.specs.AnyAddress.{is_in}
 use Rattle.pim_request.specs.declared.command.PortRow.{PortRow}
 use Rattle.pim_request.specs.declared.command.Row.{Row}
 use Rattle.pim_answers.specs.Families.{family_words}

@@ -6,11 +6,11 @@ use Rattle.pim_addr.specs.declared.family.AddressFamily.TheVariants.{Ipv4, Ipv6}
 use Rattle.pim_addr.specs.declared.route_fault.RouteFault.{RouteFault}
 use Rattle.pim_addr.specs.declared.route_fault.RouteFault.TheVariants as route
 use Rattle.pim_addr.specs.Routes.{Prefix, RouteTable, with_rp, with_via, rp_faults, via_faults}
-use Rattle.pim_text.specs.declared.line.AnyAddress.{AnyAddress}
-use Rattle.pim_text.specs.declared.line.AnyAddress.TheVariants.{V4, V6}
+use Rattle.pim_lines.specs.declared.either.AnyAddress.{AnyAddress}
+use Rattle.pim_lines.specs.declared.either.AnyAddress.TheVariants.{V4, V6}
 use Rattle.pim_request.specs.declared.command.PortRow.{PortRow}
 use Rattle.pim_request.specs.declared.command.Row.{Row}
-use Rattle.pim_text.specs.Spelled.{address_bytes}
+use Rattle.pim_lines.specs.AnyAddress.{address_bytes}
 use Rattle.pim_router.specs.declared.config.ConfigFault.{ConfigFault}
 use Rattle.pim_router.specs.declared.config.ConfigFault.TheVariants as config
 use Rattle.pim_router.specs.Config.{config_faults}

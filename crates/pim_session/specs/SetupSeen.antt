@@ -4,7 +4,7 @@ use Rattle.pim_addr.specs.declared.family.AddressFamily.{AddressFamily}
 use Rattle.pim_addr.specs.declared.family.AddressFamily.TheVariants as family
 use Rattle.pim_addr.specs.Routes.{no_routes}
 use Rattle.pim_addr.specs.declared.route_fault.RouteFault.{RouteFault}
-use Rattle.pim_text.specs.declared.line.AnyAddress.{AnyAddress}
+use Rattle.pim_lines.specs.declared.either.AnyAddress.{AnyAddress}
 use Rattle.pim_request.specs.declared.command.Command.{Command}
 use Rattle.pim_request.specs.declared.command.Command.TheVariants as of_line
 use Rattle.pim_router.specs.Seen.{port_seen}

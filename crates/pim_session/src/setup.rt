@@ -12,9 +12,9 @@ ghost use Rattle.pim_session.specs.State.{nothing_gathered};
 
 use pim_addr::{Family, RouteFault, Routes, V4, V6};
 use pim_answers::Fault;
-use pim_request::{PortRow, Row, of_family};
+use pim_lines::{AnyAddress, of_family};
+use pim_request::{PortRow, Row};
 use pim_router::PortConfig;
-use pim_text::AnyAddress;
 use std::alloc::Global;
 
 /// The limit of records for each port where none is given.

@@ -10,9 +10,9 @@ use Rattle.std.proofs.lemmas.Fmt.{decimal_is_IsNumeral}
 use Rattle.std.proofs.lemmas.Str.{IsUtf8-from_ascii}
 use Rattle.pim_addr.specs.TextForms.{IsText}
 use Rattle.pim_addr.specs.declared.family.AddressFamily.TheVariants.{Ipv4, Ipv6}
-use Rattle.pim_text.specs.declared.line.AnyAddress.{AnyAddress}
-use Rattle.pim_text.specs.declared.line.AnyAddress.TheVariants.{V4, V6}
-use Rattle.pim_text.specs.Lines.{Names}
+use Rattle.pim_lines.specs.declared.either.AnyAddress.{AnyAddress}
+use Rattle.pim_lines.specs.declared.either.AnyAddress.TheVariants.{V4, V6}
+use Rattle.pim_lines.specs.AnyAddress.{Names}
 use Rattle.pim_text.specs.Fields.{IsField}
 
 module _ (P : ℕ → Type 0) where

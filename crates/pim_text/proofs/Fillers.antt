@@ -12,7 +12,7 @@ use Rattle.pim_addr.specs.Address.{IsAddress}
 use Rattle.pim_addr.specs.Text.{address_text}
 use Rattle.pim_addr.specs.TextForms.{IsText, WrittenTextNames}
 use Rattle.pim_jp.specs.declared.entry.Entry.TheVariants.{Star}
-use Rattle.pim_text.specs.declared.line.AnyAddress.TheVariants.{V4}
+use Rattle.pim_lines.specs.declared.either.AnyAddress.TheVariants.{V4}
 use Rattle.pim_text.specs.Lines.{IsLine, AreLines, numbers_text}
 use Rattle.pim_text.specs.Asked.{after_all, is_whole}
 use Rattle.pim_text.proofs.Runs.{body}

@@ -8,15 +8,16 @@ use Rattle.pim_addr.specs.declared.family.AddressFamily.TheVariants.{Ipv4, Ipv6}
 use Rattle.pim_jp.specs.Message.{GroupSet}
 use Rattle.pim_jp.specs.declared.entry.Entry.{Entry}
 use Rattle.pim_jp.specs.declared.entry.Entry.TheVariants.{Star, Source, Rpt}
-use Rattle.pim_text.specs.declared.line.AnyAddress.{AnyAddress}
-use Rattle.pim_text.specs.declared.line.AnyAddress.TheVariants.{V4, V6}
+use Rattle.pim_lines.specs.declared.either.AnyAddress.{AnyAddress}
+use Rattle.pim_lines.specs.declared.either.AnyAddress.TheVariants.{V4, V6}
 use Rattle.pim_text.specs.declared.line.Line.{Line}
 use Rattle.pim_text.specs.declared.line.Line.TheVariants.{Holdtime, Priority, Generation, Secondary, Join, Prune}
-use Rattle.pim_text.specs.Value.{SetValue, TextValue, a_hello, a_message, option_line, delays_line_of, set_lines, address_in, entry_in, set_in, hello_in, message_in}
+use Rattle.pim_text.specs.Value.{SetValue, TextValue, a_hello, a_message, option_line, delays_line_of, set_lines, entry_in, set_in, hello_in, message_in}
+use Rattle.pim_lines.specs.AnyAddress.{address_in, is_in, address_bytes}
 use Rattle.std.proofs.lemmas.List.Folds.{list_all-append}
-use Rattle.pim_text.specs.Families.{is_in, entry_is_in, line_is_in, all_in, value_is_in}
+use Rattle.pim_text.specs.Families.{entry_is_in, line_is_in, all_in, value_is_in}
 use Rattle.pim_text.specs.Read.{States}
-use Rattle.pim_text.specs.Spelled.{address_bytes, entry_bytes}
+use Rattle.pim_text.specs.Spelled.{entry_bytes}
 use Rattle.pim_text.specs.Laws.{StatesIn}
 use Rattle.pim_text.proofs.Written.{both}
 

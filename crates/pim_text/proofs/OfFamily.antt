@@ -6,8 +6,8 @@ use Rattle.pim_addr.specs.declared.family.AddressFamily.TheVariants.{Ipv4, Ipv6}
 use Rattle.pim_addr.specs.Address.{address_length}
 use Rattle.pim_addr.specs.Encoded.{group_length, source_length}
 use Rattle.pim_jp.specs.Canonical.{canonical_head_length}
-use Rattle.pim_text.specs.declared.line.AnyAddress.TheVariants.{V4, V6}
-use Rattle.pim_text.specs.Families.{is_in}
+use Rattle.pim_lines.specs.declared.either.AnyAddress.TheVariants.{V4, V6}
+use Rattle.pim_lines.specs.AnyAddress.{is_in}
 
 pub length_in_v4 : (family : AddressFamily) (address : List ℕ) → is_in family (V4 address) ≡ true → address_length family ≡ 4
 length_in_v4 Ipv4 address is = refl

@@ -3,11 +3,9 @@ use Rattle.std.proofs.Common.{◌≡◌, ◌∙◌, sym, ap, refl, subst, ℕ, �
 use Rattle.std.proofs.lemmas.Bool.{eqb-false}
 use Rattle.std.proofs.lemmas.Fmt.{decimal_injective}
 use Rattle.std.proofs.lemmas.List.{append_cancel_left}
-use Rattle.pim_addr.specs.TextForms.{OneAddress}
 use Rattle.pim_jp.specs.declared.entry.Entry.{Entry}
 use Rattle.pim_jp.specs.declared.entry.Entry.TheVariants.{Star, Source, Rpt}
-use Rattle.pim_text.specs.declared.line.AnyAddress.{AnyAddress}
-use Rattle.pim_text.specs.declared.line.AnyAddress.TheVariants.{V4, V6}
+use Rattle.pim_lines.specs.declared.either.AnyAddress.{AnyAddress}
 use Rattle.pim_text.specs.declared.line.DelayLine.{DelayLine}
 use Rattle.pim_text.specs.declared.line.Head.{Head as HeadLine}
 use Rattle.pim_text.specs.declared.line.SetLine.{SetLine}
@@ -15,16 +13,12 @@ use Rattle.pim_text.specs.declared.line.Line.{Line}
 use Rattle.pim_text.specs.declared.line.Line.TheVariants.{Hello, Holdtime, Delays, Priority, Generation, Secondary, Head, Set, Join, Prune}
 use Rattle.pim_text.specs.Fields.{IsField, IsLed}
 use Rattle.pim_text.specs.HelloText.{bit}
-use Rattle.pim_text.specs.Lines.{Names, IsNamed, number_text, numbers_text, IsEntry, IsEntryLine, delays_text, IsLine, AreLines}
+use Rattle.pim_text.specs.Lines.{IsNamed, number_text, numbers_text, IsEntry, IsEntryLine, delays_text, IsLine, AreLines}
+use Rattle.pim_lines.specs.AnyAddress.{Names}
 use Rattle.pim_text.specs.OneReading.{OneName}
 use Rattle.pim_text.proofs.Bytes.{decimal_is_field, named_is_field}
 use Rattle.pim_text.proofs.FieldEnds.{end_is_found, cut_there, same_some, feed_is_led, led_then, space_is_led}
 use Rattle.pim_text.proofs.OneEntry.{only_star, only_source, only_rpt}
-use Rattle.pim_text.proofs.OneName.{only_v4, only_v6}
-
-pub one_name : OneAddress → OneName
-one_name one text (V4 address) other is too = same_some (V4 address) other (only_v4 one text address is other too)
-one_name one text (V6 address) other is too = same_some (V6 address) other (only_v6 one text address is other too)
 
 -- ---- fields
 

@@ -1,25 +1,24 @@
 -- A text names at most one address of either family.
-use Rattle.std.proofs.Common.{◌≡◌, ap, sym, subst, ℕ, List, Some}
+use Rattle.std.proofs.Common.{◌≡◌, ap, sym, subst, ℕ, List, Option, None, Some, MatchOption}
 use Rattle.pim_addr.specs.TextForms.{IsText, OneAddress}
 use Rattle.pim_addr.specs.declared.family.AddressFamily.TheVariants.{Ipv4, Ipv6}
-use Rattle.pim_text.specs.declared.line.AnyAddress.{AnyAddress}
-use Rattle.pim_text.specs.declared.line.AnyAddress.TheVariants.{V4, V6}
-use Rattle.pim_text.specs.Lines.{Names}
+use Rattle.pim_lines.specs.declared.either.AnyAddress.{AnyAddress}
+use Rattle.pim_lines.specs.declared.either.AnyAddress.TheVariants.{V4, V6}
+use Rattle.pim_lines.specs.AnyAddress.{Names, IsUnread}
 use Rattle.pim_text.proofs.Bytes.{not_both_families}
-
-module _ (one : OneAddress) (text : List ℕ) where
-  pub only_v4 : (address : List ℕ) → IsText Ipv4 text address → (a : AnyAddress) → Names text a → Some (V4 address) ≡ Some a
-  only_v4 address is (V4 other) named = ap (λ (b : List ℕ). Some (V4 b)) (one Ipv4 text address other is named)
-  only_v4 address is (V6 other) named = absurd (not_both_families text address other is named)
-
-  pub only_v6 : (address : List ℕ) → IsText Ipv6 text address → (a : AnyAddress) → Names text a → Some (V6 address) ≡ Some a
-  only_v6 address is (V6 other) named = ap (λ (b : List ℕ). Some (V6 b)) (one Ipv6 text address other is named)
-  only_v6 address is (V4 other) named = absurd (not_both_families text other address named is)
-
-pub only_none : (text : List ℕ) → ((address : List ℕ) → IsText Ipv4 text address → ⊥) → ((address : List ℕ) → IsText Ipv6 text address → ⊥) → (a : AnyAddress) → Names text a → ⊥
-only_none text v4 v6 (V4 address) named = v4 address named
-only_none text v4 v6 (V6 address) named = v6 address named
 
 pub named_too : (text other : List ℕ) (a : AnyAddress) → text ≡ other → Names other a → Names text a
 named_too text other (V4 address) same named = subst (λ (t : List ℕ). IsText Ipv4 t address) (sym same) named
 named_too text other (V6 address) same named = subst (λ (t : List ℕ). IsText Ipv6 t address) (sym same) named
+
+module _ (one : OneAddress) where
+  pub one_name : (text : List ℕ) (a b : AnyAddress) → Names text a → Names text b → a ≡ b
+  one_name text (V4 a) (V4 b) is too = ap V4 (one Ipv4 text a b is too)
+  one_name text (V6 a) (V6 b) is too = ap V6 (one Ipv6 text a b is too)
+  one_name text (V4 a) (V6 b) is too = absurd (not_both_families text a b is too)
+  one_name text (V6 a) (V4 b) is too = absurd (not_both_families text b a too is)
+
+  -- what is read of the same text is the address that it names
+  pub only : (text other : List ℕ) (read : Option AnyAddress) → text ≡ other → MatchOption read (IsUnread text) (Names text) → (a : AnyAddress) → Names other a → read ≡ Some a
+  only text other None same unread a named = absurd (unread a (named_too text other a same named))
+  only text other (Some b) same is a named = ap Some (one_name text b a is (named_too text other a same named))

@@ -9,12 +9,13 @@ use Rattle.pim_hello.specs.Spelling.{spelling_of}
 use Rattle.pim_jp.specs.declared.entry.Entry.{Entry}
 use Rattle.pim_jp.specs.Message.{GroupSet, Message}
 use Rattle.pim_jp.specs.Canonical.{canonical}
-use Rattle.pim_text.specs.Value.{SetValue, TextValue, a_hello, a_message, value_lines, address_in, entry_in, set_in, hello_in, message_in}
+use Rattle.pim_text.specs.Value.{SetValue, TextValue, a_hello, a_message, value_lines, entry_in, set_in, hello_in, message_in}
+use Rattle.pim_lines.specs.AnyAddress.{address_in, address_bytes}
 use Rattle.pim_text.specs.Families.{value_is_in}
 use Rattle.pim_text.specs.Lines.{AreLines, lines}
 use Rattle.pim_text.specs.Read.{States, Begin, IsWrongLine, is_hello}
 use Rattle.pim_text.specs.Spell.{IsSpelled, IsLong}
-use Rattle.pim_text.specs.Spelled.{address_bytes, entry_bytes}
+use Rattle.pim_text.specs.Spelled.{entry_bytes}
 use Rattle.pim_text.specs.OneReading.{OneName, OneMessage, OneRead, OneWrongLine, NoWrongLineIfStated, OneBody, LongBody}
 use Rattle.pim_text.proofs.OneLine.{one_list}
 use Rattle.pim_text.proofs.OneValue.{same_value}

@@ -5,7 +5,7 @@ use Rattle.std.specs.List.{flat_map}
 use Rattle.std.proofs.lemmas.List.{length-map}
 use Rattle.std.proofs.lemmas.Bool.{false≢true}
 use Rattle.pim_jp.specs.declared.entry.Entry.{Entry}
-use Rattle.pim_text.specs.declared.line.AnyAddress.{AnyAddress}
+use Rattle.pim_lines.specs.declared.either.AnyAddress.{AnyAddress}
 use Rattle.pim_text.specs.declared.line.Head.{Head as HeadLine}
 use Rattle.pim_text.specs.declared.line.SetLine.{SetLine}
 use Rattle.pim_text.specs.declared.line.Line.{Line}

@@ -12,7 +12,8 @@ use Rattle.pim_jp.specs.declared.entry.Entry.{Entry}
 use Rattle.pim_jp.specs.declared.entry.Entry.TheVariants.{Star, Source, Rpt}
 use Rattle.pim_text.specs.declared.line.Line.{Line}
 use Rattle.pim_text.specs.declared.line.Line.TheVariants.{Hello, Holdtime, Priority, Generation, Secondary, Head, Set, Join, Prune}
-use Rattle.pim_text.specs.Value.{option_line, delays_line_of, option_lines, set_lines, value_lines, address_in, entry_in, set_in, hello_in, message_in}
+use Rattle.pim_text.specs.Value.{option_line, delays_line_of, option_lines, set_lines, value_lines, entry_in, set_in, hello_in, message_in}
+use Rattle.pim_lines.specs.AnyAddress.{address_in, Names}
 use Rattle.std.proofs.Common.{◌<◌, ◌^◌, ◌==◌, ◌||◌, codes, decimal, append_assoc, append-nil}
 use Rattle.std.specs.List.{list_any, onto_first, AllByRecursion}
 use Rattle.std.proofs.lemmas.Bool.{ne_eqb}
@@ -26,7 +27,7 @@ use Rattle.pim_jp.specs.Canonical.{IsMessageEntry, IsMessageSet, IsMessage}
 use Rattle.pim_text.specs.Text.{line}
 use Rattle.pim_text.specs.HelloText.{number_text as option_text, bit, delays_text, address_line, hello_text}
 use Rattle.pim_text.specs.JoinPruneText.{message_line, set_line, entry_words, entry_line, set_text, message_text}
-use Rattle.pim_text.specs.Lines.{lines, Names, IsLine, AreLines}
+use Rattle.pim_text.specs.Lines.{lines, IsLine, AreLines}
 use Rattle.pim_text.specs.Read.{States}
 use Rattle.pim_text.specs.Fields.{IsField}
 use Rattle.pim_text.proofs.Bytes.{decimal_is_field, named_is_field}

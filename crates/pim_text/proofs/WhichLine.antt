@@ -2,7 +2,7 @@
 use Rattle.std.proofs.Common.{◌≡◌, ap, refl, ℕ, zero, suc, ◌<◌, ◌≤◌, true, List, Some, codes, get_or, arith}
 use Rattle.std.proofs.lemmas.Bool.{false≢true}
 use Rattle.pim_jp.specs.declared.entry.Entry.{Entry}
-use Rattle.pim_text.specs.declared.line.AnyAddress.{AnyAddress}
+use Rattle.pim_lines.specs.declared.either.AnyAddress.{AnyAddress}
 use Rattle.pim_text.specs.declared.line.DelayLine.{DelayLine}
 use Rattle.pim_text.specs.declared.line.Head.{Head as HeadLine}
 use Rattle.pim_text.specs.declared.line.SetLine.{SetLine}

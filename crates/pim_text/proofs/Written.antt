@@ -16,12 +16,13 @@ use Rattle.pim_text.specs.declared.line.Line.TheVariants.{Set, Join, Prune}
 use Rattle.pim_text.specs.declared.line.Step.{Step}
 use Rattle.pim_text.specs.declared.line.Asked.{Asked}
 use Rattle.pim_text.specs.declared.line.Asked.TheVariants.{Message}
-use Rattle.pim_text.specs.Value.{address_in, entry_in, set_in, message_in, set_lines, value_lines}
-use Rattle.pim_text.specs.Families.{is_in, entry_is_in, line_is_in, all_in}
+use Rattle.pim_text.specs.Value.{entry_in, set_in, message_in, set_lines, value_lines}
+use Rattle.pim_lines.specs.AnyAddress.{address_in, is_in, address_bytes}
+use Rattle.pim_text.specs.Families.{entry_is_in, line_is_in, all_in}
 use Rattle.pim_text.specs.Lines.{IsLine, AreLines, lines}
 use Rattle.pim_text.specs.Asked.{after, after_all, IsStep, OnlyStep}
 use Rattle.pim_text.specs.Read.{States}
-use Rattle.pim_text.specs.Spelled.{address_bytes, entry_bytes, line_bytes}
+use Rattle.pim_text.specs.Spelled.{entry_bytes, line_bytes}
 use Rattle.pim_text.proofs.FieldEnds.{same_some}
 use Rattle.pim_text.proofs.Runs.{first_step, value_runs}
 use Rattle.std.proofs.lemmas.List.{length-map}

@@ -4,13 +4,14 @@ use Rattle.std.specs.Prelude.{map, IfOk, IfErr}
 use Rattle.std.specs.List.{flat_map}
 use Rattle.pim_addr.specs.declared.family.AddressFamily.{AddressFamily}
 use Rattle.pim_hello.specs.Hello.{Delays as DelaysValue, Parameters, Hello as HelloMessage}
-use Rattle.pim_text.specs.declared.line.AnyAddress.{AnyAddress}
+use Rattle.pim_lines.specs.declared.either.AnyAddress.{AnyAddress}
 use Rattle.pim_text.specs.declared.line.Line.{Line}
 use Rattle.pim_text.specs.declared.line.Line.TheVariants.{Holdtime, Delays, Priority, Generation, Secondary}
 use Rattle.pim_text.specs.declared.line.Step.{Step}
 use Rattle.pim_text.specs.declared.line.Asked.{Asked}
 use Rattle.pim_text.specs.declared.line.Asked.TheVariants.{Message}
-use Rattle.pim_text.specs.Value.{HelloValue, option_lines, address_in, hello_in, option_line, delays_line_of, value_lines}
+use Rattle.pim_text.specs.Value.{HelloValue, option_lines, hello_in, option_line, delays_line_of, value_lines}
+use Rattle.pim_lines.specs.AnyAddress.{address_in}
 use Rattle.pim_text.specs.Families.{line_is_in, all_in}
 use Rattle.pim_text.specs.Lines.{IsLine, AreLines, lines}
 use Rattle.pim_text.specs.Asked.{after, after_all, IsStep, OnlyStep}

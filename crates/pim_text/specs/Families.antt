@@ -1,22 +1,14 @@
 -- The families of the addresses of a message.
-use Rattle.std.specs.Prelude.{Bool, true, false, List}
+use Rattle.std.specs.Prelude.{Bool, true, List}
 use Rattle.std.specs.List.{list_all}
 use Rattle.pim_addr.specs.declared.family.AddressFamily.{AddressFamily}
-use Rattle.pim_addr.specs.declared.family.AddressFamily.TheVariants.{Ipv4, Ipv6}
 use Rattle.pim_jp.specs.declared.entry.Entry.{Entry}
 use Rattle.pim_jp.specs.declared.entry.Entry.TheVariants.{Star, Source, Rpt}
-use Rattle.pim_text.specs.declared.line.AnyAddress.{AnyAddress}
-use Rattle.pim_text.specs.declared.line.AnyAddress.TheVariants.{V4, V6}
+use Rattle.pim_lines.specs.declared.either.AnyAddress.{AnyAddress}
+use Rattle.pim_lines.specs.AnyAddress.{is_in}
 use Rattle.pim_text.specs.declared.line.Line.{Line}
 use Rattle.pim_text.specs.declared.line.Line.TheVariants.{Secondary, Head, Set, Join, Prune}
 use Rattle.pim_text.specs.Value.{TextValue, value_lines}
-
--- The address is of this family.
-abbrev pub is_in : AddressFamily → AnyAddress → Bool
-is_in Ipv4 (V4 address) = true
-is_in Ipv4 (V6 address) = false
-is_in Ipv6 (V4 address) = false
-is_in Ipv6 (V6 address) = true
 
 -- The address of the entry is of this family.
 abbrev pub entry_is_in : AddressFamily → Entry AnyAddress → Bool

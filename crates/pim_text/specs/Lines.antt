@@ -1,12 +1,10 @@
 -- The lines that a text has, and what each may say.
 use Rattle.std.specs.Prelude.{◌≡◌, ◌≤◌, ◌==◌, ℕ, ⊤, List, [], ◌∷◌, ◌++◌, codes, decimal, if◌then◌else◌}
 use Rattle.std.specs.List.{onto_first}
-use Rattle.pim_addr.specs.declared.family.AddressFamily.TheVariants.{Ipv4, Ipv6}
-use Rattle.pim_addr.specs.TextForms.{IsText}
 use Rattle.pim_jp.specs.declared.entry.Entry.{Entry}
 use Rattle.pim_jp.specs.declared.entry.Entry.TheVariants.{Star, Source, Rpt}
-use Rattle.pim_text.specs.declared.line.AnyAddress.{AnyAddress}
-use Rattle.pim_text.specs.declared.line.AnyAddress.TheVariants.{V4, V6}
+use Rattle.pim_lines.specs.declared.either.AnyAddress.{AnyAddress}
+use Rattle.pim_lines.specs.AnyAddress.{Names}
 use Rattle.pim_text.specs.declared.line.DelayLine.{DelayLine}
 use Rattle.pim_text.specs.declared.line.Line.{Line}
 use Rattle.pim_text.specs.declared.line.Line.TheVariants.{Hello, Holdtime, Delays, Priority, Generation, Secondary, Head, Set, Join, Prune}
@@ -16,11 +14,6 @@ use Rattle.pim_text.specs.HelloText.{bit}
 unfoldable pub lines : List ℕ → List (List ℕ)
 lines [] = []
 lines (byte ∷ text) = if byte == 10 then (byte ∷ []) ∷ lines text else onto_first byte (lines text)
-
--- The text is one that names this address.
-abbrev pub Names : List ℕ → AnyAddress → Type 0
-Names text (V4 address) = IsText Ipv4 text address
-Names text (V6 address) = IsText Ipv6 text address
 
 -- The text is these words, a text of the address, and the text `behind`.
 abbrev pub IsNamed : List ℕ → AnyAddress → List ℕ → List ℕ → Type 0

@@ -1,10 +1,10 @@
 -- A text states one message: the statements of the laws in `src/one_reading.rt`.
 use Rattle.std.specs.Prelude.{◌≡◌, ◌<◌, ℕ, Bool, List, length}
 use Rattle.pim_addr.specs.declared.family.AddressFamily.{AddressFamily}
-use Rattle.pim_text.specs.declared.line.AnyAddress.{AnyAddress}
+use Rattle.pim_lines.specs.declared.either.AnyAddress.{AnyAddress}
 use Rattle.pim_text.specs.declared.line.Stated.{Stated}
 use Rattle.pim_text.specs.Value.{TextValue}
-use Rattle.pim_text.specs.Lines.{Names}
+use Rattle.pim_lines.specs.AnyAddress.{Names}
 use Rattle.pim_text.specs.Read.{States, IsWrongLine, IsRead}
 use Rattle.pim_text.specs.Spell.{IsSpelled, IsLong}
 

@@ -7,19 +7,14 @@ use Rattle.pim_jp.specs.declared.entry.Entry.{Entry}
 use Rattle.pim_jp.specs.declared.entry.Entry.TheVariants.{Star, Source, Rpt}
 use Rattle.pim_jp.specs.Message as one_message
 use Rattle.pim_jp.specs.Canonical.{canonical, canonical_head, canonical_entry}
-use Rattle.pim_text.specs.declared.line.AnyAddress.{AnyAddress}
-use Rattle.pim_text.specs.declared.line.AnyAddress.TheVariants.{V4, V6}
+use Rattle.pim_lines.specs.declared.either.AnyAddress.{AnyAddress}
+use Rattle.pim_lines.specs.AnyAddress.{address_bytes}
 use Rattle.pim_text.specs.declared.line.Line.{Line}
 use Rattle.pim_text.specs.declared.line.Line.TheVariants.{Head, Set, Join, Prune}
 use Rattle.pim_text.specs.declared.spelling.SpellFault.{SpellFault}
 use Rattle.pim_text.specs.declared.spelling.SpellFault.TheVariants.{TooLong, Memory}
 use Rattle.pim_text.specs.Value.{message_in}
 use Rattle.pim_text.specs.Read.{States}
-
--- The bytes of an address.
-abbrev pub address_bytes : AnyAddress → List ℕ
-address_bytes (V4 address) = address
-address_bytes (V6 address) = address
 
 -- The entry with its address as bytes.
 abbrev pub entry_bytes : Entry AnyAddress → Entry (List ℕ)

@@ -10,7 +10,7 @@ use Rattle.pim_text.specs.declared.spelling.SpellFault.{SpellFault}
 use Rattle.pim_text.specs.declared.spelling.SpellFault.TheVariants.{TooLong, Memory}
 use Rattle.pim_text.specs.Value.{hello_in}
 use Rattle.pim_text.specs.Read.{States}
-use Rattle.pim_text.specs.Spelled.{address_bytes}
+use Rattle.pim_lines.specs.AnyAddress.{address_bytes}
 
 -- The options with that of the line.
 abbrev pub with_line : Line → Parameters → Parameters

@@ -2,14 +2,13 @@
 use Rattle.std.specs.Prelude.{ℕ, List, [], ◌∷◌, ◌++◌, length, map, Option, Some, None}
 use Rattle.std.specs.List.{flat_map}
 use Rattle.pim_addr.specs.declared.family.AddressFamily.{AddressFamily}
-use Rattle.pim_addr.specs.declared.family.AddressFamily.TheVariants.{Ipv4, Ipv6}
 use Rattle.pim_hello.specs.Hello.{Delays, Parameters}
 use Rattle.pim_hello.specs.Hello as one_family
 use Rattle.pim_jp.specs.declared.entry.Entry.{Entry}
 use Rattle.pim_jp.specs.Message as one_message
 use Rattle.pim_jp.specs.declared.entry.Entry.TheVariants.{Star, Source, Rpt}
-use Rattle.pim_text.specs.declared.line.AnyAddress.{AnyAddress}
-use Rattle.pim_text.specs.declared.line.AnyAddress.TheVariants.{V4, V6}
+use Rattle.pim_lines.specs.declared.either.AnyAddress.{AnyAddress}
+use Rattle.pim_lines.specs.AnyAddress.{address_in}
 use Rattle.pim_text.specs.declared.line.Line.{Line}
 use Rattle.pim_text.specs.declared.line.Line.TheVariants as of_line
 
@@ -68,11 +67,6 @@ value_lines (a_message message) =
     ∷ flat_map set_lines message.sets
 
 -- ---- the messages of one family
-
--- The address of this family with these bytes.
-abbrev pub address_in : AddressFamily → List ℕ → AnyAddress
-address_in Ipv4 bytes = V4 bytes
-address_in Ipv6 bytes = V6 bytes
 
 -- A Hello of this family.
 abbrev pub hello_in : AddressFamily → one_family.Hello → TextValue

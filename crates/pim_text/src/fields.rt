@@ -6,12 +6,13 @@ ghost use Rattle.std.specs.Prelude.{nat_le};
 ghost use Rattle.std.specs.Prelude.{IfSome, MatchOption};
 ghost use Rattle.std.specs.List.{position};
 ghost use Rattle.pim_text.specs.Fields.{IsField, IsLed};
-ghost use Rattle.pim_text.specs.Lines.{Names, IsNamed, number_text, numbers_text};
-ghost use Rattle.pim_text.specs.declared.line.AnyAddress.{AnyAddress};
+ghost use Rattle.pim_text.specs.Lines.{IsNamed, number_text, numbers_text};
+ghost use Rattle.pim_lines.specs.AnyAddress.{Names};
+ghost use Rattle.pim_lines.specs.declared.either.AnyAddress.{AnyAddress};
 
-use crate::line::AnyAddress;
 use itoa::Buffer;
-use pim_addr::{V4, V6, read_text, text_names_one_address};
+use pim_addr::text_names_one_address;
+use pim_lines::{AnyAddress, read_any_address};
 use std::str;
 
 /// A field, and the text after it.
@@ -110,13 +111,7 @@ pub fn read_address(text: &[u8]) -> Option<AnyAddress>
     let Ok(text) = str::from_utf8(text) else {
         return None;
     };
-    if let Some(address) = read_text::<V4>(text) {
-        return Some(AnyAddress::V4(address));
-    }
-    match read_text::<V6>(text) {
-        Some(address) => Some(AnyAddress::V6(address)),
-        None => None,
-    }
+    read_any_address(text)
 }
 
 /// Returns the number of a text that has these words, a number and a line feed.

@@ -45,8 +45,8 @@ pub use hello_law::hello_text_states_it;
 pub use hello_lines::hello_text;
 pub use join_prune_lines::message_text;
 pub use laws::{hello_text_states, message_text_states, stated_in_its_family};
-pub use line::{AnyAddress, Stated};
-pub use message::{Spelled, TextFault, spell};
+pub use line::Stated;
+pub use message::{Spelled, TextFault, spell, stated_in};
 pub use one_reading::{
     stated_text_has_no_wrong_line, text_has_one_body, text_has_one_wrong_line,
     text_is_read_in_one_way, text_names_one_of_either, text_states_one_message,

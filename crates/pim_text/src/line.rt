@@ -1,15 +1,7 @@
 //! The lines of the text of a message, and what a text asks for next.
 
 use pim_jp::Entry;
-
-/// An address of either family.
-#[derive(Clone, Copy, Debug, PartialEq, Eq)]
-pub enum AnyAddress {
-    /// IPv4: 4 bytes.
-    V4([u8; 4]),
-    /// IPv6: 16 bytes.
-    V6([u8; 16]),
-}
+use pim_lines::AnyAddress;
 
 /// What the first line of a Join/Prune message says.
 #[derive(Clone, Copy, Debug, PartialEq, Eq)]

@@ -42,7 +42,7 @@ pub struct Spelled {
 }
 
 /// Returns whether each address that was read is of the family.
-fn stated_in<F: Family>(stated: Stated) -> bool
+pub fn stated_in<F: Family>(stated: Stated) -> bool
     ensures { result ≡ stated_in F.family stated }
 {
     match F::family() {

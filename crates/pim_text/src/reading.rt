@@ -2,15 +2,17 @@
 
 ghost use Rattle.std.specs.Prelude.{◌≡◌, ◌<◌, ◌^◌, ◌&&◌, length, IfOk, IfErr, MatchOption};
 ghost use Rattle.pim_text.specs.Lines.{lines};
-ghost use Rattle.pim_text.specs.Families.{is_in, entry_is_in, line_is_in};
+ghost use Rattle.pim_text.specs.Families.{entry_is_in, line_is_in};
+ghost use Rattle.pim_lines.specs.AnyAddress.{is_in};
 ghost use Rattle.pim_text.specs.Asked.{Advanced, IsUnasked, asks_of_hello};
 ghost use Rattle.pim_text.specs.Read.{IsRead, IsWrongLine};
 
-use crate::line::{AnyAddress, Asked, Line, Progress, Stated};
+use crate::line::{Asked, Line, Progress, Stated};
 use crate::line_walk::LineWalk;
 use crate::steps::{is_whole, step};
 use pim_addr::{AddressFamily, written_text_names};
 use pim_jp::Entry;
+use pim_lines::AnyAddress;
 
 /// Returns whether an address is of this family.
 fn is_in(family: AddressFamily, address: &AnyAddress) -> bool

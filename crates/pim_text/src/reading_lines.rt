@@ -3,7 +3,7 @@
 ghost use Rattle.std.specs.Prelude.{◌≡◌, ◌≤◌, ℕ, List, [], ◌∷◌, ◌++◌, Option, Some, None, codes};
 ghost use Rattle.std.specs.Prelude.{IfSome, MatchOption};
 ghost use Rattle.pim_jp.specs.declared.entry.Entry.{Entry};
-ghost use Rattle.pim_text.specs.declared.line.AnyAddress.{AnyAddress};
+ghost use Rattle.pim_lines.specs.declared.either.AnyAddress.{AnyAddress};
 ghost use Rattle.pim_text.specs.declared.line.DelayLine.{DelayLine};
 ghost use Rattle.pim_text.specs.declared.line.Head.{Head};
 ghost use Rattle.pim_text.specs.declared.line.SetLine.{SetLine};
@@ -11,8 +11,9 @@ ghost use Rattle.pim_text.specs.declared.line.Line.{Line};
 ghost use Rattle.pim_text.specs.Lines.{IsNamed, IsEntry, IsEntryLine, IsLine, delays_text};
 
 use crate::fields::{is_end, number_line, numbers_line, read_named, strip};
-use crate::line::{AnyAddress, DelayLine, Head, SetLine};
+use crate::line::{DelayLine, Head, SetLine};
 use pim_jp::Entry;
+use pim_lines::AnyAddress;
 
 /// Returns the address of a text that has these words, an address and a line feed.
 pub(crate) fn address_line(text: &[u8], words: &[u8]) -> Option<AnyAddress>

@@ -2,12 +2,14 @@
 
 ghost use Rattle.std.specs.Prelude.{◌≡◌, ◌++◌, true, OnOk};
 ghost use Rattle.pim_jp.specs.Seen.{entry_seen};
-ghost use Rattle.pim_text.specs.Families.{is_in, entry_is_in, line_is_in};
-ghost use Rattle.pim_text.specs.Spelled.{address_bytes, entry_bytes, line_bytes};
+ghost use Rattle.pim_text.specs.Families.{entry_is_in, line_is_in};
+ghost use Rattle.pim_lines.specs.AnyAddress.{is_in, address_bytes};
+ghost use Rattle.pim_text.specs.Spelled.{entry_bytes, line_bytes};
 
-use crate::line::{AnyAddress, Head, Line, SetLine};
+use crate::line::{Head, Line, SetLine};
 use pim_addr::{Family, group_length, source_length};
 use pim_jp::{Entry, head_length, put_entry, put_group_and_counts, put_head};
+use pim_lines::AnyAddress;
 use std::alloc::AllocError;
 
 /// Returns an address of the family.

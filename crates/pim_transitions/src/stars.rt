@@ -3,41 +3,16 @@
 ghost use Rattle.std.specs.Prelude.{◌≡◌, ◌++◌, ℕ, List, true, nat_eq, IfOk, OnOk, map};
 ghost use Rattle.std.specs.List.{AllByRecursion, list_any};
 ghost use Rattle.std.specs.Cmp.Lexicographic.{pointwise};
-ghost use Rattle.pim_down.specs.Hearing.{events_of, set_events, list_events, is_star_join};
+ghost use Rattle.pim_down.specs.Hearing.{events_of, set_events};
 ghost use Rattle.pim_down.specs.Known.{known_in};
 ghost use Rattle.pim_down.specs.Seen.{event_seen, told_seen, what_seen};
 ghost use Rattle.pim_transitions.specs.Marks.{rpt_mark, rpt_marks, HaveRptsOf};
 ghost use Rattle.pim_transitions.specs.Marks.{AddRptsOf, AddStarsOf, AreStarMarks};
 
 use pim_addr::{Family, Routes};
-use pim_down::{Event, Near, Ports, Record, What, event_of};
-use pim_jp::{Entries, JpView, SetView};
+use pim_down::{Event, Near, Ports, Record, What, has_star_join};
+use pim_jp::{JpView, SetView};
 use std::alloc::{AllocError, Global};
-
-/// Whether the event is a Join(*,G).
-fn is_star_join<A>(event: &Event<A>) -> bool
-    ensures { (bytes_of : A → List ℕ) → result ≡ is_star_join (event_seen bytes_of event.now) }
-{
-    event.joins && matches!(event.what, What::Star)
-}
-
-/// Whether a joined list of the group has a Join(*,G) whose RP is RP(G).
-fn has_star_join<F: Family>(routes: &Routes<F>, group: F::Addr, joined: Entries<'_, F>) -> bool
-    ensures { result ≡ list_any is_star_join
-        (list_events (known_in F.family routes.now) true (F.bytes_of group) joined.entry) }
-{
-    for entry in joined {
-        match event_of::<F>(routes, true, group, entry) {
-            Some(event) => {
-                if is_star_join(&event) {
-                    return true;
-                }
-            }
-            None => {}
-        }
-    }
-    false
-}
 
 /// Appends the mark of a record, if it is of an (S,G,rpt) machine.
 fn push_rpt<F: Family>(

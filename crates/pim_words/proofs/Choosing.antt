@@ -4,10 +4,10 @@ use Rattle.std.specs.Borrow.{Bor}
 use Rattle.std.specs.List.{AllZip}
 use Rattle.std.proofs.lemmas.List.{drop_all, drop_more, length-append}
 use Rattle.clap.specs.Words.{Text}
-use Rattle.pim_words.specs.declared.addresses.Address.{Address}
+use Rattle.pim_lines.specs.declared.either.AnyAddress.{AnyAddress}
 use Rattle.pim_words.specs.declared.fault.Fault.{Fault}
 use Rattle.pim_words.specs.declared.fault.Fault.TheVariants as cause
-use Rattle.pim_words.specs.Addresses.{Names}
+use Rattle.pim_lines.specs.AnyAddress.{Names}
 use Rattle.pim_words.specs.Reading.{IsUnreadText}
 use Rattle.pim_words.specs.Seen.{OrMemory}
 use Rattle.pim_words.specs.Shown.{AreShownAddresses, IsUnreadChoice, IsWrongChoice}
@@ -15,12 +15,12 @@ use Rattle.pim_words.proofs.Further.{texts}
 use Rattle.pim_words.proofs.Orders.{or_memory}
 
 -- These addresses are those of the values before the ones that are left.
-pub record IsLeft (all left : List Text) (addresses : List Address) : Type 0 where
+pub record IsLeft (all left : List Text) (addresses : List AnyAddress) : Type 0 where
   pub few : length addresses ≤ 64
-  pub goes_on : (more : List Address) → AllZip Names left more → AllZip Names all (addresses ++ more)
+  pub goes_on : (more : List AnyAddress) → AllZip Names left more → AllZip Names all (addresses ++ more)
   pub told : (room : ℕ) (fault : Fault) → length addresses + room ≡ 64 → IsWrongChoice room left fault → IsWrongChoice 64 all fault
 
-step : (all left : List Text) (addresses : List Address) (text : Text) (address : Address) → IsLeft all (text ∷ left) addresses → Names text address → length addresses + 1 ≤ 64
+step : (all left : List Text) (addresses : List AnyAddress) (text : Text) (address : AnyAddress) → IsLeft all (text ∷ left) addresses → Names text address → length addresses + 1 ≤ 64
     → IsLeft all left (addresses ++ address ∷ [])
 step all left addresses text address is named room = record {
   few = omega (arith, room, length-append addresses (address ∷ []));
@@ -28,7 +28,7 @@ step all left addresses text address is named room = record {
   told = λ n fault count wrong. is.told (suc n) fault (omega (arith, count, length-append addresses (address ∷ []))) (inr ((address, named), wrong));
 }
 
-end : (all : List Text) (addresses : List Address) → IsLeft all [] addresses → AreShownAddresses all addresses
+end : (all : List Text) (addresses : List AnyAddress) → IsLeft all [] addresses → AreShownAddresses all addresses
 end all addresses is = (subst (λ l. AllZip Names all l) (append-nil addresses) (is.goes_on [] tt), is.few)
 
 unread_choice : (text : Text) (fault : Fault) → IsUnreadText text fault → IsUnreadChoice text fault
@@ -42,12 +42,12 @@ module _ (values : List (Bor Text)) (i : ℕ) (past : Bor Text) (inside : i < le
   next : texts (drop i values) ≡ text ∷ texts (drop (i + 1) values)
   next = ap texts (drop_more values i past inside)
 
-  pub one_too_many : (addresses : List Address) (told : Bor Text) → IsLeft (texts values) (texts (drop i values)) addresses → length addresses ≡ 64 → told.now ≡ text
+  pub one_too_many : (addresses : List AnyAddress) (told : Bor Text) → IsLeft (texts values) (texts (drop i values)) addresses → length addresses ≡ 64 → told.now ≡ text
       → IsWrongChoice 64 (texts values) (cause.Word told)
   one_too_many addresses told is full same =
       is.told 0 (cause.Word told) (omega (arith, full)) (subst (λ l. IsWrongChoice 0 l (cause.Word told)) (sym next) same)
 
-  pub unread : (addresses : List Address) (fault : Fault) → IsLeft (texts values) (texts (drop i values)) addresses → length addresses + 1 ≤ 64 → IsUnreadText text fault
+  pub unread : (addresses : List AnyAddress) (fault : Fault) → IsLeft (texts values) (texts (drop i values)) addresses → length addresses + 1 ≤ 64 → IsUnreadText text fault
       → OrMemory (IsWrongChoice 64 (texts values)) fault
   unread addresses fault is room wrong =
       let n : ℕ = 63 - length addresses in
@@ -55,11 +55,11 @@ module _ (values : List (Bor Text)) (i : ℕ) (past : Bor Text) (inside : i < le
       or_memory (IsWrongChoice 64 (texts values)) fault
       (is.told (suc n) fault count (subst (λ l. IsWrongChoice (suc n) l fault) (sym next) (inl (unread_choice text fault wrong))))
 
-  pub one_more : (addresses more : List Address) (address : Address) → IsLeft (texts values) (texts (drop i values)) addresses → length addresses + 1 ≤ 64 → Names text address → more ≡ addresses ++ address ∷ []
+  pub one_more : (addresses more : List AnyAddress) (address : AnyAddress) → IsLeft (texts values) (texts (drop i values)) addresses → length addresses + 1 ≤ 64 → Names text address → more ≡ addresses ++ address ∷ []
       → IsLeft (texts values) (texts (drop (i + 1) values)) more
   one_more addresses more address is room named pushed =
       subst (λ l. IsLeft (texts values) (texts (drop (i + 1) values)) l) (sym pushed)
       (step (texts values) (texts (drop (i + 1) values)) addresses text address (subst (λ l. IsLeft (texts values) l addresses) next is) named room)
 
-pub all_read : (values : List (Bor Text)) (i : ℕ) (addresses : List Address) → length values ≤ i → IsLeft (texts values) (texts (drop i values)) addresses → AreShownAddresses (texts values) addresses
+pub all_read : (values : List (Bor Text)) (i : ℕ) (addresses : List AnyAddress) → length values ≤ i → IsLeft (texts values) (texts (drop i values)) addresses → AreShownAddresses (texts values) addresses
 all_read values i addresses past is = end (texts values) addresses (subst (λ l. IsLeft (texts values) (texts l) addresses) (drop_all i values past) is)

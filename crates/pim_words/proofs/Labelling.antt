@@ -4,7 +4,7 @@ use Rattle.std.specs.Prelude.{◌⊎◌}
 use Rattle.std.specs.Borrow.{Bor}
 use Rattle.std.proofs.lemmas.List.{drop_all, drop_more, length-append}
 use Rattle.clap.specs.Words.{Text}
-use Rattle.pim_words.specs.declared.addresses.Address.{Address}
+use Rattle.pim_lines.specs.declared.either.AnyAddress.{AnyAddress}
 use Rattle.pim_words.specs.declared.fault.Fault.{Fault}
 use Rattle.pim_words.specs.declared.task.More.{More}
 use Rattle.pim_words.specs.declared.task.Port.{Port}
@@ -18,22 +18,22 @@ abbrev NameList : Type 0
 NameList = List (Option (Bor Text))
 
 -- These ports with these names, and these further files, are those of the words before the ones that are left.
-pub record IsLeft (all left : List Text) (ports : List (Port Address)) (names : List (Option (Bor Text))) (more : List More) : Type 0 where
-  pub goes_on : (later : List (Port Address)) (others : List (Option (Bor Text))) → AreLabelledAfter names (port_words true left) later others
+pub record IsLeft (all left : List Text) (ports : List (Port AnyAddress)) (names : List (Option (Bor Text))) (more : List More) : Type 0 where
+  pub goes_on : (later : List (Port AnyAddress)) (others : List (Option (Bor Text))) → AreLabelledAfter names (port_words true left) later others
       → AreLabelled (port_words true all) (ports ++ later) (names ++ others)
   pub further : AreSoFar true (length names) all left more
   pub told : (fault : Fault) → IsFirstWrongLabelled names (length more) left fault → IsFirstWrongLabelled [] 0 all fault
 
-module _ (all left : List Text) (ports : List (Port Address)) (names : NameList) (more : List More) (word : Text) (is : IsLeft all (word ∷ left) ports names more) where
+module _ (all left : List Text) (ports : List (Port AnyAddress)) (names : NameList) (more : List More) (word : Text) (is : IsLeft all (word ∷ left) ports names more) where
   abbrev MoreFirst : Fault → Type 0
   MoreFirst fault = IsWrongMore (length names) (length more) word fault
       ⊎ (IsRightMore (length names) (length more) word × IsFirstWrongLabelled names (length more + 1) left fault)
 
   abbrev PortFirst : Fault → Type 0
   PortFirst fault = IsWrongLabelled names word fault
-      ⊎ ((port : Port Address) × (name : Option (Bor Text)) × IsLabelled names word port name × IsFirstWrongLabelled (names ++ name ∷ []) (length more) left fault)
+      ⊎ ((port : Port AnyAddress) × (name : Option (Bor Text)) × IsLabelled names word port name × IsFirstWrongLabelled (names ++ name ∷ []) (length more) left fault)
 
-  step_port : (port : Port Address) (name : Option (Bor Text)) → is_more true word ≡ false → IsLabelled names word port name → IsLeft all left (ports ++ port ∷ []) (names ++ name ∷ []) more
+  step_port : (port : Port AnyAddress) (name : Option (Bor Text)) → is_more true word ≡ false → IsLabelled names word port name → IsLeft all left (ports ++ port ∷ []) (names ++ name ∷ []) more
   step_port port name kind named = record {
     goes_on = λ later others are.
         subst (λ l. AreLabelled (port_words true all) l ((names ++ name ∷ []) ++ others)) (sym (append_assoc ports (port ∷ []) later))
@@ -60,14 +60,14 @@ module _ (all left : List Text) (ports : List (Port Address)) (names : NameList)
   wrong_more : (fault : Fault) → is_more true word ≡ true → IsWrongMore (length names) (length more) word fault → IsFirstWrongLabelled [] 0 all fault
   wrong_more fault kind wrong = is.told fault (of_more (is_more true word) (MoreFirst fault) (PortFirst fault) kind (inl wrong))
 
-end : (all : List Text) (ports : List (Port Address)) (names : NameList) (more : List More) → IsLeft all [] ports names more → AreLabelled (port_words true all) ports names × AreMore true all more
+end : (all : List Text) (ports : List (Port AnyAddress)) (names : NameList) (more : List More) → IsLeft all [] ports names more → AreLabelled (port_words true all) ports names × AreMore true all more
 end all ports names more is = (
   subst (λ l. AreLabelled (port_words true all) l names) (append-nil ports)
       (subst (λ l. AreLabelled (port_words true all) (ports ++ []) l) (append-nil names) (is.goes_on [] [] tt)),
   all_of_them true (length names) all more is.further,
 )
 
-module _ (words : List (Bor Text)) (i : ℕ) (past : Bor Text) (inside : i < length words) (ports : List (Port Address)) (names : NameList) (more : List More)
+module _ (words : List (Bor Text)) (i : ℕ) (past : Bor Text) (inside : i < length words) (ports : List (Port AnyAddress)) (names : NameList) (more : List More)
     (is : IsLeft (texts words) (texts (drop i words)) ports names more) where
   abbrev word : Text
   word = (get_or words i past).now
@@ -78,7 +78,7 @@ module _ (words : List (Bor Text)) (i : ℕ) (past : Bor Text) (inside : i < len
   here : IsLeft (texts words) (word ∷ left) ports names more
   here = subst (λ l. IsLeft (texts words) l ports names more) (ap texts (drop_more words i past inside)) is
 
-  pub one_more : (port : Port Address) (name : Option (Bor Text)) (new : List (Port Address)) (others seen : NameList) → seen ≡ names → is_more true word ≡ false → IsLabelled seen word port name
+  pub one_more : (port : Port AnyAddress) (name : Option (Bor Text)) (new : List (Port AnyAddress)) (others seen : NameList) → seen ≡ names → is_more true word ≡ false → IsLabelled seen word port name
       → new ≡ ports ++ port ∷ [] → others ≡ names ++ name ∷ [] → IsLeft (texts words) left new others more
   one_more port name new others seen same kind named pushed added =
       subst (λ l. IsLeft (texts words) left l others more) (sym pushed) (subst (λ l. IsLeft (texts words) left (ports ++ port ∷ []) l more) (sym added)
@@ -101,6 +101,6 @@ module _ (words : List (Bor Text)) (i : ℕ) (past : Bor Text) (inside : i < len
       (wrong_more (texts words) left ports names more word here fault kind
       (subst (λ (n : ℕ). IsWrongMore (length names) n word fault) all_more (subst (λ (n : ℕ). IsWrongMore n count word fault) all_names wrong)))
 
-pub all_read : (words : List (Bor Text)) (i : ℕ) (ports : List (Port Address)) (names : NameList) (more : List More) → length words ≤ i → IsLeft (texts words) (texts (drop i words)) ports names more
+pub all_read : (words : List (Bor Text)) (i : ℕ) (ports : List (Port AnyAddress)) (names : NameList) (more : List More) → length words ≤ i → IsLeft (texts words) (texts (drop i words)) ports names more
     → AreLabelled (port_words true (texts words)) ports names × AreMore true (texts words) more
 all_read words i ports names more past is = end (texts words) ports names more (subst (λ l. IsLeft (texts words) (texts l) ports names more) (drop_all i words past) is)

@@ -12,6 +12,5 @@ pub mod Picking
 pub mod Planned
 pub mod Refusals
 pub mod Tables
-pub mod Unread
 pub mod Unreadable
 pub mod Values

@@ -11,7 +11,7 @@ use Rattle.std.proofs.lemmas.List.{length-map}
 use Rattle.clap.proofs.WalkLemmas.{both}
 use Rattle.pim_addr.specs.declared.family.AddressFamily.{AddressFamily}
 use Rattle.pim_addr.specs.declared.family.AddressFamily.TheVariants.{Ipv4, Ipv6}
-use Rattle.pim_words.specs.declared.addresses.Address.{Address}
+use Rattle.pim_lines.specs.declared.either.AnyAddress.{AnyAddress}
 use Rattle.pim_words.specs.declared.fault.Fault.{Fault}
 use Rattle.pim_words.specs.declared.task.Captures.{Captures}
 use Rattle.pim_words.specs.declared.task.More.{More}
@@ -27,7 +27,8 @@ use Rattle.pim_words.specs.declared.task.Writing.{Writing}
 use Rattle.pim_words.specs.CommandLine.{pimtree}
 use Rattle.pim_words.specs.Ends.{IsEarly}
 use Rattle.pim_words.specs.Given.{IsKnown, is_sided, words_of}
-use Rattle.pim_words.specs.Labels.{AreLabelled, AreLabelledAfter, has_name, is_fresh, is_name}
+use Rattle.pim_lines.specs.PortNames.{is_port_name}
+use Rattle.pim_words.specs.Labels.{AreLabelled, AreLabelledAfter, has_name, is_fresh}
 use Rattle.pim_words.specs.Plan.{AreFurther, AreNames, HasCause, IsBounded, IsLimited, IsWritable, IsInRange, IsPlanInRange, IsTaskOf, IsPlanOfTask, IsPlanOf, Plans}
 use Rattle.pim_words.specs.Ports.{IsPort, port_words}
 use Rattle.pim_words.specs.Reading.{AreNamedPorts, ArePorts, IsTask, IsWriting}
@@ -79,47 +80,47 @@ given a words met offered none found = (met_named IsKnown a words met offered.kn
 -- ---- the numbers of a plan are in their ranges
 
 -- the names that words give are ones that ports may have
-may_have : (earlier : List (Option (Bor Text))) (name : Option (Bor Text)) → is_fresh earlier name ≡ true → IfSome name (λ text. is_name text.now ≡ true)
+may_have : (earlier : List (Option (Bor Text))) (name : Option (Bor Text)) → is_fresh earlier name ≡ true → IfSome name (λ text. is_port_name text.now ≡ true)
 may_have earlier None fresh = tt
-may_have earlier (Some text) fresh = (both (is_name text.now) (not (has_name earlier text.now)) fresh).0
+may_have earlier (Some text) fresh = (both (is_port_name text.now) (not (has_name earlier text.now)) fresh).0
 
-names_after : (earlier : List (Option (Bor Text))) (words : List Text) (ports : List (Port Address)) (names : List (Option (Bor Text))) → AreLabelledAfter earlier words ports names
-    → (length names ≡ length ports) × AllByRecursion (λ name. IfSome name (λ text. is_name text.now ≡ true)) names
+names_after : (earlier : List (Option (Bor Text))) (words : List Text) (ports : List (Port AnyAddress)) (names : List (Option (Bor Text))) → AreLabelledAfter earlier words ports names
+    → (length names ≡ length ports) × AllByRecursion (λ name. IfSome name (λ text. is_port_name text.now ≡ true)) names
 names_after earlier [] [] [] are = (refl, tt)
 names_after earlier (word ∷ words) (port ∷ ports) (name ∷ names) are =
     let others = names_after (earlier ++ name ∷ []) words ports names are.1 in
     (ap suc others.0, (may_have earlier name are.0.fresh, others.1))
 names_after earlier words ports names are = absurd are
 
-given_names : (words : List Text) (ports : List (Port Address)) (names : List (Option (Bor Text))) → AreLabelled words ports names
-    → (length names ≡ length ports) × AllByRecursion (λ name. IfSome name (λ text. is_name text.now ≡ true)) names
+given_names : (words : List Text) (ports : List (Port AnyAddress)) (names : List (Option (Bor Text))) → AreLabelled words ports names
+    → (length names ≡ length ports) × AllByRecursion (λ name. IfSome name (λ text. is_port_name text.now ≡ true)) names
 given_names words ports names are = names_after [] words ports names are
 
-all_ports : (is_sided : Bool) (words : List Text) (ports : List (Port Address)) → AllZip (IsPort is_sided) words ports → length ports ≡ length words
+all_ports : (is_sided : Bool) (words : List Text) (ports : List (Port AnyAddress)) → AllZip (IsPort is_sided) words ports → length ports ≡ length words
 all_ports is_sided [] [] are = refl
 all_ports is_sided [] (port ∷ ports) are = absurd are
 all_ports is_sided (word ∷ words) [] are = absurd are
 all_ports is_sided (word ∷ words) (port ∷ ports) are = ap suc (all_ports is_sided words ports are.1)
 
-all_labelled : (earlier : List (Option (Bor Text))) (words : List Text) (ports : List (Port Address)) (names : List (Option (Bor Text))) → AreLabelledAfter earlier words ports names → length ports ≡ length words
+all_labelled : (earlier : List (Option (Bor Text))) (words : List Text) (ports : List (Port AnyAddress)) (names : List (Option (Bor Text))) → AreLabelledAfter earlier words ports names → length ports ≡ length words
 all_labelled earlier [] [] [] are = refl
 all_labelled earlier (word ∷ words) (port ∷ ports) (name ∷ names) are = ap suc (all_labelled (earlier ++ name ∷ []) words ports names are.1)
 all_labelled earlier words ports names are = absurd are
 
-further_of : (is_sided : Bool) (rows : List Row) (captures : Captures Address) → ArePorts is_sided rows captures.ports.items captures.more.items → AreFurther captures
+further_of : (is_sided : Bool) (rows : List Row) (captures : Captures AnyAddress) → ArePorts is_sided rows captures.ports.items captures.more.items → AreFurther captures
 further_of is_sided rows captures are =
     below_ports are.links.is_any (words_of rows) (length captures.ports.items) captures.more.items are.further
     (all_ports is_sided (port_words are.links.is_any (words_of rows)) captures.ports.items are.named)
 
-further_of_names : (rows : List Row) (captures : Captures Address) (names : List (Option (Bor Text))) → AreNamedPorts rows captures.ports.items captures.more.items names → AreFurther captures
+further_of_names : (rows : List Row) (captures : Captures AnyAddress) (names : List (Option (Bor Text))) → AreNamedPorts rows captures.ports.items captures.more.items names → AreFurther captures
 further_of_names rows captures names are =
     below_ports true (words_of rows) (length captures.ports.items) captures.more.items are.further
     (all_labelled [] (port_words true (words_of rows)) captures.ports.items names are.labelled)
 
-writable : (rows : List Row) (writing : Writing Address) → IsWriting rows writing → IsWritable writing
+writable : (rows : List Row) (writing : Writing AnyAddress) → IsWriting rows writing → IsWritable writing
 writable rows writing is = (is.holdtime.least, is.budget.least, is.budget.most)
 
-task_in_range : (kind : Kind) (rows : List Row) (asked : Task Address) → IsTask kind rows asked → IsInRange asked
+task_in_range : (kind : Kind) (rows : List Row) (asked : Task AnyAddress) → IsTask kind rows asked → IsInRange asked
 task_in_range Check rows (task.Check source destination) is = tt
 task_in_range Check rows other is = absurd is
 task_in_range Build rows (task.Build source destination) is = tt
@@ -148,26 +149,26 @@ task_in_range Change rows (task.Change captures writing) is =
 task_in_range Change rows other is = absurd is
 
 module _ {A : Type 0} (family : AddressFamily) (bytes_of : A → List ℕ) where
-  same_bounded : (typed : Captures A) (asked : Captures Address) → IsBounded asked → SameCaptures family bytes_of typed asked → IsBounded typed
+  same_bounded : (typed : Captures A) (asked : Captures AnyAddress) → IsBounded asked → SameCaptures family bytes_of typed asked → IsBounded typed
   same_bounded typed asked is same = (subst (λ (n : ℕ). n ≤ 1000000000) (sym same.after) is.0, subst IsEarly (sym same.at) is.1)
 
-  same_limited : (typed : Captures A) (asked : Captures Address) → IsLimited asked → SameCaptures family bytes_of typed asked → IsLimited typed
+  same_limited : (typed : Captures A) (asked : Captures AnyAddress) → IsLimited asked → SameCaptures family bytes_of typed asked → IsLimited typed
   same_limited typed asked is same = (subst (λ (n : ℕ). 1 ≤ n) (sym same.limit) is.0, subst (λ (n : ℕ). n ≤ 100000) (sym same.limit) is.1)
 
-  same_writable : (typed : Writing A) (asked : Writing Address) → IsWritable asked → SameWriting family bytes_of typed asked → IsWritable typed
+  same_writable : (typed : Writing A) (asked : Writing AnyAddress) → IsWritable asked → SameWriting family bytes_of typed asked → IsWritable typed
   same_writable typed asked is same = (
     subst (λ (n : ℕ). 99 ≤ n) (sym same.holdtime) is.0,
     subst (λ (n : ℕ). 70 ≤ n) (sym same.budget) is.1,
     subst (λ (n : ℕ). n ≤ 65000) (sym same.budget) is.2,
   )
 
-  same_names : (typed : Captures A) (asked : Captures Address) (how : Tracing A) (tracing : Tracing Address) → AreNames asked tracing → SameCaptures family bytes_of typed asked → SameTracing family bytes_of how tracing → AreNames typed how
+  same_names : (typed : Captures A) (asked : Captures AnyAddress) (how : Tracing A) (tracing : Tracing AnyAddress) → AreNames asked tracing → SameCaptures family bytes_of typed asked → SameTracing family bytes_of how tracing → AreNames typed how
   same_names typed asked how tracing are same shown = (
     ap length shown.names ∙ are.0 ∙ sym (ap length same.ports) ∙ length-map typed.ports.items (port_seen family bytes_of),
-    subst (λ l. AllByRecursion (λ name. IfSome name (λ text. is_name text.now ≡ true)) l) (sym shown.names) are.1,
+    subst (λ l. AllByRecursion (λ name. IfSome name (λ text. is_port_name text.now ≡ true)) l) (sym shown.names) are.1,
   )
 
-  same_further : (typed : Captures A) (asked : Captures Address) → AreFurther asked → SameCaptures family bytes_of typed asked → AreFurther typed
+  same_further : (typed : Captures A) (asked : Captures AnyAddress) → AreFurther asked → SameCaptures family bytes_of typed asked → AreFurther typed
   same_further typed asked are same =
       let count : length asked.ports.items ≡ length typed.ports.items = sym (ap length same.ports) ∙ length-map typed.ports.items (port_seen family bytes_of) in (
         subst (λ (l : List More). length l ≤ 4096) (sym same.more) are.0,
@@ -175,7 +176,7 @@ module _ {A : Type 0} (family : AddressFamily) (bytes_of : A → List ℕ) where
             (subst (λ (l : List More). AllByRecursion (λ (one : More). one.port < length asked.ports.items) l) (sym same.more) are.1),
       )
 
-  same_in_range : (typed : Task A) (asked : Task Address) → IsInRange asked → SameTask family bytes_of typed asked → IsInRange typed
+  same_in_range : (typed : Task A) (asked : Task AnyAddress) → IsInRange asked → SameTask family bytes_of typed asked → IsInRange typed
   same_in_range (task.Check a b) asked is same = tt
   same_in_range (task.Build a b) asked is same = tt
   same_in_range (task.Replay typed) (task.Replay captures) is same = (same_bounded typed captures is.0 same, same_limited typed captures is.1 same, same_further typed captures is.2 same)
@@ -196,12 +197,12 @@ module _ {A : Type 0} (family : AddressFamily) (bytes_of : A → List ℕ) where
       (same_bounded typed captures is.0 same.0, same_limited typed captures is.1 same.0, same_writable how writing is.2 same.1, same_further typed captures is.3 same.0)
   same_in_range (task.Change typed how) other is same = absurd same
 
-plan_in_range : (plan : Plan) (asked : Task Address) → IsInRange asked → IsPlanFor plan asked → IsPlanInRange plan
+plan_in_range : (plan : Plan) (asked : Task AnyAddress) → IsInRange asked → IsPlanFor plan asked → IsPlanInRange plan
 plan_in_range (V4 typed) asked is same = same_in_range Ipv4 (λ address. address) typed asked is same
 plan_in_range (V6 typed) asked is same = same_in_range Ipv6 (λ address. address) typed asked is same
 plan_in_range Session asked is same = tt
 
-of_task_in_range : (met : Text × List Row) (plan : Plan) → (asked : Task Address) × IsTaskOf met asked × IsPlanOfTask asked plan → IsPlanInRange plan
+of_task_in_range : (met : Text × List Row) (plan : Plan) → (asked : Task AnyAddress) × IsTaskOf met asked × IsPlanOfTask asked plan → IsPlanInRange plan
 of_task_in_range met plan (asked, (kind, name, read), made) = plan_in_range plan asked (task_in_range kind met.1 asked read) made.1.1
 
 met_in_range : (met : Option (Text × List Row)) (plan : Plan) → IsSomeAnd met (λ m. IsPlanOf m plan) → IsPlanInRange plan

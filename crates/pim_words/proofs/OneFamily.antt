@@ -6,10 +6,11 @@ use Rattle.std.proofs.lemmas.List.{drop_all, drop_more, map-append}
 use Rattle.pim_addr.specs.declared.family.AddressFamily.{AddressFamily}
 use Rattle.pim_words.specs.declared.task.Captures.{Captures}
 use Rattle.pim_words.specs.declared.task.Port.{Port}
-use Rattle.pim_words.specs.declared.addresses.Address.{Address}
+use Rattle.pim_lines.specs.declared.either.AnyAddress.{AnyAddress}
 use Rattle.pim_words.specs.declared.fault.Fault.{Fault}
 use Rattle.pim_words.specs.declared.fault.Fault.TheVariants.{Family, Memory}
-use Rattle.pim_words.specs.Faults.{is_in, are_captures_in}
+use Rattle.pim_words.specs.Faults.{are_captures_in}
+use Rattle.pim_lines.specs.AnyAddress.{is_in}
 use Rattle.pim_words.specs.Seen.{IsForeign}
 
 -- the first of two tests fails
@@ -51,7 +52,7 @@ module _ {A X : Type 0} (test : X → Bool) (seen : A → X) (all : List X) wher
 fails_behind : (first second : Bool) (fault : Fault) → first ≡ true → IsForeign second fault → IsForeign (first && second) fault
 fails_behind first second fault one is = subst (λ (b : Bool). IsForeign (b && second) fault) (sym one) is
 
-pub fails_in_ports : (family : AddressFamily) (captures : Captures Address) (ports : List (Port Address)) (fault : Fault) → ports ≡ captures.ports.items → option_map_or (is_in family) captures.rp true ≡ true
+pub fails_in_ports : (family : AddressFamily) (captures : Captures AnyAddress) (ports : List (Port AnyAddress)) (fault : Fault) → ports ≡ captures.ports.items → option_map_or (is_in family) captures.rp true ≡ true
     → IsForeign (list_all (λ port. is_in family port.address) ports) fault → IsForeign (are_captures_in family captures) fault
 fails_in_ports family captures ports fault same one is =
-    fails_behind _ _ fault one (subst (λ (l : List (Port Address)). IsForeign (list_all (λ port. is_in family port.address) l) fault) same is)
+    fails_behind _ _ fault one (subst (λ (l : List (Port AnyAddress)). IsForeign (list_all (λ port. is_in family port.address) l) fault) same is)

@@ -2,7 +2,7 @@
 use Rattle.std.proofs.Common.{◌≡◌, inr, refl, subst, false, List, [], Option, None, Some, option_map, MatchResult, Result, Ok, Err}
 use Rattle.std.specs.Prelude.{IsSomeAnd}
 use Rattle.clap.specs.Words.{App, Row, Text, fault_of, subcommand_of}
-use Rattle.pim_words.specs.declared.addresses.Address.{Address}
+use Rattle.pim_lines.specs.declared.either.AnyAddress.{AnyAddress}
 use Rattle.pim_words.specs.declared.fault.Fault.{Fault}
 use Rattle.pim_words.specs.declared.fault.Fault.TheVariants.{Memory}
 use Rattle.pim_words.specs.declared.task.Plan.{Plan}
@@ -20,18 +20,18 @@ some_given (Some m) rows is given = given m refl
 -- ---- the plan of the command that was met
 
 -- The plan of a task that reads standard input at most once, or the fault.
-pub once : (task : Task Address) (r : Result Plan Fault) → names_input_twice task ≡ false → MatchResult r (IsFaultless task) (IsFirstFault task) → MatchResult r (IsPlanOfTask task) (IsWrongTask task)
+pub once : (task : Task AnyAddress) (r : Result Plan Fault) → names_input_twice task ≡ false → MatchResult r (IsFaultless task) (IsFirstFault task) → MatchResult r (IsPlanOfTask task) (IsWrongTask task)
 once task (Ok plan) test is = (test, is)
 once task (Err Memory) test is = tt
 once task (Err fault) test is = inr (test, is)
 
-plan_of : (m : Text × List Row) (task : Task Address) (plan : Plan) → IsTaskOf m task → IsPlanOfTask task plan → IsPlanOf m plan
+plan_of : (m : Text × List Row) (task : Task AnyAddress) (plan : Plan) → IsTaskOf m task → IsPlanOfTask task plan → IsPlanOf m plan
 plan_of m task (V4 typed) t is = (task, t, is)
 plan_of m task (V6 typed) t is = (task, t, is)
 plan_of m task Session t is = absurd is.1.1
 
 -- The plan of its task, or the fault.
-pub of_task : (m : Text × List Row) (task : Task Address) (r : Result Plan Fault) → IsTaskOf m task → MatchResult r (IsPlanOfTask task) (IsWrongTask task) → MatchResult r (IsPlanOf m) (IsWrongOf m)
+pub of_task : (m : Text × List Row) (task : Task AnyAddress) (r : Result Plan Fault) → IsTaskOf m task → MatchResult r (IsPlanOfTask task) (IsWrongTask task) → MatchResult r (IsPlanOf m) (IsWrongOf m)
 of_task m task (Ok plan) t is = plan_of m task plan t is
 of_task m task (Err fault) t is = inr (task, t, is)
 

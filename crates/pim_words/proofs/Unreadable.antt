@@ -2,7 +2,7 @@
 use Rattle.std.proofs.Common.{◌≡◌, sym, subst, inr, false, List, codes, Option, None, Some, Result, Ok, Err, IfOk, IfErr, MatchResult}
 use Rattle.std.specs.Prelude.{IfSome}
 use Rattle.clap.specs.Words.{Row, Text, first_of}
-use Rattle.pim_words.specs.declared.addresses.Address.{Address}
+use Rattle.pim_lines.specs.declared.either.AnyAddress.{AnyAddress}
 use Rattle.pim_words.specs.declared.fault.Fault.{Fault}
 use Rattle.pim_words.specs.declared.fault.Fault.TheVariants.{Memory}
 use Rattle.pim_words.specs.declared.reading.Addresses.{Addresses}
@@ -10,7 +10,7 @@ use Rattle.pim_words.specs.declared.task.Kind.{Kind}
 use Rattle.pim_words.specs.declared.task.Kind.TheVariants.{Replay, Trace, Same, Mirror, Emit, Change}
 use Rattle.pim_words.specs.declared.task.Task.{Task}
 use Rattle.pim_words.specs.declared.task.Task.TheVariants as task
-use Rattle.pim_words.specs.Addresses.{IsRead}
+use Rattle.pim_lines.specs.AnyAddress.{IsRead}
 use Rattle.pim_words.specs.Ends.{are_both_given, has_two_ends}
 use Rattle.pim_words.specs.Given.{address_texts, is_sided}
 use Rattle.pim_words.specs.Reading.{AreRead, IsNamed, IsTask, IsTraced, IsUnreadable, IsWrongRun, IsWrongRunOf, IsWrongTrace}
@@ -39,19 +39,19 @@ module _ (rows : List Row) (addresses : Addresses) (fault : Fault) (one : are_bo
 
 -- ---- commands whose RP may lack
 
-named_read : (given : Option Text) (found : Option Address) → IsNamed given found → IfSome given IsRead
+named_read : (given : Option Text) (found : Option AnyAddress) → IsNamed given found → IfSome given IsRead
 named_read None found is = tt
 named_read (Some text) None is = absurd is
 named_read (Some text) (Some address) is = (address, is)
 
-module _ (rows : List Row) (rp : Option Address) (one : are_both_given rows ≡ false) (named : IsNamed (first_of (codes "rp") rows) rp) where
+module _ (rows : List Row) (rp : Option AnyAddress) (one : are_both_given rows ≡ false) (named : IsNamed (first_of (codes "rp") rows) rp) where
   pub of_replay : (fault : Fault) → OrMemory (IsWrongRun false rows) fault → IsUnreadable Replay rows fault
   of_replay fault is = wrong_run Replay rows fault one (named_read (first_of (codes "rp") rows) rp named, tt) is
 
-  traced : (asked : Task Address) → IsTraced rows rp asked → IsTask Trace rows asked
+  traced : (asked : Task AnyAddress) → IsTraced rows rp asked → IsTask Trace rows asked
   traced (task.Trace captures tracing) is = (subst (IsNamed (first_of (codes "rp") rows)) (sym is.0) named, is.1)
   traced other is = absurd is
 
-  pub of_trace : (r : Result (Task Address) Fault) → IfOk r (IsTraced rows rp) → IfErr r (OrMemory (IsWrongTrace rows)) → MatchResult r (IsTask Trace rows) (IsUnreadable Trace rows)
+  pub of_trace : (r : Result (Task AnyAddress) Fault) → IfOk r (IsTraced rows rp) → IfErr r (OrMemory (IsWrongTrace rows)) → MatchResult r (IsTask Trace rows) (IsUnreadable Trace rows)
   of_trace (Ok asked) is wrong = traced asked is
   of_trace (Err fault) is wrong = wrong_run Trace rows fault one (named_read (first_of (codes "rp") rows) rp named, tt) wrong

@@ -4,7 +4,7 @@ use Rattle.std.specs.List.{list_any}
 use Rattle.std.specs.Option.{option_map_or}
 use Rattle.std.specs.Str.{bytes_eq}
 use Rattle.clap.specs.Words.{Text}
-use Rattle.pim_words.specs.declared.addresses.Address.{Address}
+use Rattle.pim_lines.specs.declared.either.AnyAddress.{AnyAddress}
 use Rattle.pim_words.specs.declared.task.Captures.{Captures}
 use Rattle.pim_words.specs.declared.task.Task.{Task}
 use Rattle.pim_words.specs.declared.task.Task.TheVariants.{Check, Build, Replay, Trace, Same, Mirror, Emit, Change}
@@ -29,11 +29,11 @@ input_count captures =
     + count_by (λ more. is_input more.file.now) captures.more.items
 
 -- Whether a second file of these is standard input.
-abbrev pub reads_input_twice : Captures Address → Bool
+abbrev pub reads_input_twice : Captures AnyAddress → Bool
 reads_input_twice captures = reads_any captures && nat_lt 1 (input_count captures)
 
 -- The same of a task. That of one message has no files.
-abbrev pub names_input_twice : Task Address → Bool
+abbrev pub names_input_twice : Task AnyAddress → Bool
 names_input_twice (Check source destination) = false
 names_input_twice (Build source destination) = false
 names_input_twice (Replay captures) = reads_input_twice captures

@@ -1,31 +1,21 @@
 -- The words of a trace: ports with names.
-use Rattle.std.specs.Prelude.{◌≡◌, ◌≢◌, ◌<◌, ◌⊎◌, ◌+◌, ⊤, ℕ, Bool, true, false, not, ◌&&◌, ◌||◌, ◌==◌, nat_le}
+use Rattle.std.specs.Prelude.{◌≡◌, ◌≢◌, ◌<◌, ◌⊎◌, ◌+◌, ⊤, ℕ, Bool, true, false, not, ◌&&◌}
 use Rattle.std.specs.Prelude.{List, [], ◌∷◌, ◌++◌, length, get_or, Option, None, Some}
 use Rattle.std.specs.Borrow.{Bor}
-use Rattle.std.specs.Char.{is_ascii_alphabetic, is_ascii_alphanumeric}
-use Rattle.std.specs.List.{list_all, list_any}
+use Rattle.std.specs.List.{list_any}
 use Rattle.std.specs.Str.{bytes_eq}
 use Rattle.clap.specs.Words.{Text}
-use Rattle.pim_words.specs.declared.addresses.Address.{Address}
+use Rattle.pim_lines.specs.declared.either.AnyAddress.{AnyAddress}
 use Rattle.pim_words.specs.declared.fault.Fault.{Fault}
 use Rattle.pim_words.specs.declared.fault.Fault.TheVariants as cause
 use Rattle.pim_words.specs.declared.fault.Side.TheVariants.{A}
 use Rattle.pim_words.specs.declared.label.Label.{Label}
 use Rattle.pim_words.specs.declared.task.Port.{Port}
-use Rattle.pim_words.specs.Addresses.{Names, IsUnread}
+use Rattle.pim_lines.specs.AnyAddress.{Names, IsUnread}
+use Rattle.pim_lines.specs.PortNames.{is_port_name}
 use Rattle.pim_words.specs.Ports.{ByKind, IsCut, IsRightMore, IsWrongMore, LacksAtSign, is_more}
 
 -- ---- names
-
--- A letter, a digit, `.`, `_` or `-`.
-abbrev pub is_name_byte : ℕ → Bool
-is_name_byte byte = is_ascii_alphanumeric byte || (byte == 46 || (byte == 95 || byte == 45))
-
--- A name of a port: a letter, then up to 31 letters, digits, `.`, `_` or `-`.
-abbrev pub is_name : Text → Bool
-is_name [] = false
-is_name (first ∷ others) =
-    is_ascii_alphabetic first && (list_all is_name_byte others && nat_le (length others) 31)
 
 -- Whether a port has this name.
 abbrev pub is_named : Text → Option (Bor Text) → Bool
@@ -39,7 +29,7 @@ has_name names name = list_any (is_named name) names
 -- Whether the next port may have this name, after ports with these: it is a name, and none of theirs.
 abbrev pub is_fresh : List (Option (Bor Text)) → Option (Bor Text) → Bool
 is_fresh earlier None = true
-is_fresh earlier (Some name) = is_name name.now && not (has_name earlier name.now)
+is_fresh earlier (Some name) = is_port_name name.now && not (has_name earlier name.now)
 
 -- ---- the name of a word
 
@@ -63,7 +53,7 @@ IsLabelOf word label = IsCutLabel word label.name label.text.now
 -- ---- a word, after ports with these names
 
 -- The word names this port, with this name if any.
-pub record IsLabelled (earlier : List (Option (Bor Text))) (word : Text) (port : Port Address)
+pub record IsLabelled (earlier : List (Option (Bor Text))) (word : Text) (port : Port AnyAddress)
     (name : Option (Bor Text)) : Type 0 where
   pub rest : Text
   pub cut : IsCutLabel word name rest
@@ -102,7 +92,7 @@ IsWrongLabelled earlier word other = ⊥
 
 -- These words, none of which is one for a further file, name these ports with these names, after
 -- ports with the earlier names.
-abbrev pub AreLabelledAfter : List (Option (Bor Text)) → List Text → List (Port Address) → List (Option (Bor Text)) →
+abbrev pub AreLabelledAfter : List (Option (Bor Text)) → List Text → List (Port AnyAddress) → List (Option (Bor Text)) →
     Type 0
 AreLabelledAfter earlier [] [] [] = ⊤
 AreLabelledAfter earlier (word ∷ words) (port ∷ ports) (name ∷ names) =
@@ -110,7 +100,7 @@ AreLabelledAfter earlier (word ∷ words) (port ∷ ports) (name ∷ names) =
 AreLabelledAfter earlier words ports names = ⊥
 
 -- These words name these ports with these names.
-abbrev pub AreLabelled : List Text → List (Port Address) → List (Option (Bor Text)) → Type 0
+abbrev pub AreLabelled : List Text → List (Port AnyAddress) → List (Option (Bor Text)) → Type 0
 AreLabelled words ports names = AreLabelledAfter [] words ports names
 
 -- The fault is that of the first wrong word, after ports with the earlier names and this number of
@@ -121,5 +111,5 @@ IsFirstWrongLabelled earlier count (word ∷ words) fault = ByKind (is_more true
     (IsWrongMore (length earlier) count word fault
     ⊎ (IsRightMore (length earlier) count word × IsFirstWrongLabelled earlier (count + 1) words fault))
     (IsWrongLabelled earlier word fault
-    ⊎ ((port : Port Address) × (name : Option (Bor Text)) × IsLabelled earlier word port name
+    ⊎ ((port : Port AnyAddress) × (name : Option (Bor Text)) × IsLabelled earlier word port name
     × IsFirstWrongLabelled (earlier ++ name ∷ []) count words fault))

@@ -1,6 +1,5 @@
 -- The definitions of `pim_words`.
 pub mod CommandLine
-pub mod Addresses
 pub mod Faults
 pub mod Ends
 pub mod Given

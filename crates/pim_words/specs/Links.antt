@@ -7,7 +7,7 @@ use Rattle.pim_capture.specs.declared.interface.InterfaceChoice.{InterfaceChoice
 use Rattle.pim_capture.specs.declared.interface.InterfaceChoice.TheVariants as interface
 use Rattle.pim_capture.specs.declared.vlan.Vlan.{Vlan}
 use Rattle.pim_capture.specs.Names.{name_of}
-use Rattle.pim_words.specs.declared.addresses.Address.{Address}
+use Rattle.pim_lines.specs.declared.either.AnyAddress.{AnyAddress}
 use Rattle.pim_words.specs.declared.fault.Fault.{Fault}
 use Rattle.pim_words.specs.declared.fault.Fault.TheVariants as cause
 use Rattle.pim_words.specs.declared.links.Links.{Links}
@@ -203,7 +203,7 @@ link_at links number = cond links.is_any (Some (record {
 })) None
 
 -- Each of these ports has the link of its number, which counts from this one.
-abbrev pub AreLinkedFrom : Links → ℕ → List (Port Address) → Type 0
+abbrev pub AreLinkedFrom : Links → ℕ → List (Port AnyAddress) → Type 0
 AreLinkedFrom links number [] = ⊤
 AreLinkedFrom links number (port ∷ ports) =
     (port.link ≡ link_at links number) × AreLinkedFrom links (number + 1) ports

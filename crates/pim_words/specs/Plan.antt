@@ -7,7 +7,7 @@ use Rattle.std.specs.declared.string.String.{String}
 use Rattle.clap.specs.declared.error.kind.ErrorKind.{ErrorKind}
 use Rattle.clap.specs.declared.error.kind.ErrorKind.TheVariants.{OutOfMemory}
 use Rattle.clap.specs.Words.{App, IsAmong, Row, Text, fault_of, subcommand_of, takes}
-use Rattle.pim_words.specs.declared.addresses.Address.{Address}
+use Rattle.pim_lines.specs.declared.either.AnyAddress.{AnyAddress}
 use Rattle.pim_words.specs.declared.fault.Fault.{Fault}
 use Rattle.pim_words.specs.declared.fault.Fault.TheVariants as cause
 use Rattle.pim_words.specs.declared.task.Kind.{Kind}
@@ -23,14 +23,14 @@ use Rattle.pim_words.specs.Ends.{IsEarly}
 use Rattle.pim_words.specs.Faults.{task_faults}
 use Rattle.pim_words.specs.Given.{kind_name, session_name}
 use Rattle.pim_words.specs.Inputs.{input_name, names_input_twice}
-use Rattle.pim_words.specs.Labels.{is_name}
+use Rattle.pim_lines.specs.PortNames.{is_port_name}
 use Rattle.pim_words.specs.Reading.{IsTask, IsUnreadable}
 use Rattle.pim_words.specs.Typed.{IsPlanFor}
 
 -- ---- what a command asks for: its name, and what was found for its options and words
 
 -- The command was given this task.
-abbrev pub IsTaskOf : Text × List Row → Task Address → Type 0
+abbrev pub IsTaskOf : Text × List Row → Task AnyAddress → Type 0
 IsTaskOf met task = (kind : Kind) × (met.0 ≡ kind_name kind) × IsTask kind met.1 task
 
 -- The fault of a text that the command was given and that can't be read.
@@ -40,7 +40,7 @@ IsUnreadableOf met fault = (kind : Kind) × (met.0 ≡ kind_name kind) × IsUnre
 -- ---- the plan of a task
 
 -- The task has no fault, and this is its plan.
-abbrev pub IsFaultless : Task Address → Plan → Type 0
+abbrev pub IsFaultless : Task AnyAddress → Plan → Type 0
 IsFaultless task plan = (task_faults task ≡ []) × IsPlanFor plan task
 
 -- The fault is the first of a list.
@@ -49,21 +49,21 @@ IsFirstOf [] fault = ⊥
 IsFirstOf (first ∷ others) fault = fault ≡ first
 
 -- The fault is the first one of the task, or memory is refused.
-abbrev pub IsFirstFault : Task Address → Fault → Type 0
+abbrev pub IsFirstFault : Task AnyAddress → Fault → Type 0
 IsFirstFault task cause.Memory = ⊤
 IsFirstFault task fault = IsFirstOf (task_faults task) fault
 
 -- A second file of the task is standard input. The fault has its name.
-abbrev pub IsSecondInput : Task Address → Fault → Type 0
+abbrev pub IsSecondInput : Task AnyAddress → Fault → Type 0
 IsSecondInput task (cause.Word told) = (told.now ≡ input_name) × (names_input_twice task ≡ true)
 IsSecondInput task other = ⊥
 
 -- The task reads standard input at most once, it has no fault, and this is its plan.
-abbrev pub IsPlanOfTask : Task Address → Plan → Type 0
+abbrev pub IsPlanOfTask : Task AnyAddress → Plan → Type 0
 IsPlanOfTask task plan = (names_input_twice task ≡ false) × IsFaultless task plan
 
 -- The task reads standard input twice; otherwise the fault is its first one. Or memory is refused.
-abbrev pub IsWrongTask : Task Address → Fault → Type 0
+abbrev pub IsWrongTask : Task AnyAddress → Fault → Type 0
 IsWrongTask task cause.Memory = ⊤
 IsWrongTask task fault =
     IsSecondInput task fault ⊎ ((names_input_twice task ≡ false) × IsFirstOf (task_faults task) fault)
@@ -73,12 +73,12 @@ IsWrongTask task fault =
 -- The command asks for this plan: `session` for a session, another one for the plan of its task.
 abbrev pub IsPlanOf : Text × List Row → Plan → Type 0
 IsPlanOf met Session = met.0 ≡ session_name
-IsPlanOf met plan = (task : Task Address) × IsTaskOf met task × IsPlanOfTask task plan
+IsPlanOf met plan = (task : Task AnyAddress) × IsTaskOf met task × IsPlanOfTask task plan
 
 -- What the command asks for has this fault: a text that can't be read, or a fault of its task.
 abbrev pub IsWrongOf : Text × List Row → Fault → Type 0
 IsWrongOf met fault =
-    IsUnreadableOf met fault ⊎ ((task : Task Address) × IsTaskOf met task × IsWrongTask task fault)
+    IsUnreadableOf met fault ⊎ ((task : Task AnyAddress) × IsTaskOf met task × IsWrongTask task fault)
 
 -- ---- the plan of words by a command line; the first word is the program's name
 
@@ -129,7 +129,7 @@ IsWritable writing = (99 ≤ writing.holdtime) × (70 ≤ writing.budget) × (wr
 -- Each port has a name or none, and the names are ones that a port may have.
 abbrev pub AreNames : {A : Type 0} → Captures A → Tracing A → Type 0
 AreNames captures tracing = (length tracing.names.items ≡ length captures.ports.items)
-    × AllByRecursion (λ name. IfSome name (λ text. is_name text.now ≡ true)) tracing.names.items
+    × AllByRecursion (λ name. IfSome name (λ text. is_port_name text.now ≡ true)) tracing.names.items
 
 -- The numbers of the task are in their ranges.
 abbrev pub IsInRange : {A : Type 0} → Task A → Type 0

@@ -3,14 +3,14 @@ use Rattle.std.specs.Prelude.{◌≡◌, ◌≢◌, ◌<◌, ◌≤◌, ◌⊎�
 use Rattle.std.specs.Prelude.{List, [], ◌∷◌, ◌++◌, length, get_or, codes}
 use Rattle.std.specs.List.{AllZip}
 use Rattle.clap.specs.Words.{Text}
-use Rattle.pim_words.specs.declared.addresses.Address.{Address}
+use Rattle.pim_lines.specs.declared.either.AnyAddress.{AnyAddress}
 use Rattle.pim_words.specs.declared.fault.Fault.{Fault}
 use Rattle.pim_words.specs.declared.fault.Fault.TheVariants as cause
 use Rattle.pim_words.specs.declared.fault.Side.{Side}
 use Rattle.pim_words.specs.declared.fault.Side.TheVariants.{A, B}
 use Rattle.pim_words.specs.declared.task.More.{More}
 use Rattle.pim_words.specs.declared.task.Port.{Port}
-use Rattle.pim_words.specs.Addresses.{Names, IsUnread}
+use Rattle.pim_lines.specs.AnyAddress.{Names, IsUnread}
 
 -- ---- the parts of a word
 
@@ -41,7 +41,7 @@ IsUncutWord true word = (side : Side) (text : Text) → word ≡ mark side ++ te
 -- ---- the port that a word names
 
 -- The word names this port.
-pub record IsPort (is_sided : Bool) (word : Text) (port : Port Address) : Type 0 where
+pub record IsPort (is_sided : Bool) (word : Text) (port : Port AnyAddress) : Type 0 where
   pub address_text : Text
   pub cut : IsCutWord is_sided word port.side address_text port.file.now
   pub address : Names address_text port.address
@@ -115,5 +115,5 @@ IsFirstWrongOf is_sided is_any ports count (word ∷ words) fault = ByKind (is_m
     (IsWrongMore ports count word fault
     ⊎ (IsRightMore ports count word × IsFirstWrongOf is_sided is_any ports (count + 1) words fault))
     (IsWrongWord is_sided word fault
-    ⊎ (((port : Port Address) × IsPort is_sided word port)
+    ⊎ (((port : Port AnyAddress) × IsPort is_sided word port)
     × IsFirstWrongOf is_sided is_any (ports + 1) count words fault))

@@ -5,7 +5,7 @@ use Rattle.std.specs.Prelude.{IfSome, IsSomeAnd}
 use Rattle.std.specs.Borrow.{Bor}
 use Rattle.std.specs.List.{AllZip}
 use Rattle.clap.specs.Words.{Row, Text, first_of}
-use Rattle.pim_words.specs.declared.addresses.Address.{Address}
+use Rattle.pim_lines.specs.declared.either.AnyAddress.{AnyAddress}
 use Rattle.pim_words.specs.declared.fault.Fault.{Fault}
 use Rattle.pim_words.specs.declared.fault.Fault.TheVariants as cause
 use Rattle.pim_words.specs.declared.links.Links.{Links}
@@ -18,7 +18,7 @@ use Rattle.pim_words.specs.declared.task.Kind.{Kind}
 use Rattle.pim_words.specs.declared.task.Kind.TheVariants as kind
 use Rattle.pim_words.specs.declared.task.Task.{Task}
 use Rattle.pim_words.specs.declared.task.Task.TheVariants.{Check, Build, Replay, Trace, Same, Mirror, Emit, Change}
-use Rattle.pim_words.specs.Addresses.{Names, IsRead, IsUnread}
+use Rattle.pim_lines.specs.AnyAddress.{Names, IsRead, IsUnread}
 use Rattle.pim_words.specs.Ends.{are_both_given, has_two_ends, time_text, IsTimed, IsEarly, IsUntimed, IsTimely}
 use Rattle.pim_words.specs.Given.{IsNumber, address_texts, is_flag, is_sided, option_or, required, rp_text, words_of}
 use Rattle.pim_words.specs.Given.{source_text, destination_text}
@@ -31,13 +31,13 @@ use Rattle.pim_words.specs.Shown.{IsShown, IsShowable, IsWrongShown, shown_of}
 -- ---- what is read
 
 -- An option that is given names this address; an option that isn't given names none.
-abbrev pub IsNamed : Option Text → Option Address → Type 0
+abbrev pub IsNamed : Option Text → Option AnyAddress → Type 0
 IsNamed None None = ⊤
 IsNamed (Some text) (Some address) = Names text address
 IsNamed given read = ⊥
 
 -- The options of a run other than the RP.
-pub record IsRun (rows : List Row) (captures : Captures Address) : Type 0 where
+pub record IsRun (rows : List Row) (captures : Captures AnyAddress) : Type 0 where
   pub routes : option_map (λ name. name.now) captures.routes ≡ first_of (codes "routes") rows
   pub limit : IsNumber 1 100000 (option_or (codes "100000") (codes "limit") rows) captures.limit
   pub after : IsNumber 0 1000000000 (option_or (codes "0") (codes "after") rows) captures.after_ms
@@ -46,7 +46,7 @@ pub record IsRun (rows : List Row) (captures : Captures Address) : Type 0 where
   pub one_end : are_both_given rows ≡ false
 
 -- The words name these ports, with the links that the options choose, and these further files.
-pub record ArePorts (is_sided : Bool) (rows : List Row) (ports : List (Port Address)) (more : List More) : Type 0 where
+pub record ArePorts (is_sided : Bool) (rows : List Row) (ports : List (Port AnyAddress)) (more : List More) : Type 0 where
   pub links : Links
   pub chosen : AreChosenLinks rows links
   pub named : AllZip (IsPort is_sided) (port_words links.is_any (words_of rows)) ports
@@ -55,7 +55,7 @@ pub record ArePorts (is_sided : Bool) (rows : List Row) (ports : List (Port Addr
 
 -- The words of a trace name these ports so, with the links that the options choose, and these further
 -- files.
-pub record AreNamedPorts (rows : List Row) (ports : List (Port Address)) (more : List More)
+pub record AreNamedPorts (rows : List Row) (ports : List (Port AnyAddress)) (more : List More)
     (names : List (Option (Bor Text))) : Type 0 where
   pub links : Links
   pub chosen : AreLinks true rows links
@@ -64,12 +64,12 @@ pub record AreNamedPorts (rows : List Row) (ports : List (Port Address)) (more :
   pub further : AreMore true (words_of rows) more
 
 -- The options of a run other than the RP, and the ports and further files that the words name.
-pub record AreCaptures (is_sided : Bool) (rows : List Row) (captures : Captures Address) : Type 0 where
+pub record AreCaptures (is_sided : Bool) (rows : List Row) (captures : Captures AnyAddress) : Type 0 where
   pub run : IsRun rows captures
   pub ports : ArePorts is_sided rows captures.ports.items captures.more.items
 
 -- The options of a trace, and the ports with their names and further files.
-pub record AreTraced (rows : List Row) (captures : Captures Address) (tracing : Tracing Address) : Type 0 where
+pub record AreTraced (rows : List Row) (captures : Captures AnyAddress) (tracing : Tracing AnyAddress) : Type 0 where
   pub run : IsRun rows captures
   pub shown : IsShown rows (shown_of tracing)
   pub all : tracing.all ≡ is_flag (codes "all") rows
@@ -77,24 +77,24 @@ pub record AreTraced (rows : List Row) (captures : Captures Address) (tracing : 
   pub ports : AreNamedPorts rows captures.ports.items captures.more.items tracing.names.items
 
 -- The task of a trace with this RP.
-abbrev pub IsTraced : List Row → Option Address → Task Address → Type 0
+abbrev pub IsTraced : List Row → Option AnyAddress → Task AnyAddress → Type 0
 IsTraced rows rp (Trace captures tracing) = (captures.rp ≡ rp) × AreTraced rows captures tracing
 IsTraced rows rp other = ⊥
 
 -- The options of the writer.
-pub record IsWriting (rows : List Row) (writing : Writing Address) : Type 0 where
+pub record IsWriting (rows : List Row) (writing : Writing AnyAddress) : Type 0 where
   pub upstream : Names (required (codes "upstream") rows) writing.upstream
   pub own : Names (required (codes "own") rows) writing.own
   pub holdtime : IsNumber 99 65535 (option_or (codes "210") (codes "holdtime") rows) writing.holdtime
   pub budget : IsNumber 70 65000 (option_or (codes "1460") (codes "budget") rows) writing.budget
 
 -- The options and ports of a command with captures.
-abbrev pub AreCapturesOf : Kind → List Row → Captures Address → Type 0
+abbrev pub AreCapturesOf : Kind → List Row → Captures AnyAddress → Type 0
 AreCapturesOf command rows captures =
     IsNamed (rp_text command rows) captures.rp × AreCaptures (is_sided command) rows captures
 
 -- The command was given this task.
-abbrev pub IsTask : Kind → List Row → Task Address → Type 0
+abbrev pub IsTask : Kind → List Row → Task AnyAddress → Type 0
 IsTask kind.Check rows (Check source destination) =
     Names (source_text rows) source × Names (destination_text rows) destination
 IsTask kind.Build rows (Build source destination) =

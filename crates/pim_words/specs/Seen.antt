@@ -9,13 +9,13 @@ use Rattle.clap.specs.declared.builder.value_parser.ValueParser.TheVariants.{Uns
 use Rattle.pim_words.specs.declared.fault.Fault.{Fault}
 use Rattle.pim_words.specs.declared.fault.Fault.TheVariants.{Family, Memory}
 use Rattle.pim_words.specs.declared.fault.Side.{Side}
-use Rattle.pim_words.specs.declared.addresses.Address.{Address}
+use Rattle.pim_lines.specs.declared.either.AnyAddress.{AnyAddress}
 use Rattle.pim_words.specs.declared.links.Links.{Links}
 use Rattle.pim_words.specs.declared.port.Cut.{Cut}
 use Rattle.pim_words.specs.declared.task.Port.{Port}
 use Rattle.pim_words.specs.declared.reading.Addresses.{Addresses}
 use Rattle.pim_words.specs.declared.reading.Ends.{Ends}
-use Rattle.pim_words.specs.Addresses.{Names}
+use Rattle.pim_lines.specs.AnyAddress.{Names}
 use Rattle.pim_words.specs.Given.{IsKnown, destination_text, option_or, required, source_text}
 use Rattle.pim_words.specs.Links.{link_at}
 use Rattle.pim_words.specs.Ports.{IsCut, IsCutWord}
@@ -45,11 +45,11 @@ pub record AreWritten (rows : List Row) (addresses : Addresses) : Type 0 where
   pub own : Names (required (codes "own") rows) addresses.own
 
 -- The port with the link of this number.
-abbrev pub with_link : Links → ℕ → Port Address → Port Address
+abbrev pub with_link : Links → ℕ → Port AnyAddress → Port AnyAddress
 with_link links number port = record port { link = link_at links number }
 
 -- The ports, each with the link of its number, which counts from this one.
-abbrev pub with_links : Links → ℕ → List (Port Address) → List (Port Address)
+abbrev pub with_links : Links → ℕ → List (Port AnyAddress) → List (Port AnyAddress)
 with_links links number [] = []
 with_links links number (port ∷ ports) = with_link links number port ∷ with_links links (number + 1) ports
 

@@ -2,14 +2,14 @@
 use Rattle.std.specs.Prelude.{◌≡◌, ◌≤◌, ◌⊎◌, ℕ, zero, suc, List, [], ◌∷◌, length, Option, codes, unwrap_or}
 use Rattle.std.specs.List.{AllZip}
 use Rattle.clap.specs.Words.{Row, Text, all_of, first_of}
-use Rattle.pim_words.specs.declared.addresses.Address.{Address}
+use Rattle.pim_lines.specs.declared.either.AnyAddress.{AnyAddress}
 use Rattle.pim_words.specs.declared.fault.Fault.{Fault}
 use Rattle.pim_words.specs.declared.fault.Fault.TheVariants as cause
 use Rattle.pim_words.specs.declared.shown.Shown.{Shown}
 use Rattle.pim_words.specs.declared.task.TimeForm.{TimeForm}
 use Rattle.pim_words.specs.declared.task.TimeForm.TheVariants.{Ms, Epoch, Utc}
 use Rattle.pim_words.specs.declared.task.Tracing.{Tracing}
-use Rattle.pim_words.specs.Addresses.{Names, IsRead, IsUnread}
+use Rattle.pim_lines.specs.AnyAddress.{Names, IsRead, IsUnread}
 use Rattle.pim_words.specs.Ends.{IsTimed, IsTimely, IsUntimed}
 use Rattle.pim_words.specs.Given.{option_or}
 
@@ -20,7 +20,7 @@ abbrev pub values_of : Text → List Row → List Text
 values_of name rows = unwrap_or (all_of name rows) []
 
 -- The values are these addresses, at most 64.
-abbrev pub AreShownAddresses : List Text → List Address → Type 0
+abbrev pub AreShownAddresses : List Text → List AnyAddress → Type 0
 AreShownAddresses texts addresses = AllZip Names texts addresses × (length addresses ≤ 64)
 
 -- The value names no address; the fault has the value.
@@ -42,7 +42,7 @@ IsWrongChoice (suc room) (text ∷ texts) fault =
 
 -- Each value names an address, and they are at most 64.
 abbrev pub IsChoosable : List Text → Type 0
-IsChoosable texts = (addresses : List Address) × AreShownAddresses texts addresses
+IsChoosable texts = (addresses : List AnyAddress) × AreShownAddresses texts addresses
 
 -- ---- the form of moments
 
@@ -79,7 +79,7 @@ pub record IsShown (rows : List Row) (shown : Shown) : Type 0 where
   pub form : form_text rows ≡ form_name shown.form
 
 -- What a trace shows, of its time, groups, sources and form.
-abbrev pub shown_of : Tracing Address → Shown
+abbrev pub shown_of : Tracing AnyAddress → Shown
 shown_of tracing = record {
   from = tracing.from;
   groups = tracing.groups;

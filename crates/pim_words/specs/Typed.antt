@@ -3,8 +3,8 @@
 use Rattle.std.specs.Prelude.{◌≡◌, ℕ, List, option_map, map}
 use Rattle.pim_addr.specs.declared.family.AddressFamily.{AddressFamily}
 use Rattle.pim_addr.specs.declared.family.AddressFamily.TheVariants.{Ipv4, Ipv6}
-use Rattle.pim_words.specs.declared.addresses.Address.{Address}
-use Rattle.pim_words.specs.declared.addresses.Address.TheVariants as either
+use Rattle.pim_lines.specs.declared.either.AnyAddress.{AnyAddress}
+use Rattle.pim_lines.specs.AnyAddress.{address_in}
 use Rattle.pim_words.specs.declared.task.Captures.{Captures}
 use Rattle.pim_words.specs.declared.task.Port.{Port}
 use Rattle.pim_words.specs.declared.task.Tracing.{Tracing}
@@ -14,18 +14,13 @@ use Rattle.pim_words.specs.declared.task.Plan.TheVariants.{V4, V6, Session}
 use Rattle.pim_words.specs.declared.task.Task.{Task}
 use Rattle.pim_words.specs.declared.task.Task.TheVariants.{Check, Build, Replay, Trace, Same, Mirror, Emit, Change}
 
--- The address of this family with these bytes.
-abbrev pub address_in : AddressFamily → List ℕ → Address
-address_in Ipv4 bytes = either.V4 bytes
-address_in Ipv6 bytes = either.V6 bytes
-
 module _ {A : Type 0} (family : AddressFamily) (bytes_of : A → List ℕ) where
   -- An address of the family, as one of either family.
-  abbrev pub address_seen : A → Address
+  abbrev pub address_seen : A → AnyAddress
   address_seen address = address_in family (bytes_of address)
 
   -- A port of the family, with an address of either family.
-  abbrev pub port_seen : Port A → Port Address
+  abbrev pub port_seen : Port A → Port AnyAddress
   port_seen port = record {
     side = port.side;
     address = address_seen port.address;
@@ -35,7 +30,7 @@ module _ {A : Type 0} (family : AddressFamily) (bytes_of : A → List ℕ) where
   }
 
   -- The two have the same RP, file of routes, limit, times, ports and further files.
-  pub record SameCaptures (typed : Captures A) (captures : Captures Address) : Type 0 where
+  pub record SameCaptures (typed : Captures A) (captures : Captures AnyAddress) : Type 0 where
     pub rp : option_map address_seen typed.rp ≡ captures.rp
     pub routes : typed.routes ≡ captures.routes
     pub limit : typed.limit ≡ captures.limit
@@ -45,7 +40,7 @@ module _ {A : Type 0} (family : AddressFamily) (bytes_of : A → List ℕ) where
     pub more : typed.more.items ≡ captures.more.items
 
   -- The two show the same: the time from which they show, groups, sources, form, all or not, JSON or not, and names.
-  pub record SameTracing (typed : Tracing A) (tracing : Tracing Address) : Type 0 where
+  pub record SameTracing (typed : Tracing A) (tracing : Tracing AnyAddress) : Type 0 where
     pub from : typed.from ≡ tracing.from
     pub groups : map address_seen typed.groups.items ≡ tracing.groups.items
     pub sources : map address_seen typed.sources.items ≡ tracing.sources.items
@@ -55,14 +50,14 @@ module _ {A : Type 0} (family : AddressFamily) (bytes_of : A → List ℕ) where
     pub names : typed.names.items ≡ tracing.names.items
 
   -- The two have the same addresses, holdtime and budget.
-  pub record SameWriting (typed : Writing A) (writing : Writing Address) : Type 0 where
+  pub record SameWriting (typed : Writing A) (writing : Writing AnyAddress) : Type 0 where
     pub upstream : address_seen typed.upstream ≡ writing.upstream
     pub own : address_seen typed.own ≡ writing.own
     pub holdtime : typed.holdtime ≡ writing.holdtime
     pub budget : typed.budget ≡ writing.budget
 
   -- The two tasks are the same.
-  abbrev pub SameTask : Task A → Task Address → Type 0
+  abbrev pub SameTask : Task A → Task AnyAddress → Type 0
   SameTask (Check source destination) (Check from to) =
       (address_seen source ≡ from) × (address_seen destination ≡ to)
   SameTask (Build source destination) (Build from to) =
@@ -76,7 +71,7 @@ module _ {A : Type 0} (family : AddressFamily) (bytes_of : A → List ℕ) where
   SameTask typed task = ⊥
 
 -- The plan is this task, with all its addresses of one family.
-abbrev pub IsPlanFor : Plan → Task Address → Type 0
+abbrev pub IsPlanFor : Plan → Task AnyAddress → Type 0
 IsPlanFor (V4 typed) task = SameTask Ipv4 (λ address. address) typed task
 IsPlanFor (V6 typed) task = SameTask Ipv6 (λ address. address) typed task
 IsPlanFor Session task = ⊥

@@ -5,8 +5,8 @@ ghost use Rattle.std.specs.Option.{option_map_or};
 ghost use Rattle.pim_words.specs.Inputs.{is_input, reads_any, input_count};
 ghost use Rattle.pim_words.specs.Inputs.{reads_input_twice, names_input_twice};
 
-use crate::addresses::Address;
 use crate::task::{Captures, Task};
+use pim_lines::AnyAddress;
 
 /// The name of standard input among those of files, where any container is read.
 pub const STANDARD_INPUT: &str = "-";
@@ -36,7 +36,7 @@ pub fn reads_any<A>(captures: &Captures<'_, A>) -> bool
 }
 
 /// How many ports have standard input as their file.
-fn count_port_inputs(captures: &Captures<'_, Address>) -> usize
+fn count_port_inputs(captures: &Captures<'_, AnyAddress>) -> usize
     ensures { result ≡ count_by (λ port. is_input port.file.now) captures.now.ports.items }
 {
     captures
@@ -47,7 +47,7 @@ fn count_port_inputs(captures: &Captures<'_, Address>) -> usize
 }
 
 /// How many further files are standard input.
-fn count_further_inputs(captures: &Captures<'_, Address>) -> usize
+fn count_further_inputs(captures: &Captures<'_, AnyAddress>) -> usize
     ensures { result ≡ count_by (λ more. is_input more.file.now) captures.now.more.items }
 {
     captures
@@ -58,7 +58,7 @@ fn count_further_inputs(captures: &Captures<'_, Address>) -> usize
 }
 
 /// Whether a second file of these is standard input.
-fn reads_input_twice(captures: &Captures<'_, Address>) -> bool
+fn reads_input_twice(captures: &Captures<'_, AnyAddress>) -> bool
     ensures { result ≡ reads_input_twice captures.now }
 {
     let of_routes = usize::from(is_given_input(captures.routes));
@@ -68,7 +68,7 @@ fn reads_input_twice(captures: &Captures<'_, Address>) -> bool
 }
 
 /// Whether a second file of the task is standard input.
-pub(crate) fn names_input_twice(task: &Task<'_, Address>) -> bool
+pub(crate) fn names_input_twice(task: &Task<'_, AnyAddress>) -> bool
     ensures { result ≡ names_input_twice task.now }
 {
     match task {

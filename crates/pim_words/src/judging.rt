@@ -9,37 +9,37 @@ ghost use Rattle.pim_words.specs.Faults.{is_valid, is_same, is_of, port_count, n
 ghost use Rattle.pim_words.specs.Faults.{writer_faults};
 ghost use Rattle.pim_words.specs.Faults.{router_faults, faults_of_two, setting_faults};
 
-use crate::addresses::Address;
 use crate::fault::{ConfigCause, Fault, Side};
 use crate::task::{Captures, Port, Task, Writing};
 use pim_addr::{Family, V4, V6};
+use pim_lines::AnyAddress;
 
 /// The most ports of a router.
 const MOST_PORTS: usize = 64;
 
 /// Whether an address is a valid source.
-fn is_valid(address: Address) -> bool
+fn is_valid(address: AnyAddress) -> bool
     ensures { result ≡ is_valid address }
 {
     match address {
-        Address::V4(address) => V4::is_source(address),
-        Address::V6(address) => V6::is_source(address),
+        AnyAddress::V4(address) => V4::is_source(address),
+        AnyAddress::V6(address) => V6::is_source(address),
     }
 }
 
 /// Whether two addresses are the same.
-fn is_same(this: Address, that: Address) -> bool
+fn is_same(this: AnyAddress, that: AnyAddress) -> bool
     ensures { result ≡ is_same this that }
 {
     match (this, that) {
-        (Address::V4(this), Address::V4(that)) => this == that,
-        (Address::V6(this), Address::V6(that)) => this == that,
+        (AnyAddress::V4(this), AnyAddress::V4(that)) => this == that,
+        (AnyAddress::V6(this), AnyAddress::V6(that)) => this == that,
         _ => false,
     }
 }
 
-/// Whether the port belongs to this router.
-fn is_of(side: Side, port: &Port<'_, Address>) -> bool
+/// Returns whether the port belongs to this router.
+pub fn is_of<A: Copy>(side: Side, port: &Port<'_, A>) -> bool
     ensures { result ≡ is_of side port.now }
 {
     match (side, port.side) {
@@ -49,7 +49,7 @@ fn is_of(side: Side, port: &Port<'_, Address>) -> bool
 }
 
 /// The number of ports of a router.
-fn port_count(side: Side, captures: &Captures<'_, Address>) -> usize
+fn port_count(side: Side, captures: &Captures<'_, AnyAddress>) -> usize
     ensures { result ≡ port_count side captures.now }
 {
     captures
@@ -60,7 +60,7 @@ fn port_count(side: Side, captures: &Captures<'_, Address>) -> usize
 }
 
 /// Whether the port belongs to this router and its address isn't a valid source.
-fn is_bad_port(side: Side, port: &Port<'_, Address>) -> bool
+fn is_bad_port(side: Side, port: &Port<'_, AnyAddress>) -> bool
     ensures { result ≡ (is_of side port.now && not (is_valid port.now.address)) }
 {
     if is_of(side, port) {
@@ -71,7 +71,7 @@ fn is_bad_port(side: Side, port: &Port<'_, Address>) -> bool
 }
 
 /// Whether this router has a port whose address isn't a valid source.
-fn has_bad_port(side: Side, captures: &Captures<'_, Address>) -> bool
+fn has_bad_port(side: Side, captures: &Captures<'_, AnyAddress>) -> bool
     ensures { result
         ≡ list_any (λ port. is_of side port
         && not (is_valid port.address)) captures.now.ports.items }
@@ -80,7 +80,7 @@ fn has_bad_port(side: Side, captures: &Captures<'_, Address>) -> bool
 }
 
 /// Whether the RP is given and isn't a valid source.
-fn is_bad_rp(rp: Option<Address>) -> bool
+fn is_bad_rp(rp: Option<AnyAddress>) -> bool
     ensures { result ≡ option_map_or (λ rp. not (is_valid rp)) rp false }
 {
     match rp {
@@ -90,7 +90,7 @@ fn is_bad_rp(rp: Option<Address>) -> bool
 }
 
 /// Whether the writer's addresses aren't two different valid sources.
-fn is_bad_writing(writing: Writing<Address>) -> bool
+fn is_bad_writing(writing: Writing<AnyAddress>) -> bool
     ensures { result ≡ (not (is_valid writing.upstream) || not (is_valid writing.own)
         || is_same writing.own writing.upstream) }
 {
@@ -98,7 +98,7 @@ fn is_bad_writing(writing: Writing<Address>) -> bool
 }
 
 /// Checks that each of two routers has a port.
-fn judge_ports(captures: &Captures<'_, Address>) -> Result<(), Fault<'static>>
+fn judge_ports(captures: &Captures<'_, AnyAddress>) -> Result<(), Fault<'static>>
     ensures { result ≡ judged (no_port_faults captures.now) tt }
 {
     if port_count(Side::A, captures) == 0 {
@@ -111,7 +111,7 @@ fn judge_ports(captures: &Captures<'_, Address>) -> Result<(), Fault<'static>>
 }
 
 /// Checks that the writer's addresses are two different valid sources.
-fn judge_writer(writing: Writing<Address>) -> Result<(), Fault<'static>>
+fn judge_writer(writing: Writing<AnyAddress>) -> Result<(), Fault<'static>>
     ensures { result ≡ judged (writer_faults writing) tt }
 {
     if is_bad_writing(writing) {
@@ -121,7 +121,7 @@ fn judge_writer(writing: Writing<Address>) -> Result<(), Fault<'static>>
 }
 
 /// Checks the ports and the RP of a router.
-fn judge_router(side: Side, captures: &Captures<'_, Address>) -> Result<(), Fault<'static>>
+fn judge_router(side: Side, captures: &Captures<'_, AnyAddress>) -> Result<(), Fault<'static>>
     ensures { result ≡ judged (router_faults side captures.now) tt }
 {
     let count = port_count(side, captures);
@@ -138,7 +138,7 @@ fn judge_router(side: Side, captures: &Captures<'_, Address>) -> Result<(), Faul
 }
 
 /// Checks the ports and the RP of both routers.
-fn judge_routers(captures: &Captures<'_, Address>) -> Result<(), Fault<'static>>
+fn judge_routers(captures: &Captures<'_, AnyAddress>) -> Result<(), Fault<'static>>
     ensures { result
         ≡ judged (router_faults Side.A captures.now ++ router_faults Side.B captures.now) tt }
 {
@@ -148,8 +148,8 @@ fn judge_routers(captures: &Captures<'_, Address>) -> Result<(), Fault<'static>>
 
 /// Checks two routers and the writer.
 fn judge_two(
-    captures: &Captures<'_, Address>,
-    writing: Writing<Address>,
+    captures: &Captures<'_, AnyAddress>,
+    writing: Writing<AnyAddress>,
 ) -> Result<(), Fault<'static>>
     ensures { result ≡ judged (faults_of_two captures.now writing) tt }
 {
@@ -160,8 +160,8 @@ fn judge_two(
 
 /// Checks the writer and one router.
 fn judge_one(
-    captures: &Captures<'_, Address>,
-    writing: Writing<Address>,
+    captures: &Captures<'_, AnyAddress>,
+    writing: Writing<AnyAddress>,
 ) -> Result<(), Fault<'static>>
     ensures { result ≡ judged (writer_faults writing ++ router_faults Side.A captures.now) tt }
 {
@@ -170,7 +170,7 @@ fn judge_one(
 }
 
 /// Checks the routers and the writer of a task.
-pub(crate) fn judge(task: &Task<'_, Address>) -> Result<(), Fault<'static>>
+pub(crate) fn judge(task: &Task<'_, AnyAddress>) -> Result<(), Fault<'static>>
     ensures { result ≡ judged (setting_faults task.now) tt }
 {
     match task {

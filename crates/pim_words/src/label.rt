@@ -1,9 +1,11 @@
 //! The name that a word of a trace gives to its port.
 
 ghost use Rattle.std.specs.Prelude.{◌≡◌, true, map};
-ghost use Rattle.std.specs.List.{list_all, list_any};
-ghost use Rattle.pim_words.specs.Labels.{is_name, is_name_byte, is_named, has_name, is_fresh};
+ghost use Rattle.std.specs.List.{list_any};
+ghost use Rattle.pim_words.specs.Labels.{is_named, has_name, is_fresh};
 ghost use Rattle.pim_words.specs.Labels.{IsLabelOf};
+
+use pim_lines::is_port_name;
 
 /// A word that is cut into its name and the rest.
 #[derive(Clone, Copy)]
@@ -39,35 +41,6 @@ pub(crate) fn label_of<'a>(word: &'a str) -> Label<'a>
     }
 }
 
-/// Whether a byte may occur in a name.
-fn is_name_byte(byte: u8) -> bool
-    ensures { result ≡ is_name_byte byte }
-{
-    byte.is_ascii_alphanumeric() || byte == b'.' || byte == b'_' || byte == b'-'
-}
-
-/// Whether all bytes may occur in a name.
-fn are_name_bytes(bytes: &[u8]) -> bool
-    ensures { result ≡ list_all is_name_byte bytes.now }
-{
-    for &byte in bytes {
-        if !is_name_byte(byte) {
-            return false;
-        }
-    }
-    true
-}
-
-/// Whether a text is a name: a letter, then up to 31 letters, digits, `.`, `_` or `-`.
-fn is_name(text: &[u8]) -> bool
-    ensures { result ≡ is_name text.now }
-{
-    let Some((&first, others)) = text.split_first() else {
-        return false;
-    };
-    first.is_ascii_alphabetic() && are_name_bytes(others) && others.len() <= 31
-}
-
 /// Whether a port has this name.
 fn is_named(name: &str, port: Option<&str>) -> bool
     ensures { result ≡ is_named name.now port.entry }
@@ -95,7 +68,7 @@ pub(crate) fn is_fresh(earlier: &[Option<&str>], name: Option<&str>) -> bool
     ensures { result ≡ is_fresh earlier.now name.entry }
 {
     match name {
-        Some(name) => is_name(name.as_bytes()) && !has_name(earlier, name),
+        Some(name) => is_port_name(name.as_bytes()) && !has_name(earlier, name),
         None => true,
     }
 }

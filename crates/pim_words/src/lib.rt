@@ -32,7 +32,6 @@
 //! The crate is apart from `pim_commands`, so that each is checked alone.
 #![tactic(auto)]
 
-mod addresses;
 mod commands;
 mod fault;
 mod given;
@@ -51,9 +50,9 @@ mod table;
 mod task;
 mod typed;
 
-pub use addresses::Address;
 pub use fault::{ConfigCause, Fault, Refusal, Side};
 pub use inputs::{STANDARD_INPUT, reads_any};
+pub use judging::is_of;
 pub use pim_capture::Vlan;
 pub use planning::plan;
 pub use table::given_table;

@@ -10,13 +10,13 @@ ghost use Rattle.pim_words.specs.Seen.{OrMemory, with_link, with_links};
 ghost use Rattle.pim_words.specs.Shown.{values_of};
 ghost use Rattle.pim_words.specs.declared.fault.Fault.TheVariants.{Memory};
 
-use crate::addresses::Address;
 use crate::fault::Fault;
 use crate::given::option_or;
 use crate::more::count_ports;
 use crate::picks::{Part, Pick, chosen_for, read_picks};
 use crate::task::{Link, Port};
 use clap::ArgMatches;
+use pim_lines::AnyAddress;
 use std::alloc::Global;
 
 /// How the captures of a command are read.
@@ -122,7 +122,7 @@ fn link_at(links: &Links, number: usize) -> Option<Link>
 }
 
 /// The port with the link of this number.
-fn with_link<'a>(links: &Links, number: usize, port: Port<'a, Address>) -> Port<'a, Address>
+fn with_link<'a>(links: &Links, number: usize, port: Port<'a, AnyAddress>) -> Port<'a, AnyAddress>
     ensures { result ≡ with_link links.now number port.entry }
 {
     Port {
@@ -138,8 +138,8 @@ fn with_link<'a>(links: &Links, number: usize, port: Port<'a, Address>) -> Port<
 pub(crate) fn linked<'a>(
     alloc: Global,
     links: &Links,
-    ports: &[Port<'a, Address>],
-) -> Result<Vec<Port<'a, Address>>, Fault<'static>>
+    ports: &[Port<'a, AnyAddress>],
+) -> Result<Vec<Port<'a, AnyAddress>>, Fault<'static>>
     ensures { MatchResult result (λ made. made.items ≡ with_links links.now 0 ports.now)
         (λ fault. fault ≡ Memory) }
 {

@@ -8,18 +8,18 @@ ghost use Rattle.pim_words.specs.Labels.{IsFirstWrongLabelled};
 ghost use Rattle.pim_words.specs.Ports.{port_words, AreMore};
 ghost use Rattle.pim_words.specs.Seen.{OrMemory};
 
-use crate::addresses::{Address, read_address};
 use crate::fault::{Fault, Side};
 use crate::label::{is_fresh, label_of};
 use crate::more::{is_more, read_more};
 use crate::port::cut_text;
 use crate::task::{More, Port};
+use pim_lines::{AnyAddress, read_any_address};
 use std::alloc::Global;
 
 /// A port and its name, if it has one.
 #[derive(Clone, Copy)]
 struct Named<'a> {
-    port: Port<'a, Address>,
+    port: Port<'a, AnyAddress>,
     name: Option<&'a str>,
 }
 
@@ -27,7 +27,7 @@ struct Named<'a> {
 #[derive(Drop)]
 pub(crate) struct Labelled<'a> {
     /// The ports, in the order of the words.
-    pub ports: Vec<Port<'a, Address>>,
+    pub ports: Vec<Port<'a, AnyAddress>>,
     /// Their names, in the same order.
     pub names: Vec<Option<&'a str>>,
     /// The further files of ports, in the order of the words.
@@ -62,7 +62,7 @@ fn read_named<'a>(earlier: &[Option<&'a str>], word: &'a str) -> Result<Named<'a
     let Some(cut) = cut_text(Side::A, label.text) else {
         return Err(Fault::Word(word));
     };
-    let Some(address) = read_address(cut.address) else {
+    let Some(address) = read_any_address(cut.address) else {
         return Err(Fault::Address(word));
     };
     let port = Port {

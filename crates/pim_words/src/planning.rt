@@ -18,7 +18,6 @@ ghost use Rattle.pim_words.specs.Plan.{IsFaultless, IsFirstFault, HasCause};
 ghost use Rattle.pim_words.specs.Plan.{IsPlanInRange};
 ghost use Rattle.pim_words.specs.Seen.{HasNumbers, IsGiven, IsOffered};
 
-use crate::addresses::Address;
 use crate::commands::command;
 use crate::fault::{Fault, refusal_fault};
 use crate::inputs::{STANDARD_INPUT, names_input_twice};
@@ -29,6 +28,7 @@ use crate::typed::task_in_family;
 use clap::error::ErrorKind;
 use clap::{ArgMatches, Command, Error};
 use pim_addr::{V4, V6};
+use pim_lines::AnyAddress;
 use std::alloc::Global;
 use std::convert::AsStr;
 
@@ -83,7 +83,7 @@ fn kind_named(name: &str) -> Option<Kind>
 }
 
 /// The plan of a task whose addresses aren't all IPv4, or its first fault.
-fn plan_v6<'a>(alloc: Global, task: &Task<'a, Address>) -> Result<Plan<'a>, Fault<'a>>
+fn plan_v6<'a>(alloc: Global, task: &Task<'a, AnyAddress>) -> Result<Plan<'a>, Fault<'a>>
     requires { are_in Ipv4 task.now ≡ false }
     ensures { MatchResult result (IsFaultless task.now) (IsFirstFault task.now) }
 {
@@ -97,7 +97,7 @@ fn plan_v6<'a>(alloc: Global, task: &Task<'a, Address>) -> Result<Plan<'a>, Faul
 }
 
 /// The plan of a task, or its first fault.
-fn plan_typed<'a>(alloc: Global, task: &Task<'a, Address>) -> Result<Plan<'a>, Fault<'a>>
+fn plan_typed<'a>(alloc: Global, task: &Task<'a, AnyAddress>) -> Result<Plan<'a>, Fault<'a>>
     ensures { MatchResult result (IsFaultless task.now) (IsFirstFault task.now) }
 {
     match task_in_family::<V4>(alloc, task) {
@@ -111,7 +111,7 @@ fn plan_typed<'a>(alloc: Global, task: &Task<'a, Address>) -> Result<Plan<'a>, F
 }
 
 /// The plan of a task that reads standard input at most once, or its first fault.
-fn plan_task<'a>(alloc: Global, task: &Task<'a, Address>) -> Result<Plan<'a>, Fault<'a>>
+fn plan_task<'a>(alloc: Global, task: &Task<'a, AnyAddress>) -> Result<Plan<'a>, Fault<'a>>
     ensures { MatchResult result (IsPlanOfTask task.now) (IsWrongTask task.now) }
 {
     if names_input_twice(task) {

@@ -9,10 +9,10 @@ ghost use Rattle.pim_words.specs.Ports.{LacksAtSign, IsCutWord, IsUncutWord, IsP
 ghost use Rattle.pim_words.specs.Ports.{port_words, AreMore, IsFirstWrongOf};
 ghost use Rattle.pim_words.specs.Seen.{IsCutFor, IsCutOf, OrMemory};
 
-use crate::addresses::{Address, read_address};
 use crate::fault::{Fault, Side};
 use crate::more::{is_more, read_more};
 use crate::task::{More, Port};
+use pim_lines::{AnyAddress, read_any_address};
 use std::alloc::Global;
 
 /// A word that is cut into its parts.
@@ -30,7 +30,7 @@ pub(crate) struct Cut<'a> {
 #[derive(Drop)]
 pub(crate) struct Found<'a> {
     /// The ports, in the order of the words.
-    pub ports: Vec<Port<'a, Address>>,
+    pub ports: Vec<Port<'a, AnyAddress>>,
     /// The further files of ports, in the order of the words.
     pub more: Vec<More<'a>>,
 }
@@ -87,13 +87,13 @@ fn cut_word<'a>(is_sided: bool, word: &'a str) -> Option<Cut<'a>>
 }
 
 /// The port that a word names, or the fault of the word.
-fn read_port<'a>(is_sided: bool, word: &'a str) -> Result<Port<'a, Address>, Fault<'a>>
+fn read_port<'a>(is_sided: bool, word: &'a str) -> Result<Port<'a, AnyAddress>, Fault<'a>>
     ensures { MatchResult result (IsPort is_sided word.now) (IsWrongWord is_sided word.now) }
 {
     let Some(cut) = cut_word(is_sided, word) else {
         return Err(Fault::Word(word));
     };
-    let Some(address) = read_address(cut.address) else {
+    let Some(address) = read_any_address(cut.address) else {
         return Err(Fault::Address(word));
     };
     Ok(Port {

@@ -7,7 +7,7 @@ ghost use Rattle.std.specs.Prelude.{◌≡◌, MatchResult, IfOk, IfErr, true, f
 ghost use Rattle.std.specs.Prelude.{option_map, codes, map};
 ghost use Rattle.std.specs.List.{AllZip};
 ghost use Rattle.clap.specs.Words.{rows_of, found_of};
-ghost use Rattle.pim_words.specs.Addresses.{Names};
+ghost use Rattle.pim_lines.specs.AnyAddress.{Names};
 ghost use Rattle.pim_words.specs.Ends.{are_both_given, time_text, IsTimed, IsEarly, IsUntimed};
 ghost use Rattle.pim_words.specs.declared.fault.Fault.TheVariants.{TwoEnds};
 ghost use Rattle.pim_words.specs.Given.{words_of, required, address_texts, is_sided};
@@ -20,7 +20,6 @@ ghost use Rattle.pim_words.specs.Reading.{IsWriting, IsTraced, IsTask, IsUnreada
 ghost use Rattle.pim_words.specs.Reading.{IsWrongTrace};
 ghost use Rattle.pim_words.specs.Seen.{OrMemory, AreEnds, AreWritten, HasNumbers};
 
-use crate::addresses::{Address, read_address};
 use crate::fault::Fault;
 use crate::given::{is_flag, number_of, option_of, option_or};
 use crate::links::{linked, read_chosen_links, read_links};
@@ -29,21 +28,22 @@ use crate::port::{Found, read_ports};
 use crate::shown::read_shown;
 use crate::task::{Captures, Kind, More, Port, Task, Tracing, Writing};
 use clap::ArgMatches;
+use pim_lines::{AnyAddress, read_any_address};
 use pim_time::{Time, read_time};
 use std::alloc::Global;
 
 /// The address that is the value of an option.
-pub(crate) fn read_option<'a>(text: &'a str) -> Result<Address, Fault<'a>>
+pub(crate) fn read_option<'a>(text: &'a str) -> Result<AnyAddress, Fault<'a>>
     ensures { MatchResult result (Names text.now) (IsUnreadText text.now) }
 {
-    match read_address(text) {
+    match read_any_address(text) {
         Some(address) => Ok(address),
         None => Err(Fault::Address(text)),
     }
 }
 
 /// The address that is the value of an option, if it is given.
-fn read_given<'a>(text: Option<&'a str>) -> Result<Option<Address>, Fault<'a>>
+fn read_given<'a>(text: Option<&'a str>) -> Result<Option<AnyAddress>, Fault<'a>>
     ensures { MatchResult result (IsNamed (option_map (λ s. s.now) text.entry))
         (IsUnreadValue (option_map (λ s. s.now) text.entry)) }
 {
@@ -133,12 +133,12 @@ fn read_linked<'a>(
 /// The captures of these ports and further files with this RP and this time, and the other options
 /// of their run.
 fn captures_of<'a>(
-    rp: Option<Address>,
+    rp: Option<AnyAddress>,
     at: Option<Time>,
-    ports: Vec<Port<'a, Address>>,
+    ports: Vec<Port<'a, AnyAddress>>,
     more: Vec<More<'a>>,
     options: &ArgMatches<'a>,
-) -> Captures<'a, Address>
+) -> Captures<'a, AnyAddress>
     requires numbers { HasNumbers (rows_of (found_of options.now)) }
     requires one_end { are_both_given (rows_of (found_of options.now)) ≡ false }
     requires timed { IsTimed (time_text (rows_of (found_of options.now))) at }
@@ -165,9 +165,9 @@ fn captures_of<'a>(
 fn read_captures<'a>(
     alloc: Global,
     is_sided: bool,
-    rp: Option<Address>,
+    rp: Option<AnyAddress>,
     options: &ArgMatches<'a>,
-) -> Result<Captures<'a, Address>, Fault<'a>>
+) -> Result<Captures<'a, AnyAddress>, Fault<'a>>
     requires numbers { HasNumbers (rows_of (found_of options.now)) }
     requires one_end { are_both_given (rows_of (found_of options.now)) ≡ false }
     ensures rp { IfOk result (λ captures. captures.rp ≡ rp) }
@@ -183,9 +183,9 @@ fn read_captures<'a>(
 #[derive(Clone, Copy)]
 struct Ends {
     /// The source address.
-    src: Address,
+    src: AnyAddress,
     /// The destination address.
-    dst: Address,
+    dst: AnyAddress,
 }
 
 /// The addresses of a command on one message, or the fault of the first that can't be read.
@@ -199,7 +199,7 @@ fn read_ends<'a>(options: &ArgMatches<'a>) -> Result<Ends, Fault<'a>>
 }
 
 /// The task of `check`.
-fn read_check<'a>(options: &ArgMatches<'a>) -> Result<Task<'a, Address>, Fault<'a>>
+fn read_check<'a>(options: &ArgMatches<'a>) -> Result<Task<'a, AnyAddress>, Fault<'a>>
     ensures { MatchResult result (IsTask Kind.Check (rows_of (found_of options.now)))
         (IsUnreadable Kind.Check (rows_of (found_of options.now))) }
 {
@@ -211,7 +211,7 @@ fn read_check<'a>(options: &ArgMatches<'a>) -> Result<Task<'a, Address>, Fault<'
 }
 
 /// The task of `build`.
-fn read_build<'a>(options: &ArgMatches<'a>) -> Result<Task<'a, Address>, Fault<'a>>
+fn read_build<'a>(options: &ArgMatches<'a>) -> Result<Task<'a, AnyAddress>, Fault<'a>>
     ensures { MatchResult result (IsTask Kind.Build (rows_of (found_of options.now)))
         (IsUnreadable Kind.Build (rows_of (found_of options.now))) }
 {
@@ -223,7 +223,10 @@ fn read_build<'a>(options: &ArgMatches<'a>) -> Result<Task<'a, Address>, Fault<'
 }
 
 /// The task of `replay`.
-fn read_replay<'a>(alloc: Global, options: &ArgMatches<'a>) -> Result<Task<'a, Address>, Fault<'a>>
+fn read_replay<'a>(
+    alloc: Global,
+    options: &ArgMatches<'a>,
+) -> Result<Task<'a, AnyAddress>, Fault<'a>>
     requires { HasNumbers (rows_of (found_of options.now)) }
     ensures { MatchResult result (IsTask Kind.Replay (rows_of (found_of options.now)))
         (IsUnreadable Kind.Replay (rows_of (found_of options.now))) }
@@ -271,9 +274,9 @@ fn read_named_ports<'a>(alloc: Global, options: &ArgMatches<'a>) -> Result<Label
 /// The captures of a trace with this RP, and what it shows.
 fn read_traced<'a>(
     alloc: Global,
-    rp: Option<Address>,
+    rp: Option<AnyAddress>,
     options: &ArgMatches<'a>,
-) -> Result<Task<'a, Address>, Fault<'a>>
+) -> Result<Task<'a, AnyAddress>, Fault<'a>>
     requires numbers { HasNumbers (rows_of (found_of options.now)) }
     requires one_end { are_both_given (rows_of (found_of options.now)) ≡ false }
     ensures task { IfOk result (IsTraced (rows_of (found_of options.now)) rp) }
@@ -296,7 +299,10 @@ fn read_traced<'a>(
 }
 
 /// The task of `trace`.
-fn read_trace<'a>(alloc: Global, options: &ArgMatches<'a>) -> Result<Task<'a, Address>, Fault<'a>>
+fn read_trace<'a>(
+    alloc: Global,
+    options: &ArgMatches<'a>,
+) -> Result<Task<'a, AnyAddress>, Fault<'a>>
     requires { HasNumbers (rows_of (found_of options.now)) }
     ensures { MatchResult result (IsTask Kind.Trace (rows_of (found_of options.now)))
         (IsUnreadable Kind.Trace (rows_of (found_of options.now))) }
@@ -310,11 +316,11 @@ fn read_trace<'a>(alloc: Global, options: &ArgMatches<'a>) -> Result<Task<'a, Ad
 #[derive(Clone, Copy)]
 struct Addresses {
     /// The RP.
-    rp: Address,
+    rp: AnyAddress,
     /// The upstream neighbour.
-    upstream: Address,
+    upstream: AnyAddress,
     /// The source address of the messages.
-    own: Address,
+    own: AnyAddress,
 }
 
 /// The addresses of a command that writes messages, or the fault of the first that can't be read.
@@ -329,7 +335,7 @@ fn read_addresses<'a>(options: &ArgMatches<'a>) -> Result<Addresses, Fault<'a>>
 }
 
 /// The writer of a command with these addresses.
-fn read_writing(addresses: Addresses, options: &ArgMatches<'_>) -> Writing<Address>
+fn read_writing(addresses: Addresses, options: &ArgMatches<'_>) -> Writing<AnyAddress>
     requires addresses { AreWritten (rows_of (found_of options.now)) addresses }
     requires numbers { HasNumbers (rows_of (found_of options.now)) }
     ensures { IsWriting (rows_of (found_of options.now)) result }
@@ -345,7 +351,7 @@ fn read_writing(addresses: Addresses, options: &ArgMatches<'_>) -> Writing<Addre
 }
 
 /// The task of `same`.
-fn read_same<'a>(alloc: Global, options: &ArgMatches<'a>) -> Result<Task<'a, Address>, Fault<'a>>
+fn read_same<'a>(alloc: Global, options: &ArgMatches<'a>) -> Result<Task<'a, AnyAddress>, Fault<'a>>
     requires { HasNumbers (rows_of (found_of options.now)) }
     ensures { MatchResult result (IsTask Kind.Same (rows_of (found_of options.now)))
         (IsUnreadable Kind.Same (rows_of (found_of options.now))) }
@@ -358,7 +364,10 @@ fn read_same<'a>(alloc: Global, options: &ArgMatches<'a>) -> Result<Task<'a, Add
 }
 
 /// The task of `mirror`.
-fn read_mirror<'a>(alloc: Global, options: &ArgMatches<'a>) -> Result<Task<'a, Address>, Fault<'a>>
+fn read_mirror<'a>(
+    alloc: Global,
+    options: &ArgMatches<'a>,
+) -> Result<Task<'a, AnyAddress>, Fault<'a>>
     requires { HasNumbers (rows_of (found_of options.now)) }
     ensures { MatchResult result (IsTask Kind.Mirror (rows_of (found_of options.now)))
         (IsUnreadable Kind.Mirror (rows_of (found_of options.now))) }
@@ -371,7 +380,7 @@ fn read_mirror<'a>(alloc: Global, options: &ArgMatches<'a>) -> Result<Task<'a, A
 }
 
 /// The task of `emit`.
-fn read_emit<'a>(alloc: Global, options: &ArgMatches<'a>) -> Result<Task<'a, Address>, Fault<'a>>
+fn read_emit<'a>(alloc: Global, options: &ArgMatches<'a>) -> Result<Task<'a, AnyAddress>, Fault<'a>>
     requires { HasNumbers (rows_of (found_of options.now)) }
     ensures { MatchResult result (IsTask Kind.Emit (rows_of (found_of options.now)))
         (IsUnreadable Kind.Emit (rows_of (found_of options.now))) }
@@ -384,7 +393,10 @@ fn read_emit<'a>(alloc: Global, options: &ArgMatches<'a>) -> Result<Task<'a, Add
 }
 
 /// The task of `change`.
-fn read_change<'a>(alloc: Global, options: &ArgMatches<'a>) -> Result<Task<'a, Address>, Fault<'a>>
+fn read_change<'a>(
+    alloc: Global,
+    options: &ArgMatches<'a>,
+) -> Result<Task<'a, AnyAddress>, Fault<'a>>
     requires { HasNumbers (rows_of (found_of options.now)) }
     ensures { MatchResult result (IsTask Kind.Change (rows_of (found_of options.now)))
         (IsUnreadable Kind.Change (rows_of (found_of options.now))) }
@@ -401,7 +413,7 @@ pub(crate) fn read_task<'a>(
     alloc: Global,
     kind: Kind,
     options: &ArgMatches<'a>,
-) -> Result<Task<'a, Address>, Fault<'a>>
+) -> Result<Task<'a, AnyAddress>, Fault<'a>>
     requires { HasNumbers (rows_of (found_of options.now)) }
     ensures { MatchResult result (IsTask kind (rows_of (found_of options.now)))
         (IsUnreadable kind (rows_of (found_of options.now))) }

@@ -3,18 +3,18 @@
 ghost use Rattle.std.specs.Prelude.{◌≡◌, MatchOption, MatchResult, map};
 ghost use Rattle.std.specs.List.{AllZip};
 ghost use Rattle.clap.specs.Words.{rows_of, found_of};
-ghost use Rattle.pim_words.specs.Addresses.{Names};
+ghost use Rattle.pim_lines.specs.AnyAddress.{Names};
 ghost use Rattle.pim_words.specs.Seen.{OrMemory};
 ghost use Rattle.pim_words.specs.Shown.{values_of, form_name, IsFormless, AreShownAddresses};
 ghost use Rattle.pim_words.specs.Shown.{IsWrongChoice};
 ghost use Rattle.pim_words.specs.Shown.{IsShown, IsWrongShown};
 
-use crate::addresses::Address;
 use crate::fault::Fault;
 use crate::given::{option_of, option_or};
 use crate::reading::{read_at, read_option};
 use crate::task::TimeForm;
 use clap::ArgMatches;
+use pim_lines::AnyAddress;
 use pim_time::Time;
 use std::alloc::Global;
 
@@ -27,9 +27,9 @@ pub(crate) struct Shown {
     /// The time before which nothing is shown, if one is given.
     pub from: Option<Time>,
     /// The groups that are shown.
-    pub groups: Vec<Address>,
+    pub groups: Vec<AnyAddress>,
     /// The sources that are shown.
-    pub sources: Vec<Address>,
+    pub sources: Vec<AnyAddress>,
     /// How moments are written as text.
     pub form: TimeForm,
 }
@@ -51,7 +51,7 @@ fn form_named(text: &str) -> Option<TimeForm>
 }
 
 /// The addresses that the values of an option are, or the fault of the first wrong value.
-fn read_texts<'a>(alloc: Global, texts: &[&'a str]) -> Result<Vec<Address>, Fault<'a>>
+fn read_texts<'a>(alloc: Global, texts: &[&'a str]) -> Result<Vec<AnyAddress>, Fault<'a>>
     ensures { MatchResult result
         (λ addresses. AreShownAddresses (map (λ t. t.now) texts.now) addresses.items)
         (OrMemory (IsWrongChoice 64 (map (λ t. t.now) texts.now))) }
@@ -74,7 +74,7 @@ fn read_choice<'a>(
     alloc: Global,
     options: &ArgMatches<'a>,
     name: &str,
-) -> Result<Vec<Address>, Fault<'a>>
+) -> Result<Vec<AnyAddress>, Fault<'a>>
     ensures { MatchResult result
         (λ addresses. AreShownAddresses (values_of name.now (rows_of (found_of options.now)))
         addresses.items)

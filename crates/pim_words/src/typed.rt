@@ -5,33 +5,33 @@ ghost use Rattle.std.specs.Prelude.{◌≡◌, MatchResult, true, map, option_ma
 ghost use Rattle.std.specs.List.{list_all};
 ghost use Rattle.std.specs.Option.{option_map_or};
 ghost use Rattle.pim_words.specs.declared.fault.Fault.TheVariants.{Memory};
-ghost use Rattle.pim_words.specs.Faults.{is_in, are_captures_in, is_tracing_in, is_writing_in};
+ghost use Rattle.pim_words.specs.Faults.{are_captures_in, is_tracing_in, is_writing_in};
+ghost use Rattle.pim_lines.specs.AnyAddress.{is_in, address_in};
 ghost use Rattle.pim_words.specs.Faults.{are_in};
-ghost use Rattle.pim_words.specs.Typed.{address_in, port_seen, SameCaptures, SameTracing};
+ghost use Rattle.pim_words.specs.Typed.{port_seen, SameCaptures, SameTracing};
 ghost use Rattle.pim_words.specs.Typed.{SameWriting, SameTask};
 ghost use Rattle.pim_words.specs.Seen.{IsForeign};
 
-use crate::addresses::Address;
 use crate::fault::Fault;
 use crate::task::{Captures, Port, Task, Tracing, Writing};
-use pim_addr::{AddressFamily, Family};
+use pim_addr::Family;
+use pim_lines::{AnyAddress, of_family};
 use std::alloc::Global;
 
 /// The address, if it is of this family.
-fn in_family<F: Family>(address: Address) -> Result<F::Addr, Fault<'static>>
+fn in_family<F: Family>(address: AnyAddress) -> Result<F::Addr, Fault<'static>>
     ensures { MatchResult result
         (λ a. (is_in F.family address ≡ true) × (address_in F.family (F.bytes_of a) ≡ address))
         (IsForeign (is_in F.family address)) }
 {
-    match (F::family(), address) {
-        (AddressFamily::Ipv4, Address::V4(bytes)) => Ok(F::take(&bytes)),
-        (AddressFamily::Ipv6, Address::V6(bytes)) => Ok(F::take(&bytes)),
-        _ => Err(Fault::Family),
+    match of_family::<F>(address) {
+        Some(address) => Ok(address),
+        None => Err(Fault::Family),
     }
 }
 
 /// The RP, if it is of this family or isn't given.
-fn rp_in_family<F: Family>(rp: Option<Address>) -> Result<Option<F::Addr>, Fault<'static>>
+fn rp_in_family<F: Family>(rp: Option<AnyAddress>) -> Result<Option<F::Addr>, Fault<'static>>
     ensures { MatchResult result
         (λ r. (option_map_or (is_in F.family) rp true ≡ true)
         × (option_map (λ a. address_in F.family (F.bytes_of a)) r ≡ rp))
@@ -48,7 +48,7 @@ fn rp_in_family<F: Family>(rp: Option<Address>) -> Result<Option<F::Addr>, Fault
 
 /// The port, if its address is of this family.
 fn port_in_family<'a, F: Family>(
-    port: &Port<'a, Address>,
+    port: &Port<'a, AnyAddress>,
 ) -> Result<Port<'a, F::Addr>, Fault<'static>>
     ensures { MatchResult result
         (λ p. (is_in F.family port.now.address ≡ true)
@@ -71,7 +71,7 @@ fn port_in_family<'a, F: Family>(
 /// The ports, if all their addresses are of this family.
 fn ports_in_family<'a, F: Family>(
     alloc: Global,
-    ports: &[Port<'a, Address>],
+    ports: &[Port<'a, AnyAddress>],
 ) -> Result<Vec<Port<'a, F::Addr>>, Fault<'static>>
     ensures { MatchResult result
         (λ typed. (list_all (λ port. is_in F.family port.address) ports.now ≡ true)
@@ -102,7 +102,7 @@ fn copied<T: Copy>(alloc: Global, values: &[T]) -> Result<Vec<T>, Fault<'static>
 /// The captures, if all their addresses are of this family.
 fn captures_in_family<'a, F: Family>(
     alloc: Global,
-    captures: &Captures<'a, Address>,
+    captures: &Captures<'a, AnyAddress>,
 ) -> Result<Captures<'a, F::Addr>, Fault<'static>>
     ensures { MatchResult result
         (λ typed. (are_captures_in F.family captures.now ≡ true)
@@ -126,7 +126,7 @@ fn captures_in_family<'a, F: Family>(
 /// The addresses, if all are of this family.
 fn all_in_family<F: Family>(
     alloc: Global,
-    addresses: &[Address],
+    addresses: &[AnyAddress],
 ) -> Result<Vec<F::Addr>, Fault<'static>>
     ensures { MatchResult result
         (λ typed. (list_all (is_in F.family) addresses.now ≡ true)
@@ -146,7 +146,7 @@ fn all_in_family<F: Family>(
 /// What a trace shows, if all its groups and sources are of this family.
 fn tracing_in_family<'a, F: Family>(
     alloc: Global,
-    tracing: &Tracing<'a, Address>,
+    tracing: &Tracing<'a, AnyAddress>,
 ) -> Result<Tracing<'a, F::Addr>, Fault<'static>>
     ensures { MatchResult result
         (λ typed. (is_tracing_in F.family tracing.now ≡ true)
@@ -169,7 +169,7 @@ fn tracing_in_family<'a, F: Family>(
 
 /// The writer, if both its addresses are of this family.
 fn writing_in_family<F: Family>(
-    writing: Writing<Address>,
+    writing: Writing<AnyAddress>,
 ) -> Result<Writing<F::Addr>, Fault<'static>>
     ensures { MatchResult result
         (λ typed. (is_writing_in F.family writing ≡ true)
@@ -188,8 +188,8 @@ fn writing_in_family<F: Family>(
 
 /// The task of `check`, if both its addresses are of this family.
 fn check_in_family<'a, F: Family>(
-    src: Address,
-    dst: Address,
+    src: AnyAddress,
+    dst: AnyAddress,
 ) -> Result<Task<'a, F::Addr>, Fault<'static>>
     ensures { MatchResult result
         (λ typed. (are_in F.family (Task.Check src dst) ≡ true)
@@ -203,8 +203,8 @@ fn check_in_family<'a, F: Family>(
 
 /// The task of `build`, if both its addresses are of this family.
 fn build_in_family<'a, F: Family>(
-    src: Address,
-    dst: Address,
+    src: AnyAddress,
+    dst: AnyAddress,
 ) -> Result<Task<'a, F::Addr>, Fault<'static>>
     ensures { MatchResult result
         (λ typed. (are_in F.family (Task.Build src dst) ≡ true)
@@ -219,7 +219,7 @@ fn build_in_family<'a, F: Family>(
 /// The task, if all its addresses are of this family.
 pub(crate) fn task_in_family<'a, F: Family>(
     alloc: Global,
-    task: &Task<'a, Address>,
+    task: &Task<'a, AnyAddress>,
 ) -> Result<Task<'a, F::Addr>, Fault<'static>>
     ensures { MatchResult result
         (λ typed. (are_in F.family task.now ≡ true) × SameTask F.family F.bytes_of typed task.now)

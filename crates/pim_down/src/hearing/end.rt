@@ -44,8 +44,8 @@ fn end_group<F: Family>(records: &mut Store<F::Addr, OfFamily<F>>, port: usize, 
     }
 }
 
-/// Whether a joined list of the group has a Join(*,G) whose RP is RP(G).
-fn has_star_join<F: Family>(routes: &Routes<F>, group: F::Addr, joined: Entries<'_, F>) -> bool
+/// Returns whether a joined list of the group has a Join(\*,G) whose RP is RP(G).
+pub fn has_star_join<F: Family>(routes: &Routes<F>, group: F::Addr, joined: Entries<'_, F>) -> bool
     ensures { result ≡ list_any is_star_join
         (list_events (known_in F.family routes.now) true (F.bytes_of group) joined.entry) }
 {

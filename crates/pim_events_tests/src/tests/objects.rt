@@ -6,11 +6,12 @@ use pim_capture::Why;
 use pim_down::{Machine, State, Timer, What};
 use pim_event_lines::JsonPrinter;
 use pim_events::{
-    Cause, Ending, Event, Filter, Fired, Greeting, Happening, Ignored, Judgment, Name, OwnRestart,
-    Skip, SkipCounts, Skipping, Teller, TimeOut, Transition,
+    Cause, Ending, Event, Filter, Fired, Greeting, Happening, Ignored, Judgment, OwnRestart, Skip,
+    SkipCounts, Skipping, Teller, TimeOut, Transition,
 };
 use pim_hello::Heard;
 use pim_jp::JpView;
+use pim_lines::Name;
 use pim_router::Verdict;
 use pim_transitions::By;
 use serde_json::Value;

@@ -4,7 +4,8 @@ use clap::error::ErrorKind;
 use pim_addr::ScriptedDrain;
 use pim_commands::{CaptureCause, Fault, tell_into};
 use pim_files::FileCause;
-use pim_words::{Address, ConfigCause, Fault as Unplanned, Refusal, Side};
+use pim_lines::AnyAddress;
+use pim_words::{ConfigCause, Fault as Unplanned, Refusal, Side};
 use std::alloc::{AllocError, Global};
 use std::test::Fail;
 
@@ -63,7 +64,7 @@ fn is_told(alloc: Global, fault: &Fault<'_>, is_asked_for: bool, text: &str) -> 
 
 #[test]
 fn lines_of_faults_stop_at_a_failure(rt: HostRuntime) {
-    let group = Address::V4([239, 1, 1, 1]);
+    let group = AnyAddress::V4([239, 1, 1, 1]);
     let words = |fault| Fault::Words(fault);
     let rows = [
         (

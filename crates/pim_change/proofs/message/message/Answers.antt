@@ -14,8 +14,8 @@ append_sets-requires-clause-groups g c =
     few_sets g.F.Family.family c.args.writer.now.budget (known_in g.F.Family.family c.args.routes.now)
     (units_seen g.F.Family.bytes_of c.args.units.now) c.is_writing.ensures.most c.requires
 
-pub finish-requires-clause-counted : goal.finish-requires-clause-counted
-finish-requires-clause-counted g c =
+pub seal_message-requires-clause-counted : goal.seal_message-requires-clause-counted
+seal_message-requires-clause-counted g c =
     let sets = small_sets g.F.Family.family c.args.writer.now.budget (known_in g.F.Family.family c.args.routes.now)
     (units_seen g.F.Family.bytes_of c.args.units.now) c.is_writing.ensures.most c.requires in
     omega (

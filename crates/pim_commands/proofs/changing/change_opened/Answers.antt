@@ -10,7 +10,8 @@ use Rattle.pim_words.specs.declared.fault.Side.TheVariants.{A, B}
 use Rattle.pim_words.specs.declared.task.Port.{Port}
 use Rattle.pim_files.specs.Opening.{port_files}
 use Rattle.pim_commands.specs.Replaying.{config_of, IsUnmade}
-use Rattle.pim_files.specs.Captures.{is_of, of_router}
+use Rattle.pim_files.specs.Captures.{of_router}
+use Rattle.pim_words.specs.Faults.{is_of}
 use Rattle.pim_commands.proofs.Routers.{as_many}
 use Rattle.pim_commands.proofs.Compared.{a_unmade, b_unmade}
 use Rattle.pim_commands.proofs.Mirrored.{failures_mirrored}

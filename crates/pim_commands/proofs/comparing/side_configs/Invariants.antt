@@ -1,7 +1,7 @@
 use Rattle.std.proofs.Common.{◌≡◌, ◌++◌, drop, map}
 use Rattle.std.specs.List.{filter}
 use Rattle.pim_commands.specs.Replaying.{config_of}
-use Rattle.pim_files.specs.Captures.{is_of}
+use Rattle.pim_words.specs.Faults.{is_of}
 use Rattle.pim_commands.proofs.comparing.side_configs.Given as goal
 
 -- what is there, with what the ports that are left give, is all

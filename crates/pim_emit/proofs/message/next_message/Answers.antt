@@ -33,10 +33,10 @@ returns-clause-next g c =
     let writing = c.args.writer.now in
     let from = position_seen bytes_of c.args.position.now in
     let draft = draft_seen bytes_of c.loop-draft.draft in
-    let front = front_alone c.loop-draft.draft.end c.finish.new.bytes c.split_at_mut-message.result.1.now c.split_at_mut-bytes.result.1.now (c.finish.ensures.length ∙ c.split_at_mut-message.ensures.front_len) in
-    let sealed : IsSealed family writing.own (all_routers family) JoinPrune (canonical_head family writing.upstream c.loop-draft.draft.groups writing.holdtime ++ drop (body_start family) (take c.loop-draft.draft.end c.loop-draft.bytes)) c.finish.new.bytes =
-    subst (λ (b : List ℕ). IsSealed family writing.own (all_routers family) JoinPrune (canonical_head family writing.upstream c.loop-draft.draft.groups writing.holdtime ++ drop (body_start family) b) c.finish.new.bytes)
-    c.split_at_mut-message.ensures.front c.finish.ensures.sealed in
+    let front = front_alone c.loop-draft.draft.end c.seal_message.new.bytes c.split_at_mut-message.result.1.now c.split_at_mut-bytes.result.1.now (c.seal_message.ensures.length ∙ c.split_at_mut-message.ensures.front_len) in
+    let sealed : IsSealed family writing.own (all_routers family) JoinPrune (canonical_head family writing.upstream c.loop-draft.draft.groups writing.holdtime ++ drop (body_start family) (take c.loop-draft.draft.end c.loop-draft.bytes)) c.seal_message.new.bytes =
+    subst (λ (b : List ℕ). IsSealed family writing.own (all_routers family) JoinPrune (canonical_head family writing.upstream c.loop-draft.draft.groups writing.holdtime ++ drop (body_start family) b) c.seal_message.new.bytes)
+    c.split_at_mut-message.ensures.front c.seal_message.ensures.sealed in
     subst (IsMessage family writing c.args.asked.now from draft.position) (sym front)
-    (message_made family writing c.args.asked.now from draft c.loop-draft.bytes c.finish.new.bytes c.loop-draft.draft.groups c.groups_are_counted.ensures c.loop-draft.invariant.made c.loop-draft-test.false
+    (message_made family writing c.args.asked.now from draft c.loop-draft.bytes c.seal_message.new.bytes c.loop-draft.draft.groups c.groups_are_counted.ensures c.loop-draft.invariant.made c.loop-draft-test.false
     c.if-draft-eq0.false refl sealed)

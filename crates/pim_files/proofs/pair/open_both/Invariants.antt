@@ -3,7 +3,8 @@ use Rattle.pim_merge.specs.Next.{IsUntaken}
 use Rattle.std.specs.List.{filter}
 use Rattle.pim_words.specs.declared.fault.Side.TheVariants.{A, B}
 use Rattle.pim_files.specs.Files.{AsksFor}
-use Rattle.pim_files.specs.Captures.{all_files, files_from, names_of, is_of, of_router, CanOpen, HoldFiles}
+use Rattle.pim_files.specs.Captures.{all_files, files_from, names_of, of_router, CanOpen, HoldFiles}
+use Rattle.pim_words.specs.Faults.{is_of}
 use Rattle.pim_files.proofs.pair.open_both.Given as goal
 
 -- of each router the captures of its ports before this one, of which nothing was taken

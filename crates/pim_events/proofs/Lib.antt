@@ -1,3 +1,0 @@
-pub mod Copied
-pub mod Decimals
-pub mod ShortTexts

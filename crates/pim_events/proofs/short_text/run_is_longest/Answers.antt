@@ -1,5 +1,0 @@
-use Rattle.pim_events.proofs.ShortTexts.{run_first}
-use Rattle.pim_events.proofs.short_text.run_is_longest.Goals as goal
-
-pub returns : goal.returns
-returns c = run_first

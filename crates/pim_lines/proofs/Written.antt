@@ -1,0 +1,72 @@
+-- A text that is written piece by piece.
+use Rattle.std.proofs.Common.{◌≡◌, ℕ, ◌+◌, ◌≤◌, List, [], ◌++◌, length, take, Option, None, Some, Result, Ok, Err, IsErr, get_or, drop, ◌<◌, refl, sym, ap, subst, ◌∙◌, arith, append_assoc, append-nil, length-append}
+use Rattle.std.proofs.lemmas.List.{take-append-le, length-take, drop_more, drop_all}
+use Rattle.std.specs.List.{flat_map}
+use Rattle.std.proofs.KnownBytes.{Appends-nil, Appends-trans}
+use Rattle.std.specs.Io.KnownBytes.{Appends}
+use Rattle.pim_device.specs.Device.{AppendsFront, AppendsAll}
+
+-- nothing behind the first piece was written
+pub front-longer : (a b : Option (List ℕ)) (bs cs : List ℕ) → AppendsFront a b bs → AppendsFront a b (bs ++ cs)
+front-longer None b bs cs p = tt
+front-longer (Some xs) None bs cs p = absurd p
+front-longer (Some xs) (Some ys) bs cs p =
+    let short : length ys ≤ length (xs ++ bs) = omega (arith, ap length p.1 ∙ length-take (length ys) (xs ++ bs)) in
+    (p.0, p.1 ∙ sym (take-append-le (length ys) (xs ++ bs) cs short) ∙ ap (take (length ys)) (append_assoc xs bs cs))
+
+-- all of the first piece was written, and a front of the second
+pub front-more : (a b c : Option (List ℕ)) (bs cs : List ℕ) → Appends a b bs → AppendsFront b c cs → AppendsFront a c (bs ++ cs)
+front-more None b c bs cs p q = tt
+front-more (Some xs) None c bs cs p q = absurd p
+front-more (Some xs) (Some ys) None bs cs p q = absurd q
+front-more (Some xs) (Some ys) (Some zs) bs cs p q =
+    let long : length ys ≡ length xs + length bs = ap length p ∙ length-append xs bs in
+    (omega (arith, q.0), q.1 ∙ ap (λ l. take (length zs) (l ++ cs)) p ∙ ap (take (length zs)) (append_assoc xs bs cs))
+
+-- Of `all`, this much is still to be written.
+pub record IsLeft (old now : Option (List ℕ)) (left all : List ℕ) : Type 0 where
+  pub done : List ℕ
+  pub wrote : Appends old now done
+  pub is_all : all ≡ done ++ left
+
+pub left_all : (old : Option (List ℕ)) (all : List ℕ) → IsLeft old old all all
+left_all old all = record { done = []; wrote = Appends-nil old; is_all = refl }
+
+pub left_less : (old now new : Option (List ℕ)) (piece left all : List ℕ) → IsLeft old now (piece ++ left) all → Appends now new piece → IsLeft old new left all
+left_less old now new piece left all w p = record {
+  done = w.done ++ piece;
+  wrote = Appends-trans old now new w.done piece w.wrote p;
+  is_all = w.is_all ∙ sym (append_assoc w.done piece left);
+}
+
+pub left_none : (old now : Option (List ℕ)) (all : List ℕ) → IsLeft old now [] all → Appends old now all
+left_none old now all w = subst (λ l. Appends old now l) (sym (w.is_all ∙ append-nil w.done)) w.wrote
+
+pub left_stopped : (old now new : Option (List ℕ)) (piece left all : List ℕ) → IsLeft old now (piece ++ left) all → AppendsFront now new piece → AppendsFront old new all
+left_stopped old now new piece left all w p =
+    subst (λ l. AppendsFront old new l) (sym w.is_all) (front-more old now new w.done (piece ++ left) w.wrote (front-longer now new piece left p))
+
+pub stopped : {A E : Type 0} (old new : Option (List ℕ)) (r : Result A E) (text : List ℕ) → IsErr r → AppendsFront old new text → AppendsAll old new r text
+stopped old new (Ok x) text e p = absurd cc
+stopped old new (Err x) text e p = p
+
+-- ---- the texts of a slice's items
+
+module _ {X : Type 0} (f : X → List ℕ) (xs : List X) (i : ℕ) (d : X) where
+  split_here : i < length xs → flat_map f (drop i xs) ≡ f (get_or xs i d) ++ flat_map f (drop (i + 1) xs)
+  split_here below = ap (flat_map f) (drop_more xs i d below)
+
+  pub item_written : (old now new : Option (List ℕ)) (all : List ℕ) → i < length xs → IsLeft old now (flat_map f (drop i xs)) all → Appends now new (f (get_or xs i d))
+      → IsLeft old new (flat_map f (drop (i + 1) xs)) all
+  item_written old now new all below w p =
+      left_less old now new (f (get_or xs i d)) (flat_map f (drop (i + 1) xs)) all (subst (λ l. IsLeft old now l all) (split_here below) w) p
+
+  pub item_stopped : (old now new : Option (List ℕ)) (all : List ℕ) → i < length xs → IsLeft old now (flat_map f (drop i xs)) all → AppendsFront now new (f (get_or xs i d))
+      → AppendsFront old new all
+  item_stopped old now new all below w p =
+      left_stopped old now new (f (get_or xs i d)) (flat_map f (drop (i + 1) xs)) all (subst (λ l. IsLeft old now l all) (split_here below) w) p
+
+pub items_written : {X : Type 0} (f : X → List ℕ) (xs : List X) (i : ℕ) (old now : Option (List ℕ)) (all : List ℕ) → length xs ≤ i → IsLeft old now (flat_map f (drop i xs)) all
+    → Appends old now all
+items_written f xs i old now all over w =
+    left_none old now all (subst (λ l. IsLeft old now l all) (ap (flat_map f) (drop_all i xs over)) w)
