@@ -42,7 +42,7 @@ all_groups family = record { bits = group_bits family; address = first_group fam
 -- A table whose only row to an RP has the prefix of all groups leads each group to that RP.
 abbrev pub OneRpForAllGroups : Type 0
 OneRpForAllGroups = (family : AddressFamily) (rp group : List ℕ) (table : RouteTable) → IsAddress family group →
-    is_group family group ≡ true → table.rps ≡ (all_groups family, rp) ∷ [] → rp_of family group table ≡ Some rp
+    is_group family group ≡ true → table.rps ≡ (all_groups family, rp) ∷ [] → rp_of family table group ≡ Some rp
 
 -- The prefix of all addresses: 0.0.0.0/0 or ::/0.
 abbrev pub all_addresses : AddressFamily → Prefix

@@ -54,9 +54,10 @@ longest (row ∷ rows) = Some (longer_of row (longest rows))
 unfoldable pub led_to : AddressFamily → List ℕ → List Row → Option (List ℕ)
 led_to family address rows = option_map (λ row. row.1) (longest (filter (matches family address) rows))
 
--- The RP of a group: RP(G) of RFC 7761.
-abbrev pub rp_of : AddressFamily → List ℕ → RouteTable → Option (List ℕ)
-rp_of family group table = led_to family group table.rps
+-- RP(G) by the table: the RP to which it leads the group, and `None` where it leads nowhere
+-- (RFC 7761, 4.7.1).
+abbrev pub rp_of : AddressFamily → RouteTable → List ℕ → Option (List ℕ)
+rp_of family table group = led_to family group table.rps
 
 -- The upstream neighbour through which an address is reached (MRIB.next_hop of RFC 7761).
 abbrev pub via : AddressFamily → List ℕ → RouteTable → Option (List ℕ)

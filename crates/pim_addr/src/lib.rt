@@ -52,7 +52,7 @@ pub use route_laws::{
     row_is_added_at_its_prefix,
 };
 pub use route_rows::RouteRows;
-pub use routes::Routes;
+pub use routes::{Routes, group_bits};
 pub use text::write_text;
 pub use written::{
     group_reads_back, put_group, put_source, put_unicast, source_reads_back, unicast_reads_back,

@@ -40,7 +40,7 @@ impl<F: Family> Model for Routes<F> {
 }
 
 /// Returns the number of leading bits that all groups share.
-fn group_bits<F: Family>() -> u8
+pub fn group_bits<F: Family>() -> u8
     ensures { result ≡ group_bits F.family }
 {
     match F::family() {
@@ -83,7 +83,7 @@ impl<F: Family> Routes<F> {
     /// It takes no memory. The time is that of one binary search among at most two numbers per row;
     /// it does not depend on the lengths of the rows.
     pub fn rp_of(&self, group: F::Addr) -> Option<F::Addr>
-        ensures { option_map F.bytes_of result ≡ rp_of F.family (F.bytes_of group) self.now }
+        ensures { option_map F.bytes_of result ≡ rp_of F.family self.now (F.bytes_of group) }
     {
         self.rps.led_to(group)
     }

@@ -3,8 +3,7 @@ use Rattle.std.proofs.Common.{◌≡◌, ◌≢◌, ◌⊎◌, ℕ, Bool, true, 
 use Rattle.pim_device.specs.Device.{AppendsAll}
 use Rattle.pim_addr.specs.declared.family.AddressFamily.{AddressFamily}
 use Rattle.pim_addr.specs.declared.family.AddressFamily.TheVariants.{Ipv4, Ipv6}
-use Rattle.pim_addr.specs.Routes.{RouteTable}
-use Rattle.pim_down.specs.Known.{known_in}
+use Rattle.pim_addr.specs.Routes.{RouteTable, rp_of}
 use Rattle.pim_form.specs.Messages.{Writing as Writer}
 use Rattle.pim_form.specs.NormalForm.{GroupForm}
 use Rattle.pim_form.specs.Refused.{told_too_big}
@@ -79,10 +78,10 @@ module _ {A E : Type 0} (family : AddressFamily) (router : RouterState) (upstrea
 
 -- the same neighbour by the same table
 pub toward_here : (family : AddressFamily) (form : List GroupForm) (routes table : RouteTable) (neighbour upstream : List ℕ) → routes ≡ table → neighbour ≡ upstream
-    → is_toward (known_in family routes) (via_in family routes) neighbour form ≡ true → is_toward (known_in family table) (via_in family table) upstream form ≡ true
+    → is_toward (rp_of family routes) (via_in family routes) neighbour form ≡ true → is_toward (rp_of family table) (via_in family table) upstream form ≡ true
 toward_here family form routes table neighbour upstream r n is =
-    subst (λ (t : RouteTable). is_toward (known_in family t) (via_in family t) upstream form ≡ true) r
-    (subst (λ (a : List ℕ). is_toward (known_in family routes) (via_in family routes) a form ≡ true) n is)
+    subst (λ (t : RouteTable). is_toward (rp_of family t) (via_in family t) upstream form ≡ true) r
+    (subst (λ (a : List ℕ). is_toward (rp_of family routes) (via_in family routes) a form ≡ true) n is)
 
 -- `messages` by a writer without a fault
 pub messages_told : {A E : Type 0} (family : AddressFamily) (writing : Writing) (writer : Writer) (router : RouterState) (old new : Option (List ℕ)) (r : Result A E) → has_other_family family writing ≡ false

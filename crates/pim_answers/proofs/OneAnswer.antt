@@ -2,7 +2,7 @@
 use Rattle.std.proofs.Common.{◌≡◌, ◌∙◌, ◌≢◌, sym, ap, subst, refl, inl, inr, ℕ, ◌-◌, ◌<◌, Bool, true, false, not, ◌||◌, List, [], ◌∷◌, ◌++◌, Option, None, Some, codes, ltb, arith, IsTrue}
 use Rattle.std.proofs.lemmas.Bool.{false≢true, ltb-true, ltb-false}
 use Rattle.pim_addr.specs.declared.family.AddressFamily.{AddressFamily}
-use Rattle.pim_down.specs.Known.{known_in}
+use Rattle.pim_addr.specs.Routes.{rp_of}
 use Rattle.pim_down.specs.Time.{Downstream, IsNextDue}
 use Rattle.pim_form.specs.Laws.{OneNormalForm, OneListOfMessages}
 use Rattle.pim_form.specs.Messages.{Writing as Writer}
@@ -254,7 +254,7 @@ same_test false false there back = refl
 module _ (canonical : OneListOfMessages) (list : OneListIsAsked) (big : OneIsTooBig) (family : AddressFamily) (writer : Writer) (router : RouterState) (kept : Kept) where
   one_compared : (same other : Bool) → AreCompared family writer kept.form router same → AreCompared family writer kept.form router other → same ≡ other
   one_compared same other is too =
-      let before = canonical family writer (known_in family router.routes) kept.form is.before too.before is.of_kept too.of_kept in
+      let before = canonical family writer (rp_of family router.routes) kept.form is.before too.before is.of_kept too.of_kept in
       let now = list family writer router is.now too.now is.of_now too.of_now in
       same_test same other
       (λ yes. too.compared.1 (sym before ∙ (is.compared.0 yes ∙ now)))

@@ -2,7 +2,7 @@
 use Rattle.std.specs.Prelude.{◌≡◌, ◌⊎◌, ◌↔◌, IsTrue, ℕ, Bool, true, false, not, List, [], ◌∷◌, ◌++◌, map, codes, Option, None, Some}
 use Rattle.pim_addr.specs.declared.family.AddressFamily.{AddressFamily}
 use Rattle.pim_addr.specs.Text.{address_text}
-use Rattle.pim_down.specs.Known.{known_in}
+use Rattle.pim_addr.specs.Routes.{rp_of}
 use Rattle.pim_form.specs.Messages.{Writing as Writer, AreCanonical}
 use Rattle.pim_form.specs.NormalForm.{GroupForm, IsFormOf}
 use Rattle.pim_form.specs.TooBig.{too_big}
@@ -143,7 +143,7 @@ pub record AreCompared (family : AddressFamily) (writer : Writer) (form : List G
     (same : Bool) : Type 0 where
   pub before : List (List ℕ)
   pub now : List (List ℕ)
-  pub of_kept : AreCanonical family writer (known_in family router.routes) form before
+  pub of_kept : AreCanonical family writer (rp_of family router.routes) form before
   pub of_now : IsAskedBy family writer router now
   pub compared : IsTrue same ↔ (before ≡ now)
 

@@ -1,8 +1,7 @@
 -- What contracts of private functions say of messages.
 use Rattle.std.specs.Prelude.{◌≡◌, ◌⊎◌, ℕ, Bool, true, false, ◌&&◌, List, [], ◌∷◌, ◌++◌, map, codes, Result, Ok, Err}
 use Rattle.pim_addr.specs.declared.family.AddressFamily.{AddressFamily}
-use Rattle.pim_addr.specs.Routes.{RouteTable}
-use Rattle.pim_down.specs.Known.{known_in}
+use Rattle.pim_addr.specs.Routes.{RouteTable, rp_of}
 use Rattle.pim_form.specs.Messages.{Writing as Writer}
 use Rattle.pim_form.specs.NormalForm.{GroupForm, IsFormOf}
 use Rattle.pim_form.specs.Toward.{via_in, is_toward}
@@ -87,10 +86,10 @@ IsAskedFor family bytes_of keeping router kept (Err fault) =
 module _ {F A N : Type 0} (family : AddressFamily) (bytes_of : A → List ℕ) (routes : RouteTable) (upstream : List ℕ) where
   -- All that the form wants is asked of the neighbour by this table, and its stars have their RPs.
   abbrev pub has_same_tables : KeptForm F A N → Bool
-  has_same_tables kept = is_toward (known_in family routes) (via_in family routes) upstream kept.form
+  has_same_tables kept = is_toward (rp_of family routes) (via_in family routes) upstream kept.form
       && have_their_rps family routes (map (star_seen bytes_of) kept.stars.items)
 
   -- The same, and this is the form.
   abbrev pub IsUsed : KeptForm F A N → List GroupForm → Type 0
   IsUsed kept form = (has_same_tables kept ≡ true) × (form ≡ kept.form)
-      × (is_toward (known_in family routes) (via_in family routes) upstream form ≡ true)
+      × (is_toward (rp_of family routes) (via_in family routes) upstream form ≡ true)

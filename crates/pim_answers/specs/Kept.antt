@@ -5,7 +5,6 @@ use Rattle.std.specs.List.{list_all, position}
 use Rattle.std.specs.Str.{bytes_eq}
 use Rattle.pim_addr.specs.declared.family.AddressFamily.{AddressFamily}
 use Rattle.pim_addr.specs.Routes.{RouteTable, rp_of}
-use Rattle.pim_down.specs.Known.{known_in}
 use Rattle.pim_form.specs.NormalForm.{GroupForm, same_address}
 use Rattle.pim_form.specs.Toward.{via_in, is_toward}
 use Rattle.pim_addr.specs.Families.{is_same}
@@ -50,7 +49,7 @@ lacks_place name kept = nat_lt 64 (length name) || (nat_le 64 (length kept) && n
 abbrev pub star_of : AddressFamily → RouteTable → List ℕ → Option (List (List ℕ)) →
     List (List ℕ × Option (List ℕ)) → List (List ℕ × Option (List ℕ))
 star_of family routes group None others = others
-star_of family routes group (Some exceptions) others = (group, rp_of family group routes) ∷ others
+star_of family routes group (Some exceptions) others = (group, rp_of family routes group) ∷ others
 
 -- The groups of the stars of a form, each with its RP by this table.
 abbrev pub stars_of : AddressFamily → RouteTable → List GroupForm → List (List ℕ × Option (List ℕ))
@@ -67,12 +66,12 @@ are_same (Some one) (Some other) = same_address one other
 -- Each of these groups has the same RP by this table.
 abbrev pub have_their_rps : AddressFamily → RouteTable → List (List ℕ × Option (List ℕ)) → Bool
 have_their_rps family routes stars =
-    list_all (λ (star : List ℕ × Option (List ℕ)). are_same (rp_of family star.0 routes) star.1) stars
+    list_all (λ (star : List ℕ × Option (List ℕ)). are_same (rp_of family routes star.0) star.1) stars
 
 -- What is kept can be compared with what this router asks of the neighbour: its family is that of
 -- the router, by the router's table all that it wants is asked of the neighbour, and each of its
 -- stars has the RP that it had.
 abbrev pub is_usable : AddressFamily → RouteTable → List ℕ → Kept → Bool
 is_usable family routes upstream kept =
-    is_same family kept.family && (is_toward (known_in family routes) (via_in family routes) upstream kept.form
+    is_same family kept.family && (is_toward (rp_of family routes) (via_in family routes) upstream kept.form
     && have_their_rps family routes kept.stars)

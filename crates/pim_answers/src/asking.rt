@@ -4,7 +4,7 @@ ghost use Rattle.std.specs.Prelude.{◌≡◌, ◌≢◌, ◌++◌, true, false,
 ghost use Rattle.std.specs.Prelude.{is_some};
 ghost use Rattle.std.specs.Prelude.{IfOk, IfSome, IfNone};
 ghost use Rattle.pim_device.specs.Device.{AppendsAll, failures_after};
-ghost use Rattle.pim_down.specs.Known.{known_in};
+ghost use Rattle.pim_addr.specs.Routes.{rp_of};
 ghost use Rattle.pim_form.specs.Toward.{via_in, is_toward};
 ghost use Rattle.pim_report.specs.MessageText.{messages_text};
 ghost use Rattle.pim_answers.specs.Answered.{Told};
@@ -287,7 +287,7 @@ fn is_same<F: Family>(
     form: &NormalForm<F>,
     writer: &Writer<F>,
 ) -> Result<bool, FormFault<F>>
-    requires { is_toward (known_in F.family router.now.routes) (via_in F.family router.now.routes)
+    requires { is_toward (rp_of F.family router.now.routes) (via_in F.family router.now.routes)
         writer.now.upstream form.now ≡ true }
     ensures same { IfOk result (AreCompared F.family writer.now form.now router.now) }
     ensures big { SaysBig F.family F.bytes_of writer.now form.now router.now result }

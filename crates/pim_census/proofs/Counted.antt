@@ -230,14 +230,14 @@ module _ (family : AddressFamily) (table : RouteTable) (own group : List ℕ) (a
   field_is address' size = take_at address' _ (address_length family) size
 
   served : (upstream it : List ℕ) → length upstream ≡ address_length family → length it ≡ address_length family → group_without_rp family table (field_of own) (Some (star_of upstream it)) ≡ Some group
-      → (own ≡ upstream) × (group ≡ it) × (rp_of family group table ≡ None)
+      → (own ≡ upstream) × (group ≡ it) × (rp_of family table group ≡ None)
   served upstream it long wide e =
-      let p = split (bytes_eq (field_of own) (field_of upstream)) (take (address_length family) (field_of it)) group (rp_of family (take (address_length family) (field_of it)) table) e in
+      let p = split (bytes_eq (field_of own) (field_of upstream)) (take (address_length family) (field_of it)) group (rp_of family table (take (address_length family) (field_of it))) e in
       let same : own ≡ upstream = sym (field_is own address.0) ∙ ap (take (address_length family)) ((bytes_eq-Decides (field_of own) (field_of upstream)).0 p.0) ∙ field_is upstream long in
-      (same, sym p.2 ∙ field_is it wide, ap (λ x. rp_of family x table) (sym p.2) ∙ p.1)
+      (same, sym p.2 ∙ field_is it wide, ap (λ x. rp_of family table x) (sym p.2) ∙ p.1)
 
   of_sets : (upstream : List ℕ) (sets : List GroupSet) → IsAddress family upstream → AllByRecursion (IsMessageSet family) sets
-      → (own ≡ upstream → list_any (λ (set : GroupSet). bytes_eq group set.group && joins_star set) sets ≡ true → rp_of family group table ≡ None → G) → OfSets Named upstream sets
+      → (own ≡ upstream → list_any (λ (set : GroupSet). bytes_eq group set.group && joins_star set) sets ≡ true → rp_of family table group ≡ None → G) → OfSets Named upstream sets
   of_sets upstream [] to are k = tt
   of_sets upstream (set ∷ sets) to are k =
       let later = list_any (λ (s : GroupSet). bytes_eq group s.group && joins_star s) sets in
@@ -247,7 +247,7 @@ module _ (family : AddressFamily) (table : RouteTable) (own group : List ℕ) (a
         of_sets upstream sets to are.1 (λ same there none. k same (right test later there) none),
       )
 
-  of_messages : (messages : List Message) → AllByRecursion (IsMessage family) messages → (list_any (joins_group own group) messages ≡ true → rp_of family group table ≡ None → G)
+  of_messages : (messages : List Message) → AllByRecursion (IsMessage family) messages → (list_any (joins_group own group) messages ≡ true → rp_of family table group ≡ None → G)
       → AllByRecursion (λ (message : Message). OfSets Named message.upstream message.sets) messages
   of_messages [] are k = tt
   of_messages (message ∷ messages) are k =
@@ -316,10 +316,10 @@ module _ (legal : (family : AddressFamily) (body : List ℕ) → AreBytes body �
 
   pub unserved : (family : AddressFamily) (table : RouteTable) (packets : List Datagram) (own group : List ℕ) → IsAddress family own → AllByRecursion (λ (packet : Datagram). AreBytes packet.payload) packets
       → without_rp family table own (census_of family packets).stars ≡ Some group
-      → (rp_of family group table ≡ None) × (list_any (joins_group own group) (messages_counted family packets) ≡ true)
+      → (rp_of family table group ≡ None) × (list_any (joins_group own group) (messages_counted family packets) ≡ true)
   unserved family table packets own group address are e =
       let messages = messages_counted family packets in
-      let G = (rp_of family group table ≡ None) × (list_any (joins_group own group) messages ≡ true) in
+      let G = (rp_of family table group ≡ None) × (list_any (joins_group own group) messages ≡ true) in
       let each = of_messages family table own group address G messages (are_messages family packets are) (λ there none. (none, there)) in
       named family table own group address G (over (no_names family) messages).stars (held_over (Named family table own group address G) messages (no_names family) each (none_held (Named family table own group address G)))
       (subst (λ (c : Census). without_rp family table own c.stars ≡ Some group) (as_messages packets (no_names family)) e)

@@ -55,5 +55,5 @@ abbrev pub UnservedIsJoined : Type 0
 UnservedIsJoined = (family : AddressFamily) (table : RouteTable) (packets : List Datagram) (own group : List ℕ)
     → IsAddress family own → AllByRecursion (λ packet. AreBytes packet.payload) packets
     → without_rp family table own (census_of family packets).stars ≡ Some group
-    → (rp_of family group table ≡ None)
+    → (rp_of family table group ≡ None)
     × (list_any (joins_group own group) (messages_counted family packets) ≡ true)

@@ -41,7 +41,7 @@ unless_served group (Some rp) = None
 abbrev pub group_without_rp : AddressFamily → RouteTable → List ℕ → Option StarJoin → Option (List ℕ)
 group_without_rp family table own None = None
 group_without_rp family table own (Some star) = cond (bytes_eq own star.upstream)
-    (unless_served (address_in family star.group) (rp_of family (address_in family star.group) table)) None
+    (unless_served (address_in family star.group) (rp_of family table (address_in family star.group))) None
 
 -- The first of two, if there is one, else the second.
 abbrev pub first_of : {A : Type 0} → Option A → Option A → Option A

@@ -1,5 +1,5 @@
 -- The change between two forms has one list of messages.
-use Rattle.std.proofs.Common.{◌≡◌, ◌∙◌, sym, ap, subst, refl, ℕ, List, [], ◌∷◌, ◌++◌, length, map, arith}
+use Rattle.std.proofs.Common.{◌≡◌, ◌∙◌, sym, ap, subst, refl, ℕ, List, [], ◌∷◌, ◌++◌, length, map, arith, Option}
 use Rattle.std.specs.List.{flat_map}
 use Rattle.std.proofs.lemmas.List.{length-map, map-append}
 use Rattle.pim_addr.specs.declared.family.AddressFamily.{AddressFamily}
@@ -8,7 +8,7 @@ use Rattle.pim_frame.specs.Seal.{OneChecksum}
 use Rattle.pim_frame.specs.declared.frame.MessageType.TheVariants.{JoinPrune}
 use Rattle.pim_jp.specs.Canonical.{canonical}
 use Rattle.pim_form.specs.Laws.{OnePacking}
-use Rattle.pim_form.specs.Messages.{Rps, Writing}
+use Rattle.pim_form.specs.Messages.{Writing}
 use Rattle.pim_form.specs.NormalForm.{GroupForm}
 use Rattle.pim_form.specs.Packing.{joined, IsPacking}
 use Rattle.pim_form.specs.Units.{WantUnit}
@@ -49,7 +49,7 @@ same_runs (run ∷ one) (r ∷ other) heavy whole =
     let tail = same_runs one other others parts.1 in
     λ i. head i ∷ tail i
 
-module _ (checksum : OneChecksum) (packing : OnePacking) (family : AddressFamily) (writing : Writing) (rps : Rps) where
+module _ (checksum : OneChecksum) (packing : OnePacking) (family : AddressFamily) (writing : Writing) (rps : List ℕ → Option (List ℕ)) where
   one_told : (runs : List (List ChangeUnit)) (one other : List (List ℕ)) → TellRuns family writing rps runs one → TellRuns family writing rps runs other → one ≡ other
   one_told [] [] [] is too = refl
   one_told [] [] (bytes ∷ other) is too = absurd too

@@ -1,12 +1,12 @@
 -- Messages of a packing, one message on.
-use Rattle.std.proofs.Common.{◌≡◌, ◌∙◌, ℕ, zero, suc, ◌+◌, ◌≤◌, ◌<◌, true, List, [], ◌∷◌, ◌++◌, length, map, take, drop}
+use Rattle.std.proofs.Common.{◌≡◌, ◌∙◌, ℕ, zero, suc, ◌+◌, ◌≤◌, ◌<◌, true, List, [], ◌∷◌, ◌++◌, length, map, take, drop, Option}
 use Rattle.std.proofs.Common.{refl, sym, ap, subst, arith, append_assoc, append-nil, length-drop}
 use Rattle.std.specs.List.{flat_map}
 use Rattle.std.proofs.lemmas.List.{take-append-drop, drop-drop, drop_all, map-append}
 use Rattle.pim_addr.specs.declared.family.AddressFamily.{AddressFamily}
 use Rattle.pim_form.specs.Units.{WantUnit}
 use Rattle.pim_form.specs.Packing.{fits, StopsBefore, IsNonempty, joined, AreRuns}
-use Rattle.pim_form.specs.Messages.{Rps, Writing}
+use Rattle.pim_form.specs.Messages.{Writing}
 use Rattle.pim_change.specs.declared.unit.Unit.{Unit}
 use Rattle.pim_change.specs.Change.{ChangeUnit}
 use Rattle.pim_change.specs.Seen.{units_seen}
@@ -18,7 +18,7 @@ joined_weights (run ∷ runs) =
     ap (λ (l : List WantUnit). weights run ++ l) (joined_weights runs)
     ∙ sym (map-append _ run (flat_map (λ run. run) runs))
 
-module _ (family : AddressFamily) (writing : Writing) (rps : Rps) where
+module _ (family : AddressFamily) (writing : Writing) (rps : List ℕ → Option (List ℕ)) where
   none_told : TellUnits family writing rps [] []
   unfolding AreRuns
   none_told = record { runs = []; packing = record { whole = refl; cut = tt }; told = tt }

@@ -1,5 +1,5 @@
 -- The messages of a change are read back.
-use Rattle.std.proofs.Common.{◌≡◌, ◌≤◌, ◌+◌, ◌∙◌, ℕ, List, [], ◌∷◌, map, length, sym, ap, subst, arith}
+use Rattle.std.proofs.Common.{◌≡◌, ◌≤◌, ◌+◌, ◌∙◌, ℕ, List, [], ◌∷◌, map, length, sym, ap, subst, arith, Option}
 use Rattle.std.specs.List.{AllByRecursion, flat_map}
 use Rattle.pim_addr.specs.declared.family.AddressFamily.{AddressFamily}
 use Rattle.pim_frame.specs.Seal.{checksum, framed}
@@ -7,7 +7,7 @@ use Rattle.pim_frame.specs.declared.frame.MessageType.TheVariants.{JoinPrune}
 use Rattle.pim_jp.specs.Canonical.{IsMessage, canonical, canonical_head_length, canonical_sets_length}
 use Rattle.pim_jp.specs.Message.{Message}
 use Rattle.pim_form.specs.Laws.{SealedMessageIsRead}
-use Rattle.pim_form.specs.Messages.{Rps, Writing, IsWriting}
+use Rattle.pim_form.specs.Messages.{Writing, IsWriting}
 use Rattle.pim_form.specs.NormalForm.{GroupForm}
 use Rattle.pim_form.specs.Packing.{AreRuns}
 use Rattle.pim_change.specs.Change.{ChangeUnit}
@@ -20,7 +20,7 @@ use Rattle.pim_change.proofs.Spelled.{all_split, IsFairUnit, change_fair, run_sp
 abbrev CanonicalHasItsLength : Type 0
 CanonicalHasItsLength = (family : AddressFamily) (message : Message) → IsMessage family message → length (canonical family message) ≡ canonical_head_length family + canonical_sets_length family message.sets
 
-module _ (reads : SealedMessageIsRead) (family : AddressFamily) (writing : Writing) (rps : Rps) (old new : List GroupForm) (is : IsWriting family writing) where
+module _ (reads : SealedMessageIsRead) (family : AddressFamily) (writing : Writing) (rps : List ℕ → Option (List ℕ)) (old new : List GroupForm) (is : IsWriting family writing) where
   all_read : (runs : List (List ChangeUnit)) (messages : List (List ℕ)) → AllByRecursion (IsFairUnit family rps old new) (flat_map (λ run. run) runs) → AllByRecursion HasOneStar runs
       → AreRuns family writing.budget (map weights runs) → TellRuns family writing rps runs messages → AreReadAsRuns family writing rps runs messages
   unfolding AreRuns AreReadAsRuns
@@ -47,7 +47,7 @@ change_is_read reads family writing rps old new messages is normal_old normal_ne
 framed_length : (sum : ℕ) (body : List ℕ) → length (framed JoinPrune sum body) ≡ 4 + length body
 framed_length sum body = omega arith
 
-module _ (lengths : CanonicalHasItsLength) (family : AddressFamily) (writing : Writing) (rps : Rps) (old new : List GroupForm) (is : IsWriting family writing) where
+module _ (lengths : CanonicalHasItsLength) (family : AddressFamily) (writing : Writing) (rps : List ℕ → Option (List ℕ)) (old new : List GroupForm) (is : IsWriting family writing) where
   all_short : (runs : List (List ChangeUnit)) (messages : List (List ℕ)) → AllByRecursion (IsFairUnit family rps old new) (flat_map (λ run. run) runs) → AllByRecursion HasOneStar runs
       → AreRuns family writing.budget (map weights runs) → TellRuns family writing rps runs messages → AllByRecursion (λ (message : List ℕ). length message ≤ writing.budget) messages
   unfolding AreRuns

@@ -14,7 +14,6 @@ use Rattle.pim_form.specs.NormalForm.{same_address}
 use Rattle.pim_form.specs.Units.{unit_group, unit_entries, run_entries, groups_behind, run_groups, run_size}
 use Rattle.pim_form.specs.Units.{empty_set_size, entry_size}
 use Rattle.pim_form.specs.Packing.{fits, most_groups}
-use Rattle.pim_form.specs.Messages.{Rps}
 use Rattle.pim_change.specs.declared.unit.Kind.TheVariants.{JoinRpt, PruneRpt, JoinSource, PruneSource}
 use Rattle.pim_change.specs.Change.{Telling, star_joined, star_pruned, told, ChangeUnit}
 use Rattle.pim_change.specs.Told.{weight_of, weights, rp_entry, joined_entries, pruned_entries, GroupTellings}
@@ -46,7 +45,7 @@ total : List GroupSet → ℕ
 total [] = 0
 total (set ∷ sets) = (length set.joined + length set.pruned) + total sets
 
-total_same : (rps : Rps) (this : ChangeUnit) (first : GroupTellings) (others : List GroupTellings)
+total_same : (rps : List ℕ → Option (List ℕ)) (this : ChangeUnit) (first : GroupTellings) (others : List GroupTellings)
     → this.group ≡ first.group
     → total (map (told_set rps) (tellings_of this.group (this.telling ∷ first.tellings) ∷ others))
     ≡ telling_entries (rps this.group) this.telling + total (map (told_set rps) (first ∷ others))
@@ -62,7 +61,7 @@ total_same rps this first others is =
     (flat_map (pruned_entries (rps group)) first.tellings)) is in
     omega (arith, joined, pruned, same)
 
-total_own : (rps : Rps) (this : ChangeUnit) (parts : List GroupTellings)
+total_own : (rps : List ℕ → Option (List ℕ)) (this : ChangeUnit) (parts : List GroupTellings)
     → total (map (told_set rps) (tellings_of this.group (this.telling ∷ []) ∷ parts))
     ≡ telling_entries (rps this.group) this.telling + total (map (told_set rps) parts)
 unfolding total telling_entries
@@ -72,20 +71,20 @@ total_own rps this parts =
     let pruned = length-append (pruned_entries rp this.telling) [] in
     omega (arith, joined, pruned)
 
-total_set : (rps : Rps) (this : ChangeUnit) (first : GroupTellings) (others : List GroupTellings) (b : Bool)
+total_set : (rps : List ℕ → Option (List ℕ)) (this : ChangeUnit) (first : GroupTellings) (others : List GroupTellings) (b : Bool)
     → same_address this.group first.group ≡ b → total (map (told_set rps) (set_in_front b this first others))
     ≡ telling_entries (rps this.group) this.telling + total (map (told_set rps) (first ∷ others))
 total_set rps this first others true is = total_same rps this first others (same_is this.group first.group is)
 total_set rps this first others false is = total_own rps this (first ∷ others)
 
-total_front : (rps : Rps) (this : ChangeUnit) (parts : List GroupTellings)
+total_front : (rps : List ℕ → Option (List ℕ)) (this : ChangeUnit) (parts : List GroupTellings)
     → total (map (told_set rps) (in_front this parts))
     ≡ telling_entries (rps this.group) this.telling + total (map (told_set rps) parts)
 total_front rps this [] = total_own rps this []
 total_front rps this (first ∷ others) =
     total_set rps this first others (same_address this.group first.group) refl
 
-entries_most : (rps : Rps) (run : List ChangeUnit) → total (told_sets rps run) ≤ run_entries (weights run)
+entries_most : (rps : List ℕ → Option (List ℕ)) (run : List ChangeUnit) → total (told_sets rps run) ≤ run_entries (weights run)
 unfolding total run_entries grouped
 entries_most rps [] = omega arith
 entries_most rps (this ∷ run) =
@@ -170,7 +169,7 @@ pub few_entries : (family : AddressFamily) (budget : ℕ) (run : List ChangeUnit
 few_entries Ipv4 budget run most h = omega (arith, (fits_parts Ipv4 budget run h).0, most)
 few_entries Ipv6 budget run most h = omega (arith, (fits_parts Ipv6 budget run h).0, most)
 
-module _ (family : AddressFamily) (budget : ℕ) (rps : Rps) (run : List ChangeUnit) (most : budget ≤ 65000)
+module _ (family : AddressFamily) (budget : ℕ) (rps : List ℕ → Option (List ℕ)) (run : List ChangeUnit) (most : budget ≤ 65000)
     (fitting : fits family budget (weights run) ≡ true) where
   pub sets_short : AllByRecursion IsShort (told_sets rps run)
   sets_short = all_short (told_sets rps run)
@@ -182,7 +181,7 @@ module _ (family : AddressFamily) (budget : ℕ) (rps : Rps) (run : List ChangeU
   pub few_sets : length (told_sets rps run) ≤ 255
   few_sets = omega (arith, sets_counted, (fits_parts family budget run fitting).1)
 
-pub small_sets : (family : AddressFamily) (budget : ℕ) (rps : Rps) (run : List ChangeUnit) → budget ≤ 65000
+pub small_sets : (family : AddressFamily) (budget : ℕ) (rps : List ℕ → Option (List ℕ)) (run : List ChangeUnit) → budget ≤ 65000
     → fits family budget (weights run) ≡ true → canonical_sets_length family (told_sets rps run) ≤ 65000
 small_sets Ipv4 budget rps run most fitting =
     omega (
@@ -204,7 +203,7 @@ small_sets Ipv6 budget rps run most fitting =
     )
 
 -- the whole message is within the budget
-pub within_budget : (family : AddressFamily) (budget : ℕ) (rps : Rps) (run : List ChangeUnit) → budget ≤ 65000
+pub within_budget : (family : AddressFamily) (budget : ℕ) (rps : List ℕ → Option (List ℕ)) (run : List ChangeUnit) → budget ≤ 65000
     → fits family budget (weights run) ≡ true
     → 4 + (canonical_head_length family + canonical_sets_length family (told_sets rps run)) ≤ budget
 within_budget Ipv4 budget rps run most fitting =

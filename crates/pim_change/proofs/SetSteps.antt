@@ -1,5 +1,5 @@
 -- One more set of a run.
-use Rattle.std.proofs.Common.{◌≡◌, ◌∙◌, ℕ, suc, ◌+◌, ◌≤◌, ◌<◌, List, [], ◌∷◌, ◌++◌, length, map, take, drop}
+use Rattle.std.proofs.Common.{◌≡◌, ◌∙◌, ℕ, suc, ◌+◌, ◌≤◌, ◌<◌, List, [], ◌∷◌, ◌++◌, length, map, take, drop, Option}
 use Rattle.std.proofs.Common.{get_or, sym, ap, subst, arith, append_assoc, append-nil}
 use Rattle.std.proofs.Math.Numerals.{add-one}
 use Rattle.std.proofs.lemmas.List.{drop_more, drop_all, drop-drop}
@@ -7,13 +7,12 @@ use Rattle.std.specs.List.{flat_map}
 use Rattle.pim_addr.specs.declared.family.AddressFamily.{AddressFamily}
 use Rattle.pim_jp.specs.Message.{GroupSet}
 use Rattle.pim_jp.specs.Canonical.{canonical_set, canonical_sets_length}
-use Rattle.pim_form.specs.Messages.{Rps}
 use Rattle.pim_change.specs.declared.unit.Unit.{Unit}
 use Rattle.pim_change.specs.Change.{Telling, unit_of}
 use Rattle.pim_change.specs.Seen.{telling_seen, tellings_seen, units_seen}
 use Rattle.pim_change.specs.Told.{tellings_of, told_set, told_sets, set_size, grouped}
 
-module _ {A : Type 0} (bytes_of : A → List ℕ) (rps : Rps) (units : List (Unit A)) (start n : ℕ) (d : Unit A)
+module _ {A : Type 0} (bytes_of : A → List ℕ) (rps : List ℕ → Option (List ℕ)) (units : List (Unit A)) (start n : ℕ) (d : Unit A)
     (left behind these : List (Unit A)) (below : start < length units) (is_left : left ≡ drop start units)
     (is_behind : behind ≡ drop (start + 1) units) (is_these : these ≡ take (n + 1) left)
     (cut : (telling : Telling)
@@ -66,7 +65,7 @@ one_appended family old new all sets others this is so_far more =
 
 -- ---- at the end
 
-pub no_sets : {A : Type 0} (bytes_of : A → List ℕ) (rps : Rps) (units : List (Unit A)) (start : ℕ)
+pub no_sets : {A : Type 0} (bytes_of : A → List ℕ) (rps : List ℕ → Option (List ℕ)) (units : List (Unit A)) (start : ℕ)
     → length units ≤ start → told_sets rps (units_seen bytes_of (drop start units)) ≡ []
 unfolding grouped
 no_sets bytes_of rps units start all =

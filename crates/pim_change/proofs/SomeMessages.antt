@@ -1,5 +1,5 @@
 -- A change has messages exactly if it isn't too big.
-use Rattle.std.proofs.Common.{◌≡◌, ◌∙◌, ℕ, ◌≤◌, true, false, cond, List, [], ◌∷◌, ◌++◌, None, Some, map, nat_le, refl, sym, ap, subst, arith}
+use Rattle.std.proofs.Common.{◌≡◌, ◌∙◌, ℕ, ◌≤◌, true, false, cond, List, [], ◌∷◌, ◌++◌, None, Some, map, nat_le, refl, sym, ap, subst, arith, Option}
 use Rattle.std.proofs.lemmas.Bool.{le-leb, and_from}
 use Rattle.std.specs.List.{AllByRecursion, flat_map}
 use Rattle.pim_addr.specs.declared.family.AddressFamily.{AddressFamily}
@@ -9,7 +9,7 @@ use Rattle.pim_frame.specs.Seal.{SomeMessageIsSealed}
 use Rattle.pim_frame.specs.declared.frame.MessageType.TheVariants.{JoinPrune}
 use Rattle.pim_jp.specs.Canonical.{canonical}
 use Rattle.pim_form.specs.Laws.{UnitsPackIfEachFits}
-use Rattle.pim_form.specs.Messages.{Rps, Writing, IsWriting}
+use Rattle.pim_form.specs.Messages.{Writing, IsWriting}
 use Rattle.pim_form.specs.Packing.{fits, most_groups, AreRuns}
 use Rattle.pim_form.specs.Units.{WantUnit, source_unit, run_entries, groups_behind, run_groups, run_size}
 use Rattle.pim_change.specs.Change.{Telling, star_joined, star_pruned, told, ChangeUnit, change}
@@ -105,7 +105,7 @@ joined_weights (run ∷ runs) = (λ i. weights run ++ joined_weights runs i) ∙
 
 -- ---- messages
 
-module _ (seal : SomeMessageIsSealed) (packs : UnitsPackIfEachFits) (family : AddressFamily) (writing : Writing) (rps : Rps) where
+module _ (seal : SomeMessageIsSealed) (packs : UnitsPackIfEachFits) (family : AddressFamily) (writing : Writing) (rps : List ℕ → Option (List ℕ)) where
   some_told : (runs : List (List ChangeUnit)) → (messages : List (List ℕ)) × TellRuns family writing rps runs messages
   some_told [] = ([], tt)
   some_told (run ∷ runs) =

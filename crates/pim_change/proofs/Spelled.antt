@@ -11,7 +11,7 @@ use Rattle.pim_jp.specs.Spelling.{same_source}
 use Rattle.pim_jp.specs.Canonical.{IsMessageEntry, IsMessageSet, IsMessage}
 use Rattle.pim_form.specs.NormalForm.{GroupForm, same_address, is_listed, AreExceptions, IsNormalGroup, IsNormal, groups_of}
 use Rattle.pim_form.specs.Rows.{exceptions_of}
-use Rattle.pim_form.specs.Messages.{Rps, Writing, IsWriting, IsRp, IsRpOf, HaveRps}
+use Rattle.pim_form.specs.Messages.{Writing, IsWriting, IsRp, IsRpOf, HaveRps}
 use Rattle.pim_form.specs.Packing.{fits}
 use Rattle.pim_form.specs.Settled.{group_in}
 use Rattle.pim_change.specs.declared.unit.Kind.TheVariants.{JoinRpt, PruneRpt, JoinSource, PruneSource}
@@ -60,7 +60,7 @@ weaker : {A : Type 0} (P Q : A → Type 0) (xs : List A) → ((x : A) → P x �
 weaker P Q [] each all = tt
 weaker P Q (x ∷ xs) each all = (each x all.0, weaker P Q xs each all.1)
 
-module _ (family : AddressFamily) (rps : Rps) where
+module _ (family : AddressFamily) (rps : List ℕ → Option (List ℕ)) where
   abbrev Valid : List ℕ → Type 0
   Valid source = IsSourceAddress family source
 

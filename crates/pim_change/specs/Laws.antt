@@ -1,10 +1,10 @@
 -- The statements of the laws in `src/laws.rt`.
-use Rattle.std.specs.Prelude.{◌≡◌, ◌↔◌, ◌≤◌, ℕ, not, List, [], ◌∷◌, None, length}
+use Rattle.std.specs.Prelude.{◌≡◌, ◌↔◌, ◌≤◌, ℕ, not, List, [], ◌∷◌, None, length, Option}
 use Rattle.std.specs.Option.{is_some}
 use Rattle.std.specs.List.{AllByRecursion, filter, flat_map}
 use Rattle.pim_addr.specs.declared.family.AddressFamily.{AddressFamily}
 use Rattle.pim_form.specs.Laws.{IsReadAs}
-use Rattle.pim_form.specs.Messages.{Rps, Writing, IsWriting, HaveRps}
+use Rattle.pim_form.specs.Messages.{Writing, IsWriting, HaveRps}
 use Rattle.pim_form.specs.NormalForm.{GroupForm, IsNormal, AreAscending, is_listed}
 use Rattle.pim_form.specs.Settled.{group_in}
 use Rattle.pim_form.specs.TooBig as form
@@ -25,7 +25,7 @@ NewStarsAloneAreTooBig = (family : AddressFamily) (budget : ℕ) (old new : List
     ≡ form.too_big family budget (filter (λ this. not (is_some (group_in this.group old).star)) new)
 
 -- Each byte string, sent by the writer, is read as the message of its run.
-unfoldable pub AreReadAsRuns : AddressFamily → Writing → Rps → List (List ChangeUnit) → List (List ℕ) → Type 0
+unfoldable pub AreReadAsRuns : AddressFamily → Writing → (List ℕ → Option (List ℕ)) → List (List ChangeUnit) → List (List ℕ) → Type 0
 AreReadAsRuns family writing rps [] [] = Unit {0}
 AreReadAsRuns family writing rps [] (bytes ∷ messages) = ⊥
 AreReadAsRuns family writing rps (run ∷ runs) [] = ⊥
@@ -33,7 +33,7 @@ AreReadAsRuns family writing rps (run ∷ runs) (bytes ∷ messages) =
     IsReadAs family writing.own bytes (told_message writing rps run) × AreReadAsRuns family writing rps runs messages
 
 -- The byte strings are read as the messages of runs, and together these runs are the change.
-pub record IsReadAsChange (family : AddressFamily) (writing : Writing) (rps : Rps) (old new : List GroupForm)
+pub record IsReadAsChange (family : AddressFamily) (writing : Writing) (rps : List ℕ → Option (List ℕ)) (old new : List GroupForm)
     (messages : List (List ℕ)) : Type 0 where
   pub runs : List (List ChangeUnit)
   pub whole : flat_map (λ run. run) runs ≡ change old new
@@ -42,7 +42,7 @@ pub record IsReadAsChange (family : AddressFamily) (writing : Writing) (rps : Rp
 -- Between two normal forms whose stars have RPs, the messages of the change open without a fault.
 -- They are read as the messages of the change's runs.
 abbrev pub ChangeIsRead : Type 0
-ChangeIsRead = (family : AddressFamily) (writing : Writing) (rps : Rps) (old new : List GroupForm)
+ChangeIsRead = (family : AddressFamily) (writing : Writing) (rps : List ℕ → Option (List ℕ)) (old new : List GroupForm)
     (messages : List (List ℕ)) → IsWriting family writing → IsNormal family old → IsNormal family new →
     HaveRps family rps old → HaveRps family rps new → TellChange family writing rps old new messages →
     IsReadAsChange family writing rps old new messages
@@ -50,7 +50,7 @@ ChangeIsRead = (family : AddressFamily) (writing : Writing) (rps : Rps) (old new
 -- The messages of the change between two normal forms, whose stars have RPs, are within their
 -- writer's budget.
 abbrev pub ChangeMessagesAreShort : Type 0
-ChangeMessagesAreShort = (family : AddressFamily) (writing : Writing) (rps : Rps) (old new : List GroupForm)
+ChangeMessagesAreShort = (family : AddressFamily) (writing : Writing) (rps : List ℕ → Option (List ℕ)) (old new : List GroupForm)
     (messages : List (List ℕ)) → IsWriting family writing →
     IsNormal family old → IsNormal family new → HaveRps family rps old → HaveRps family rps new →
     TellChange family writing rps old new messages →
@@ -63,12 +63,12 @@ AddressesAreInOrder = (addresses : List (List ℕ)) → AreAscending (in_order a
 
 -- The change between two forms has messages by a writer exactly if it isn't too big.
 abbrev pub ChangeHasMessagesUnlessTooBig : Type 0
-ChangeHasMessagesUnlessTooBig = (family : AddressFamily) (writing : Writing) (rps : Rps) (old new : List GroupForm) →
+ChangeHasMessagesUnlessTooBig = (family : AddressFamily) (writing : Writing) (rps : List ℕ → Option (List ℕ)) (old new : List GroupForm) →
     IsWriting family writing → ((messages : List (List ℕ)) × TellChange family writing rps old new messages)
     ↔ (changed.too_big family writing.budget (change old new) ≡ None)
 
 -- The change between two forms has at most one list of messages by a writer.
 abbrev pub OneListOfChange : Type 0
-OneListOfChange = (family : AddressFamily) (writing : Writing) (rps : Rps) (old new : List GroupForm)
+OneListOfChange = (family : AddressFamily) (writing : Writing) (rps : List ℕ → Option (List ℕ)) (old new : List GroupForm)
     (one other : List (List ℕ)) → TellChange family writing rps old new one →
     TellChange family writing rps old new other → one ≡ other

@@ -13,7 +13,7 @@ use Rattle.pim_jp.specs.Canonical.{canonical, canonical_set_length}
 use Rattle.pim_form.specs.NormalForm.{GroupForm, same_address}
 use Rattle.pim_form.specs.Units.{WantUnit, star_unit, source_unit}
 use Rattle.pim_form.specs.Packing.{AreRuns}
-use Rattle.pim_form.specs.Messages.{Rps, Writing}
+use Rattle.pim_form.specs.Messages.{Writing}
 use Rattle.pim_change.specs.declared.unit.Kind.{Kind}
 use Rattle.pim_change.specs.declared.unit.Kind.TheVariants.{JoinRpt, PruneRpt, JoinSource, PruneSource}
 use Rattle.pim_change.specs.Change.{Telling, star_joined, star_pruned, told, ChangeUnit, change}
@@ -104,7 +104,7 @@ grouped [] = []
 grouped (this ∷ units) = in_front this (grouped units)
 
 -- The group set of what one message says of a group, with entries in the order of the units.
-abbrev pub told_set : Rps → GroupTellings → GroupSet
+abbrev pub told_set : (List ℕ → Option (List ℕ)) → GroupTellings → GroupSet
 told_set rps this = record {
   group = this.group;
   joined = flat_map (joined_entries (rps this.group)) this.tellings;
@@ -112,7 +112,7 @@ told_set rps this = record {
 }
 
 -- The group sets of a run.
-abbrev pub told_sets : Rps → List ChangeUnit → List GroupSet
+abbrev pub told_sets : (List ℕ → Option (List ℕ)) → List ChangeUnit → List GroupSet
 told_sets rps run = map (told_set rps) (grouped run)
 
 -- The number of bytes of a group set.
@@ -124,7 +124,7 @@ abbrev pub IsShort : GroupSet → Type 0
 IsShort set = (length set.joined < 2 ^ 16) × (length set.pruned < 2 ^ 16)
 
 -- The Join/Prune message of a run, to the writer's upstream neighbour.
-abbrev pub told_message : Writing → Rps → List ChangeUnit → Message
+abbrev pub told_message : Writing → (List ℕ → Option (List ℕ)) → List ChangeUnit → Message
 told_message writing rps run = record {
   upstream = writing.upstream;
   holdtime = writing.holdtime;
@@ -132,12 +132,12 @@ told_message writing rps run = record {
 }
 
 -- The bytes are the message of a run in its canonical form, sealed to ALL-PIM-ROUTERS.
-abbrev pub TellsRun : AddressFamily → Writing → Rps → List ChangeUnit → List ℕ → Type 0
+abbrev pub TellsRun : AddressFamily → Writing → (List ℕ → Option (List ℕ)) → List ChangeUnit → List ℕ → Type 0
 TellsRun family writing rps run bytes =
     IsSealed family writing.own (all_routers family) JoinPrune (canonical family (told_message writing rps run)) bytes
 
 -- The messages are those of the runs, one for each run, in order.
-abbrev pub TellRuns : AddressFamily → Writing → Rps → List (List ChangeUnit) → List (List ℕ) → Type 0
+abbrev pub TellRuns : AddressFamily → Writing → (List ℕ → Option (List ℕ)) → List (List ChangeUnit) → List (List ℕ) → Type 0
 TellRuns family writing rps [] [] = Unit {0}
 TellRuns family writing rps [] (bytes ∷ messages) = ⊥
 TellRuns family writing rps (run ∷ runs) [] = ⊥
@@ -145,12 +145,12 @@ TellRuns family writing rps (run ∷ runs) (bytes ∷ messages) =
     TellsRun family writing rps run bytes × TellRuns family writing rps runs messages
 
 -- The messages are those of the runs of a packing of the units.
-pub record TellUnits (family : AddressFamily) (writing : Writing) (rps : Rps) (units : List ChangeUnit)
+pub record TellUnits (family : AddressFamily) (writing : Writing) (rps : List ℕ → Option (List ℕ)) (units : List ChangeUnit)
     (messages : List (List ℕ)) : Type 0 where
   pub runs : List (List ChangeUnit)
   pub packing : IsPacked family writing.budget units runs
   pub told : TellRuns family writing rps runs messages
 
 -- The messages are those of the change between two forms.
-abbrev pub TellChange : AddressFamily → Writing → Rps → List GroupForm → List GroupForm → List (List ℕ) → Type 0
+abbrev pub TellChange : AddressFamily → Writing → (List ℕ → Option (List ℕ)) → List GroupForm → List GroupForm → List (List ℕ) → Type 0
 TellChange family writing rps old new messages = TellUnits family writing rps (change old new) messages

@@ -2,7 +2,7 @@
 
 ghost use Rattle.std.specs.Prelude.{◌≡◌, ◌++◌, map, OnOk};
 ghost use Rattle.std.specs.List.{flat_map};
-ghost use Rattle.pim_down.specs.Known.{known_in};
+ghost use Rattle.pim_addr.specs.Routes.{rp_of};
 ghost use Rattle.pim_jp.specs.Seen.{entry_seen};
 ghost use Rattle.pim_change.specs.Seen.{telling_seen, tellings_seen};
 ghost use Rattle.pim_change.specs.Told.{rp_entry, kind_joined, kind_pruned, excepted_entries};
@@ -22,7 +22,7 @@ fn push_rp<F: Family>(
 ) -> Result<(), AllocError>
     ensures { OnOk result (map (entry_seen F.bytes_of) entries.new.items
         ≡ map (entry_seen F.bytes_of) entries.old.items
-        ++ rp_entry (known_in F.family routes.now (F.bytes_of group))) }
+        ++ rp_entry (rp_of F.family routes.now (F.bytes_of group))) }
 {
     if let Some(address) = routes.rp_of(group) {
         entries.push(Entry::Star(address))?;
@@ -90,7 +90,7 @@ fn push_joined<F: Family>(
 ) -> Result<(), AllocError>
     ensures { OnOk result (map (entry_seen F.bytes_of) entries.new.items
         ≡ map (entry_seen F.bytes_of) entries.old.items
-        ++ joined_entries (known_in F.family routes.now (F.bytes_of group))
+        ++ joined_entries (rp_of F.family routes.now (F.bytes_of group))
         (telling_seen F.bytes_of telling.now)) }
 {
     match telling {
@@ -109,7 +109,7 @@ fn push_pruned<F: Family>(
 ) -> Result<(), AllocError>
     ensures { OnOk result (map (entry_seen F.bytes_of) entries.new.items
         ≡ map (entry_seen F.bytes_of) entries.old.items
-        ++ pruned_entries (known_in F.family routes.now (F.bytes_of group))
+        ++ pruned_entries (rp_of F.family routes.now (F.bytes_of group))
         (telling_seen F.bytes_of telling.now)) }
 {
     match telling {
@@ -128,7 +128,7 @@ pub(crate) fn push_all_joined<F: Family>(
 ) -> Result<(), AllocError>
     ensures { OnOk result (map (entry_seen F.bytes_of) entries.new.items
         ≡ map (entry_seen F.bytes_of) entries.old.items
-        ++ flat_map (joined_entries (known_in F.family routes.now (F.bytes_of group)))
+        ++ flat_map (joined_entries (rp_of F.family routes.now (F.bytes_of group)))
         (tellings_seen F.bytes_of units.now)) }
 {
     for unit in units {
@@ -146,7 +146,7 @@ pub(crate) fn push_all_pruned<F: Family>(
 ) -> Result<(), AllocError>
     ensures { OnOk result (map (entry_seen F.bytes_of) entries.new.items
         ≡ map (entry_seen F.bytes_of) entries.old.items
-        ++ flat_map (pruned_entries (known_in F.family routes.now (F.bytes_of group)))
+        ++ flat_map (pruned_entries (rp_of F.family routes.now (F.bytes_of group)))
         (tellings_seen F.bytes_of units.now)) }
 {
     for unit in units {

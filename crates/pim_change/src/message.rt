@@ -7,7 +7,7 @@
 ghost use Rattle.std.specs.Prelude.{◌≡◌, ◌≤◌, ◌<◌, ◌^◌, ◌+◌, ◌++◌, ◌∷◌, true, length, map, take};
 ghost use Rattle.std.specs.Prelude.{drop, OnOk, IfOk};
 ghost use Rattle.std.specs.List.{AllByRecursion, flat_map};
-ghost use Rattle.pim_down.specs.Known.{known_in};
+ghost use Rattle.pim_addr.specs.Routes.{rp_of};
 ghost use Rattle.pim_frame.specs.Frame.{all_routers};
 ghost use Rattle.pim_frame.specs.Seal.{IsSealed};
 ghost use Rattle.pim_frame.specs.declared.frame.MessageType.TheVariants.{JoinPrune};
@@ -58,13 +58,13 @@ fn append_set<F: Family>(
     units: &[Unit<'_, F::Addr>],
     bytes: &mut Vec<u8>,
 ) -> Result<(), AllocError>
-    requires { IsShort (told_set (known_in F.family routes.now)
+    requires { IsShort (told_set (rp_of F.family routes.now)
         (tellings_of (F.bytes_of group) (tellings_seen F.bytes_of units.now))) }
     ensures appended { OnOk result (bytes.new.items ≡ bytes.old.items ++ canonical_set F.family
-        (told_set (known_in F.family routes.now)
+        (told_set (rp_of F.family routes.now)
         (tellings_of (F.bytes_of group) (tellings_seen F.bytes_of units.now)))) }
     ensures longer { OnOk result (length bytes.new.items ≡ length bytes.old.items
-        + set_size F.family (told_set (known_in F.family routes.now)
+        + set_size F.family (told_set (rp_of F.family routes.now)
         (tellings_of (F.bytes_of group) (tellings_seen F.bytes_of units.now)))) }
 {
     let mut joined = Vec::new(alloc);
@@ -99,17 +99,17 @@ fn append_sets<F: Family>(
     bytes: &mut Vec<u8>,
 ) -> Result<u8, AllocError>
     requires short { AllByRecursion IsShort
-        (told_sets (known_in F.family routes.now) (units_seen F.bytes_of units.now)) }
+        (told_sets (rp_of F.family routes.now) (units_seen F.bytes_of units.now)) }
     requires groups { length
-        (told_sets (known_in F.family routes.now) (units_seen F.bytes_of units.now)) ≤ 255 }
+        (told_sets (rp_of F.family routes.now) (units_seen F.bytes_of units.now)) ≤ 255 }
     ensures appended { OnOk result (bytes.new.items ≡ bytes.old.items
         ++ flat_map (canonical_set F.family)
-        (told_sets (known_in F.family routes.now) (units_seen F.bytes_of units.now))) }
+        (told_sets (rp_of F.family routes.now) (units_seen F.bytes_of units.now))) }
     ensures longer { OnOk result (length bytes.new.items ≡ length bytes.old.items
         + canonical_sets_length F.family
-        (told_sets (known_in F.family routes.now) (units_seen F.bytes_of units.now))) }
+        (told_sets (rp_of F.family routes.now) (units_seen F.bytes_of units.now))) }
     ensures counted { IfOk result (λ count.
-        count ≡ length (told_sets (known_in F.family routes.now) (units_seen F.bytes_of units.now))) }
+        count ≡ length (told_sets (rp_of F.family routes.now) (units_seen F.bytes_of units.now))) }
 {
     let mut start = 0;
     let mut count = 0;
@@ -135,7 +135,7 @@ pub(crate) fn message<F: Family>(
     units: &[Unit<'_, F::Addr>],
 ) -> Result<Vec<u8>, AllocError>
     requires { fits F.family writer.now.budget (weights (units_seen F.bytes_of units.now)) ≡ true }
-    ensures { IfOk result (λ bytes. TellsRun F.family writer.now (known_in F.family routes.now)
+    ensures { IfOk result (λ bytes. TellsRun F.family writer.now (rp_of F.family routes.now)
         (units_seen F.bytes_of units.now) bytes.items) }
 {
     writer.is_writing();

@@ -4,7 +4,7 @@
 //! list.
 
 ghost use Rattle.std.specs.Prelude.{◌≡◌, ◌≢◌, None, Err, option_map, IfOk};
-ghost use Rattle.pim_down.specs.Known.{known_in};
+ghost use Rattle.pim_addr.specs.Routes.{rp_of};
 ghost use Rattle.pim_form.specs.Refused.{told_too_big};
 ghost use Rattle.pim_change.specs.Change.{change};
 ghost use Rattle.pim_change.specs.Seen.{units_seen};
@@ -29,7 +29,7 @@ fn told_units<F: Family>(
     routes: &Routes<F>,
 ) -> Result<Messages, AllocError>
     requires { too_big F.family writer.now.budget (units_seen F.bytes_of units.now) ≡ None }
-    ensures { IfOk result (λ messages. TellUnits F.family writer.now (known_in F.family routes.now)
+    ensures { IfOk result (λ messages. TellUnits F.family writer.now (rp_of F.family routes.now)
         (units_seen F.bytes_of units.now) messages) }
 {
     writer.is_writing();
@@ -55,7 +55,7 @@ fn told_change<F: Family>(
     routes: &Routes<F>,
 ) -> Result<Messages, AllocError>
     requires { too_big F.family writer.now.budget (change told.now wanted.now) ≡ None }
-    ensures { IfOk result (λ messages. TellChange F.family writer.now (known_in F.family routes.now)
+    ensures { IfOk result (λ messages. TellChange F.family writer.now (rp_of F.family routes.now)
         told.now wanted.now messages) }
 {
     let units = changed::<F>(alloc, told, wanted)?;
@@ -81,7 +81,7 @@ pub fn triggered<F: Family>(
     routes: &Routes<F>,
 ) -> Result<Messages, FormFault<F>>
     ensures change { IfOk result
-        (λ messages. TellChange F.family writer.now (known_in F.family routes.now)
+        (λ messages. TellChange F.family writer.now (rp_of F.family routes.now)
         told.now wanted.now messages) }
     ensures too_big { option_map F.bytes_of (told_too_big result)
         ≡ too_big F.family writer.now.budget (change told.now wanted.now) }

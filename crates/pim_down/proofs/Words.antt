@@ -70,7 +70,7 @@ pub use Rattle.pim_down.specs.Hearing.{set_events, start_of}
 unfoldable pub use Rattle.pim_down.specs.Hearing.{act_all, count_new, effects}
 pub use Rattle.pim_down.specs.Key.{address_cmp, rank, same_key, source_of}
 unfoldable pub use Rattle.pim_down.specs.Key.{key_cmp, what_cmp}
-pub use Rattle.pim_down.specs.Known.{known_in}
+pub use Rattle.pim_addr.specs.Routes.{rp_of}
 pub use Rattle.pim_down.specs.Laws.{FiringHasOneEnd, RunIsAChainOfFirings, said_of}
 pub use Rattle.pim_down.specs.Ordered.{AreAlike, IsLast, StarsComeFirst, StayButNamed, comes_before_by_source}
 pub use Rattle.pim_down.specs.Ordered.{entry_named, entry_of_what, is_of_rpts_of, source_key_of, source_or_star}

@@ -1,11 +1,10 @@
 -- The definitions that contracts of `pim_down` cite. `Key`, `Tables`, `Records`, `Hearing`,
--- `Known`, `After`, `Time`, `Firing`, `Heard` and `Sound` give the meaning of public calls. The other modules
+-- `After`, `Time`, `Firing`, `Heard` and `Sound` give the meaning of public calls. The other modules
 -- serve private steps, the view of code values, and laws.
 pub mod Key
 pub mod Tables
 pub mod Records
 pub mod Hearing
-pub mod Known
 pub mod After
 pub mod Time
 pub mod Firing

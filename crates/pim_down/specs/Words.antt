@@ -20,7 +20,7 @@ pub use Rattle.pim_down.specs.Hearing.{rpt_count_on, set_events, start_of}
 unfoldable pub use Rattle.pim_down.specs.Hearing.{act_all, count_new}
 pub use Rattle.pim_down.specs.Key.{address_cmp}
 unfoldable pub use Rattle.pim_down.specs.Key.{key_cmp, what_cmp}
-pub use Rattle.pim_down.specs.Known.{known_in}
+pub use Rattle.pim_addr.specs.Routes.{rp_of}
 pub use Rattle.pim_down.specs.Ordered.{AreAlike, IsLast, StarsComeFirst, StayButNamed, comes_before}
 pub use Rattle.pim_down.specs.Ordered.{comes_before_by_source, is_of_rpts_of, source_key_of, source_or_star}
 unfoldable pub use Rattle.pim_down.specs.PutOff.{put_off_from, with_run}

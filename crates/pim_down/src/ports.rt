@@ -4,7 +4,7 @@ ghost use Rattle.std.specs.Prelude.{◌≡◌, ◌≤◌, ◌<◌, [], None, max
 ghost use Rattle.pim_down.specs.Words.{filter, Reached, rpt_count_on, state_of, machine_at, is_on};
 ghost use Rattle.pim_down.specs.Words.{count_on, heard, needed_for, new_for, IsWithin};
 ghost use Rattle.pim_down.specs.Words.{MayWantMemory, OthersStay, Downstream, Runs, RunsLooking};
-ghost use Rattle.pim_down.specs.Words.{IsNextDue, FiresTo, known_in, key_at, what_seen, step_seen};
+ghost use Rattle.pim_down.specs.Words.{IsNextDue, FiresTo, rp_of, key_at, what_seen, step_seen};
 ghost use Rattle.pim_down.specs.Words.{firing_seen, told_seen, group_after, next_in_group, IsSound};
 
 use crate::hearing::hear::start_at;
@@ -313,12 +313,12 @@ impl<F: Family> Ports<F> {
         requires port { port < self.old.ports }
         requires interval { timing.override_ms ≤ 98302 }
         ensures ok { OnOk result (self.new
-            ≡ heard port message.now (known_in F.family routes.now) timing self.old) }
+            ≡ heard port message.now (rp_of F.family routes.now) timing self.old) }
         ensures err { OnErr result (self.new ≡ self.old) }
         ensures room { IsWithin self.old.limit
-            (needed_for port message.now (known_in F.family routes.now) self.old) result }
+            (needed_for port message.now (rp_of F.family routes.now) self.old) result }
         ensures memory { MayWantMemory
-            (new_for port message.now (known_in F.family routes.now) self.old) result }
+            (new_for port message.now (rp_of F.family routes.now) self.old) result }
         ensures ports { self.new.ports ≡ self.old.ports }
         ensures others { OthersStay port self.old self.new }
     {

@@ -5,7 +5,7 @@ use Rattle.std.specs.List.{list_any}
 use Rattle.std.specs.Option.{is_some}
 use Rattle.std.proofs.lemmas.Bool.{false≢true, and_parts, and_from}
 use Rattle.pim_addr.specs.Address.{IsGroupAddress, IsSourceAddress}
-use Rattle.pim_addr.specs.Routes.{RouteTable}
+use Rattle.pim_addr.specs.Routes.{RouteTable, rp_of}
 use Rattle.pim_addr.specs.declared.family.AddressFamily.{AddressFamily}
 use Rattle.pim_down.specs.After.{is_above}
 use Rattle.pim_down.specs.declared.machines.key.Key.{Key}
@@ -14,7 +14,6 @@ use Rattle.pim_down.specs.declared.machines.machine.Record.{Record}
 use Rattle.pim_down.specs.declared.machines.machine.State.{State}
 use Rattle.pim_down.specs.Hearing.{rpt_count_on}
 use Rattle.pim_down.specs.Key.{address_cmp, source_of}
-use Rattle.pim_down.specs.Known.{known_in}
 use Rattle.pim_down.specs.Laws.{KeysAreToldApart}
 use Rattle.pim_down.specs.Records.{machine_at}
 use Rattle.pim_down.specs.Sound.{IsSound, IsReal}
@@ -65,14 +64,14 @@ pub of_first : (state : Downstream) (group : List ℕ) (port : ℕ) (first : Opt
 of_first state group port first rpts same are = subst (λ (f : Option ℕ). AreRpts state group f rpts) (sym same) are
 
 -- the neighbour that is asked for a star is told from the upstream
-pub is_reached : (family : AddressFamily) (table : RouteTable) (neighbour group : List ℕ) (upstream : Option (List ℕ)) (answer : Bool) → upstream ≡ via_rp (via_in family table) (known_in family table group)
-    → answer ≡ is_neighbour neighbour upstream → answer ≡ is_neighbour neighbour (via_rp (via_in family table) (known_in family table group))
+pub is_reached : (family : AddressFamily) (table : RouteTable) (neighbour group : List ℕ) (upstream : Option (List ℕ)) (answer : Bool) → upstream ≡ via_rp (via_in family table) (rp_of family table group)
+    → answer ≡ is_neighbour neighbour upstream → answer ≡ is_neighbour neighbour (via_rp (via_in family table) (rp_of family table group))
 is_reached family table neighbour group upstream answer is answers = answers ∙ ap (λ a. is_neighbour neighbour a) is
 
 module _ (family : AddressFamily) (table : RouteTable) (neighbour : List ℕ) (state : Downstream) (form : List GroupForm) (asked : IsAskedForm family table neighbour state form)
     (group : List ℕ) (is_group : IsGroupAddress family group) where
   abbrev reached : Bool
-  reached = is_neighbour neighbour (via_rp (via_in family table) (known_in family table group))
+  reached = is_neighbour neighbour (via_rp (via_in family table) (rp_of family table group))
 
   -- where some port has (*,G), there is a star if the RP is reached
   pub star_if_reached : (first : Option ℕ) (answer : Bool) → IsSomeBelow state.ports (is_starred state group) first → is_some first ≡ true → answer ≡ reached → answer ≡ is_some (star_of group form)

@@ -4,7 +4,7 @@ use Rattle.std.specs.List.{AllByRecursion, list_any}
 use Rattle.std.specs.Option.{is_some}
 use Rattle.std.proofs.lemmas.Bool.{false≢true, eq-eqb, and_parts, and_from, or_left, or_right}
 use Rattle.pim_addr.specs.Address.{IsGroupAddress, IsSourceAddress}
-use Rattle.pim_addr.specs.Routes.{RouteTable}
+use Rattle.pim_addr.specs.Routes.{RouteTable, rp_of}
 use Rattle.pim_addr.specs.declared.family.AddressFamily.{AddressFamily}
 use Rattle.pim_down.specs.After.{is_above}
 use Rattle.pim_down.specs.declared.machines.key.Key.{Key}
@@ -12,7 +12,6 @@ use Rattle.pim_down.specs.declared.machines.key.What.{What}
 use Rattle.pim_down.specs.declared.machines.key.What.TheVariants.{Star, Source}
 use Rattle.pim_down.specs.declared.machines.machine.Machine.{Machine}
 use Rattle.pim_down.specs.declared.machines.machine.Record.{Record}
-use Rattle.pim_down.specs.Known.{known_in}
 use Rattle.pim_down.specs.Laws.{KeysAreToldApart}
 use Rattle.pim_down.specs.Records.{machine_at, is_on}
 use Rattle.pim_down.specs.Sound.{IsSound, IsReal}
@@ -123,7 +122,7 @@ module _ (apart : KeysAreToldApart) (family : AddressFamily) (table : RouteTable
   -- each of them has a record on some port
   starred_is_held : (group : List ℕ) → IsGroupAddress family group → is_some (star_of group form) ≡ true → is_held group ≡ true
   starred_is_held group of_family some =
-      let wanted = (and_parts (some_below state.ports (is_starred state group)) (is_neighbour neighbour (via_rp (via_in family table) (known_in family table group)))
+      let wanted = (and_parts (some_below state.ports (is_starred state group)) (is_neighbour neighbour (via_rp (via_in family table) (rp_of family table group)))
       (sym (asked.groups group of_family).star ∙ some)).0 in
       let port = which_below (is_starred state group) state.ports wanted in
       let held = told_state (machine_at (key_of port.0 group Star) state.records) (joined_is_some (state_on state.records port.0 group Star) port.2) in

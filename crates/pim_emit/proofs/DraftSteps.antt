@@ -27,7 +27,8 @@ use Rattle.pim_emit.specs.declared.piece.Piece.{Piece}
 use Rattle.pim_emit.specs.declared.position.Position.{Position}
 use Rattle.pim_emit.specs.declared.position.Position.TheVariants.{Within, Behind}
 use Rattle.pim_emit.specs.declared.set.ToldSources.{ToldSources}
-use Rattle.pim_emit.specs.Asking.{Asking, rps_of}
+use Rattle.pim_emit.specs.Asking.{Asking}
+use Rattle.pim_addr.specs.Routes.{rp_of}
 use Rattle.pim_emit.specs.Drafts.{IsDraft, message_size, body_start}
 use Rattle.pim_emit.specs.Left.{IsPiece, IsPosition, above, next_above, groups_above, left_at, is_past, star_of, sources_in, piece_form}
 use Rattle.pim_emit.specs.Sets.{AreTold, cut_piece, set_size}
@@ -296,35 +297,35 @@ module _ (family : AddressFamily) (budget : ℕ) (asking : Asking) (begun : Posi
           ends ∙ ap (λ (n : ℕ). message_size family n (run_entries (units_of made.part) + entries)) (sym (groups_more made.part cut))
           ∙ ap (λ (n : ℕ). message_size family (length part) n) (sym counted_entries)
 
-      module _ (rp : piece.starred ≡ true → is_some (rps_of family asking piece.group) ≡ true) (front set : List ℕ) (is_front : front ≡ take draft.end bytes) (long : draft.end ≤ length bytes)
+      module _ (rp : piece.starred ≡ true → is_some (rp_of family asking.table piece.group) ≡ true) (front set : List ℕ) (is_front : front ≡ take draft.end bytes) (long : draft.end ≤ length bytes)
           (size : ℕ) (sized : size ≡ canonical_set_length family (stars + told.count) exceptions)
-          (written : take (set_size family (rps_of family asking) cut) set ≡ canonical_set family (told_set (rps_of family asking) cut)) where
-        joined_counts : length (told_set (rps_of family asking) cut).joined ≡ stars + told.count
+          (written : take (set_size family (rp_of family asking.table) cut) set ≡ canonical_set family (told_set (rp_of family asking.table) cut)) where
+        joined_counts : length (told_set (rp_of family asking.table) cut).joined ≡ stars + told.count
         joined_counts =
-            let counted_stars = stars_of_set (rps_of family asking piece.group) piece.starred (star_of piece.group asking.form) is.star rp in
+            let counted_stars = stars_of_set (rp_of family asking.table piece.group) piece.starred (star_of piece.group asking.form) is.star rp in
             let sources = length-map cut.sources (λ source. Source source) in
-            length-append (star_entries (rps_of family asking piece.group) cut.star) (map (λ source. Source source) cut.sources) ∙ omega (arith, counted_stars, is_stars, sources, told_length)
+            length-append (star_entries (rp_of family asking.table piece.group) cut.star) (map (λ source. Source source) cut.sources) ∙ omega (arith, counted_stars, is_stars, sources, told_length)
 
-        pruned_counts : length (told_set (rps_of family asking) cut).pruned ≡ exceptions
+        pruned_counts : length (told_set (rp_of family asking.table) cut).pruned ≡ exceptions
         pruned_counts = pruned_of_set cut.star ∙ sym counts
 
-        size_is : size ≡ set_size family (rps_of family asking) cut
+        size_is : size ≡ set_size family (rp_of family asking.table) cut
         size_is = sized ∙ ap (λ (n : ℕ). canonical_set_length family n exceptions) (sym joined_counts)
-            ∙ ap (λ (n : ℕ). canonical_set_length family (length (told_set (rps_of family asking) cut).joined) n) (sym pruned_counts)
+            ∙ ap (λ (n : ℕ). canonical_set_length family (length (told_set (rp_of family asking.table) cut).joined) n) (sym pruned_counts)
 
-        sets_are : drop (body_start family) (take (draft.end + size) (front ++ set)) ≡ flat_map (canonical_set family) (map (told_set (rps_of family asking)) part)
+        sets_are : drop (body_start family) (take (draft.end + size) (front ++ set)) ≡ flat_map (canonical_set family) (map (told_set (rp_of family asking.table)) part)
         sets_are =
             let long_front : length front ≡ draft.end = ap length is_front ∙ length-take-le draft.end bytes long in
-            let this_set : take size set ≡ canonical_set family (told_set (rps_of family asking) cut) = ap (λ (n : ℕ). take n set) size_is ∙ written in
+            let this_set : take size set ≡ canonical_set family (told_set (rp_of family asking.table) cut) = ap (λ (n : ℕ). take n set) size_is ∙ written in
             let starts : body_start family ≤ length front = omega (arith, long_front, begins_within) in
             ap (λ (n : ℕ). drop (body_start family) (take (n + size) (front ++ set))) (sym long_front)
             ∙ ap (drop (body_start family)) (take-append-add front set size ∙ ap (λ (l : List ℕ). front ++ l) this_set)
-            ∙ drop-append-le (body_start family) front (canonical_set family (told_set (rps_of family asking) cut)) starts
-            ∙ ap (λ (l : List ℕ). drop (body_start family) l ++ canonical_set family (told_set (rps_of family asking) cut)) is_front
-            ∙ ap (λ (l : List ℕ). l ++ canonical_set family (told_set (rps_of family asking) cut)) made.sets
-            ∙ ap (λ (l : List ℕ). flat_map (canonical_set family) (map (told_set (rps_of family asking)) made.part) ++ l) (sym (append-nil (canonical_set family (told_set (rps_of family asking) cut))))
-            ∙ sym (flat_map-append (canonical_set family) (map (told_set (rps_of family asking)) made.part) (told_set (rps_of family asking) cut ∷ []))
-            ∙ ap (flat_map (canonical_set family)) (sym (map-append (told_set (rps_of family asking)) made.part (cut ∷ [])))
+            ∙ drop-append-le (body_start family) front (canonical_set family (told_set (rp_of family asking.table) cut)) starts
+            ∙ ap (λ (l : List ℕ). drop (body_start family) l ++ canonical_set family (told_set (rp_of family asking.table) cut)) is_front
+            ∙ ap (λ (l : List ℕ). l ++ canonical_set family (told_set (rp_of family asking.table) cut)) made.sets
+            ∙ ap (λ (l : List ℕ). flat_map (canonical_set family) (map (told_set (rp_of family asking.table)) made.part) ++ l) (sym (append-nil (canonical_set family (told_set (rp_of family asking.table) cut))))
+            ∙ sym (flat_map-append (canonical_set family) (map (told_set (rp_of family asking.table)) made.part) (told_set (rp_of family asking.table) cut ∷ []))
+            ∙ ap (flat_map (canonical_set family)) (sym (map-append (told_set (rp_of family asking.table)) made.part (cut ∷ [])))
 
         -- the step, to a place behind what is told
         to_place : (position : Position (List ℕ)) (is_full : Bool) → group_units this ++ units_of (groups_above (Some piece.group) asking.form) ≡ group_units cut ++ units_of (left_at position asking.form)

@@ -22,7 +22,8 @@ use Rattle.pim_form.specs.Units.{WantUnit, star_unit, source_unit, star_units, u
 use Rattle.pim_emit.specs.declared.draft.Draft.{Draft}
 use Rattle.pim_emit.specs.declared.position.Position.{Position}
 use Rattle.pim_emit.specs.declared.position.Position.TheVariants.{Start, Within, Behind}
-use Rattle.pim_emit.specs.Asking.{Asking, rps_of}
+use Rattle.pim_emit.specs.Asking.{Asking}
+use Rattle.pim_addr.specs.Routes.{rp_of}
 use Rattle.pim_emit.specs.Drafts.{body_start, message_size, IsDraft, IsMessage}
 use Rattle.pim_emit.specs.Left.{left_at, IsPosition}
 use Rattle.pim_emit.proofs.Above.{by_test}
@@ -135,8 +136,8 @@ pub message_made : (family : AddressFamily) (writing : Writing) (asking : Asking
     → IsSealed family writing.own (all_routers family) JoinPrune (canonical_head family writing.upstream sets writing.holdtime ++ drop (body_start family) (take draft.end bytes)) sealed
     → IsMessage family writing asking begun draft.position sealed
 message_made family writing asking begun draft bytes sealed sets counted is full some sets_are seal =
-    let count : sets ≡ length (map (told_set (rps_of family asking)) is.part) = sets_are ∙ is.groups ∙ sym (length-map is.part (told_set (rps_of family asking))) in
-    let body : canonical_head family writing.upstream sets writing.holdtime ++ drop (body_start family) (take draft.end bytes) ≡ canonical family (told_message writing (rps_of family asking) is.part) =
+    let count : sets ≡ length (map (told_set (rp_of family asking.table)) is.part) = sets_are ∙ is.groups ∙ sym (length-map is.part (told_set (rp_of family asking.table))) in
+    let body : canonical_head family writing.upstream sets writing.holdtime ++ drop (body_start family) (take draft.end bytes) ≡ canonical family (told_message writing (rp_of family asking.table) is.part) =
     λ i. canonical_head family writing.upstream (count i) writing.holdtime ++ is.sets i in
     record {
       run = units_of is.part;

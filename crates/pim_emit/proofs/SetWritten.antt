@@ -12,7 +12,7 @@ use Rattle.pim_addr.specs.Encoded.{group_length, source_length}
 use Rattle.pim_jp.specs.declared.entry.Entry.{Entry}
 use Rattle.pim_jp.specs.declared.entry.Entry.TheVariants.{Source, Rpt}
 use Rattle.pim_jp.specs.Canonical.{canonical_entry}
-use Rattle.pim_form.specs.Messages.{Rps, star_entries, excepted_entries, told_set}
+use Rattle.pim_form.specs.Messages.{star_entries, excepted_entries, told_set}
 use Rattle.pim_form.specs.NormalForm.{GroupForm}
 use Rattle.pim_form.specs.Rows.{exceptions_of}
 use Rattle.pim_emit.specs.declared.piece.Piece.{Piece}
@@ -34,7 +34,7 @@ pub pruned_count : (star : Option (List (List ℕ))) → length (excepted_entrie
 pruned_count None = refl
 pruned_count (Some exceptions) = length-map exceptions (λ source. Rpt source)
 
-pub joined_count : (rps : Rps) (this : GroupForm) → length (told_set rps this).joined ≡ length (star_entries (rps this.group) this.star) + length this.sources
+pub joined_count : (rps : List ℕ → Option (List ℕ)) (this : GroupForm) → length (told_set rps this).joined ≡ length (star_entries (rps this.group) this.star) + length this.sources
 joined_count rps this =
     omega (arith, length-append (star_entries (rps this.group) this.star) (map (λ source. Source source) this.sources), length-map this.sources (λ source. Source source))
 
@@ -43,7 +43,7 @@ pub told_count : (piece : Piece (List ℕ)) (form : List GroupForm) (most : ℕ)
     → length (cut_piece told.count piece form).sources ≡ told.count
 told_count piece form most told are = omega (arith, are.count, length-take told.count (piece_form piece form).sources)
 
-module _ (family : AddressFamily) (rps : Rps) (this : GroupForm) (stars count size : ℕ) (first second third : List ℕ)
+module _ (family : AddressFamily) (rps : List ℕ → Option (List ℕ)) (this : GroupForm) (stars count size : ℕ) (first second third : List ℕ)
     (starred : stars ≡ length (star_entries (rps this.group) this.star)) (counted : length this.sources ≡ count)
     (star : take (stars * size) first ≡ flat_map (canonical_entry family) (star_entries (rps this.group) this.star))
     (sources : take (stars * size + count * size) second ≡ take (stars * size) first ++ source_entries family this.sources)
@@ -70,7 +70,7 @@ all_exceptions false star e = absurd cc
 
 -- ---- the set
 
-pub set_written : (counted : ℕ → List ℕ) (family : AddressFamily) (rps : Rps) (this : GroupForm) (front entries : List ℕ) (joined pruned : ℕ)
+pub set_written : (counted : ℕ → List ℕ) (family : AddressFamily) (rps : List ℕ → Option (List ℕ)) (this : GroupForm) (front entries : List ℕ) (joined pruned : ℕ)
     → joined ≡ length (told_set rps this).joined → pruned ≡ length (told_set rps this).pruned
     → length front ≡ group_length family + 4
     → front ≡ canonical_group family this.group ++ counted joined ++ counted pruned

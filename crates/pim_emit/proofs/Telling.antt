@@ -6,27 +6,26 @@ use Rattle.std.proofs.Math.Seq.{take-append-add, take-length}
 use Rattle.std.proofs.lemmas.List.{append-nil, take-append-le}
 use Rattle.std.proofs.lemmas.Grind.{flat_map-append}
 use Rattle.pim_addr.specs.declared.family.AddressFamily.{AddressFamily}
-use Rattle.pim_addr.specs.Routes.{RouteTable}
-use Rattle.pim_down.specs.Known.{known_in}
+use Rattle.pim_addr.specs.Routes.{RouteTable, rp_of}
 use Rattle.pim_down.specs.Time.{Downstream}
 use Rattle.pim_down.specs.Sound.{IsSound}
 use Rattle.pim_form.specs.Asked.{AskedFormIsAsked, IsAskedForm, asked_form}
 use Rattle.pim_form.specs.Laws.{FirstRunIsTold, OneListOfMessages, OneNormalForm}
-use Rattle.pim_form.specs.Messages.{Rps, Writing, TellsRun, TellRuns, AreCanonical}
+use Rattle.pim_form.specs.Messages.{Writing, TellsRun, TellRuns, AreCanonical}
 use Rattle.pim_form.specs.NormalForm.{GroupForm, IsFormOf}
 use Rattle.pim_form.specs.Packing.{fits, IsNonempty, StopsBefore, AreRuns, IsPacking}
 use Rattle.pim_form.specs.TowardLaws.{asked_of}
 use Rattle.pim_form.specs.Units.{WantUnit, units_of}
 use Rattle.pim_emit.specs.declared.position.Position.{Position}
 use Rattle.pim_emit.specs.declared.position.Position.TheVariants.{Start}
-use Rattle.pim_emit.specs.Asking.{Asking, rps_of}
+use Rattle.pim_emit.specs.Asking.{Asking}
 use Rattle.pim_emit.specs.Drafts.{IsMessage}
 use Rattle.pim_emit.specs.Left.{left_at}
 use Rattle.pim_emit.specs.Written.{framed, all_framed, HaveGoneOut, HasGoneOut}
 
 -- ---- one message of a list
 
-module _ (family : AddressFamily) (writing : Writing) (rps : Rps) where
+module _ (family : AddressFamily) (writing : Writing) (rps : List ℕ → Option (List ℕ)) where
   -- a run alone, and the message that tells it
   alone : (run : List WantUnit) (bytes : List ℕ) (part : List GroupForm) → units_of part ≡ run → IsNonempty run → fits family writing.budget run ≡ true → TellsRun family writing rps run bytes
       → AreCanonical family writing rps part (bytes ∷ [])
@@ -50,7 +49,7 @@ module _ (family : AddressFamily) (writing : Writing) (rps : Rps) where
 
 module _ (family : AddressFamily) (writing : Writing) (asking : Asking) (from to : Position (List ℕ)) (bytes : List ℕ) (is : IsMessage family writing asking from to bytes) where
   abbrev Canonical : List GroupForm → List (List ℕ) → Type 0
-  Canonical = AreCanonical family writing (rps_of family asking)
+  Canonical = AreCanonical family writing (rp_of family asking.table)
 
   pub told_first : (rest : List (List ℕ)) → Canonical (left_at to asking.form) rest → Canonical (left_at from asking.form) (bytes ∷ rest)
   unfolding AreRuns
@@ -64,10 +63,10 @@ module _ (family : AddressFamily) (writing : Writing) (asking : Asking) (from to
   }
 
   begins : OneListOfMessages → (others : List (List WantUnit)) (messages : List (List ℕ)) → IsPacking family writing.budget (units_of (left_at to asking.form)) others
-      → TellRuns family writing (rps_of family asking) (is.run ∷ others) messages → HasRest family writing (rps_of family asking) (bytes ∷ []) (left_at to asking.form) messages
+      → TellRuns family writing (rp_of family asking.table) (is.run ∷ others) messages → HasRest family writing (rp_of family asking.table) (bytes ∷ []) (left_at to asking.form) messages
   begins law others [] packing told = absurd told
   begins law others (m ∷ messages) packing told =
-      let same : m ≡ bytes = one_message family writing (rps_of family asking) law is.run m bytes is.some is.fitting told.0 is.tells in
+      let same : m ≡ bytes = one_message family writing (rp_of family asking.table) law is.run m bytes is.some is.fitting told.0 is.tells in
       record {
         rest = messages;
         split = ap (λ l. l ∷ messages) same;
@@ -75,20 +74,20 @@ module _ (family : AddressFamily) (writing : Writing) (asking : Asking) (from to
       }
 
   pub first_told : FirstRunIsTold → OneListOfMessages → (messages : List (List ℕ)) → Canonical (left_at from asking.form) messages
-      → HasRest family writing (rps_of family asking) (bytes ∷ []) (left_at to asking.form) messages
+      → HasRest family writing (rp_of family asking.table) (bytes ∷ []) (left_at to asking.form) messages
   first_told first law messages whole =
       let packing = subst (λ units. IsPacking family writing.budget units whole.runs) is.units whole.packing in
       let cut = first family writing.budget is.run (units_of (left_at to asking.form)) whole.runs is.some is.fitting is.stops packing in
-      begins law cut.others messages cut.packing (subst (λ runs. TellRuns family writing (rps_of family asking) runs messages) cut.begins whole.told)
+      begins law cut.others messages cut.packing (subst (λ runs. TellRuns family writing (rp_of family asking.table) runs messages) cut.begins whole.told)
 
 -- ---- messages underway
 
 -- These messages went out, and those of what is left behind the place, behind them, are all.
 pub record AreUnderway (family : AddressFamily) (writing : Writing) (asking : Asking) (position : Position (List ℕ)) (count sent : ℕ) (old new : Option (List ℕ)) : Type 0 where
   pub told : List (List ℕ)
-  pub builds : (rest : List (List ℕ)) → AreCanonical family writing (rps_of family asking) (left_at position asking.form) rest → AreCanonical family writing (rps_of family asking) asking.form (told ++ rest)
-  pub agrees : (messages : List (List ℕ)) → AreCanonical family writing (rps_of family asking) asking.form messages
-      → HasRest family writing (rps_of family asking) told (left_at position asking.form) messages
+  pub builds : (rest : List (List ℕ)) → AreCanonical family writing (rp_of family asking.table) (left_at position asking.form) rest → AreCanonical family writing (rp_of family asking.table) asking.form (told ++ rest)
+  pub agrees : (messages : List (List ℕ)) → AreCanonical family writing (rp_of family asking.table) asking.form messages
+      → HasRest family writing (rp_of family asking.table) told (left_at position asking.form) messages
   pub counted : count ≡ length told
   pub bytes : sent ≡ length (all_framed told)
   pub gone : Appends old new (all_framed told)
@@ -128,7 +127,7 @@ module _ (family : AddressFamily) (writing : Writing) (asking : Asking) where
       let whole : take (sent' - sent) (framed m) ≡ framed m = ap (λ n. take n (framed m)) size ∙ take-length (framed m) in
       record {
         told = is.told ++ m ∷ [];
-        builds = λ rest others. subst (AreCanonical family writing (rps_of family asking) asking.form) (sym (append_assoc is.told (m ∷ []) rest)) (is.builds (m ∷ rest) (told_first family writing asking from to m message rest others));
+        builds = λ rest others. subst (AreCanonical family writing (rp_of family asking.table) asking.form) (sym (append_assoc is.told (m ∷ []) rest)) (is.builds (m ∷ rest) (told_first family writing asking from to m message rest others));
         agrees = λ messages all.
             let behind = is.agrees messages all in
             let then_rest = first_told family writing asking from to m message first law behind.rest behind.canonical in
@@ -143,15 +142,15 @@ module _ (family : AddressFamily) (writing : Writing) (asking : Asking) where
 -- ---- all, or some, went out
 
 module _ (family : AddressFamily) (writing : Writing) (table : RouteTable) (state : Downstream) (asking : Asking) (asked : IsFormOf family (asked_of family table writing.upstream state) asking.form) (tables : asking.table ≡ table) where
-  rps_are : rps_of family asking ≡ known_in family table
-  rps_are = ap (known_in family) tables
+  rps_are : rp_of family asking.table ≡ rp_of family table
+  rps_are = ap (rp_of family) tables
 
   pub all_gone : (position : Position (List ℕ)) (count sent : ℕ) (old new : Option (List ℕ)) → AreUnderway family writing asking position count sent old new → units_of (left_at position asking.form) ≡ []
       → HaveGoneOut family writing table state old new count
   unfolding AreRuns
   all_gone position count sent old new is none =
       let whole = is.builds [] (record { runs = []; packing = record { whole = sym none; cut = tt }; told = tt }) in
-      let told : AreCanonical family writing (rps_of family asking) asking.form is.told = subst (AreCanonical family writing (rps_of family asking) asking.form) (append-nil is.told) whole in
+      let told : AreCanonical family writing (rp_of family asking.table) asking.form is.told = subst (AreCanonical family writing (rp_of family asking.table) asking.form) (append-nil is.told) whole in
       record {
         messages = is.told;
         ask = record { form = asking.form; is = asked; told = subst (λ rps. AreCanonical family writing rps asking.form is.told) rps_are told };
@@ -165,8 +164,8 @@ module _ (family : AddressFamily) (writing : Writing) (table : RouteTable) (stat
       → HasGoneOut family writing table state old new sent'
   some_gone one first law from to m count sent sent' old between new is message rises most went messages ask =
       let same : ask.form ≡ asking.form = one family ask.form asking.form ask.is.normal asked.normal (λ s g t valid is_group. sym (ask.is.wants s g t valid is_group) ∙ asked.wants s g t valid is_group) in
-      let told : AreCanonical family writing (rps_of family asking) asking.form messages =
-      subst (λ rps. AreCanonical family writing rps asking.form messages) (sym rps_are) (subst (λ form. AreCanonical family writing (known_in family table) form messages) same ask.told) in
+      let told : AreCanonical family writing (rp_of family asking.table) asking.form messages =
+      subst (λ rps. AreCanonical family writing rps asking.form messages) (sym rps_are) (subst (λ form. AreCanonical family writing (rp_of family table) form messages) same ask.told) in
       let behind = is.agrees messages told in
       let next = first_told family writing asking from to m message first law behind.rest behind.canonical in
       let more = sent' - sent in

@@ -1,10 +1,7 @@
 -- What is asked of an upstream neighbour, as contracts see it.
 use Rattle.std.specs.Prelude.{List}
-use Rattle.pim_addr.specs.declared.family.AddressFamily.{AddressFamily}
 use Rattle.pim_addr.specs.Routes.{RouteTable}
-use Rattle.pim_down.specs.Known.{known_in}
 use Rattle.pim_down.specs.Time.{Downstream}
-use Rattle.pim_form.specs.Messages.{Rps}
 use Rattle.pim_form.specs.NormalForm.{GroupForm}
 
 -- What is asked of an upstream neighbour: its normal form, the route table with the RPs of the
@@ -13,7 +10,3 @@ pub record Asking : Type 0 where
   pub form : List GroupForm
   pub table : RouteTable
   pub machines : Downstream
-
--- The RP of each group, by the route table.
-abbrev pub rps_of : AddressFamily → Asking → Rps
-rps_of family asking = known_in family asking.table

@@ -13,7 +13,8 @@ use Rattle.pim_form.specs.Packing.{fits, IsNonempty, StopsBefore}
 use Rattle.pim_form.specs.Messages.{Writing, TellsRun, told_set}
 use Rattle.pim_emit.specs.declared.position.Position.{Position}
 use Rattle.pim_emit.specs.declared.draft.Draft.{Draft}
-use Rattle.pim_emit.specs.Asking.{Asking, rps_of}
+use Rattle.pim_emit.specs.Asking.{Asking}
+use Rattle.pim_addr.specs.Routes.{rp_of}
 use Rattle.pim_emit.specs.Left.{left_at, is_past, IsPosition, position_seen}
 
 -- What contracts see of a draft, addresses as their bytes.
@@ -50,7 +51,7 @@ module _ (family : AddressFamily) (budget : ℕ) (asking : Asking) where
     pub end : draft.end ≡ message_size family (length part) (run_entries (units_of part))
     pub within : draft.end ≤ budget
     pub sets : drop (body_start family) (take draft.end bytes)
-        ≡ flat_map (canonical_set family) (map (told_set (rps_of family asking)) part)
+        ≡ flat_map (canonical_set family) (map (told_set (rp_of family asking.table)) part)
     pub goes_on : draft.is_full ≡ false → (group : List ℕ) → is_past draft.position group ≡ true →
         AllByRecursion (λ this. address_cmp this.group group ≡ Less) part
     pub stops : draft.is_full ≡ true →
@@ -77,7 +78,7 @@ module _ (family : AddressFamily) (writing : Writing) (asking : Asking) where
     pub some : IsNonempty run
     pub fitting : fits family writing.budget run ≡ true
     pub stops : StopsBefore family writing.budget run (units_of (left_at to asking.form))
-    pub tells : TellsRun family writing (rps_of family asking) run bytes
+    pub tells : TellsRun family writing (rp_of family asking.table) run bytes
     pub position : IsPosition family to
 
   -- The message is at the front of the bytes, with this length; `None` if no unit is left.

@@ -1,10 +1,10 @@
 -- What is written of a piece of a group: a set of a Join/Prune message (RFC 7761, 4.9.5).
-use Rattle.std.specs.Prelude.{◌≡◌, ℕ, ◌+◌, List, ◌++◌, length, take, drop, min, option_map}
+use Rattle.std.specs.Prelude.{◌≡◌, ℕ, ◌+◌, List, ◌++◌, length, take, drop, min, option_map, Option}
 use Rattle.std.specs.List.{flat_map}
 use Rattle.pim_addr.specs.declared.family.AddressFamily.{AddressFamily}
 use Rattle.pim_jp.specs.declared.entry.Entry.TheVariants.{Source, Rpt}
 use Rattle.pim_jp.specs.Canonical.{canonical_entry, canonical_set_length}
-use Rattle.pim_form.specs.Messages.{Rps, told_set}
+use Rattle.pim_form.specs.Messages.{told_set}
 use Rattle.pim_form.specs.NormalForm.{GroupForm}
 use Rattle.pim_emit.specs.declared.piece.Piece.{Piece}
 use Rattle.pim_emit.specs.declared.set.ToldSources.{ToldSources}
@@ -20,7 +20,7 @@ source_entries family sources = flat_map (λ source. canonical_entry family (Sou
 abbrev pub exception_entries : AddressFamily → List (List ℕ) → List ℕ
 exception_entries family exceptions = flat_map (λ source. canonical_entry family (Rpt source)) exceptions
 
-module _ (family : AddressFamily) (rps : Rps) (this : GroupForm) where
+module _ (family : AddressFamily) (rps : List ℕ → Option (List ℕ)) (this : GroupForm) where
   -- The bytes of the entries of a set, the joined ones before the pruned ones.
   abbrev pub set_entries : List ℕ
   set_entries = flat_map (canonical_entry family) (told_set rps this).joined

@@ -6,9 +6,8 @@ use Rattle.std.specs.List.{filter, flat_map}
 use Rattle.std.specs.Io.KnownBytes.{Appends}
 use Rattle.byteorder.specs.Endian.{big_bytes}
 use Rattle.pim_addr.specs.declared.family.AddressFamily.{AddressFamily}
-use Rattle.pim_addr.specs.Routes.{RouteTable}
+use Rattle.pim_addr.specs.Routes.{RouteTable, rp_of}
 use Rattle.pim_device.specs.Device.{top_count}
-use Rattle.pim_down.specs.Known.{known_in}
 use Rattle.pim_down.specs.Time.{Downstream}
 use Rattle.pim_form.specs.Messages.{Writing, AreCanonical}
 use Rattle.pim_form.specs.NormalForm.{GroupForm, IsFormOf}
@@ -32,7 +31,7 @@ module _ (family : AddressFamily) (writing : Writing) (table : RouteTable) (stat
   pub record AskBy (messages : List (List ℕ)) : Type 0 where
     pub form : List GroupForm
     pub is : IsFormOf family (asked_of family table writing.upstream state) form
-    pub told : AreCanonical family writing (known_in family table) form messages
+    pub told : AreCanonical family writing (rp_of family table) form messages
 
   -- The least group of that form whose star, with all its exceptions, is too big for a message
   -- alone; `None` if no star is.

@@ -8,7 +8,7 @@ ghost use Rattle.pim_form.specs.Asked.{asked_form};
 ghost use Rattle.pim_form.specs.NormalForm.{groups_of, IsNormal};
 ghost use Rattle.pim_form.specs.Units.{units_of};
 ghost use Rattle.pim_form.specs.Toward.{is_neighbour};
-ghost use Rattle.pim_emit.specs.Asking.{rps_of};
+ghost use Rattle.pim_addr.specs.Routes.{rp_of};
 ghost use Rattle.pim_emit.specs.Left.{above, next_above, star_of, exceptions_in, sources_in};
 ghost use Rattle.pim_emit.specs.Stars.{AreStars};
 ghost use Rattle.pim_emit.specs.Ahead.{AreNext};
@@ -75,7 +75,7 @@ impl<'a, F: Family> Asked<'a, F> {
     pub(crate) fn star_has_rp(&self, group: F::Addr)
         requires { IsGroupAddress F.family (F.bytes_of group) }
         ensures { is_some (star_of (F.bytes_of group) self.now.form) ≡ true →
-            is_some (rps_of F.family self.now (F.bytes_of group)) ≡ true }
+            is_some (rp_of F.family self.now.table (F.bytes_of group)) ≡ true }
     {
         self.ports.is_sound();
         pim_form::form_of_what_is_asked();
@@ -83,7 +83,7 @@ impl<'a, F: Family> Asked<'a, F> {
 
     /// The RP of a group.
     pub(crate) fn rp_of(&self, group: F::Addr) -> Option<F::Addr>
-        ensures { option_map F.bytes_of result ≡ rps_of F.family self.now (F.bytes_of group) }
+        ensures { option_map F.bytes_of result ≡ rp_of F.family self.now.table (F.bytes_of group) }
     {
         self.routes.rp_of(group)
     }

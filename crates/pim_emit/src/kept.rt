@@ -4,7 +4,7 @@ ghost use Rattle.std.specs.Prelude.{◌≡◌, ◌≢◌, ◌≤◌, [], None, E
 ghost use Rattle.pim_form.specs.Messages.{AreCanonical};
 ghost use Rattle.pim_form.specs.Refused.{told_too_big};
 ghost use Rattle.pim_form.specs.TooBig.{too_big};
-ghost use Rattle.pim_emit.specs.Asking.{rps_of};
+ghost use Rattle.pim_addr.specs.Routes.{rp_of};
 ghost use Rattle.pim_emit.specs.Written.{AskBy, IsTooBig};
 
 use crate::asked::Asked;
@@ -34,7 +34,8 @@ fn keep_all<F: Family>(
     requires fits { too_big F.family writer.now.budget asked.now.form ≡ None }
     requires room { writer.now.budget ≤ length buffer.old }
     ensures { OnOk result
-        (AreCanonical F.family writer.now (rps_of F.family asked.now) asked.now.form messages.new) }
+        (AreCanonical F.family writer.now (rp_of F.family asked.now.table) asked.now.form
+        messages.new) }
 {
     let mut position = Position::Start;
     while let Some(length) = next_message::<F>(asked, writer, &mut position, buffer) {

@@ -10,7 +10,7 @@ ghost use Rattle.pim_form.specs.Messages.{star_entries, told_set};
 ghost use Rattle.pim_form.specs.Rows.{exceptions_of};
 ghost use Rattle.pim_jp.specs.Canonical.{canonical_entry, canonical_set};
 ghost use Rattle.pim_jp.specs.Seen.{entry_seen};
-ghost use Rattle.pim_emit.specs.Asking.{rps_of};
+ghost use Rattle.pim_addr.specs.Routes.{rp_of};
 ghost use Rattle.pim_emit.specs.Left.{star_of, exceptions_in, piece_seen, piece_form};
 ghost use Rattle.pim_emit.specs.Sets.{source_entries, exception_entries, cut_piece, AreTold};
 ghost use Rattle.pim_emit.specs.Sets.{told_seen};
@@ -150,11 +150,11 @@ fn write_star<F: Family>(asked: &Asked<'_, F>, piece: &Piece<F::Addr>, bytes: &m
     requires room { from_bool piece.now.starred * source_length F.family ≤ length bytes.old }
     ensures one { result ≡ from_bool piece.now.starred }
     ensures count { result
-        ≡ length (star_entries (rps_of F.family asked.now (F.bytes_of piece.now.group))
+        ≡ length (star_entries (rp_of F.family asked.now.table (F.bytes_of piece.now.group))
         (piece_form (piece_seen F.bytes_of piece.now) asked.now.form).star) }
     ensures written { take (result * source_length F.family) bytes.new
         ≡ flat_map (canonical_entry F.family)
-        (star_entries (rps_of F.family asked.now (F.bytes_of piece.now.group))
+        (star_entries (rp_of F.family asked.now.table (F.bytes_of piece.now.group))
         (piece_form (piece_seen F.bytes_of piece.now) asked.now.form).star) }
     ensures length { length bytes.new ≡ length bytes.old }
 {
@@ -185,14 +185,14 @@ fn write_entries<F: Family>(
         * source_length F.family ≤ length bytes.old }
     ensures told { AreTold (piece_seen F.bytes_of piece.now) asked.now.form most
         (told_seen F.bytes_of result) }
-    ensures joined { length (told_set (rps_of F.family asked.now)
+    ensures joined { length (told_set (rp_of F.family asked.now.table)
         (cut_piece result.count (piece_seen F.bytes_of piece.now) asked.now.form)).joined
         ≡ from_bool piece.now.starred + result.count }
     ensures written { let this = cut_piece result.count (piece_seen F.bytes_of piece.now)
         asked.now.form in
-        take (entry_count F.family (rps_of F.family asked.now) this * source_length F.family)
+        take (entry_count F.family (rp_of F.family asked.now.table) this * source_length F.family)
         bytes.new
-        ≡ set_entries F.family (rps_of F.family asked.now) this }
+        ≡ set_entries F.family (rp_of F.family asked.now.table) this }
     ensures length { length bytes.new ≡ length bytes.old }
 {
     let stars = write_star::<F>(asked, piece, bytes);
@@ -224,13 +224,13 @@ pub(crate) fn write_set<F: Family>(
         * source_length F.family ≤ length bytes.old }
     ensures told { AreTold (piece_seen F.bytes_of piece.now) asked.now.form most
         (told_seen F.bytes_of result) }
-    ensures joined { length (told_set (rps_of F.family asked.now)
+    ensures joined { length (told_set (rp_of F.family asked.now.table)
         (cut_piece result.count (piece_seen F.bytes_of piece.now) asked.now.form)).joined
         ≡ from_bool piece.now.starred + result.count }
     ensures written { let this = cut_piece result.count (piece_seen F.bytes_of piece.now)
         asked.now.form in
-        take (set_size F.family (rps_of F.family asked.now) this) bytes.new
-        ≡ canonical_set F.family (told_set (rps_of F.family asked.now) this) }
+        take (set_size F.family (rp_of F.family asked.now.table) this) bytes.new
+        ≡ canonical_set F.family (told_set (rp_of F.family asked.now.table) this) }
     ensures length { length bytes.new ≡ length bytes.old }
 {
     let (front, entries) = bytes.split_at_mut(group_length::<F>() + 4);

@@ -8,11 +8,10 @@ use Rattle.std.proofs.lemmas.Bool.{false≢true}
 use Rattle.std.proofs.lemmas.List.{length-map}
 use Rattle.pim_addr.specs.declared.family.AddressFamily.{AddressFamily}
 use Rattle.pim_addr.specs.Address.{IsGroupAddress, IsSourceAddress}
-use Rattle.pim_addr.specs.Routes.{RouteTable}
+use Rattle.pim_addr.specs.Routes.{RouteTable, rp_of}
 use Rattle.pim_down.specs.declared.machines.key.What.{What}
 use Rattle.pim_down.specs.declared.machines.key.What.TheVariants.{Star, Source, Rpt}
 use Rattle.pim_down.specs.declared.machines.machine.Record.{Record}
-use Rattle.pim_down.specs.Known.{known_in}
 use Rattle.pim_down.specs.Laws.{KeysAreToldApart}
 use Rattle.pim_down.specs.Sound.{IsSound}
 use Rattle.pim_down.specs.Time.{Downstream}
@@ -197,7 +196,7 @@ module _ (apart : KeysAreToldApart) (family : AddressFamily) (state : Downstream
     is_asked : IsFormOf family (asked_of family table neighbour state) (asked_form family table neighbour state)
     unfolding asked_form
     is_asked =
-        let rps = known_in family table in
+        let rps = rp_of family table in
         let via = via_in family table in
         let below = below_form state.ports in
         let left = form_left rps via neighbour family (form_below state.ports state) below.normal in
@@ -214,7 +213,7 @@ module _ (apart : KeysAreToldApart) (family : AddressFamily) (state : Downstream
     group_asked form is s group tree valid is_group = is.wants s group tree valid is_group ∙ group_in_wants form s group tree is.normal.ascending
 
     abbrev to_rp : List ℕ → Bool
-    to_rp group = is_neighbour neighbour (via_rp (via_in family table) (known_in family table group))
+    to_rp group = is_neighbour neighbour (via_rp (via_in family table) (rp_of family table group))
 
     has_star : (form : List GroupForm) → IsFormOf family (asked_of family table neighbour state) form → (group : List ℕ) → IsGroupAddress family group
         → is_some (group_in group form).star ≡ (some_below state.ports (joined group) && to_rp group)

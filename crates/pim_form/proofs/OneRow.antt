@@ -5,7 +5,6 @@ use Rattle.pim_addr.specs.declared.family.AddressFamily.{AddressFamily}
 use Rattle.pim_addr.specs.Address.{IsAddress, IsGroupAddress}
 use Rattle.pim_addr.specs.Routes.{RouteTable, IsRouteTable, rp_of}
 use Rattle.pim_down.specs.declared.machines.key.What.TheVariants.{Star, Rpt}
-use Rattle.pim_down.specs.Known.{known_in}
 use Rattle.pim_down.specs.Time.{Downstream}
 use Rattle.pim_form.specs.declared.tree.Tree.TheVariants.{Shared, Source}
 use Rattle.pim_form.specs.Wants.{is_joined, is_pruned, state_on, wants_on, some_below, wants}
@@ -46,17 +45,17 @@ module _ (family : AddressFamily) (table : RouteTable) (neighbour : List ℕ) (s
   rp_reached (Some rp) is = reached rp is.0
 
   star_reached : (source group : List ℕ) → IsGroupAddress family group → wants state source group Shared ≡ true
-      → is_neighbour neighbour (via_rp (via_in family table) (known_in family table group)) ≡ true
+      → is_neighbour neighbour (via_rp (via_in family table) (rp_of family table group)) ≡ true
   star_reached source group is_group wanted =
       let found = below state.ports (wants_on state.records source group Shared) wanted in
       let joined = first_true (is_joined (state_on state.records found.port group Star)) (not (is_pruned (state_on state.records found.port group (Rpt source)))) found.passes in
-      rp_reached (rp_of family group table) (rp_is_source family table group sound (have found.port group is_group joined))
+      rp_reached (rp_of family table group) (rp_is_source family table group sound (have found.port group is_group joined))
 
   agree : Agree family (asked_of family table neighbour state) (wants state)
   agree source group Shared is is_group =
-      and_known (wants state source group Shared) (is_neighbour neighbour (upstream_of (known_in family table) (via_in family table) source group Shared)) (λ wanted. star_reached source group is_group wanted)
+      and_known (wants state source group Shared) (is_neighbour neighbour (upstream_of (rp_of family table) (via_in family table) source group Shared)) (λ wanted. star_reached source group is_group wanted)
   agree source group Source is is_group =
-      and_known (wants state source group Source) (is_neighbour neighbour (upstream_of (known_in family table) (via_in family table) source group Source)) (λ wanted. reached source is.0)
+      and_known (wants state source group Source) (is_neighbour neighbour (upstream_of (rp_of family table) (via_in family table) source group Source)) (λ wanted. reached source is.0)
 
   wanted_form : (form : List GroupForm) → IsFormOf family (asked_of family table neighbour state) form → IsFormOf family (wants state) form
   wanted_form form is = record { normal = is.normal; wants = λ s g t valid is_group. sym (agree s g t valid is_group) ∙ is.wants s g t valid is_group }

@@ -1,5 +1,5 @@
 -- The message of a part of a form that fits the budget: it can be spelled, and what room it takes.
-use Rattle.std.proofs.Common.{◌≡◌, ◌∙◌, ◌+◌, ◌*◌, ℕ, true, List, ◌++◌, length, map, drop, sym, ap, subst}
+use Rattle.std.proofs.Common.{◌≡◌, ◌∙◌, ◌+◌, ◌*◌, ℕ, true, List, ◌++◌, length, map, drop, sym, ap, subst, Option}
 use Rattle.std.proofs.lemmas.List.{length-map}
 use Rattle.std.proofs.Math.Seq.{drop-append_seam}
 use Rattle.pim_addr.specs.declared.family.AddressFamily.{AddressFamily}
@@ -11,12 +11,12 @@ use Rattle.std.specs.List.{flat_map}
 use Rattle.pim_form.specs.NormalForm.{GroupForm, IsNormal}
 use Rattle.pim_form.specs.Units.{units_of, run_entries, run_size, empty_message_size, empty_set_size, entry_size}
 use Rattle.pim_form.specs.Packing.{fits}
-use Rattle.pim_form.specs.Messages.{Rps, Writing, IsWriting, HaveRps, told_set, told_message}
+use Rattle.pim_form.specs.Messages.{Writing, IsWriting, HaveRps, told_set, told_message}
 use Rattle.pim_form.proofs.Normal.{groups_some}
 use Rattle.pim_form.proofs.Units.{count_groups}
 use Rattle.pim_form.proofs.Spelled.{IsPart, units_valid, parts_valid, is_message, sets_size, head_and_sets}
 
-module _ (family : AddressFamily) (writing : Writing) (rps : Rps) (part : List GroupForm) (normal : IsNormal family part) (have : HaveRps family rps part) (fitting : fits family writing.budget (units_of part) ≡ true) where
+module _ (family : AddressFamily) (writing : Writing) (rps : List ℕ → Option (List ℕ)) (part : List GroupForm) (normal : IsNormal family part) (have : HaveRps family rps part) (fitting : fits family writing.budget (units_of part) ≡ true) where
   is_part : IsPart family writing rps part
   is_part = record {
     ascending = normal.ascending;

@@ -1,11 +1,11 @@
 -- The parts of a plan, one after another.
-use Rattle.std.proofs.Common.{◌≡◌, ◌∙◌, ℕ, ◌+◌, ◌<◌, ◌≤◌, List, [], ◌∷◌, ◌++◌, map, length, get_or, drop, refl, sym, ap, subst, arith, append_assoc, add-one, drop-cons}
+use Rattle.std.proofs.Common.{◌≡◌, ◌∙◌, ℕ, ◌+◌, ◌<◌, ◌≤◌, List, [], ◌∷◌, ◌++◌, map, length, get_or, drop, refl, sym, ap, subst, arith, append_assoc, add-one, drop-cons, Option}
 use Rattle.std.proofs.lemmas.List.{append-nil, drop_all}
 use Rattle.std.specs.List.{AllByRecursion}
 use Rattle.pim_addr.specs.declared.family.AddressFamily.{AddressFamily}
 use Rattle.pim_form.specs.declared.place.Place.{Place}
 use Rattle.pim_form.specs.Units.{WantUnit, run_size}
-use Rattle.pim_form.specs.Messages.{Rps, Writing, TellsRun, TellRuns}
+use Rattle.pim_form.specs.Messages.{Writing, TellsRun, TellRuns}
 use Rattle.pim_form.specs.Rows.{between, form_seen, IsKept}
 use Rattle.pim_form.specs.Plan.{AreEnds, parts_from, run_of}
 use Rattle.pim_form.specs.Parts.{runs_size}
@@ -48,7 +48,7 @@ module _ {A : Type 0} (pieces : List (Place A)) (start end : ℕ) (left others :
         let parts = ap (λ (these : List (List (Place A))). runs_size family (map run these)) these_parts in
         omega (arith, parts, is_more, is_next, counted)
 
-    pub one_more_told : (writing : Writing) (rps : Rps) (runs : List (List WantUnit)) (messages next : List (List ℕ)) (message : List ℕ)
+    pub one_more_told : (writing : Writing) (rps : List ℕ → Option (List ℕ)) (runs : List (List WantUnit)) (messages next : List (List ℕ)) (message : List ℕ)
         → next ≡ messages ++ message ∷ [] → TellsRun family writing rps (run (between start end pieces)) message
         → ((behind : List (List ℕ)) → TellRuns family writing rps (map run (parts_from start left pieces)) behind → TellRuns family writing rps runs (messages ++ behind))
         → (behind : List (List ℕ)) → TellRuns family writing rps (map run (parts_from end others pieces)) behind → TellRuns family writing rps runs (next ++ behind)
@@ -80,7 +80,7 @@ module _ {A : Type 0} (pieces : List (Place A)) (start : ℕ) (left : List ℕ) 
   unfolding runs_size
   no_more_run total all counted = omega (arith, ap (λ (these : List (List (Place A))). runs_size family (map run these)) no_part, counted)
 
-  pub no_more_told : (writing : Writing) (rps : Rps) (runs : List (List WantUnit)) (messages : List (List ℕ))
+  pub no_more_told : (writing : Writing) (rps : List ℕ → Option (List ℕ)) (runs : List (List WantUnit)) (messages : List (List ℕ))
       → ((behind : List (List ℕ)) → TellRuns family writing rps (map run (parts_from start left pieces)) behind → TellRuns family writing rps runs (messages ++ behind))
       → TellRuns family writing rps runs messages
   no_more_told writing rps runs messages told =
@@ -88,7 +88,7 @@ module _ {A : Type 0} (pieces : List (Place A)) (start : ℕ) (left : List ℕ) 
       (told [] (subst (λ (these : List (List (Place A))). TellRuns family writing rps (map run these) []) (sym no_part) tt))
 
 -- the message of a part tells its run
-pub part_tells : {A : Type 0} (bytes_of : A → List ℕ) (family : AddressFamily) (writing : Writing) (rps : Rps) (row : List A) (part : List (Place A)) (message : List ℕ)
+pub part_tells : {A : Type 0} (bytes_of : A → List ℕ) (family : AddressFamily) (writing : Writing) (rps : List ℕ → Option (List ℕ)) (row : List A) (part : List (Place A)) (message : List ℕ)
     → IsKept bytes_of family row part → TellsPart family writing rps (form_seen bytes_of row part) message → TellsRun family writing rps (run_of bytes_of row part) message
 part_tells bytes_of family writing rps row part message kept tells = record {
   part = form_seen bytes_of row part;

@@ -1,23 +1,23 @@
 -- The parts of a plan fit messages, and their stars have RPs where those of the form have.
-use Rattle.std.proofs.Common.{ℕ, List, [], ◌∷◌, map, sym, subst}
+use Rattle.std.proofs.Common.{ℕ, List, [], ◌∷◌, map, sym, subst, Option}
 use Rattle.std.specs.List.{AllByRecursion}
 use Rattle.pim_addr.specs.declared.family.AddressFamily.{AddressFamily}
 use Rattle.pim_form.specs.declared.place.Place.{Place}
 use Rattle.pim_form.specs.NormalForm.{GroupForm, IsNormal}
 use Rattle.pim_form.specs.Units.{units_of}
 use Rattle.pim_form.specs.Packing.{joined, AreRuns}
-use Rattle.pim_form.specs.Messages.{Rps, HaveRps}
+use Rattle.pim_form.specs.Messages.{HaveRps}
 use Rattle.pim_form.specs.Rows.{form_seen, IsKept}
 use Rattle.pim_form.specs.Plan.{parts_from, run_of, IsPlan}
 use Rattle.pim_form.specs.Parts.{IsFitting, PartHasRps}
 use Rattle.pim_form.proofs.Lists.{all_front, all_behind}
 use Rattle.pim_form.proofs.Normal.{groups_some}
-use Rattle.pim_form.proofs.Spelled.{IsValid, IsValidUnit, units_valid, parts_valid, rp_of}
+use Rattle.pim_form.proofs.Spelled.{IsValid, IsValidUnit, units_valid, parts_valid, rp_here}
 
-module _ (family : AddressFamily) (rps : Rps) where
+module _ (family : AddressFamily) (rps : List ℕ → Option (List ℕ)) where
   valid_have : (part : List GroupForm) → AllByRecursion (IsValid family rps) part → HaveRps family rps part
   valid_have [] all = tt
-  valid_have (this ∷ part) all = (rp_of family rps this all.0, valid_have part all.1)
+  valid_have (this ∷ part) all = (rp_here family rps this all.0, valid_have part all.1)
 
   -- a part whose units are valid
   units_have : (part : List GroupForm) → IsNormal family part → AllByRecursion (IsValidUnit family rps) (units_of part) → HaveRps family rps part
@@ -29,7 +29,7 @@ module _ {A : Type 0} (bytes_of : A → List ℕ) (family : AddressFamily) (row 
   parts_fitting budget [] kept cut = tt
   parts_fitting budget (part ∷ parts) kept cut = (record { kept = kept.0; fitting = cut.1 }, parts_fitting budget parts kept.1 cut.3)
 
-  parts_have : (rps : Rps) (parts : List (List (Place A))) → AllByRecursion (IsKept bytes_of family row) parts → AllByRecursion (IsValidUnit family rps) (joined (map (run_of bytes_of row) parts))
+  parts_have : (rps : List ℕ → Option (List ℕ)) (parts : List (List (Place A))) → AllByRecursion (IsKept bytes_of family row) parts → AllByRecursion (IsValidUnit family rps) (joined (map (run_of bytes_of row) parts))
       → AllByRecursion (PartHasRps bytes_of family rps row) parts
   parts_have rps [] kept valid = tt
   parts_have rps (part ∷ parts) kept valid = (
@@ -41,7 +41,7 @@ module _ {A : Type 0} (bytes_of : A → List ℕ) (family : AddressFamily) (row 
     pub plan_fits : AllByRecursion (IsFitting bytes_of family budget row) (parts_from 0 ends pieces)
     plan_fits = parts_fitting budget (parts_from 0 ends pieces) plan.kept plan.packing.cut
 
-    pub plan_has_rps : (rps : Rps) → IsNormal family (form_seen bytes_of row places) → HaveRps family rps (form_seen bytes_of row places) → AllByRecursion (PartHasRps bytes_of family rps row) (parts_from 0 ends pieces)
+    pub plan_has_rps : (rps : List ℕ → Option (List ℕ)) → IsNormal family (form_seen bytes_of row places) → HaveRps family rps (form_seen bytes_of row places) → AllByRecursion (PartHasRps bytes_of family rps row) (parts_from 0 ends pieces)
     plan_has_rps rps normal have =
         parts_have rps (parts_from 0 ends pieces) plan.kept
         (subst (AllByRecursion (IsValidUnit family rps)) (sym plan.packing.whole) (units_valid family rps (form_seen bytes_of row places) normal.groups have))

@@ -14,7 +14,7 @@ use Rattle.pim_jp.specs.declared.entry.Entry.TheVariants.{Source, Rpt}
 use Rattle.pim_jp.specs.Canonical.{canonical_entry, canonical_set, canonical_set_length, canonical_sets_length}
 use Rattle.pim_form.specs.NormalForm.{GroupForm}
 use Rattle.pim_form.specs.Rows.{exceptions_of}
-use Rattle.pim_form.specs.Messages.{Rps, IsRpOf, star_entries, excepted_entries, told_set}
+use Rattle.pim_form.specs.Messages.{IsRpOf, star_entries, excepted_entries, told_set}
 use Rattle.pim_form.specs.Entries.{canonical_source_entry, canonical_rpt_entry}
 
 pub pruned_count : (star : Option (List (List ℕ))) → length (excepted_entries star) ≡ length (exceptions_of star)
@@ -27,7 +27,7 @@ stars_count family rp None has count is same counts = counts ∙ ap from_bool sa
 stars_count family None (Some exceptions) has count is same counts = absurd is
 stars_count family (Some rp) (Some exceptions) has count is same counts = counts ∙ ap from_bool same
 
-pub joined_count : (rps : Rps) (this : GroupForm) → length (told_set rps this).joined ≡ length (star_entries (rps this.group) this.star) + length this.sources
+pub joined_count : (rps : List ℕ → Option (List ℕ)) (this : GroupForm) → length (told_set rps this).joined ≡ length (star_entries (rps this.group) this.star) + length this.sources
 joined_count rps this =
     omega (arith, length-append (star_entries (rps this.group) this.star) (map (λ source. Source source) this.sources), length-map this.sources (λ source. Source source))
 
@@ -46,7 +46,7 @@ pub exceptions_room : (size group star sources exceptions joined pruned whole fi
     → whole ≡ group + 4 + joined * size + pruned * size → first + (group + 4) ≡ whole → second + star * size ≡ first → third + sources * size ≡ second → third ≡ exceptions * size
 exceptions_room size group star sources exceptions joined pruned whole first second third join prune is one two three = grind (arith, join, prune, is, one, two, three)
 
-pub set_spelled : (count : ℕ → List ℕ) (family : AddressFamily) (rps : Rps) (this : GroupForm) (joined pruned : ℕ) (front star sources exceptions : List ℕ)
+pub set_spelled : (count : ℕ → List ℕ) (family : AddressFamily) (rps : List ℕ → Option (List ℕ)) (this : GroupForm) (joined pruned : ℕ) (front star sources exceptions : List ℕ)
     → joined ≡ length (told_set rps this).joined → pruned ≡ length (told_set rps this).pruned
     → front ≡ canonical_group family this.group ++ count joined ++ count pruned
     → star ≡ flat_map (canonical_entry family) (star_entries (rps this.group) this.star)
@@ -73,12 +73,12 @@ front_and_piece at size front piece others is_at is_size =
     let long : length (front ++ piece) ≡ at + size = omega (arith, length-append front piece) in
     ap (λ (row : List ℕ). take (at + size) row) (sym (append_assoc front piece others)) ∙ ap (λ (n : ℕ). take n ((front ++ piece) ++ others)) (sym long) ∙ take-append_seam (front ++ piece) others
 
-pub few_sources : (rps : Rps) (this : GroupForm) → length (told_set rps this).joined < 2 ^ 16 → length this.sources < 2 ^ 16
+pub few_sources : (rps : List ℕ → Option (List ℕ)) (this : GroupForm) → length (told_set rps this).joined < 2 ^ 16 → length this.sources < 2 ^ 16
 few_sources rps this few = omega (arith, joined_count rps this)
 
 -- ---- sets one behind the other
 
-module _ (family : AddressFamily) (rps : Rps) where
+module _ (family : AddressFamily) (rps : List ℕ → Option (List ℕ)) where
   abbrev pub set_size : GroupForm → ℕ
   set_size this = canonical_set_length family (length (told_set rps this).joined) (length (told_set rps this).pruned)
 

@@ -15,7 +15,7 @@ use Rattle.pim_jp.specs.Canonical.{canonical}
 use Rattle.pim_form.specs.NormalForm.{GroupForm, AreAscending, IsNormal, groups_of, is_empty}
 use Rattle.pim_form.specs.Units.{WantUnit, star_unit, source_unit, star_units, group_units, units_of, run_entries, run_groups, groups_behind, run_size}
 use Rattle.pim_form.specs.Packing.{most_groups, joined}
-use Rattle.pim_form.specs.Messages.{Rps, Writing, IsWriting, TellRuns, AreCanonical, told_message}
+use Rattle.pim_form.specs.Messages.{Writing, IsWriting, TellRuns, AreCanonical, told_message}
 use Rattle.pim_form.specs.TooBig.{star_fits, too_big}
 use Rattle.pim_form.proofs.Lists.{all_append, all_front, all_behind}
 use Rattle.pim_form.proofs.Normal.{groups_some}
@@ -242,7 +242,7 @@ form_in_two (this ∷ form) run left up some h =
 
 -- ---- messages
 
-module _ (family : AddressFamily) (writing : Writing) (rps : Rps) (seal : SomeMessageIsSealed) where
+module _ (family : AddressFamily) (writing : Writing) (rps : List ℕ → Option (List ℕ)) (seal : SomeMessageIsSealed) where
   some_told : (runs : List (List WantUnit)) (form : List GroupForm) → AreAscending (groups_of form) → AllByRecursion IsSome form → units_of form ≡ joined runs
       → (messages : List (List ℕ)) × TellRuns family writing rps runs messages
   some_told [] form up some is = ([], tt)

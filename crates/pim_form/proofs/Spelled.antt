@@ -82,8 +82,8 @@ module _ (family : AddressFamily) (rps : List ℕ → Option (List ℕ)) where
   rp_of_star group None all = tt
   rp_of_star group (Some xs) all = all.0.2
 
-  pub rp_of : (this : GroupForm) → IsValid this → IsRpOf family (rps this.group) this.star
-  rp_of this is = rp_of_star this.group this.star is.star
+  pub rp_here : (this : GroupForm) → IsValid this → IsRpOf family (rps this.group) this.star
+  rp_here this is = rp_of_star this.group this.star is.star
 
   -- ---- entries
 
@@ -100,7 +100,7 @@ module _ (family : AddressFamily) (rps : List ℕ → Option (List ℕ)) where
   entries_valid : (this : GroupForm) → IsValid this → AllByRecursion (IsMessageEntry family) (told_set rps this).joined × AllByRecursion (IsMessageEntry family) (told_set rps this).pruned
   entries_valid this is = (
     all_append (IsMessageEntry family) (star_entries (rps this.group) this.star) (map (λ source. Source source) this.sources)
-        (joined_valid this.group (rps this.group) this.star (rp_of this is))
+        (joined_valid this.group (rps this.group) this.star (rp_here this is))
         (all_map (IsSourceAddress family) (IsMessageEntry family) (λ source. Source source) (λ s s_is. s_is) this.sources is.sources),
     pruned_valid this.group this.star is.star,
   )
@@ -178,7 +178,7 @@ group_entries family rps this is =
 sets_are : (family : AddressFamily) (rps : List ℕ → Option (List ℕ)) (part : List GroupForm) → AllByRecursion (IsValid family rps) part → run_entries (units_of part) < 2 ^ 16 → AllByRecursion (IsMessageSet family) (map (told_set rps) part)
 sets_are family rps [] all few = tt
 sets_are family rps (this ∷ part) all few =
-    let here = group_entries family rps this (rp_of family rps this all.0) in
+    let here = group_entries family rps this (rp_here family rps this all.0) in
     let both = entries_append (group_units this) (units_of part) in
     let entries = entries_valid family rps this all.0 in
     let joined : length (told_set rps this).joined < 2 ^ 16 = omega arith in
@@ -213,9 +213,9 @@ unfolding canonical_sets_length run_entries
 sets_size Ipv4 rps [] all = refl
 sets_size Ipv6 rps [] all = refl
 sets_size Ipv4 rps (this ∷ part) all =
-    omega (arith, group_entries Ipv4 rps this (rp_of Ipv4 rps this all.0), entries_append (group_units this) (units_of part), sets_size Ipv4 rps part all.1)
+    omega (arith, group_entries Ipv4 rps this (rp_here Ipv4 rps this all.0), entries_append (group_units this) (units_of part), sets_size Ipv4 rps part all.1)
 sets_size Ipv6 rps (this ∷ part) all =
-    omega (arith, group_entries Ipv6 rps this (rp_of Ipv6 rps this all.0), entries_append (group_units this) (units_of part), sets_size Ipv6 rps part all.1)
+    omega (arith, group_entries Ipv6 rps this (rp_here Ipv6 rps this all.0), entries_append (group_units this) (units_of part), sets_size Ipv6 rps part all.1)
 
 framed_length : (sum : ℕ) (body : List ℕ) → length (framed JoinPrune sum body) ≡ 4 + length body
 framed_length sum body = omega (arith, length-append (to_be_bytes w16 sum) body)

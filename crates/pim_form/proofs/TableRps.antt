@@ -5,7 +5,6 @@ use Rattle.std.specs.List.{AllByRecursion, filter}
 use Rattle.pim_addr.specs.declared.family.AddressFamily.{AddressFamily}
 use Rattle.pim_addr.specs.Address.{IsSourceAddress}
 use Rattle.pim_addr.specs.Routes.{Row, RouteTable, matches, longer_of, longest, led_to, rp_of, IsRealRow, IsRouteTable}
-use Rattle.pim_down.specs.Known.{known_in}
 use Rattle.pim_form.specs.NormalForm.{GroupForm}
 use Rattle.pim_form.specs.Messages.{IsRp, IsRpOf, HaveRps}
 use Rattle.pim_form.specs.Toward.{via_rp, is_neighbour, is_star_toward, is_group_toward, is_toward}
@@ -43,8 +42,8 @@ led_to_source family address rows are =
     (all_longest (IsRealRow family) (filter (matches family address) rows) (all_filter (IsRealRow family) (matches family address) rows are))
 
 -- the RP of a group is a valid source
-pub rp_is_source : (family : AddressFamily) (table : RouteTable) (group : List ℕ) → IsRouteTable family table → is_some (rp_of family group table) ≡ true → IsRp family (rp_of family group table)
-rp_is_source family table group sound some = by (rp_of family group table) (led_to_source family group table.rps sound.rps.real) some
+pub rp_is_source : (family : AddressFamily) (table : RouteTable) (group : List ℕ) → IsRouteTable family table → is_some (rp_of family table group) ≡ true → IsRp family (rp_of family table group)
+rp_is_source family table group sound some = by (rp_of family table group) (led_to_source family group table.rps sound.rps.real) some
   where
     by : (rp : Option (List ℕ)) → IfSource family rp → is_some rp ≡ true → IsRp family rp
     by None is some = absurd (false≢true some)
@@ -55,14 +54,14 @@ module _ (family : AddressFamily) (table : RouteTable) (sound : IsRouteTable fam
   led_is_some None asked = asked
   led_is_some (Some rp) asked = refl
 
-  star_has_rp : (group : List ℕ) (star : Option (List (List ℕ))) → is_star_toward (known_in family table) via neighbour group star ≡ true → IsRpOf family (known_in family table group) star
+  star_has_rp : (group : List ℕ) (star : Option (List (List ℕ))) → is_star_toward (rp_of family table) via neighbour group star ≡ true → IsRpOf family (rp_of family table group) star
   star_has_rp group None asked = tt
-  star_has_rp group (Some xs) asked = rp_is_source family table group sound (led_is_some (rp_of family group table) asked)
+  star_has_rp group (Some xs) asked = rp_is_source family table group sound (led_is_some (rp_of family table group) asked)
 
   -- each star of a form that passes the test has an RP
-  pub have_rps : (form : List GroupForm) → is_toward (known_in family table) via neighbour form ≡ true → HaveRps family (known_in family table) form
+  pub have_rps : (form : List GroupForm) → is_toward (rp_of family table) via neighbour form ≡ true → HaveRps family (rp_of family table) form
   have_rps [] test = tt
   have_rps (this ∷ form) test =
-      let here = first_true (is_group_toward (known_in family table) via neighbour this) (is_toward (known_in family table) via neighbour form) test in
-      let others = second_true (is_group_toward (known_in family table) via neighbour this) (is_toward (known_in family table) via neighbour form) test in
-      (star_has_rp this.group this.star (first_true (is_star_toward (known_in family table) via neighbour this.group this.star) _ here), have_rps form others)
+      let here = first_true (is_group_toward (rp_of family table) via neighbour this) (is_toward (rp_of family table) via neighbour form) test in
+      let others = second_true (is_group_toward (rp_of family table) via neighbour this) (is_toward (rp_of family table) via neighbour form) test in
+      (star_has_rp this.group this.star (first_true (is_star_toward (rp_of family table) via neighbour this.group this.star) _ here), have_rps form others)

@@ -17,7 +17,7 @@ use Rattle.pim_form.proofs.Lists.{all_front, all_behind, one_mapped}
 use Rattle.pim_form.proofs.Normal.{groups_some}
 use Rattle.pim_form.proofs.Units.{one_of_units}
 use Rattle.pim_form.proofs.OnePacking.{one_packing}
-use Rattle.pim_form.proofs.Spelled.{IsValidUnit, IsValid, units_valid, parts_valid, rp_of, IsPart, is_message}
+use Rattle.pim_form.proofs.Spelled.{IsValidUnit, IsValid, units_valid, parts_valid, rp_here, IsPart, is_message}
 
 -- ---- a set tells its group
 
@@ -61,7 +61,7 @@ module _ (family : AddressFamily) (rps : List ℕ → Option (List ℕ)) where
       let groups : a.group ≡ b.group = ap (λ (set : GroupSet). set.group) h in
       let joined : (told_set rps a).joined ≡ (told_set rps b).joined = ap (λ (set : GroupSet). set.joined) h in
       let pruned : (told_set rps a).pruned ≡ (told_set rps b).pruned = ap (λ (set : GroupSet). set.pruned) h in
-      let lists = lists_told family (rps a.group) (rps b.group) a.star b.star a.sources b.sources (rp_of family rps a is_a) (rp_of family rps b is_b) joined pruned in
+      let lists = lists_told family (rps a.group) (rps b.group) a.star b.star a.sources b.sources (rp_here family rps a is_a) (rp_here family rps b is_b) joined pruned in
       let stars = lists.stars in
       let sources = lists.sources in
       λ i. record { group = groups i; star = stars i; sources = sources i }

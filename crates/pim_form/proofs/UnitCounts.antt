@@ -6,12 +6,11 @@ use Rattle.std.specs.Ordering.{nat_cmp}
 use Rattle.std.specs.Cmp.Lexicographic.{slice_cmp}
 use Rattle.std.proofs.lemmas.List.{length-map}
 use Rattle.pim_addr.specs.declared.family.AddressFamily.{AddressFamily}
-use Rattle.pim_addr.specs.Routes.{RouteTable}
+use Rattle.pim_addr.specs.Routes.{RouteTable, rp_of}
 use Rattle.pim_down.specs.declared.machines.key.What.{What}
 use Rattle.pim_down.specs.declared.machines.key.What.TheVariants.{Star, Source, Rpt}
 use Rattle.pim_down.specs.declared.machines.machine.State.{State}
 use Rattle.pim_down.specs.declared.machines.machine.Record.{Record}
-use Rattle.pim_down.specs.Known.{known_in}
 use Rattle.pim_down.specs.Sound.{IsSound}
 use Rattle.pim_down.specs.Time.{Downstream}
 use Rattle.pim_form.specs.NormalForm.{GroupForm, same_address, is_empty}
@@ -184,7 +183,7 @@ module _ (family : AddressFamily) (state : Downstream) (sound : IsSound family s
   pub few_units : (table : RouteTable) (neighbour : List ℕ) → length (units_of (asked_form family table neighbour state)) ≤ 6400000
   unfolding asked_form
   few_units table neighbour =
-      let left = units_left (known_in family table) (via_in family table) neighbour (form_below state.ports state) in
+      let left = units_left (rp_of family table) (via_in family table) neighbour (form_below state.ports state) in
       let below = units_below state.ports in
       let most = sound.ports in
-      omega (arith, units_total (form_toward (known_in family table) (via_in family table) neighbour (form_below state.ports state)), left, below, most)
+      omega (arith, units_total (form_toward (rp_of family table) (via_in family table) neighbour (form_below state.ports state)), left, below, most)

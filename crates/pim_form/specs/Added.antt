@@ -1,14 +1,14 @@
 -- Appending the message of a part of a form to a byte string or to a list of messages.
-use Rattle.std.specs.Prelude.{◌≡◌, ℕ, List, [], ◌∷◌, ◌++◌}
+use Rattle.std.specs.Prelude.{◌≡◌, ℕ, List, [], ◌∷◌, ◌++◌, Option}
 use Rattle.pim_addr.specs.declared.family.AddressFamily.{AddressFamily}
 use Rattle.pim_frame.specs.Frame.{all_routers}
 use Rattle.pim_frame.specs.Seal.{IsSealed}
 use Rattle.pim_frame.specs.declared.frame.MessageType.TheVariants.{JoinPrune}
 use Rattle.pim_jp.specs.Canonical.{canonical}
 use Rattle.pim_form.specs.NormalForm.{GroupForm}
-use Rattle.pim_form.specs.Messages.{Rps, Writing, told_message}
+use Rattle.pim_form.specs.Messages.{Writing, told_message}
 
-module _ (family : AddressFamily) (writing : Writing) (rps : Rps) (part : List GroupForm) where
+module _ (family : AddressFamily) (writing : Writing) (rps : List ℕ → Option (List ℕ)) (part : List GroupForm) where
   -- The bytes are the canonical Join/Prune message (RFC 7761, 4.9.5) of the part, sealed from the
   -- writer's own address to ALL-PIM-ROUTERS.
   abbrev pub TellsPart : List ℕ → Type 0

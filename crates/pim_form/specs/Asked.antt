@@ -5,9 +5,8 @@ use Rattle.std.specs.Option.{is_some}
 use Rattle.std.specs.List.{AllByRecursion}
 use Rattle.pim_addr.specs.declared.family.AddressFamily.{AddressFamily}
 use Rattle.pim_addr.specs.Address.{IsGroupAddress, IsSourceAddress}
-use Rattle.pim_addr.specs.Routes.{RouteTable}
+use Rattle.pim_addr.specs.Routes.{RouteTable, rp_of}
 use Rattle.pim_down.specs.declared.machines.key.What.TheVariants.{Star}
-use Rattle.pim_down.specs.Known.{known_in}
 use Rattle.pim_down.specs.Sound.{IsSound}
 use Rattle.pim_down.specs.Time.{Downstream}
 use Rattle.pim_form.specs.declared.tree.Tree.TheVariants.{Shared, Source}
@@ -30,7 +29,7 @@ form_below (suc count) state = merged (collected (of_port count state)) (form_be
 module _ (family : AddressFamily) (table : RouteTable) (neighbour : List ℕ) (state : Downstream) where
   -- The form of what all ports want, restricted to what is requested from this neighbour.
   unfoldable pub asked_form : List GroupForm
-  asked_form = form_toward (known_in family table) (via_in family table) neighbour (form_below state.ports state)
+  asked_form = form_toward (rp_of family table) (via_in family table) neighbour (form_below state.ports state)
 
   -- What the form has of one group. It has a star if JoinDesired(*,G) is true (RFC 7761, 4.5.4) and
   -- the neighbour is RPF'(*,G). Its exceptions are the valid sources whose inherited_olist(S,G,rpt)
@@ -40,7 +39,7 @@ module _ (family : AddressFamily) (table : RouteTable) (neighbour : List ℕ) (s
   pub record HasAsked (group : List ℕ) (this : GroupForm) : Type 0 where
     pub star : is_some this.star
         ≡ (some_below state.ports (λ port. is_joined (state_on state.records port group Star))
-        && is_neighbour neighbour (via_rp (via_in family table) (known_in family table group)))
+        && is_neighbour neighbour (via_rp (via_in family table) (rp_of family table group)))
     pub exceptions : is_some this.star ≡ true → (source : List ℕ) → IsSourceAddress family source →
         is_listed source (exceptions_of this.star) ≡ not (wants state source group Shared)
     pub sources : (source : List ℕ) → IsSourceAddress family source →

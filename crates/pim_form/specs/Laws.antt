@@ -16,7 +16,7 @@ use Rattle.pim_form.specs.Toward.{toward, SharedHaveRps}
 use Rattle.pim_form.specs.Units.{WantUnit, units_of, run_size}
 use Rattle.pim_form.specs.Packing.{IsPacking, fits, IsNonempty, StopsBefore}
 use Rattle.pim_form.specs.TooBig.{too_big}
-use Rattle.pim_form.specs.Messages.{Rps, Writing, IsWriting, HaveRps, AreCanonical, told_message}
+use Rattle.pim_form.specs.Messages.{Writing, IsWriting, HaveRps, AreCanonical, told_message}
 
 -- The bytes, sent from `source` to ALL-PIM-ROUTERS, open as a Join/Prune message. Its body is read
 -- as this message, and no fault is found (RFC 7761, 4.9 and 4.9.5).
@@ -73,21 +73,21 @@ FirstRunIsTold = (family : AddressFamily) (budget : ℕ) (run left : List WantUn
 -- Two normal forms with the same canonical messages by one writer are equal, where each star has an
 -- RP.
 abbrev pub MessagesTellTheForm : Type 0
-MessagesTellTheForm = (family : AddressFamily) (writing : Writing) (rps : Rps) (one other : List GroupForm)
+MessagesTellTheForm = (family : AddressFamily) (writing : Writing) (rps : List ℕ → Option (List ℕ)) (one other : List GroupForm)
     (messages : List (List ℕ)) → IsWriting family writing → IsNormal family one → IsNormal family other →
     HaveRps family rps one → HaveRps family rps other →
     AreCanonical family writing rps one messages → AreCanonical family writing rps other messages → one ≡ other
 
 -- A form has at most one list of canonical messages by a writer.
 abbrev pub OneListOfMessages : Type 0
-OneListOfMessages = (family : AddressFamily) (writing : Writing) (rps : Rps) (form : List GroupForm)
+OneListOfMessages = (family : AddressFamily) (writing : Writing) (rps : List ℕ → Option (List ℕ)) (form : List GroupForm)
     (one other : List (List ℕ)) →
     AreCanonical family writing rps form one → AreCanonical family writing rps form other → one ≡ other
 
 -- The canonical messages of the normal forms of two demands, by one writer, are the same exactly if
 -- the demands agree. Each star has an RP.
 abbrev pub SameMessagesSameDemand : Type 0
-SameMessagesSameDemand = (family : AddressFamily) (writing : Writing) (rps : Rps) (this that : Demand)
+SameMessagesSameDemand = (family : AddressFamily) (writing : Writing) (rps : List ℕ → Option (List ℕ)) (this that : Demand)
     (one other : List GroupForm) (first second : List (List ℕ)) →
     IsWriting family writing → IsFormOf family this one → IsFormOf family that other →
     HaveRps family rps one → HaveRps family rps other →
@@ -96,7 +96,7 @@ SameMessagesSameDemand = (family : AddressFamily) (writing : Writing) (rps : Rps
 
 -- The size of a run that fits is the length of its message in bytes.
 abbrev pub SizeIsLength : Type 0
-SizeIsLength = (family : AddressFamily) (writing : Writing) (rps : Rps) (part : List GroupForm) (bytes : List ℕ) →
+SizeIsLength = (family : AddressFamily) (writing : Writing) (rps : List ℕ → Option (List ℕ)) (part : List GroupForm) (bytes : List ℕ) →
     IsWriting family writing → IsNormal family part → HaveRps family rps part →
     fits family writing.budget (units_of part) ≡ true →
     IsSealed family writing.own (all_routers family) JoinPrune
@@ -120,7 +120,7 @@ UnitsPackIfEachFits = (family : AddressFamily) (budget : ℕ) (units : List Want
 
 -- A normal form has canonical messages by a writer exactly if no star is too big.
 abbrev pub MessagesAreThereUnlessTooBig : Type 0
-MessagesAreThereUnlessTooBig = (family : AddressFamily) (writing : Writing) (rps : Rps) (form : List GroupForm) →
+MessagesAreThereUnlessTooBig = (family : AddressFamily) (writing : Writing) (rps : List ℕ → Option (List ℕ)) (form : List GroupForm) →
     IsWriting family writing → IsNormal family form →
     ((messages : List (List ℕ)) × AreCanonical family writing rps form messages)
     ↔ (too_big family writing.budget form ≡ None)

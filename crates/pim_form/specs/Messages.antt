@@ -38,10 +38,6 @@ pub record IsWriting (family : AddressFamily) (writing : Writing) : Type 0 where
 
 -- ---- the RPs of groups
 
--- RP(G) of each group, or `None` where the group has no RP.
-abbrev pub Rps : Type 0
-Rps = List ℕ → Option (List ℕ)
-
 -- There is an RP, and it is a valid source address.
 abbrev pub IsRp : AddressFamily → Option (List ℕ) → Type 0
 IsRp family None = ⊥
@@ -53,7 +49,7 @@ IsRpOf family rp None = Unit {0}
 IsRpOf family rp (Some exceptions) = IsRp family rp
 
 -- Each group with a star has an RP that is a valid source address.
-abbrev pub HaveRps : AddressFamily → Rps → List GroupForm → Type 0
+abbrev pub HaveRps : AddressFamily → (List ℕ → Option (List ℕ)) → List GroupForm → Type 0
 HaveRps family rps form = AllByRecursion (λ this. IsRpOf family (rps this.group) this.star) form
 
 -- ---- the message of a part of a form (RFC 7761, 4.9.5)
@@ -71,7 +67,7 @@ excepted_entries (Some exceptions) = map (λ source. Rpt source) exceptions
 
 -- The group set that requests a group: Join(*,G), then Join(S,G) for each source, and
 -- Prune(S,G,rpt) for each exception.
-abbrev pub told_set : Rps → GroupForm → GroupSet
+abbrev pub told_set : (List ℕ → Option (List ℕ)) → GroupForm → GroupSet
 told_set rps this = record {
   group = this.group;
   joined = star_entries (rps this.group) this.star ++ map (λ source. Source source) this.sources;
@@ -80,7 +76,7 @@ told_set rps this = record {
 
 -- The Join/Prune message that requests a part of a form from the writer's upstream neighbour, with
 -- one group set for each group.
-abbrev pub told_message : Writing → Rps → List GroupForm → Message
+abbrev pub told_message : Writing → (List ℕ → Option (List ℕ)) → List GroupForm → Message
 told_message writing rps part = record {
   upstream = writing.upstream;
   holdtime = writing.holdtime;
@@ -89,7 +85,7 @@ told_message writing rps part = record {
 
 -- The bytes are the message of a run. The run is the units of a part of a form, and the bytes are
 -- the canonical message of that part, sealed to ALL-PIM-ROUTERS.
-pub record TellsRun (family : AddressFamily) (writing : Writing) (rps : Rps) (run : List WantUnit) (bytes : List ℕ)
+pub record TellsRun (family : AddressFamily) (writing : Writing) (rps : List ℕ → Option (List ℕ)) (run : List WantUnit) (bytes : List ℕ)
     : Type 0 where
   pub part : List GroupForm
   pub units : units_of part ≡ run
@@ -99,7 +95,7 @@ pub record TellsRun (family : AddressFamily) (writing : Writing) (rps : Rps) (ru
       (canonical family (told_message writing rps part)) bytes
 
 -- The messages are those of the runs, one for each run, in order.
-abbrev pub TellRuns : AddressFamily → Writing → Rps → List (List WantUnit) → List (List ℕ) → Type 0
+abbrev pub TellRuns : AddressFamily → Writing → (List ℕ → Option (List ℕ)) → List (List WantUnit) → List (List ℕ) → Type 0
 TellRuns family writing rps [] [] = Unit {0}
 TellRuns family writing rps [] (bytes ∷ messages) = ⊥
 TellRuns family writing rps (run ∷ runs) [] = ⊥
@@ -108,7 +104,7 @@ TellRuns family writing rps (run ∷ runs) (bytes ∷ messages) =
 
 -- The messages are canonical messages of the form: they are those of the runs of a packing of its
 -- units. A form has at most one list of them by a writer.
-pub record AreCanonical (family : AddressFamily) (writing : Writing) (rps : Rps) (form : List GroupForm)
+pub record AreCanonical (family : AddressFamily) (writing : Writing) (rps : List ℕ → Option (List ℕ)) (form : List GroupForm)
     (messages : List (List ℕ)) : Type 0 where
   pub runs : List (List WantUnit)
   pub packing : IsPacking family writing.budget (units_of form) runs

@@ -53,7 +53,7 @@ module _ (rps via : List ℕ → Option (List ℕ)) where
   abbrev pub SharedHaveRps : Demand → Type 0
   SharedHaveRps demand = (source group : List ℕ) → demand source group Shared ≡ true → is_some (rps group) ≡ true
 
--- The neighbour to which a route table leads an address. `known_in` of pim_down is the RP of a
+-- The neighbour to which a route table leads an address. `rp_of` of pim_down is the RP of a
 -- group by the same table.
 abbrev pub via_in : AddressFamily → RouteTable → List ℕ → Option (List ℕ)
 via_in family table address = via family address table

@@ -7,7 +7,6 @@ use Rattle.pim_addr.specs.Address.{IsSourceAddress, IsGroupAddress}
 use Rattle.pim_addr.specs.RouteLaws.{all_addresses}
 use Rattle.pim_addr.specs.Routes.{RouteTable, IsRouteTable, rp_of}
 use Rattle.pim_down.specs.declared.machines.key.What.TheVariants.{Star}
-use Rattle.pim_down.specs.Known.{known_in}
 use Rattle.pim_down.specs.Time.{Downstream}
 use Rattle.pim_form.specs.declared.tree.Tree.{Tree}
 use Rattle.pim_form.specs.Wants.{is_joined, state_on, wants}
@@ -35,12 +34,12 @@ TestTellsWhoIsAsked = (family : AddressFamily) (rps via : List ℕ → Option (L
 -- What the machines want, restricted to what is requested from this neighbour.
 abbrev pub asked_of : AddressFamily → RouteTable → List ℕ → Downstream → Demand
 asked_of family table neighbour state =
-    toward (known_in family table) (via_in family table) neighbour (wants state)
+    toward (rp_of family table) (via_in family table) neighbour (wants state)
 
 -- Each group with a port in joins(*,G) has an RP.
 abbrev pub StarsHaveRps : AddressFamily → RouteTable → Downstream → Type 0
 StarsHaveRps family table state = (port : ℕ) (group : List ℕ) → IsGroupAddress family group →
-    is_joined (state_on state.records port group Star) ≡ true → is_some (rp_of family group table) ≡ true
+    is_joined (state_on state.records port group Star) ≡ true → is_some (rp_of family table group) ≡ true
 
 -- Everything that the machines want is requested from the neighbour: both demands agree, and a
 -- normal form of one is that of the other.
@@ -67,7 +66,7 @@ SameMessagesSameAsked = (family : AddressFamily) (table : RouteTable) (writing :
     IsRouteTable family table → IsWriting family writing →
     IsFormOf family (asked_of family table writing.upstream this) one →
     IsFormOf family (asked_of family table writing.upstream that) other →
-    AreCanonical family writing (known_in family table) one first →
-    AreCanonical family writing (known_in family table) other second →
+    AreCanonical family writing (rp_of family table) one first →
+    AreCanonical family writing (rp_of family table) other second →
     (first ≡ second)
     ↔ Agree family (asked_of family table writing.upstream this) (asked_of family table writing.upstream that)

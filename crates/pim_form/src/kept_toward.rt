@@ -5,7 +5,7 @@
 
 ghost use Rattle.std.specs.Prelude.{◌≡◌, ◌∷◌, ◌++◌, [], true, filter, if◌then◌else◌, IfOk, OnOk};
 ghost use Rattle.std.specs.Option.{is_some};
-ghost use Rattle.pim_down.specs.Known.{known_in};
+ghost use Rattle.pim_addr.specs.Routes.{rp_of};
 ghost use Rattle.pim_form.specs.NormalForm.{IsFormOf, form_wants};
 ghost use Rattle.pim_form.specs.Toward.{via_in, toward, is_toward};
 ghost use Rattle.pim_form.specs.Wants.{wants};
@@ -28,7 +28,7 @@ fn push_reached<F: Family>(
     upstream: F::Addr,
 ) -> Result<(), AllocError>
     ensures { OnOk result (row.new.items ≡ row.old.items
-        ++ filter (λ source. is_reached (known_in F.family routes.now)
+        ++ filter (λ source. is_reached (rp_of F.family routes.now)
         (via_in F.family routes.now) (F.bytes_of upstream) (F.bytes_of source)) sources.now) }
 {
     for &source in sources {
@@ -42,7 +42,7 @@ fn push_reached<F: Family>(
 /// Whether the group has a star that is requested from this neighbour.
 fn keeps_star<F: Family>(this: &GroupView<'_, F>, routes: &Routes<F>, upstream: F::Addr) -> bool
     ensures { result
-        ≡ is_some (star_toward (known_in F.family routes.now) (via_in F.family routes.now)
+        ≡ is_some (star_toward (rp_of F.family routes.now) (via_in F.family routes.now)
         (F.bytes_of upstream) this.now.group this.now.star) }
 {
     this.star() && is_rp_reached::<F>(routes, this.group(), upstream)
@@ -56,7 +56,7 @@ fn push_star<F: Family>(
     routes: &Routes<F>,
     upstream: F::Addr,
 ) -> Result<bool, AllocError>
-    ensures { IfOk result (IsStarPushed F.bytes_of (star_toward (known_in F.family routes.now)
+    ensures { IfOk result (IsStarPushed F.bytes_of (star_toward (rp_of F.family routes.now)
         (via_in F.family routes.now) (F.bytes_of upstream) this.now.group this.now.star)
         row.old.items row.new.items) }
 {
@@ -76,7 +76,7 @@ fn push_group<F: Family>(
 ) -> Result<Place<F::Addr>, AllocError>
     ensures { IfOk result
         (IsPushed F.bytes_of
-        (group_toward (known_in F.family routes.now) (via_in F.family routes.now)
+        (group_toward (rp_of F.family routes.now) (via_in F.family routes.now)
         (F.bytes_of upstream) this.now) row.old.items row.new.items) }
 {
     let sources_start = row.len();
@@ -119,10 +119,10 @@ fn kept_toward<F: Family>(
     routes: &Routes<F>,
     upstream: F::Addr,
 ) -> Result<NormalForm<F>, AllocError>
-    ensures meaning { IfOk result (λ form. IsFormOf F.family (toward (known_in F.family routes.now)
+    ensures meaning { IfOk result (λ form. IsFormOf F.family (toward (rp_of F.family routes.now)
         (via_in F.family routes.now) (F.bytes_of upstream) (form_wants normal.now)) form) }
     ensures only { IfOk result
-        (λ form. is_toward (known_in F.family routes.now) (via_in F.family routes.now)
+        (λ form. is_toward (rp_of F.family routes.now) (via_in F.family routes.now)
         (F.bytes_of upstream) form ≡ true) }
 {
     normal.is_normal();
@@ -150,10 +150,10 @@ impl<F: Family> NormalForm<F> {
         upstream: F::Addr,
     ) -> Result<NormalForm<F>, AllocError>
         ensures meaning { IfOk result
-            (λ form. IsFormOf F.family (toward (known_in F.family routes.now)
+            (λ form. IsFormOf F.family (toward (rp_of F.family routes.now)
             (via_in F.family routes.now) (F.bytes_of upstream) (wants ports.now)) form) }
         ensures only { IfOk result
-            (λ form. is_toward (known_in F.family routes.now) (via_in F.family routes.now)
+            (λ form. is_toward (rp_of F.family routes.now) (via_in F.family routes.now)
             (F.bytes_of upstream) form ≡ true) }
     {
         let wanted = NormalForm::of(alloc, ports)?;

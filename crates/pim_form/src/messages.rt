@@ -2,7 +2,7 @@
 
 ghost use Rattle.std.specs.Prelude.{IsTrue, ◌↔◌, ◌≡◌, ◌<◌, true, [], ◌∷◌, ◌++◌, length, slice_get};
 ghost use Rattle.std.specs.Prelude.{OnOk, OnErr};
-ghost use Rattle.pim_down.specs.Known.{known_in};
+ghost use Rattle.pim_addr.specs.Routes.{rp_of};
 ghost use Rattle.pim_form.specs.Added.{IsAdded};
 ghost use Rattle.pim_form.specs.Blocks.{told_bytes};
 ghost use Rattle.pim_form.specs.Messages.{HaveRps};
@@ -75,11 +75,11 @@ impl Messages {
         pieces: &[Place<F::Addr>],
     ) -> Result<(), AllocError>
         requires kept { IsKept F.bytes_of F.family row.now pieces.now }
-        requires rps { HaveRps F.family (known_in F.family routes.now)
+        requires rps { HaveRps F.family (rp_of F.family routes.now)
             (form_seen F.bytes_of row.now pieces.now) }
         requires fitting { fits F.family writer.now.budget (run_of F.bytes_of row.now pieces.now)
             ≡ true }
-        ensures { OnOk result (IsAdded F.family writer.now (known_in F.family routes.now)
+        ensures { OnOk result (IsAdded F.family writer.now (rp_of F.family routes.now)
             (form_seen F.bytes_of row.now pieces.now) self.old self.new) }
     {
         let start = self.bytes.len();

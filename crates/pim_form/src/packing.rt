@@ -6,7 +6,7 @@
 
 ghost use Rattle.std.specs.Prelude.{◌≡◌, ◌≢◌, true, None, Err, length, map, option_map, IfOk};
 ghost use Rattle.std.specs.List.{AllByRecursion};
-ghost use Rattle.pim_down.specs.Known.{known_in};
+ghost use Rattle.pim_addr.specs.Routes.{rp_of};
 ghost use Rattle.pim_form.specs.Messages.{HaveRps, TellRuns, AreCanonical};
 ghost use Rattle.pim_form.specs.Parts.{IsFitting, PartHasRps, runs_size};
 ghost use Rattle.pim_form.specs.Plan.{AreEnds, parts_from, run_of};
@@ -65,9 +65,9 @@ fn told_plan<F: Family>(
     requires parts { AllByRecursion (IsFitting F.bytes_of F.family writer.now.budget row.now)
         (parts_from 0 plan.now.ends.items plan.now.pieces.items) }
     requires rps { AllByRecursion
-        (PartHasRps F.bytes_of F.family (known_in F.family routes.now) row.now)
+        (PartHasRps F.bytes_of F.family (rp_of F.family routes.now) row.now)
         (parts_from 0 plan.now.ends.items plan.now.pieces.items) }
-    ensures { IfOk result (λ messages. TellRuns F.family writer.now (known_in F.family routes.now)
+    ensures { IfOk result (λ messages. TellRuns F.family writer.now (rp_of F.family routes.now)
         (map (run_of F.bytes_of row.now) (parts_from 0 plan.now.ends.items plan.now.pieces.items))
         messages) }
 {
@@ -92,9 +92,9 @@ fn packed<F: Family>(
     routes: &Routes<F>,
 ) -> Result<Messages, AllocError>
     requires fits { too_big F.family writer.now.budget normal.now ≡ None }
-    requires rps { HaveRps F.family (known_in F.family routes.now) normal.now }
+    requires rps { HaveRps F.family (rp_of F.family routes.now) normal.now }
     ensures { IfOk result
-        (λ messages. AreCanonical F.family writer.now (known_in F.family routes.now) normal.now
+        (λ messages. AreCanonical F.family writer.now (rp_of F.family routes.now) normal.now
         messages) }
 {
     writer.is_writing();
@@ -118,11 +118,11 @@ pub fn pack<F: Family>(
     writer: &Writer<F>,
     routes: &Routes<F>,
 ) -> Result<Messages, FormFault<F>>
-    requires { is_toward (known_in F.family routes.now) (via_in F.family routes.now)
+    requires { is_toward (rp_of F.family routes.now) (via_in F.family routes.now)
         writer.now.upstream normal.now
         ≡ true }
     ensures canonical { IfOk result
-        (λ messages. AreCanonical F.family writer.now (known_in F.family routes.now) normal.now
+        (λ messages. AreCanonical F.family writer.now (rp_of F.family routes.now) normal.now
         messages) }
     ensures too_big { option_map F.bytes_of (told_too_big result)
         ≡ too_big F.family writer.now.budget normal.now }

@@ -2,7 +2,7 @@
 
 ghost use Rattle.std.specs.Prelude.{◌≡◌, List, ℕ, map, option_map};
 ghost use Rattle.std.specs.List.{list_all};
-ghost use Rattle.pim_down.specs.Known.{known_in};
+ghost use Rattle.pim_addr.specs.Routes.{rp_of};
 ghost use Rattle.pim_form.specs.Toward.{via_in, via_rp, upstream_of, is_neighbour, is_group_toward};
 ghost use Rattle.pim_form.specs.Toward.{is_toward};
 
@@ -21,7 +21,7 @@ pub fn upstream_of<F: Family>(
     tree: Tree,
 ) -> Option<F::Addr>
     ensures { option_map F.bytes_of result
-        ≡ upstream_of (known_in F.family routes.now) (via_in F.family routes.now)
+        ≡ upstream_of (rp_of F.family routes.now) (via_in F.family routes.now)
         (F.bytes_of source) (F.bytes_of group) tree }
 {
     match tree {
@@ -47,7 +47,7 @@ pub(crate) fn is_rp_reached<F: Family>(
     upstream: F::Addr,
 ) -> bool
     ensures { result ≡ is_neighbour (F.bytes_of upstream)
-        (via_rp (via_in F.family routes.now) (known_in F.family routes.now (F.bytes_of group))) }
+        (via_rp (via_in F.family routes.now) (rp_of F.family routes.now (F.bytes_of group))) }
 {
     let asked = upstream_of::<F>(routes, group, group, Tree::Shared);
     is_neighbour::<F>(asked, upstream)
@@ -73,7 +73,7 @@ fn is_group_toward<F: Family>(
     routes: &Routes<F>,
     upstream: F::Addr,
 ) -> bool
-    ensures { result ≡ is_group_toward (known_in F.family routes.now) (via_in F.family routes.now)
+    ensures { result ≡ is_group_toward (rp_of F.family routes.now) (via_in F.family routes.now)
         (F.bytes_of upstream) this.now }
 {
     if this.star() && !is_rp_reached::<F>(routes, this.group(), upstream) {
@@ -86,7 +86,7 @@ fn is_group_toward<F: Family>(
 /// each star and of each source. It allocates nothing, and takes at most two look-ups for each star
 /// and one for each source.
 pub fn is_toward<F: Family>(normal: &NormalForm<F>, routes: &Routes<F>, upstream: F::Addr) -> bool
-    ensures { result ≡ is_toward (known_in F.family routes.now) (via_in F.family routes.now)
+    ensures { result ≡ is_toward (rp_of F.family routes.now) (via_in F.family routes.now)
         (F.bytes_of upstream) normal.now }
 {
     for this in normal.groups() {

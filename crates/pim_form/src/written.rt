@@ -2,13 +2,13 @@
 //! (RFC 7761, 4.9.5). The checksum is summed over the finished message.
 
 ghost use Rattle.std.specs.Prelude.{◌≡◌, ◌+◌, ◌*◌, ◌<◌, ◌≤◌, ◌^◌, true, take, drop, ◌++◌, length};
-ghost use Rattle.std.specs.Prelude.{map, OnOk, OnErr};
+ghost use Rattle.std.specs.Prelude.{ℕ, List, Option, map, OnOk, OnErr};
 ghost use Rattle.std.specs.List.{AllByRecursion, flat_map};
 ghost use Rattle.pim_addr.specs.Encoded.{source_length};
 ghost use Rattle.pim_frame.specs.Frame.{all_routers};
 ghost use Rattle.pim_frame.specs.Seal.{IsSealed};
 ghost use Rattle.pim_frame.specs.declared.frame.MessageType.TheVariants.{JoinPrune};
-ghost use Rattle.pim_down.specs.Known.{known_in};
+ghost use Rattle.pim_addr.specs.Routes.{rp_of};
 ghost use Rattle.pim_jp.specs.Canonical.{IsMessageSet, canonical_entry, canonical_set, canonical};
 ghost use Rattle.pim_jp.specs.Canonical.{canonical_set_length};
 ghost use Rattle.pim_jp.specs.Canonical.{canonical_sets_length, canonical_head};
@@ -19,7 +19,7 @@ ghost use Rattle.pim_form.specs.Packing.{fits};
 ghost use Rattle.pim_form.specs.Rows.{IsKept, form_seen};
 ghost use Rattle.pim_form.specs.Plan.{run_of};
 ghost use Rattle.pim_form.specs.Added.{IsAppended};
-ghost use Rattle.pim_form.specs.Messages.{Rps, IsRpOf, HaveRps, star_entries, told_set};
+ghost use Rattle.pim_form.specs.Messages.{IsRpOf, HaveRps, star_entries, told_set};
 ghost use Rattle.pim_form.specs.Messages.{told_message};
 ghost use Rattle.pim_form.specs.Entries.{canonical_source_entry, canonical_rpt_entry};
 
@@ -79,12 +79,12 @@ fn write_exceptions<F: Family>(exceptions: &[F::Addr], bytes: &mut [u8])
 
 /// Writes the (*,G) entry of a group that has a star; nothing for another group.
 fn write_star<F: Family>(routes: &Routes<F>, group: &GroupView<'_, F>, bytes: &mut [u8])
-    requires rp { IsRpOf F.family (known_in F.family routes.now group.now.group) group.now.star }
+    requires rp { IsRpOf F.family (rp_of F.family routes.now group.now.group) group.now.star }
     requires length { length bytes.old
-        ≡ length (star_entries (known_in F.family routes.now group.now.group) group.now.star)
+        ≡ length (star_entries (rp_of F.family routes.now group.now.group) group.now.star)
         * source_length F.family }
     ensures { bytes.new ≡ flat_map (canonical_entry F.family)
-        (star_entries (known_in F.family routes.now group.now.group) group.now.star) }
+        (star_entries (rp_of F.family routes.now group.now.group) group.now.star) }
 {
     if !group.star() {
         return;
@@ -97,7 +97,7 @@ fn write_star<F: Family>(routes: &Routes<F>, group: &GroupView<'_, F>, bytes: &m
 /// The number of joined entries of a group: its star and its sources.
 fn joined_count<F: Family>(group: &GroupView<'_, F>) -> usize
     requires { length group.now.sources < 2 ^ 16 }
-    ensures { (rps : Rps) → IsRpOf F.family (rps group.now.group) group.now.star
+    ensures { (rps : List ℕ → Option (List ℕ)) → IsRpOf F.family (rps group.now.group) group.now.star
         → result ≡ length (told_set rps group.now).joined }
 {
     usize::from(group.star()) + group.sources().len()
@@ -105,21 +105,21 @@ fn joined_count<F: Family>(group: &GroupView<'_, F>) -> usize
 
 /// The number of pruned entries of a group: its exceptions.
 fn pruned_count<F: Family>(group: &GroupView<'_, F>) -> usize
-    ensures { (rps : Rps) → result ≡ length (told_set rps group.now).pruned }
+    ensures { (rps : List ℕ → Option (List ℕ)) → result ≡ length (told_set rps group.now).pruned }
 {
     group.exceptions().len()
 }
 
 /// Writes the set of a group: it joins the star and then the sources, and prunes the exceptions.
 fn write_set<F: Family>(routes: &Routes<F>, group: &GroupView<'_, F>, bytes: &mut [u8])
-    requires rp { IsRpOf F.family (known_in F.family routes.now group.now.group) group.now.star }
-    requires joined { length (told_set (known_in F.family routes.now) group.now).joined < 2 ^ 16 }
-    requires pruned { length (told_set (known_in F.family routes.now) group.now).pruned < 2 ^ 16 }
+    requires rp { IsRpOf F.family (rp_of F.family routes.now group.now.group) group.now.star }
+    requires joined { length (told_set (rp_of F.family routes.now) group.now).joined < 2 ^ 16 }
+    requires pruned { length (told_set (rp_of F.family routes.now) group.now).pruned < 2 ^ 16 }
     requires length { length bytes.old ≡ canonical_set_length F.family
-        (length (told_set (known_in F.family routes.now) group.now).joined)
-        (length (told_set (known_in F.family routes.now) group.now).pruned) }
+        (length (told_set (rp_of F.family routes.now) group.now).joined)
+        (length (told_set (rp_of F.family routes.now) group.now).pruned) }
     ensures { bytes.new
-        ≡ canonical_set F.family (told_set (known_in F.family routes.now) group.now) }
+        ≡ canonical_set F.family (told_set (rp_of F.family routes.now) group.now) }
 {
     let sources = group.sources();
     let exceptions = group.exceptions();
@@ -141,17 +141,17 @@ fn write_set_at<F: Family>(
     at: usize,
     bytes: &mut [u8],
 ) -> usize
-    requires rp { IsRpOf F.family (known_in F.family routes.now group.now.group) group.now.star }
-    requires set { IsMessageSet F.family (told_set (known_in F.family routes.now) group.now) }
+    requires rp { IsRpOf F.family (rp_of F.family routes.now group.now.group) group.now.star }
+    requires set { IsMessageSet F.family (told_set (rp_of F.family routes.now) group.now) }
     requires room { at + canonical_set_length F.family
-        (length (told_set (known_in F.family routes.now) group.now).joined)
-        (length (told_set (known_in F.family routes.now) group.now).pruned) ≤ length bytes.old }
+        (length (told_set (rp_of F.family routes.now) group.now).joined)
+        (length (told_set (rp_of F.family routes.now) group.now).pruned) ≤ length bytes.old }
     ensures end { result ≡ at + canonical_set_length F.family
-        (length (told_set (known_in F.family routes.now) group.now).joined)
-        (length (told_set (known_in F.family routes.now) group.now).pruned) }
+        (length (told_set (rp_of F.family routes.now) group.now).joined)
+        (length (told_set (rp_of F.family routes.now) group.now).pruned) }
     ensures front { take result bytes.new
         ≡ take at bytes.old
-        ++ canonical_set F.family (told_set (known_in F.family routes.now) group.now) }
+        ++ canonical_set F.family (told_set (rp_of F.family routes.now) group.now) }
     ensures length { length bytes.new ≡ length bytes.old }
 {
     let length = set_length::<F>(joined_count(group) as u16, pruned_count(group) as u16);
@@ -163,14 +163,14 @@ fn write_set_at<F: Family>(
 
 /// Writes the sets of groups, one after another.
 fn write_sets<F: Family>(routes: &Routes<F>, groups: Groups<'_, F>, bytes: &mut [u8])
-    requires rps { HaveRps F.family (known_in F.family routes.now) groups }
+    requires rps { HaveRps F.family (rp_of F.family routes.now) groups }
     requires sets { AllByRecursion (IsMessageSet F.family)
-        (map (told_set (known_in F.family routes.now)) groups) }
+        (map (told_set (rp_of F.family routes.now)) groups) }
     requires length { length bytes.old
-        ≡ canonical_sets_length F.family (map (told_set (known_in F.family routes.now)) groups) }
+        ≡ canonical_sets_length F.family (map (told_set (rp_of F.family routes.now)) groups) }
     ensures { bytes.new
         ≡ flat_map (canonical_set F.family)
-        (map (told_set (known_in F.family routes.now)) groups.entry) }
+        (map (told_set (rp_of F.family routes.now)) groups.entry) }
 {
     let mut at = 0;
     for group in groups {
@@ -187,11 +187,11 @@ pub(crate) fn write_message<F: Family>(
     bytes: &mut [u8],
 )
     requires normal { IsNormal F.family part }
-    requires rps { HaveRps F.family (known_in F.family routes.now) part }
+    requires rps { HaveRps F.family (rp_of F.family routes.now) part }
     requires fitting { fits F.family writer.now.budget (units_of part) ≡ true }
     requires length { length bytes.old ≡ run_size F.family (units_of part) }
     ensures { IsSealed F.family writer.now.own (all_routers F.family) JoinPrune
-        (canonical F.family (told_message writer.now (known_in F.family routes.now) part.entry))
+        (canonical F.family (told_message writer.now (rp_of F.family routes.now) part.entry))
         bytes.new }
 {
     writer.is_writing();
@@ -245,11 +245,11 @@ pub(crate) fn append_message<F: Family>(
     bytes: &mut Vec<u8>,
 ) -> Result<(), AllocError>
     requires kept { IsKept F.bytes_of F.family row.now pieces.now }
-    requires rps { HaveRps F.family (known_in F.family routes.now)
+    requires rps { HaveRps F.family (rp_of F.family routes.now)
         (form_seen F.bytes_of row.now pieces.now) }
     requires fitting { fits F.family writer.now.budget (run_of F.bytes_of row.now pieces.now)
         ≡ true }
-    ensures ok { OnOk result (IsAppended F.family writer.now (known_in F.family routes.now)
+    ensures ok { OnOk result (IsAppended F.family writer.now (rp_of F.family routes.now)
         (form_seen F.bytes_of row.now pieces.now) bytes.old.items bytes.new.items) }
     ensures err { OnErr result (bytes.new.items ≡ bytes.old.items) }
 {

@@ -3,8 +3,7 @@ use Rattle.std.proofs.Common.{◌≡◌, ◌∙◌, ℕ, ◌<◌, List, [], ◌�
 use mathlib.Core.List.{reverse_aux}
 use Rattle.std.specs.List.{AllByRecursion, flat_map}
 use Rattle.pim_addr.specs.declared.family.AddressFamily.{AddressFamily}
-use Rattle.pim_addr.specs.Routes.{RouteTable, IsRouteTable}
-use Rattle.pim_down.specs.Known.{known_in}
+use Rattle.pim_addr.specs.Routes.{RouteTable, IsRouteTable, rp_of}
 use Rattle.pim_down.specs.Time.{Downstream}
 use Rattle.pim_form.specs.Messages.{Writing, IsWriting, HaveRps, AreCanonical}
 use Rattle.pim_fresh.specs.Deliveries.{Delivery}
@@ -51,8 +50,8 @@ module _ (read : WrittenHellosAreRead) (hellos_heard : HellosAreHeard) (stars : 
     pub hellos : IsCourse family (map (λ packet. takes packet) goes.hellos) told (new_router (setup_of fresh)) start
     pub met : HasMet writing fresh start
     pub routes : start.routes ≡ table
-    pub have : HaveRps family (known_in family start.routes) asked.form
-    pub messages_are : AreCanonical family writing (known_in family start.routes) asked.form messages
+    pub have : HaveRps family (rp_of family start.routes) asked.form
+    pub messages_are : AreCanonical family writing (rp_of family start.routes) asked.form messages
     pub are_of : AreOf (length messages) (newest_first fresh)
     pub course : IsCourse family (inputs_of family writing 0 messages (newest_first fresh) ++ runs_to (end_of fresh) ∷ []) said start router
 
@@ -71,8 +70,8 @@ module _ (read : WrittenHellosAreRead) (hellos_heard : HellosAreHeard) (stars : 
         hellos = two.first;
         met = met;
         routes = same;
-        have = subst (λ (t : RouteTable). HaveRps family (known_in family t) asked.form) (sym same) (stars family table writing.upstream state asked.form sound asked.is);
-        messages_are = subst (λ (t : RouteTable). AreCanonical family writing (known_in family t) asked.form messages) (sym same) asked.told;
+        have = subst (λ (t : RouteTable). HaveRps family (rp_of family t) asked.form) (sym same) (stars family table writing.upstream state asked.form sound asked.is);
+        messages_are = subst (λ (t : RouteTable). AreCanonical family writing (rp_of family t) asked.form messages) (sym same) asked.told;
         are_of = all_turned (λ (delivery : Delivery). delivery.message < length messages) fresh.deliveries [] fits.named tt;
         course = two.second;
       }

@@ -1,12 +1,11 @@
 -- A router that hears deliveries leaves the machines of a port that hears them.
 use Rattle.std.proofs.Common.{◌≡◌, ◌∙◌, ℕ, ◌<◌, ◌≤◌, List, [], ◌∷◌, if◌then◌else◌, Option, length, refl, ap, subst, arith, length-append}
 use Rattle.pim_addr.specs.declared.family.AddressFamily.{AddressFamily}
-use Rattle.pim_addr.specs.Routes.{RouteTable}
+use Rattle.pim_addr.specs.Routes.{RouteTable, rp_of}
 use Rattle.pim_down.specs.declared.machines.event.Timing.{Timing}
 use Rattle.pim_down.specs.declared.machines.step.Step.{Step}
 use Rattle.pim_down.specs.declared.machines.step.Step.TheVariants.{Reached}
 use Rattle.pim_down.specs.Hearing.{Event, start_of, needed}
-use Rattle.pim_down.specs.Known.{known_in}
 use Rattle.pim_down.specs.Time.{Downstream, Runs}
 use Rattle.pim_down.specs.Laws.{RunKeepsItsBounds, RunHasOneEnd}
 use Rattle.pim_form.specs.NormalForm.{GroupForm, IsNormal}
@@ -59,15 +58,15 @@ fresh_quiet reaching one_end exchange limit once machines nothing moment answer 
 
 module _ (tells : CanonicalMessagesTellForm) (heard : CanonicalPacketIsHeard) (needs : NeedsTheUnits) (bounds : RunKeepsItsBounds)
     (family : AddressFamily) (writing : Writing) (form : List GroupForm) (messages : List (List ℕ)) (timing : Timing) (limit : ℕ) (routes : RouteTable)
-    (is_writing : IsWriting family writing) (is : IsNormal family form) (have : HaveRps family (known_in family routes) form) (are : AreCanonical family writing (known_in family routes) form messages) where
+    (is_writing : IsWriting family writing) (is : IsNormal family form) (have : HaveRps family (rp_of family routes) form) (are : AreCanonical family writing (rp_of family routes) form messages) where
   abbrev exchange : Exchange
-  exchange = exchange_in family (known_in family routes) writing 0 timing messages
+  exchange = exchange_in family (rp_of family routes) writing 0 timing messages
 
   -- under the route table with which the router began
   packet_heard : (i : ℕ) (before : RouterState) → before.routes ≡ routes → i < length messages → HearsWriter writing 0 timing before → IsHeard family exchange i (packet_of family writing 0 messages i) before
   packet_heard i before same within hears =
-      subst (λ (table : RouteTable). HaveRps family (known_in family table) form → AreCanonical family writing (known_in family table) form messages
-      → IsHeard family (exchange_in family (known_in family table) writing 0 timing messages) i (packet_of family writing 0 messages i) before) same
+      subst (λ (table : RouteTable). HaveRps family (rp_of family table) form → AreCanonical family writing (rp_of family table) form messages
+      → IsHeard family (exchange_in family (rp_of family table) writing 0 timing messages) i (packet_of family writing 0 messages i) before) same
       (λ have_here are_here. heard family writing form messages i 0 timing before is_writing is have_here are_here within hears) have are
 
   taken : (delivery : Delivery) (earlier : List Delivery) (before : RouterState) → before.routes ≡ routes → delivery.message < length messages → HearsWriter writing 0 timing before
@@ -76,7 +75,7 @@ module _ (tells : CanonicalMessagesTellForm) (heard : CanonicalPacketIsHeard) (n
   taken delivery earlier before same within hears timely leaves =
       let here = packet_heard delivery.message before same within hears in
       let count : needed 0 before.machines.records (exchange.messages delivery.message) ≡ length (units_of exchange (delivery ∷ earlier)) =
-      needs exchange 1 limit delivery earlier before.machines (tells family writing (known_in family routes) form messages 0 timing is_writing is have are).once timely leaves in
+      needs exchange 1 limit delivery earlier before.machines (tells family writing (rp_of family routes) form messages 0 timing is_writing is have are).once timely leaves in
       let room : before.machines.limit ≡ limit = (leaves_bounds bounds exchange 1 limit earlier delivery.moment before.machines leaves).1 in
       record {
         applied = λ few. here.applied (omega (arith, count, room, few));
@@ -89,7 +88,7 @@ module _ (tells : CanonicalMessagesTellForm) (heard : CanonicalPacketIsHeard) (n
         → Leaves exchange 1 limit deliveries moment after.machines × (after.routes ≡ routes)
     unfolding HearsAll Leaves
     hears_leaves [] moment after of timely few all =
-        let ends = reaches_as moment all.0 start after (fresh_quiet reaching one_end exchange limit (tells family writing (known_in family routes) form messages 0 timing is_writing is have are).once start.machines nothing moment) all.1 in
+        let ends = reaches_as moment all.0 start after (fresh_quiet reaching one_end exchange limit (tells family writing (rp_of family routes) form messages 0 timing is_writing is have are).once start.machines nothing moment) all.1 in
         (subst (λ (machines : Downstream). Runs moment machines Reached after.machines) nothing ends.0, ends.1 ∙ begins)
     hears_leaves (delivery ∷ earlier) moment after of timely few all =
         let before = hears_leaves earlier delivery.moment all.before of.1 (timely_before (start_of writing.holdtime timing).expires_in delivery earlier moment timely) (fewer_units exchange limit delivery earlier few) all.was in
@@ -98,7 +97,7 @@ module _ (tells : CanonicalMessagesTellForm) (heard : CanonicalPacketIsHeard) (n
         subst (λ (end : Verdict × RouterState). Reaches moment all.told end.1 after) applied all.reaches in
         let ends = reaches_as moment all.told (with_machines all.before (after_message exchange delivery.message all.before.machines)) after
         (λ answer end runs. quiet exchange 1 limit delivery earlier moment all.before.machines end answer
-        (tells family writing (known_in family routes) form messages 0 timing is_writing is have are).once timely before.0 runs) reaches in
+        (tells family writing (rp_of family routes) form messages 0 timing is_writing is have are).once timely before.0 runs) reaches in
         (record { before = all.before.machines; was = before.0; runs = ends.0 }, ends.1 ∙ before.1)
 
 pub leaves_its_port : CanonicalMessagesTellForm → CanonicalPacketIsHeard → NoEchoIsTold → EveryHearingReaches → NeedsTheUnits → RunKeepsItsBounds → RunHasOneEnd → RouterLeavesItsPort

@@ -3,7 +3,7 @@ use Rattle.std.proofs.Common.{◌≡◌, ◌∙◌, ℕ, ◌≤◌, List, [], �
 use Rattle.pim_addr.specs.declared.family.AddressFamily.{AddressFamily}
 use Rattle.pim_down.specs.declared.machines.event.Timing.{Timing}
 use Rattle.pim_down.specs.Hearing.{start_of}
-use Rattle.pim_down.specs.Known.{known_in}
+use Rattle.pim_addr.specs.Routes.{rp_of}
 use Rattle.pim_down.specs.Time.{Downstream}
 use Rattle.pim_form.specs.NormalForm.{GroupForm, IsNormal}
 use Rattle.pim_form.specs.Messages.{Writing, IsWriting, HaveRps, AreCanonical}
@@ -85,7 +85,7 @@ unfolding IsTimely
 first_by expiry delivery earlier moment timely = timely.0
 
 module _ (taken : DeliveryIsTaken) (stays : WriterStaysHeard) (family : AddressFamily) (writing : Writing) (form : List GroupForm) (messages : List (List ℕ)) (timing : Timing) (limit last : ℕ) (start : RouterState)
-    (is_writing : IsWriting family writing) (is : IsNormal family form) (have : HaveRps family (known_in family start.routes) form) (are : AreCanonical family writing (known_in family start.routes) form messages)
+    (is_writing : IsWriting family writing) (is : IsNormal family form) (have : HaveRps family (rp_of family start.routes) form) (are : AreCanonical family writing (rp_of family start.routes) form messages)
     (nothing : HoldsNothing limit start) (lasts : Lasts last start) (hears : HearsWriter writing 0 timing start) where
   abbrev exchange : Exchange
   exchange = heard_exchange family writing 0 timing messages start

@@ -1,10 +1,9 @@
 -- A fresh router that hears canonical messages alone, and the headline.
 use Rattle.std.proofs.Common.{◌≡◌, ◌∙◌, ℕ, ◌≤◌, List, [], ◌∷◌, length, map, Option, None, sym, subst, arith, refl}
 use Rattle.pim_addr.specs.declared.family.AddressFamily.{AddressFamily}
-use Rattle.pim_addr.specs.Routes.{RouteTable, IsRouteTable}
+use Rattle.pim_addr.specs.Routes.{RouteTable, IsRouteTable, rp_of}
 use Rattle.pim_down.specs.declared.machines.step.Step.{Step as Fires}
 use Rattle.pim_down.specs.declared.machines.step.Step.TheVariants as fires
-use Rattle.pim_down.specs.Known.{known_in}
 use Rattle.pim_down.specs.Laws.{RunHasOneEnd, RunKeepsItsBounds}
 use Rattle.pim_down.specs.Time.{Downstream, Runs as MachineRuns}
 use Rattle.pim_form.specs.Messages.{Writing, IsWriting}
@@ -79,11 +78,11 @@ module _ (laws : Laws) (family : AddressFamily) (table : RouteTable) (writing : 
   room : length (units_of exchange deliveries) ≤ fresh.limit
   room = within exchange fresh.limit deliveries (sym (laws.room family table writing state messages fresh None router sound is_writing asked hears.fits hears.course).0)
 
-  room_here : length (units_of (exchange_in family (known_in family first.start.routes) writing 0 (timing_of fresh) messages) deliveries) ≤ fresh.limit
-  room_here = subst (λ (t : RouteTable). length (units_of (exchange_in family (known_in family t) writing 0 (timing_of fresh) messages) deliveries) ≤ fresh.limit) (sym first.routes) room
+  room_here : length (units_of (exchange_in family (rp_of family first.start.routes) writing 0 (timing_of fresh) messages) deliveries) ≤ fresh.limit
+  room_here = subst (λ (t : RouteTable). length (units_of (exchange_in family (rp_of family t) writing 0 (timing_of fresh) messages) deliveries) ≤ fresh.limit) (sym first.routes) room
 
   tells : TellsForm exchange (length messages) asked.form
-  tells = laws.tell family writing (known_in family table) asked.form messages 0 (timing_of fresh) is_writing asked.is.normal (laws.stars family table writing.upstream state asked.form sound asked.is) asked.told
+  tells = laws.tell family writing (rp_of family table) asked.form messages 0 (timing_of fresh) is_writing asked.is.normal (laws.stars family table writing.upstream state asked.form sound asked.is) asked.told
 
   -- at the final moment it is a port that has heard the deliveries
   record Left : Type 0 where
@@ -95,7 +94,7 @@ module _ (laws : Laws) (family : AddressFamily) (table : RouteTable) (writing : 
       let heard = laws.course_hears family writing asked.form messages (timing_of fresh) fresh.limit (end_of fresh) first.start deliveries (end_of fresh) first.said router is_writing asked.is.normal first.have first.messages_are first.met.nothing first.are_of hears.fits.timely room_here (omega arith) (first.met.lasts (end_of fresh) hears.fits.others_stay) first.met.hears first.course in
       let there = laws.leaves_port family writing asked.form messages (timing_of fresh) fresh.limit first.start deliveries (end_of fresh) router is_writing asked.is.normal first.have first.messages_are first.met.nothing first.are_of hears.fits.timely room_here heard.0 in
       record {
-        leaves = subst (λ (t : RouteTable). Leaves (exchange_in family (known_in family t) writing 0 (timing_of fresh) messages) 1 fresh.limit deliveries (end_of fresh) router.machines) first.routes there.0;
+        leaves = subst (λ (t : RouteTable). Leaves (exchange_in family (rp_of family t) writing 0 (timing_of fresh) messages) 1 fresh.limit deliveries (end_of fresh) router.machines) first.routes there.0;
         routes = there.1 ∙ first.routes;
       }
 
@@ -110,12 +109,12 @@ module _ (laws : Laws) (family : AddressFamily) (table : RouteTable) (writing : 
 
   tells_no_echo : DeliveryIsTaken → NoEchoIsTold → EveryHearingReaches → RunHasOneEnd → IsQuiet hears.course.told
   tells_no_echo taken no_echo reaching one_end =
-      let once : TellsUnitsOnce (exchange_in family (known_in family first.start.routes) writing 0 (timing_of fresh) messages) =
-      (laws.tell family writing (known_in family first.start.routes) asked.form messages 0 (timing_of fresh) is_writing asked.is.normal first.have first.messages_are).once in
+      let once : TellsUnitsOnce (exchange_in family (rp_of family first.start.routes) writing 0 (timing_of fresh) messages) =
+      (laws.tell family writing (rp_of family first.start.routes) asked.form messages 0 (timing_of fresh) is_writing asked.is.normal first.have first.messages_are).once in
       quiet_as hears.course.told first.told first.said first.joined
       (hellos_quiet family hears.course.hellos first.told (new_router (setup_of fresh)) first.start first.hellos)
       (all_quiet taken laws.leaves_port laws.course_hears no_echo family writing asked.form messages (timing_of fresh) fresh.limit (end_of fresh) first.start is_writing asked.is.normal first.have first.messages_are once first.met.nothing (first.met.lasts (end_of fresh) hears.fits.others_stay) first.met.hears
-      (fresh_quiet reaching one_end (exchange_in family (known_in family first.start.routes) writing 0 (timing_of fresh) messages) fresh.limit once first.start.machines first.met.nothing)
+      (fresh_quiet reaching one_end (exchange_in family (rp_of family first.start.routes) writing 0 (timing_of fresh) messages) fresh.limit once first.start.machines first.met.nothing)
       deliveries (end_of fresh) first.said router first.are_of hears.fits.timely room_here (omega arith) first.course)
 
   mirrors : HeardMessagesAreAskedAgain → SpanIsOfItsMessage → (moment : ℕ) (later : RouterState) → IsInWindow writing fresh moment → (at : IsAt moment router later) → MirrorsForm family table writing asked.form messages fresh moment at.told later

@@ -4,14 +4,13 @@ use Rattle.std.specs.Option.{is_some}
 use Rattle.std.specs.List.{list_any}
 use Rattle.std.proofs.lemmas.Bool.{false≢true, eqb-true}
 use Rattle.pim_addr.specs.declared.family.AddressFamily.{AddressFamily}
-use Rattle.pim_addr.specs.Routes.{RouteTable}
+use Rattle.pim_addr.specs.Routes.{RouteTable, rp_of}
 use Rattle.pim_down.specs.declared.machines.key.What.{What}
 use Rattle.pim_down.specs.declared.machines.key.What.TheVariants.{Star, Source, Rpt}
 use Rattle.pim_down.specs.declared.machines.key.Key.{Key}
 use Rattle.pim_down.specs.declared.machines.machine.State.{State}
 use Rattle.pim_down.specs.declared.machines.machine.State.TheVariants.{Join, Prune}
 use Rattle.pim_down.specs.declared.machines.step.Step.TheVariants.{Reached}
-use Rattle.pim_down.specs.Known.{known_in}
 use Rattle.pim_down.specs.Records.{state_of, state_of_machine}
 use Rattle.pim_down.specs.Time.{Downstream}
 use Rattle.pim_down.specs.Laws.{RunKeepsItsBounds}
@@ -146,7 +145,7 @@ module _ (family : AddressFamily) (table : RouteTable) (writing : Writing) (send
     (is : IsFormOf family (asked_of family table writing.upstream sender) form)
     (wanted : (source group : List ℕ) (tree : Tree) → wants state source group tree ≡ form_wants form source group tree) where
   abbrev asks : List ℕ → List ℕ → Tree → Bool
-  asks source group tree = is_neighbour writing.upstream (upstream_of (known_in family table) (via_in family table) source group tree)
+  asks source group tree = is_neighbour writing.upstream (upstream_of (rp_of family table) (via_in family table) source group tree)
 
   agrees : Agree family (asked_of family table writing.upstream state) (form_wants form)
   agrees source group tree valid is_group =
@@ -154,14 +153,14 @@ module _ (family : AddressFamily) (table : RouteTable) (writing : Writing) (send
       ∙ and_known (form_wants form source group tree) (asks source group tree)
       (λ some. second_true (wants sender source group tree) (asks source group tree) (is.wants source group tree valid is_group ∙ some))
 
-  asks_again : OneNormalForm → OneListOfMessages → AreCanonical family writing (known_in family table) form messages → AsksAgain family table writing form messages state
+  asks_again : OneNormalForm → OneListOfMessages → AreCanonical family writing (rp_of family table) form messages → AsksAgain family table writing form messages state
   asks_again one_normal one_list told = record {
     wanted = wanted;
     is_form = record { normal = is.normal; wants = agrees };
     one_form = one;
     same_messages = λ other others is_other told_other.
-        one_list family writing (known_in family table) form others messages
-        (subst (λ (f : List GroupForm). AreCanonical family writing (known_in family table) f others) (one other is_other) told_other) told;
+        one_list family writing (rp_of family table) form others messages
+        (subst (λ (f : List GroupForm). AreCanonical family writing (rp_of family table) f others) (one other is_other) told_other) told;
   }
     where
       one : (other : List GroupForm) → IsFormOf family (asked_of family table writing.upstream state) other → other ≡ form
@@ -170,7 +169,7 @@ module _ (family : AddressFamily) (table : RouteTable) (writing : Writing) (send
 
 pub asked_again : CanonicalMessagesTellForm → AskedStarsHaveRps → StaysAsAsked → RunKeepsItsBounds → OneNormalForm → OneListOfMessages → HeardMessagesAreAskedAgain
 asked_again tell_form stars stays bounds one_normal one_list family table writing sender form messages timing limit deliveries moment later state after answer sound is_writing is told came final order timely leaves runs =
-    let rps = known_in family table in
+    let rps = rp_of family table in
     let exchange : Exchange = exchange_in family rps writing 0 timing messages in
     let tells : TellsForm exchange (length messages) form = tell_form family writing rps form messages 0 timing is_writing is.normal (stars family table writing.upstream sender form sound is) told in
     let stayed = stays exchange 1 limit deliveries moment later state after answer tells.once final order timely leaves runs in

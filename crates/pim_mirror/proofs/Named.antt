@@ -17,7 +17,7 @@ use Rattle.pim_down.specs.Key.{what_cmp, key_cmp, same_key}
 use Rattle.pim_down.specs.Hearing.{Event, event, is_known, entry_events, list_events, set_events}
 use Rattle.pim_form.specs.NormalForm.{GroupForm, same_address, is_listed}
 use Rattle.pim_form.specs.Rows.{exceptions_of}
-use Rattle.pim_form.specs.Messages.{Rps, IsRpOf, HaveRps, star_entries, excepted_entries, told_set}
+use Rattle.pim_form.specs.Messages.{IsRpOf, HaveRps, star_entries, excepted_entries, told_set}
 use Rattle.pim_fresh.specs.Exchange.{is_named}
 use Rattle.pim_mirror.specs.CanonicalUnits.{group_names, form_names}
 use Rattle.pim_mirror.proofs.SameAddresses.{same_itself, same_flips, and_false, or_none, and_or, and_and}
@@ -82,7 +82,7 @@ what_named this (Rpt t) =
 
 -- ---- the events of a set
 
-module _ (rps : Rps) (p q : ℕ) (h : List ℕ) (w : What (List ℕ)) where
+module _ (rps : List ℕ → Option (List ℕ)) (p q : ℕ) (h : List ℕ) (w : What (List ℕ)) where
   abbrev names : List Event → Bool
   names events = is_named p (key_at q h w) events
 

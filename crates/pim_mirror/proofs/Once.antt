@@ -10,7 +10,7 @@ use Rattle.pim_down.specs.declared.machines.event.Timing.{Timing}
 use Rattle.pim_form.specs.NormalForm.{GroupForm, AreAscending, AreExceptions, IsNormalGroup, IsNormal}
 use Rattle.pim_form.specs.Rows.{exceptions_of}
 use Rattle.pim_form.specs.Units.{units_of}
-use Rattle.pim_form.specs.Messages.{Writing, Rps, HaveRps, told_message}
+use Rattle.pim_form.specs.Messages.{Writing, HaveRps, told_message}
 use Rattle.pim_fresh.specs.Exchange.{Exchange, is_named, AreUnits}
 use Rattle.pim_fresh.specs.Laws.{AskingTellsUnits}
 use Rattle.pim_mirror.specs.CanonicalParts.{HasListsInOrder, IsInOrder, AreParts}
@@ -79,7 +79,7 @@ module _ (h : List ℕ) (w : What (List ℕ)) where
 
 -- ---- the messages of parts
 
-module _ (family : AddressFamily) (writing : Writing) (rps : Rps) (port : ℕ) where
+module _ (family : AddressFamily) (writing : Writing) (rps : List ℕ → Option (List ℕ)) (port : ℕ) where
   named_at : (key : Key (List ℕ)) (parts : List (List GroupForm)) (i : ℕ) → AllByRecursion (HaveRps family rps) parts
       → is_named port key (events_at rps (map (told_message writing rps) parts) i) ≡ ((port == key.port) && form_names (get_or parts i []) key.group key.what)
   named_at key [] i have = sym (and_false (port == key.port))
@@ -93,7 +93,7 @@ module _ (family : AddressFamily) (writing : Writing) (rps : Rps) (port : ℕ) w
   units_at asking (part ∷ parts) zero normal have = asking rps port (told_message writing rps part) (part_asks family writing rps part (normal_in_order family part normal.0) have.0)
   units_at asking (part ∷ parts) (suc i) normal have = units_at asking parts i normal.1 have.1
 
-module _ (family : AddressFamily) (writing : Writing) (rps : Rps) (form : List GroupForm) (messages : List (List ℕ)) (parts : List (List GroupForm)) (port : ℕ) (timing : Timing)
+module _ (family : AddressFamily) (writing : Writing) (rps : List ℕ → Option (List ℕ)) (form : List GroupForm) (messages : List (List ℕ)) (parts : List (List GroupForm)) (port : ℕ) (timing : Timing)
     (is : IsNormal family form) (are : AreParts family writing rps form messages parts) where
   exchange : Exchange
   exchange = exchange_of rps writing.holdtime port timing (map (told_message writing rps) parts)

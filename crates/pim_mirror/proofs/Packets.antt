@@ -1,5 +1,5 @@
 -- A packet whose bytes are read as a message is heard, and so is that of a canonical message.
-use Rattle.std.proofs.Common.{◌≡◌, ◌∙◌, ℕ, zero, suc, ◌<◌, Bool, true, false, not, nat_lt, List, [], ◌∷◌, ◌++◌, map, get_or, length, refl, sym, ap, subst, arith}
+use Rattle.std.proofs.Common.{◌≡◌, ◌∙◌, ℕ, zero, suc, ◌<◌, Bool, true, false, not, nat_lt, List, [], ◌∷◌, ◌++◌, map, get_or, length, refl, sym, ap, subst, arith, Option}
 use Rattle.std.proofs.lemmas.Bool.{lt-ltb, le-ltb}
 use Rattle.pim_addr.specs.Faults.{fault_if}
 use Rattle.pim_addr.specs.declared.family.AddressFamily.{AddressFamily}
@@ -9,10 +9,10 @@ use Rattle.pim_jp.specs.declared.fault.JpFault.{JpFault}
 use Rattle.pim_jp.specs.Message.{Message, message_of}
 use Rattle.pim_down.specs.declared.machines.event.Timing.{Timing}
 use Rattle.pim_down.specs.Hearing.{Event, events_of, start_of, hearing, needed}
-use Rattle.pim_down.specs.Known.{known_in}
+use Rattle.pim_addr.specs.Routes.{rp_of}
 use Rattle.pim_down.specs.Time.{with_records}
 use Rattle.pim_form.specs.NormalForm.{GroupForm, same_address}
-use Rattle.pim_form.specs.Messages.{Writing, IsWriting, Rps, told_message}
+use Rattle.pim_form.specs.Messages.{Writing, IsWriting, told_message}
 use Rattle.pim_form.specs.Laws.{IsReadAs}
 use Rattle.pim_fresh.specs.Exchange.{Exchange}
 use Rattle.pim_fresh.specs.Hearing.{after_message}
@@ -30,12 +30,12 @@ use Rattle.pim_mirror.proofs.ReadBack.{read_message}
 
 -- ---- the message of a number
 
-record IsMessageOf (family : AddressFamily) (writing : Writing) (rps : Rps) (messages : List (List ℕ)) (i : ℕ) : Type 0 where
+record IsMessageOf (family : AddressFamily) (writing : Writing) (rps : List ℕ → Option (List ℕ)) (messages : List (List ℕ)) (i : ℕ) : Type 0 where
   part : List GroupForm
   read : IsReadAs family writing.own (get_or messages i []) (told_message writing rps part)
   events : events_at rps (map (message_in family) messages) i ≡ events_of rps (told_message writing rps part)
 
-message_at : (family : AddressFamily) (writing : Writing) (rps : Rps) (messages : List (List ℕ)) (parts : List (List GroupForm)) (i : ℕ) → AreReadAs family writing.own messages (map (told_message writing rps) parts)
+message_at : (family : AddressFamily) (writing : Writing) (rps : List ℕ → Option (List ℕ)) (messages : List (List ℕ)) (parts : List (List GroupForm)) (i : ℕ) → AreReadAs family writing.own messages (map (told_message writing rps) parts)
     → i < length messages → IsMessageOf family writing rps messages i
 unfolding AreReadAs
 message_at family writing rps [] parts i are within = absurd (omega (arith, within))
@@ -94,7 +94,7 @@ module _ (family : AddressFamily) (port : ℕ) (source : List ℕ) (state : Rout
 -- ---- what becomes of it
 
 module _ (family : AddressFamily) (writing : Writing) (exchange : Exchange) (i : ℕ) (bytes : List ℕ) (said : Message) (state : RouterState) (is_writing : IsWriting family writing) (read : IsReadAs family writing.own bytes said)
-    (to_us : said.upstream ≡ writing.upstream) (time : said.holdtime ≡ exchange.holdtime) (events : exchange.messages i ≡ events_of (known_in family state.routes) said) (hears : HearsWriter writing exchange.port exchange.timing state) where
+    (to_us : said.upstream ≡ writing.upstream) (time : said.holdtime ≡ exchange.holdtime) (events : exchange.messages i ≡ events_of (rp_of family state.routes) said) (hears : HearsWriter writing exchange.port exchange.timing state) where
   abbrev count : ℕ
   count = needed_records exchange i state
 
@@ -118,8 +118,8 @@ module _ (family : AddressFamily) (writing : Writing) (exchange : Exchange) (i :
 
   applied_is : message_taken family exchange.port state said ≡ taken
   applied_is =
-      ap (λ (holdtime : ℕ). heard_as holdtime (timing_on exchange.port state) (events_of (known_in family state.routes) said)) time
-      ∙ ap (λ (timing : Timing). heard_as exchange.holdtime timing (events_of (known_in family state.routes) said)) (sym hears.timing_is)
+      ap (λ (holdtime : ℕ). heard_as holdtime (timing_on exchange.port state) (events_of (rp_of family state.routes) said)) time
+      ∙ ap (λ (timing : Timing). heard_as exchange.holdtime timing (events_of (rp_of family state.routes) said)) (sym hears.timing_is)
       ∙ ap (heard_as exchange.holdtime exchange.timing) (sym events)
 
   ends_as : received family packet state ≡ unless (fault_if (nat_lt state.machines.limit count) (verdict.Full (store.Records count))) state taken
@@ -144,7 +144,7 @@ read_heard family writing exchange i bytes said state is_writing read to_us time
 
 pub packet_heard : CanonicalMessagesTellParts → MessagesAreRead → ReadPacketIsHeard → CanonicalPacketIsHeard
 packet_heard parts_of read packet_read family writing form messages i port timing state is_writing is have are within hears =
-    let known = known_in family state.routes in
+    let known = rp_of family state.routes in
     let found = parts_of family writing known form messages is have are in
     let these = read family writing known form messages found.0 is_writing found.1 in
     let this = message_at family writing known messages found.0 i these within in

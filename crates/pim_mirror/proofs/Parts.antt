@@ -7,7 +7,7 @@ use Rattle.pim_addr.specs.Address.{IsGroupAddress, IsSourceAddress}
 use Rattle.pim_form.specs.NormalForm.{GroupForm, AreAscending, AreExceptions, is_empty, IsNormalGroup, IsNormal}
 use Rattle.pim_form.specs.Units.{WantUnit, star_unit, source_unit, star_units, group_units, units_of}
 use Rattle.pim_form.specs.Packing.{fits, joined, AreRuns}
-use Rattle.pim_form.specs.Messages.{Writing, Rps, IsRp, IsRpOf, HaveRps, TellsRun, TellRuns}
+use Rattle.pim_form.specs.Messages.{Writing, IsRp, IsRpOf, HaveRps, TellsRun, TellRuns}
 use Rattle.pim_mirror.specs.CanonicalParts.{TellParts}
 use Rattle.pim_mirror.specs.Laws.{CanonicalMessagesTellParts}
 use Rattle.pim_mirror.proofs.ListParts.{all_append, all_front, all_behind, all_known, all_map, all_mapped}
@@ -16,7 +16,7 @@ use Rattle.pim_mirror.proofs.UnitOrder.{AreOrdered, ordered_front, ordered_behin
 abbrev IsSome : GroupForm → Type 0
 IsSome this = is_empty this.star this.sources ≡ false
 
-module _ (family : AddressFamily) (rps : Rps) where
+module _ (family : AddressFamily) (rps : List ℕ → Option (List ℕ)) where
   -- ---- units of valid addresses, whose stars have RPs
 
   IsValidUnit : WantUnit → Type 0

@@ -6,7 +6,7 @@ use Rattle.pim_down.specs.declared.machines.event.Timing.{Timing}
 use Rattle.pim_down.specs.declared.machines.step.Step.{Step as Fires}
 use Rattle.pim_down.specs.declared.machines.step.Step.TheVariants as fires
 use Rattle.pim_down.specs.Hearing.{start_of}
-use Rattle.pim_down.specs.Known.{known_in}
+use Rattle.pim_addr.specs.Routes.{rp_of}
 use Rattle.pim_down.specs.Time.{Downstream, Runs as MachineRuns}
 use Rattle.pim_form.specs.NormalForm.{GroupForm, IsNormal}
 use Rattle.pim_form.specs.Messages.{Writing, IsWriting, HaveRps, AreCanonical}
@@ -55,7 +55,7 @@ took family packet told start after course = record {
 
 module _ (taken : DeliveryIsTaken) (leaves : RouterLeavesItsPort) (course_hears : CourseHearsAll) (no_echo : NoEchoIsTold)
     (family : AddressFamily) (writing : Writing) (form : List GroupForm) (messages : List (List ℕ)) (timing : Timing) (limit last : ℕ) (start : RouterState)
-    (is_writing : IsWriting family writing) (is : IsNormal family form) (have : HaveRps family (known_in family start.routes) form) (are : AreCanonical family writing (known_in family start.routes) form messages)
+    (is_writing : IsWriting family writing) (is : IsNormal family form) (have : HaveRps family (rp_of family start.routes) form) (are : AreCanonical family writing (rp_of family start.routes) form messages)
     (once : TellsUnitsOnce (heard_exchange family writing 0 timing messages start))
     (nothing : HoldsNothing limit start) (lasts : Lasts last start) (hears : HearsWriter writing 0 timing start)
     (fresh_quiet : (moment : ℕ) (answer : Fires (List ℕ)) (end : Downstream) → MachineRuns moment start.machines answer end → answer ≡ fires.Reached) where

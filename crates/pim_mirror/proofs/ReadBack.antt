@@ -1,5 +1,5 @@
 -- The bytes of the messages are read back.
-use Rattle.std.proofs.Common.{◌≡◌, ◌∙◌, ℕ, true, List, [], ◌∷◌, map, length, refl, sym, ap, ap₂, subst}
+use Rattle.std.proofs.Common.{◌≡◌, ◌∙◌, ℕ, true, List, [], ◌∷◌, map, length, refl, sym, ap, ap₂, subst, Option}
 use Rattle.std.specs.List.{AllByRecursion}
 use Rattle.std.proofs.lemmas.List.{length-map}
 use Rattle.pim_addr.specs.declared.family.AddressFamily.{AddressFamily}
@@ -7,14 +7,14 @@ use Rattle.pim_jp.specs.Message.{Message, message_of}
 use Rattle.pim_form.specs.NormalForm.{GroupForm, IsNormal}
 use Rattle.pim_form.specs.Units.{units_of}
 use Rattle.pim_form.specs.Packing.{fits}
-use Rattle.pim_form.specs.Messages.{Writing, IsWriting, Rps, HaveRps, told_message}
+use Rattle.pim_form.specs.Messages.{Writing, IsWriting, HaveRps, told_message}
 use Rattle.pim_form.specs.Laws.{SealedMessageIsRead, IsReadAs}
 use Rattle.pim_mirror.specs.CanonicalParts.{TellParts}
 use Rattle.pim_mirror.specs.CanonicalExchange.{body_of, message_in, exchange_of, exchange_in, TellsForm, AreReadAs}
 use Rattle.pim_mirror.specs.Laws.{CanonicalMessagesTellParts, PartsTellUnitsOnce, MessagesAreRead, CanonicalMessagesTellForm}
 use Rattle.pim_mirror.proofs.Spellable.{is_message}
 
-module _ (family : AddressFamily) (writing : Writing) (rps : Rps) (is : IsWriting family writing) (reads : SealedMessageIsRead) where
+module _ (family : AddressFamily) (writing : Writing) (rps : List ℕ → Option (List ℕ)) (is : IsWriting family writing) (reads : SealedMessageIsRead) where
   all_read : (messages : List (List ℕ)) (parts : List (List GroupForm)) → AllByRecursion (IsNormal family) parts → AllByRecursion (HaveRps family rps) parts
       → AllByRecursion (λ part. fits family writing.budget (units_of part) ≡ true) parts → TellParts family writing rps parts messages
       → AreReadAs family writing.own messages (map (told_message writing rps) parts)

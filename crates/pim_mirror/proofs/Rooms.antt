@@ -2,10 +2,9 @@
 use Rattle.std.proofs.Common.{◌≡◌, ◌∙◌, ℕ, ◌≤◌, Bool, true, false, nat_lt, if◌then◌else◌, List, [], ◌∷◌, ◌++◌, length, map, Option, None, Some, refl, sym, ap, ap₂, subst, arith, append_assoc, zero-le}
 use Rattle.std.proofs.lemmas.Bool.{le-ltb, ltb-false, ltb-true}
 use Rattle.pim_addr.specs.declared.family.AddressFamily.{AddressFamily}
-use Rattle.pim_addr.specs.Routes.{RouteTable, IsRouteTable}
+use Rattle.pim_addr.specs.Routes.{RouteTable, IsRouteTable, rp_of}
 use Rattle.pim_down.specs.declared.machines.event.Timing.{Timing}
 use Rattle.pim_down.specs.Hearing.{start_of}
-use Rattle.pim_down.specs.Known.{known_in}
 use Rattle.pim_form.specs.NormalForm.{GroupForm, IsNormal}
 use Rattle.pim_form.specs.Messages.{Writing, IsWriting, HaveRps, AreCanonical}
 use Rattle.pim_fresh.specs.Exchange.{Exchange}
@@ -104,7 +103,7 @@ hellos_need_none family (neighbour ∷ neighbours) (hello ∷ hellos) told start
 
 module _ (taken : DeliveryIsTaken) (course_hears : CourseHearsAll)
     (family : AddressFamily) (writing : Writing) (form : List GroupForm) (messages : List (List ℕ)) (timing : Timing) (limit last : ℕ) (start : RouterState)
-    (is_writing : IsWriting family writing) (is : IsNormal family form) (have : HaveRps family (known_in family start.routes) form) (are : AreCanonical family writing (known_in family start.routes) form messages)
+    (is_writing : IsWriting family writing) (is : IsNormal family form) (have : HaveRps family (rp_of family start.routes) form) (are : AreCanonical family writing (rp_of family start.routes) form messages)
     (nothing : HoldsNothing limit start) (lasts : Lasts last start) (hears : HearsWriter writing 0 timing start) where
   abbrev exchange : Exchange
   exchange = heard_exchange family writing 0 timing messages start
@@ -166,7 +165,7 @@ first_without read hellos_heard stars taken course_hears family table writing st
     ∙ needed_as goes.told first.told first.said None (or_later (first_over (heard_exchange family writing 0 (timing_of fresh) messages first.start) fresh.limit (newest_first fresh)) None) first.joined
     (hellos_need_none family (neighbours fresh) goes.hellos first.told (new_router (setup_of fresh)) first.start (read family (neighbours fresh) goes.hellos goes.are_hellos) first.hellos) said_needs
     ∙ or_none (first_over (heard_exchange family writing 0 (timing_of fresh) messages first.start) fresh.limit (newest_first fresh))
-    ∙ ap (λ (t : RouteTable). first_over (exchange_in family (known_in family t) writing 0 (timing_of fresh) messages) fresh.limit (newest_first fresh)) first.routes in
+    ∙ ap (λ (t : RouteTable). first_over (exchange_in family (rp_of family t) writing 0 (timing_of fresh) messages) fresh.limit (newest_first fresh)) first.routes in
     (same, first.are_of)
 
 pub room_is_for_the_units : WrittenHellosAreRead → HellosAreHeard → AskedStarsHaveRps → DeliveryIsTaken → CourseHearsAll → RoomIsForTheUnits

@@ -1,10 +1,10 @@
 -- Canonical messages are within their writer's budget.
-use Rattle.std.proofs.Common.{◌≡◌, ◌≤◌, ℕ, true, List, [], ◌∷◌, length, nat_le, arith}
+use Rattle.std.proofs.Common.{◌≡◌, ◌≤◌, ℕ, true, List, [], ◌∷◌, length, nat_le, arith, Option}
 use Rattle.std.specs.List.{AllByRecursion}
 use Rattle.std.proofs.lemmas.Bool.{leb-true}
 use Rattle.pim_addr.specs.declared.family.AddressFamily.{AddressFamily}
 use Rattle.pim_form.specs.Laws.{SizeIsLength}
-use Rattle.pim_form.specs.Messages.{Writing, Rps, IsWriting, HaveRps}
+use Rattle.pim_form.specs.Messages.{Writing, IsWriting, HaveRps}
 use Rattle.pim_form.specs.NormalForm.{GroupForm, IsNormal}
 use Rattle.pim_form.specs.Packing.{fits, most_groups}
 use Rattle.pim_form.specs.Units.{units_of, run_size, run_groups}
@@ -13,7 +13,7 @@ use Rattle.pim_mirror.specs.Laws.{CanonicalMessagesTellParts}
 use Rattle.pim_mirror.specs.MirrorLaws.{CanonicalMessagesAreShort}
 use Rattle.pim_mirror.proofs.Listed.{both}
 
-module _ (size : SizeIsLength) (family : AddressFamily) (writing : Writing) (rps : Rps) (is : IsWriting family writing) where
+module _ (size : SizeIsLength) (family : AddressFamily) (writing : Writing) (rps : List ℕ → Option (List ℕ)) (is : IsWriting family writing) where
   each_fits : (parts : List (List GroupForm)) (messages : List (List ℕ)) → AllByRecursion (IsNormal family) parts → AllByRecursion (HaveRps family rps) parts →
       AllByRecursion (λ (part : List GroupForm). fits family writing.budget (units_of part) ≡ true) parts → TellParts family writing rps parts messages →
       AllByRecursion (λ (message : List ℕ). length message ≤ writing.budget) messages

@@ -1,8 +1,7 @@
 -- A sound state has canonical messages exactly if no star of what it asks is too big.
 use Rattle.std.proofs.Common.{◌≡◌, ◌∙◌, ℕ, List, Option, None, sym, ap}
-use Rattle.pim_addr.specs.Routes.{RouteTable}
+use Rattle.pim_addr.specs.Routes.{RouteTable, rp_of}
 use Rattle.pim_addr.specs.declared.family.AddressFamily.{AddressFamily}
-use Rattle.pim_down.specs.Known.{known_in}
 use Rattle.pim_down.specs.Sound.{IsSound}
 use Rattle.pim_down.specs.Time.{Downstream}
 use Rattle.pim_form.specs.Asked.{AskedFormIsAsked, asked_form}
@@ -20,7 +19,7 @@ module _ (sole : OneNormalForm) (there : MessagesAreThereUnlessTooBig) (family :
   none_too_big messages asked form is =
       let same : form ≡ asked.form = sole family form asked.form is.normal asked.is.normal
       (λ source group tree valid valid_group. sym (is.wants source group tree valid valid_group) ∙ asked.is.wants source group tree valid valid_group) in
-      ap (too_big family writing.budget) same ∙ (there family writing (known_in family table) asked.form is_writing asked.is.normal).0 (messages, asked.told)
+      ap (too_big family writing.budget) same ∙ (there family writing (rp_of family table) asked.form is_writing asked.is.normal).0 (messages, asked.told)
 
 pub state_has_messages : AskedFormIsAsked → OneNormalForm → MessagesAreThereUnlessTooBig → StateHasMessagesUnlessTooBig
 state_has_messages are sole there family table writing state is_writing sound = (
@@ -28,6 +27,6 @@ state_has_messages are sole there family table writing state is_writing sound = 
   λ fitting.
       let form = asked_form family table writing.upstream state in
       let is = (are family table writing.upstream state sound).is in
-      let told = (there family writing (known_in family table) form is_writing is.normal).1 (fitting form is) in
+      let told = (there family writing (rp_of family table) form is_writing is.normal).1 (fitting form is) in
       (told.0, record { form = form; is = is; told = told.1 }),
 )

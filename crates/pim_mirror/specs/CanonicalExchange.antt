@@ -1,7 +1,7 @@
 -- Canonical Join/Prune messages as an exchange that a port hears (RFC 7761, 4.5 and 4.9.5), and the
 -- machines that they name. An exchange is read from the bytes of the messages, so it is what a
 -- receiver has.
-use Rattle.std.specs.Prelude.{◌≡◌, ℕ, ◌<◌, true, List, [], ◌∷◌, map, slice_index_or}
+use Rattle.std.specs.Prelude.{◌≡◌, ℕ, ◌<◌, true, List, [], ◌∷◌, map, slice_index_or, Option}
 use Rattle.pim_addr.specs.declared.family.AddressFamily.{AddressFamily}
 use Rattle.pim_frame.specs.Frame.{Content, hello, join_prune, other, content}
 use Rattle.pim_jp.specs.Message.{Message, message_of}
@@ -9,13 +9,13 @@ use Rattle.pim_down.specs.declared.machines.key.Key.{Key}
 use Rattle.pim_down.specs.declared.machines.event.Timing.{Timing}
 use Rattle.pim_down.specs.Hearing.{Event, events_of}
 use Rattle.pim_form.specs.NormalForm.{GroupForm}
-use Rattle.pim_form.specs.Messages.{Rps, Writing}
+use Rattle.pim_form.specs.Messages.{Writing}
 use Rattle.pim_form.specs.Laws.{IsReadAs}
 use Rattle.pim_fresh.specs.Exchange.{Exchange, TellsUnitsOnce, is_named}
 use Rattle.pim_mirror.specs.CanonicalUnits.{form_names}
 
 -- The events of the message with this number; none where there is no such message.
-abbrev pub events_at : Rps → List Message → ℕ → List Event
+abbrev pub events_at : (List ℕ → Option (List ℕ)) → List Message → ℕ → List Event
 events_at rps messages i = slice_index_or (map (events_of rps) messages) i []
 
 -- The body of a Join/Prune message, after the header; empty for any other type (RFC 7761, 4.9).
@@ -29,7 +29,7 @@ abbrev pub message_in : AddressFamily → List ℕ → Message
 message_in family bytes = message_of family (body_of (content bytes))
 
 -- These messages, with one holdtime in seconds, as an exchange on a port with this timing.
-abbrev pub exchange_of : Rps → ℕ → ℕ → Timing → List Message → Exchange
+abbrev pub exchange_of : (List ℕ → Option (List ℕ)) → ℕ → ℕ → Timing → List Message → Exchange
 exchange_of rps holdtime port timing messages = record {
   messages = events_at rps messages;
   holdtime = holdtime;
@@ -38,7 +38,7 @@ exchange_of rps holdtime port timing messages = record {
 }
 
 -- The messages in these byte lists, by this writer, as an exchange on a port with this timing.
-abbrev pub exchange_in : AddressFamily → Rps → Writing → ℕ → Timing → List (List ℕ) → Exchange
+abbrev pub exchange_in : AddressFamily → (List ℕ → Option (List ℕ)) → Writing → ℕ → Timing → List (List ℕ) → Exchange
 exchange_in family rps writing port timing messages =
     exchange_of rps writing.holdtime port timing (map (message_in family) messages)
 

@@ -1,8 +1,7 @@
 -- The state of a port after the canonical messages of a form (RFC 7761, 4.1).
 use Rattle.std.specs.Prelude.{◌≡◌, ℕ, ◌<◌, true, List}
 use Rattle.pim_addr.specs.declared.family.AddressFamily.{AddressFamily}
-use Rattle.pim_addr.specs.Routes.{RouteTable}
-use Rattle.pim_down.specs.Known.{known_in}
+use Rattle.pim_addr.specs.Routes.{RouteTable, rp_of}
 use Rattle.pim_down.specs.Time.{Downstream}
 use Rattle.pim_form.specs.declared.tree.Tree.{Tree}
 use Rattle.pim_form.specs.NormalForm.{GroupForm, form_wants, IsFormOf}
@@ -26,4 +25,4 @@ pub record AsksAgain (family : AddressFamily) (table : RouteTable) (writing : Wr
       other ≡ form
   pub same_messages : (other : List GroupForm) (others : List (List ℕ)) →
       IsFormOf family (asked_of family table writing.upstream state) other →
-      AreCanonical family writing (known_in family table) other others → others ≡ messages
+      AreCanonical family writing (rp_of family table) other others → others ≡ messages

@@ -6,7 +6,7 @@ use Rattle.pim_addr.specs.declared.family.AddressFamily.{AddressFamily}
 use Rattle.pim_frame.specs.Frame.{all_routers}
 use Rattle.pim_down.specs.declared.machines.event.Timing.{Timing}
 use Rattle.pim_down.specs.Hearing.{needed}
-use Rattle.pim_down.specs.Known.{known_in}
+use Rattle.pim_addr.specs.Routes.{rp_of}
 use Rattle.pim_form.specs.Messages.{Writing}
 use Rattle.pim_fresh.specs.Exchange.{Exchange}
 use Rattle.pim_fresh.specs.Hearing.{after_message}
@@ -36,7 +36,7 @@ pub record HearsWriter (writing : Writing) (port : ℕ) (timing : Timing) (state
 -- These messages as an exchange on the port, under the router's route table.
 abbrev pub heard_exchange : AddressFamily → Writing → ℕ → Timing → List (List ℕ) → RouterState → Exchange
 heard_exchange family writing port timing messages state =
-    exchange_in family (known_in family state.routes) writing port timing messages
+    exchange_in family (rp_of family state.routes) writing port timing messages
 
 -- The number of records that the port needs for the message with this number.
 abbrev pub needed_records : Exchange → ℕ → RouterState → ℕ

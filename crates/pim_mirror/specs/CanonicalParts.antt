@@ -1,6 +1,6 @@
 -- The parts of a normal form that its canonical Join/Prune messages announce, one part each (RFC
 -- 7761, 4.9.5).
-use Rattle.std.specs.Prelude.{◌≡◌, ℕ, true, List, [], ◌∷◌}
+use Rattle.std.specs.Prelude.{◌≡◌, ℕ, true, List, [], ◌∷◌, Option}
 use Rattle.std.specs.List.{AllByRecursion, flat_map}
 use Rattle.pim_addr.specs.declared.family.AddressFamily.{AddressFamily}
 use Rattle.pim_frame.specs.Frame.{all_routers}
@@ -11,7 +11,7 @@ use Rattle.pim_form.specs.NormalForm.{GroupForm, AreAscending, groups_of, IsNorm
 use Rattle.pim_form.specs.Rows.{exceptions_of}
 use Rattle.pim_form.specs.Units.{units_of}
 use Rattle.pim_form.specs.Packing.{fits}
-use Rattle.pim_form.specs.Messages.{Writing, Rps, HaveRps, told_message}
+use Rattle.pim_form.specs.Messages.{Writing, HaveRps, told_message}
 
 -- The exceptions and the sources of a group are in strictly ascending order.
 pub record HasListsInOrder (this : GroupForm) : Type 0 where
@@ -25,12 +25,12 @@ pub record IsInOrder (part : List GroupForm) : Type 0 where
 
 -- The bytes are the Join/Prune message of a part, written canonically and sealed for
 -- ALL-PIM-ROUTERS.
-abbrev pub TellsPart : AddressFamily → Writing → Rps → List GroupForm → List ℕ → Type 0
+abbrev pub TellsPart : AddressFamily → Writing → (List ℕ → Option (List ℕ)) → List GroupForm → List ℕ → Type 0
 TellsPart family writing rps part bytes =
     IsSealed family writing.own (all_routers family) JoinPrune (canonical family (told_message writing rps part)) bytes
 
 -- The messages are one for each part, in order.
-unfoldable pub TellParts : AddressFamily → Writing → Rps → List (List GroupForm) → List (List ℕ) → Type 0
+unfoldable pub TellParts : AddressFamily → Writing → (List ℕ → Option (List ℕ)) → List (List GroupForm) → List (List ℕ) → Type 0
 TellParts family writing rps [] [] = Unit {0}
 TellParts family writing rps [] (bytes ∷ messages) = ⊥
 TellParts family writing rps (part ∷ parts) [] = ⊥
@@ -39,7 +39,7 @@ TellParts family writing rps (part ∷ parts) (bytes ∷ messages) =
 
 -- The messages announce these parts of the form, one each. Each part is a normal form that fits its
 -- message and whose stars have RPs. The units of all parts, in order, are those of the form.
-pub record AreParts (family : AddressFamily) (writing : Writing) (rps : Rps) (form : List GroupForm)
+pub record AreParts (family : AddressFamily) (writing : Writing) (rps : List ℕ → Option (List ℕ)) (form : List GroupForm)
     (messages : List (List ℕ)) (parts : List (List GroupForm)) : Type 0 where
   pub normal : AllByRecursion (IsNormal family) parts
   pub have : AllByRecursion (HaveRps family rps) parts

@@ -6,10 +6,9 @@ use Rattle.std.specs.Prelude.{Option, None, Some, Result, Ok, Err, nat_lt, if◌
 use Rattle.std.specs.Option.{is_some}
 use Rattle.std.specs.List.{list_any}
 use Rattle.pim_addr.specs.declared.family.AddressFamily.{AddressFamily}
-use Rattle.pim_addr.specs.Routes.{RouteTable, IsRouteTable}
+use Rattle.pim_addr.specs.Routes.{RouteTable, IsRouteTable, rp_of}
 use Rattle.pim_down.specs.declared.machines.key.Key.{Key}
 use Rattle.pim_down.specs.declared.machines.machine.Machine.{Machine}
-use Rattle.pim_down.specs.Known.{known_in}
 use Rattle.pim_down.specs.Records.{machine_at}
 use Rattle.pim_down.specs.Tables.{machine_in}
 use Rattle.pim_down.specs.Time.{Downstream, expiry_after}
@@ -44,7 +43,7 @@ pub record AreMessagesOf (family : AddressFamily) (table : RouteTable) (writing 
     (messages : List (List ℕ)) : Type 0 where
   pub form : List GroupForm
   pub is : IsFormOf family (asked_of family table writing.upstream state) form
-  pub told : AreCanonical family writing (known_in family table) form messages
+  pub told : AreCanonical family writing (rp_of family table) form messages
 
 -- Two states want the same traffic of the writer's upstream neighbour, for every valid source,
 -- every group and both trees (RFC 7761, 4.1).
@@ -64,7 +63,7 @@ WantsWhatIsAsked family table writing state other =
 -- The messages as the exchange that the fresh router's port hears.
 abbrev pub fresh_exchange : AddressFamily → RouteTable → Writing → List (List ℕ) → Fresh → Exchange
 fresh_exchange family table writing messages fresh =
-    exchange_in family (known_in family table) writing 0 (timing_of fresh) messages
+    exchange_in family (rp_of family table) writing 0 (timing_of fresh) messages
 
 -- A new router that fits its sender receives the Hellos of its neighbours and these messages,
 -- nothing else, and is `router` at its final moment. Each message had room.

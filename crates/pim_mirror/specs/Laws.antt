@@ -1,16 +1,15 @@
 -- The statements of the laws in `src/laws.rt`.
-use Rattle.std.specs.Prelude.{◌≡◌, ℕ, ◌<◌, ◌≤◌, List, [], ◌∷◌, ◌++◌, length, map}
+use Rattle.std.specs.Prelude.{◌≡◌, ℕ, ◌<◌, ◌≤◌, List, [], ◌∷◌, ◌++◌, length, map, Option}
 use Rattle.pim_addr.specs.declared.family.AddressFamily.{AddressFamily}
-use Rattle.pim_addr.specs.Routes.{RouteTable, IsRouteTable}
+use Rattle.pim_addr.specs.Routes.{RouteTable, IsRouteTable, rp_of}
 use Rattle.pim_frame.specs.Frame.{all_routers}
 use Rattle.pim_jp.specs.Message.{Message}
 use Rattle.pim_down.specs.declared.machines.event.Timing.{Timing}
 use Rattle.pim_down.specs.declared.machines.step.Step.{Step}
 use Rattle.pim_down.specs.Hearing.{start_of, events_of}
-use Rattle.pim_down.specs.Known.{known_in}
 use Rattle.pim_down.specs.Time.{Downstream, Runs}
 use Rattle.pim_form.specs.NormalForm.{GroupForm, IsNormal, IsFormOf}
-use Rattle.pim_form.specs.Messages.{Writing, IsWriting, Rps, HaveRps, AreCanonical, told_message}
+use Rattle.pim_form.specs.Messages.{Writing, IsWriting, HaveRps, AreCanonical, told_message}
 use Rattle.pim_form.specs.Laws.{IsReadAs}
 use Rattle.pim_form.specs.TowardLaws.{asked_of}
 use Rattle.pim_fresh.specs.Asking.{IsAsking}
@@ -30,26 +29,26 @@ use Rattle.pim_mirror.specs.MachineRuns.{IsRunOfMachines}
 
 -- The message of a part in strictly ascending order whose stars have RPs asks for traffic.
 abbrev pub PartIsAsking : Type 0
-PartIsAsking = (family : AddressFamily) (writing : Writing) (rps : Rps) (part : List GroupForm) →
+PartIsAsking = (family : AddressFamily) (writing : Writing) (rps : List ℕ → Option (List ℕ)) (part : List GroupForm) →
     IsInOrder part → HaveRps family rps part → IsAsking rps (told_message writing rps part)
 
 -- The canonical messages of a normal form announce parts of it.
 abbrev pub CanonicalMessagesTellParts : Type 0
-CanonicalMessagesTellParts = (family : AddressFamily) (writing : Writing) (rps : Rps) (form : List GroupForm)
+CanonicalMessagesTellParts = (family : AddressFamily) (writing : Writing) (rps : List ℕ → Option (List ℕ)) (form : List GroupForm)
     (messages : List (List ℕ)) → IsNormal family form → HaveRps family rps form →
     AreCanonical family writing rps form messages →
     (parts : List (List GroupForm)) × AreParts family writing rps form messages parts
 
 -- The messages of these parts name exactly the machines of the form, each in one message.
 abbrev pub PartsTellUnitsOnce : Type 0
-PartsTellUnitsOnce = (family : AddressFamily) (writing : Writing) (rps : Rps) (form : List GroupForm)
+PartsTellUnitsOnce = (family : AddressFamily) (writing : Writing) (rps : List ℕ → Option (List ℕ)) (form : List GroupForm)
     (messages : List (List ℕ)) (parts : List (List GroupForm)) (port : ℕ) (timing : Timing) → IsNormal family form →
     AreParts family writing rps form messages parts →
     TellsForm (exchange_of rps writing.holdtime port timing (map (told_message writing rps) parts)) (length parts) form
 
 -- The bytes of the messages are read as the messages of these parts.
 abbrev pub MessagesAreRead : Type 0
-MessagesAreRead = (family : AddressFamily) (writing : Writing) (rps : Rps) (form : List GroupForm)
+MessagesAreRead = (family : AddressFamily) (writing : Writing) (rps : List ℕ → Option (List ℕ)) (form : List GroupForm)
     (messages : List (List ℕ)) (parts : List (List GroupForm)) → IsWriting family writing →
     AreParts family writing rps form messages parts →
     AreReadAs family writing.own messages (map (told_message writing rps) parts)
@@ -57,7 +56,7 @@ MessagesAreRead = (family : AddressFamily) (writing : Writing) (rps : Rps) (form
 -- What is read from the canonical messages of a form names exactly its machines, each in one
 -- message.
 abbrev pub CanonicalMessagesTellForm : Type 0
-CanonicalMessagesTellForm = (family : AddressFamily) (writing : Writing) (rps : Rps) (form : List GroupForm)
+CanonicalMessagesTellForm = (family : AddressFamily) (writing : Writing) (rps : List ℕ → Option (List ℕ)) (form : List GroupForm)
     (messages : List (List ℕ)) (port : ℕ) (timing : Timing) → IsWriting family writing → IsNormal family form →
     HaveRps family rps form → AreCanonical family writing rps form messages →
     TellsForm (exchange_in family rps writing port timing messages) (length messages) form
@@ -66,7 +65,7 @@ CanonicalMessagesTellForm = (family : AddressFamily) (writing : Writing) (rps : 
 abbrev pub AskedStarsHaveRps : Type 0
 AskedStarsHaveRps = (family : AddressFamily) (table : RouteTable) (neighbour : List ℕ) (state : Downstream)
     (form : List GroupForm) → IsRouteTable family table → IsFormOf family (asked_of family table neighbour state) form →
-    HaveRps family (known_in family table) form
+    HaveRps family (rp_of family table) form
 
 -- A fresh port heard all canonical messages of what is asked of a neighbour. It asks again for what
 -- their form asks for, from the final moment of the deliveries on, while no message expires.
@@ -76,12 +75,12 @@ HeardMessagesAreAskedAgain = (family : AddressFamily) (table : RouteTable) (writ
     (moment later : ℕ) (state after : Downstream) (answer : Step (List ℕ)) →
     IsRouteTable family table → IsWriting family writing →
     IsFormOf family (asked_of family table writing.upstream sender) form →
-    AreCanonical family writing (known_in family table) form messages →
+    AreCanonical family writing (rp_of family table) form messages →
     AllCame (length messages) deliveries → final_moment timing.override_ms deliveries ≤ moment → moment ≤ later →
     IsTimely (start_of writing.holdtime timing).expires_in later deliveries →
-    Leaves (exchange_in family (known_in family table) writing 0 timing messages) 1 limit deliveries moment state →
+    Leaves (exchange_in family (rp_of family table) writing 0 timing messages) 1 limit deliveries moment state →
     Runs later state answer after →
-    Stays (exchange_in family (known_in family table) writing 0 timing messages) deliveries moment later state answer
+    Stays (exchange_in family (rp_of family table) writing 0 timing messages) deliveries moment later state answer
     after × AsksAgain family table writing form messages after
 
 -- A packet of the writer whose bytes are read as a message to this neighbour acts as that message,
@@ -90,7 +89,7 @@ abbrev pub ReadPacketIsHeard : Type 0
 ReadPacketIsHeard = (family : AddressFamily) (writing : Writing) (exchange : Exchange) (i : ℕ) (bytes : List ℕ)
     (said : Message) (state : RouterState) → IsWriting family writing → IsReadAs family writing.own bytes said →
     said.upstream ≡ writing.upstream → said.holdtime ≡ exchange.holdtime →
-    exchange.messages i ≡ events_of (known_in family state.routes) said →
+    exchange.messages i ≡ events_of (rp_of family state.routes) said →
     HearsWriter writing exchange.port exchange.timing state →
     IsHeard family exchange i (record {
       port = exchange.port;
@@ -104,8 +103,8 @@ ReadPacketIsHeard = (family : AddressFamily) (writing : Writing) (exchange : Exc
 abbrev pub CanonicalPacketIsHeard : Type 0
 CanonicalPacketIsHeard = (family : AddressFamily) (writing : Writing) (form : List GroupForm)
     (messages : List (List ℕ)) (i port : ℕ) (timing : Timing) (state : RouterState) → IsWriting family writing →
-    IsNormal family form → HaveRps family (known_in family state.routes) form →
-    AreCanonical family writing (known_in family state.routes) form messages → i < length messages →
+    IsNormal family form → HaveRps family (rp_of family state.routes) form →
+    AreCanonical family writing (rp_of family state.routes) form messages → i < length messages →
     HearsWriter writing port timing state →
     IsHeard family (heard_exchange family writing port timing messages state) i
     (packet_of family writing port messages i) state
@@ -117,8 +116,8 @@ abbrev pub RouterLeavesItsPort : Type 0
 RouterLeavesItsPort = (family : AddressFamily) (writing : Writing) (form : List GroupForm) (messages : List (List ℕ))
     (timing : Timing) (limit : ℕ) (start : RouterState) (deliveries : List Delivery) (moment : ℕ)
     (after : RouterState) → IsWriting family writing → IsNormal family form →
-    HaveRps family (known_in family start.routes) form →
-    AreCanonical family writing (known_in family start.routes) form messages → HoldsNothing limit start →
+    HaveRps family (rp_of family start.routes) form →
+    AreCanonical family writing (rp_of family start.routes) form messages → HoldsNothing limit start →
     AreOf (length messages) deliveries → IsTimely (start_of writing.holdtime timing).expires_in moment deliveries →
     length (units_of (heard_exchange family writing 0 timing messages start) deliveries) ≤ limit →
     HearsAll family writing 0 timing messages start deliveries moment after →
@@ -131,8 +130,8 @@ abbrev pub DeliveryIsTaken : Type 0
 DeliveryIsTaken = (family : AddressFamily) (writing : Writing) (form : List GroupForm) (messages : List (List ℕ))
     (timing : Timing) (limit : ℕ) (start : RouterState) (delivery : Delivery) (earlier : List Delivery)
     (before : RouterState) → IsWriting family writing → IsNormal family form →
-    HaveRps family (known_in family start.routes) form →
-    AreCanonical family writing (known_in family start.routes) form messages → HoldsNothing limit start →
+    HaveRps family (rp_of family start.routes) form →
+    AreCanonical family writing (rp_of family start.routes) form messages → HoldsNothing limit start →
     AreOf (length messages) (delivery ∷ earlier) →
     IsTimely (start_of writing.holdtime timing).expires_in delivery.moment earlier →
     length (units_of (heard_exchange family writing 0 timing messages start) earlier) ≤ limit →
@@ -160,8 +159,8 @@ abbrev pub CourseHearsAll : Type 0
 CourseHearsAll = (family : AddressFamily) (writing : Writing) (form : List GroupForm) (messages : List (List ℕ))
     (timing : Timing) (limit last : ℕ) (start : RouterState) (deliveries : List Delivery) (moment : ℕ)
     (told : List Telling) (after : RouterState) → IsWriting family writing → IsNormal family form →
-    HaveRps family (known_in family start.routes) form →
-    AreCanonical family writing (known_in family start.routes) form messages → HoldsNothing limit start →
+    HaveRps family (rp_of family start.routes) form →
+    AreCanonical family writing (rp_of family start.routes) form messages → HoldsNothing limit start →
     AreOf (length messages) deliveries → IsTimely (start_of writing.holdtime timing).expires_in moment deliveries →
     length (units_of (heard_exchange family writing 0 timing messages start) deliveries) ≤ limit → moment ≤ last →
     Lasts last start → HearsWriter writing 0 timing start →
@@ -180,7 +179,7 @@ RouterAsksAgain = (family : AddressFamily) (writing : Writing) (sender : Downstr
     (messages : List (List ℕ)) (timing : Timing) (limit last : ℕ) (start : RouterState) (deliveries : List Delivery)
     (moment : ℕ) (told : List Telling) (after : RouterState) → IsRouteTable family start.routes →
     IsWriting family writing → IsFormOf family (asked_of family start.routes writing.upstream sender) form →
-    AreCanonical family writing (known_in family start.routes) form messages → HoldsNothing limit start →
+    AreCanonical family writing (rp_of family start.routes) form messages → HoldsNothing limit start →
     AreOf (length messages) deliveries → AllCame (length messages) deliveries →
     final_moment timing.override_ms deliveries ≤ moment →
     IsTimely (start_of writing.holdtime timing).expires_in moment deliveries →

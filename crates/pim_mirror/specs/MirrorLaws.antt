@@ -5,7 +5,7 @@ use Rattle.pim_addr.specs.declared.family.AddressFamily.{AddressFamily}
 use Rattle.pim_addr.specs.Routes.{RouteTable}
 use Rattle.pim_down.specs.Sound.{IsSound}
 use Rattle.pim_down.specs.Time.{Downstream}
-use Rattle.pim_form.specs.Messages.{Writing, IsWriting, Rps, HaveRps, AreCanonical}
+use Rattle.pim_form.specs.Messages.{Writing, IsWriting, HaveRps, AreCanonical}
 use Rattle.pim_form.specs.NormalForm.{GroupForm, IsNormal, IsFormOf}
 use Rattle.pim_form.specs.TooBig.{too_big}
 use Rattle.pim_form.specs.TowardLaws.{asked_of}
@@ -13,7 +13,7 @@ use Rattle.pim_mirror.specs.Headline.{AreMessagesOf}
 
 -- Each canonical message of a normal form has at most as many bytes as the writer's budget.
 abbrev pub CanonicalMessagesAreShort : Type 0
-CanonicalMessagesAreShort = (family : AddressFamily) (writing : Writing) (rps : Rps) (form : List GroupForm)
+CanonicalMessagesAreShort = (family : AddressFamily) (writing : Writing) (rps : List ℕ → Option (List ℕ)) (form : List GroupForm)
     (messages : List (List ℕ)) → IsWriting family writing → IsNormal family form → HaveRps family rps form →
     AreCanonical family writing rps form messages →
     AllByRecursion (λ (message : List ℕ). length message ≤ writing.budget) messages

@@ -1,5 +1,5 @@
 -- The groups of the messages of a change are group addresses.
-use Rattle.std.proofs.Common.{◌≡◌, ℕ, Bool, true, false, List, [], ◌∷◌, ◌++◌, map, sym, subst}
+use Rattle.std.proofs.Common.{◌≡◌, ℕ, Bool, true, false, List, [], ◌∷◌, ◌++◌, map, sym, subst, Option}
 use Rattle.std.specs.List.{AllByRecursion, flat_map}
 use Rattle.std.specs.declared.cmp.Ordering.{Ordering}
 use Rattle.std.specs.declared.cmp.Ordering.TheVariants.{Less, Equal, Greater}
@@ -9,7 +9,6 @@ use Rattle.pim_addr.specs.declared.family.AddressFamily.{AddressFamily}
 use Rattle.pim_addr.specs.Address.{IsGroupAddress}
 use Rattle.pim_jp.specs.Message.{GroupSet}
 use Rattle.pim_form.specs.Merge.{by_order}
-use Rattle.pim_form.specs.Messages.{Rps}
 use Rattle.pim_form.specs.NormalForm.{GroupForm, IsNormalGroup, IsNormal, groups_of, same_address}
 use Rattle.pim_form.specs.Settled.{group_in}
 use Rattle.pim_change.specs.Change.{Telling, ChangeUnit, about, group_change, inserted, in_order, change_at, change}
@@ -99,9 +98,9 @@ module _ (family : AddressFamily) where
   abbrev pub SetHasGroup : GroupSet → Type 0
   SetHasGroup set = IsGroupAddress family set.group
 
-  told_are : (rps : Rps) (sets : List GroupTellings) → AllByRecursion HasGroup sets → AllByRecursion SetHasGroup (map (told_set rps) sets)
+  told_are : (rps : List ℕ → Option (List ℕ)) (sets : List GroupTellings) → AllByRecursion HasGroup sets → AllByRecursion SetHasGroup (map (told_set rps) sets)
   told_are rps [] are = tt
   told_are rps (this ∷ sets) are = (are.0, told_are rps sets are.1)
 
-  pub sets_are : (rps : Rps) (run : List ChangeUnit) → AllByRecursion OfGroup run → AllByRecursion SetHasGroup (told_sets rps run)
+  pub sets_are : (rps : List ℕ → Option (List ℕ)) (run : List ChangeUnit) → AllByRecursion OfGroup run → AllByRecursion SetHasGroup (told_sets rps run)
   sets_are rps run are = told_are rps (grouped run) (grouped_are run are)

@@ -1,19 +1,18 @@
 -- A router that is settled at a form, and is given the packets of a change.
-use Rattle.std.proofs.Common.{◌≡◌, ◌∙◌, ℕ, ◌-◌, ◌≤◌, ◌<◌, max, true, false, nat_lt, List, [], ◌∷◌, length, None, Some, refl, sym, ap, subst, arith}
+use Rattle.std.proofs.Common.{◌≡◌, ◌∙◌, ℕ, ◌-◌, ◌≤◌, ◌<◌, max, true, false, nat_lt, List, [], ◌∷◌, length, None, Some, refl, sym, ap, subst, arith, Option}
 use Rattle.std.specs.List.{AllByRecursion}
 use Rattle.std.proofs.lemmas.Bool.{ltb-true, ltb-false}
 use Rattle.pim_addr.specs.declared.family.AddressFamily.{AddressFamily}
 use Rattle.pim_addr.specs.Address.{IsGroupAddress}
-use Rattle.pim_addr.specs.Routes.{RouteTable}
+use Rattle.pim_addr.specs.Routes.{RouteTable, rp_of}
 use Rattle.pim_down.specs.declared.machines.event.Timing.{Timing}
 use Rattle.pim_down.specs.declared.machines.step.Step.{Step}
 use Rattle.pim_down.specs.declared.machines.step.Step.TheVariants.{Reached}
 use Rattle.pim_down.specs.Hearing.{start_of}
-use Rattle.pim_down.specs.Known.{known_in}
 use Rattle.pim_down.specs.Records.{IsAscending}
 use Rattle.pim_down.specs.Time.{Downstream}
 use Rattle.pim_down.specs.Laws.{KeysAreToldApart, HearingActsAtEachKey, HearingKeepsTheOrder, RunKeepsItsBounds, RunKeepsTheOrder}
-use Rattle.pim_form.specs.Messages.{Writing, IsWriting, Rps}
+use Rattle.pim_form.specs.Messages.{Writing, IsWriting}
 use Rattle.pim_form.specs.TowardLaws.{TestTellsWhoIsAsked}
 use Rattle.pim_change.specs.Change.{ChangeUnit}
 use Rattle.pim_change.specs.Laws.{AreReadAsRuns, ChangeIsRead}
@@ -99,10 +98,10 @@ since_start from [] to between = between
 since_start from (delivery ∷ earlier) to between = omega (arith, between.0, since_start from earlier delivery.moment between.1)
 
 module _ (laws : Machines) (family : AddressFamily) (table : RouteTable) (writing : Writing) (timing : Timing) (messages : List (List ℕ)) (runs : List (List ChangeUnit)) (last : ℕ) (start : RouterState)
-    (is_writing : IsWriting family writing) (same : (group : List ℕ) → IsGroupAddress family group → known_in family start.routes group ≡ known_in family table group) (read : AreReadAsRuns family writing (known_in family table) runs messages)
+    (is_writing : IsWriting family writing) (same : (group : List ℕ) → IsGroupAddress family group → rp_of family start.routes group ≡ rp_of family table group) (read : AreReadAsRuns family writing (rp_of family table) runs messages)
     (of_groups : AllByRecursion (AllByRecursion (OfGroup family)) runs) where
-  abbrev rps : Rps
-  rps = known_in family table
+  abbrev rps : List ℕ → Option (List ℕ)
+  rps = rp_of family table
 
   abbrev exchange : Exchange
   exchange = exchange_in family rps writing 0 timing messages
@@ -150,14 +149,14 @@ module _ (laws : Machines) (family : AddressFamily) (table : RouteTable) (writin
 
   -- ---- a packet
 
-  rps_same : (routes : RouteTable) → routes ≡ start.routes → (group : List ℕ) → IsGroupAddress family group → rps group ≡ known_in family routes group
-  rps_same routes e group is = sym (ap (λ (t : RouteTable). known_in family t group) e ∙ same group is)
+  rps_same : (routes : RouteTable) → routes ≡ start.routes → (group : List ℕ) → IsGroupAddress family group → rps group ≡ rp_of family routes group
+  rps_same routes e group is = sym (ap (λ (t : RouteTable). rp_of family t group) e ∙ same group is)
 
   heard : (i : ℕ) (state : RouterState) → i < length messages → HearsWriter writing 0 timing state → state.routes ≡ start.routes → IsHeard family exchange i (packet_of family writing 0 messages i) state
   heard i state within hears e =
       let this = message_at family writing rps messages runs i read of_groups within in
       laws.heard family writing exchange i _ this.said state is_writing this.read this.upstream this.holdtime
-      (this.events ∙ events_same family rps (known_in family state.routes) (rps_same state.routes e) this.said this.groups) hears
+      (this.events ∙ events_same family rps (rp_of family state.routes) (rps_same state.routes e) this.said this.groups) hears
 
   not_full : (count : ℕ) (state : RouterState) (end : Verdict × RouterState) → end ≡ (Full (RecordsAreMany count), state) → needed_by end.0 ≡ None → ⊥
   not_full count state end e none =
@@ -297,7 +296,7 @@ module _ (laws : Machines) (family : AddressFamily) (table : RouteTable) (writin
 
 pub long_timers : Machines → ChangeIsRead → LongTimersLast
 long_timers laws reads family table writing timing old new messages deliveries moment start is_table is_writing of_old of_new told sound knows of since lasts started =
-    let rps = known_in family table in
+    let rps = rp_of family table in
     let have_old = stars_have_rps family table writing.upstream is_table old of_old.toward in
     let have_new = stars_have_rps family table writing.upstream is_table new of_new.toward in
     let read = reads family writing rps old new messages is_writing of_old.normal of_new.normal have_old have_new told in
@@ -309,7 +308,7 @@ long_timers laws reads family table writing timing old new messages deliveries m
 
 pub moves : Machines → TestTellsWhoIsAsked → ChangeIsRead → ToldChangeSettles → SettledWants → ChangeMovesARouter
 moves laws tests reads settles wanted family table writing timing old new messages deliveries moment start after is_table is_writing of_old of_new told stands knows given =
-    let rps = known_in family table in
+    let rps = rp_of family table in
     let have_old = stars_have_rps family table writing.upstream is_table old of_old.toward in
     let have_new = stars_have_rps family table writing.upstream is_table new of_new.toward in
     let read = reads family writing rps old new messages is_writing of_old.normal of_new.normal have_old have_new told in

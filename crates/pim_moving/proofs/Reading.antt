@@ -9,7 +9,7 @@ use Rattle.pim_jp.specs.Message.{GroupSet, Message, message_of}
 use Rattle.pim_down.specs.declared.machines.key.What.TheVariants.{Star}
 use Rattle.pim_down.specs.Hearing.{event, is_known, entry_events, list_events, set_events, events_of}
 use Rattle.pim_form.specs.Laws.{IsReadAs}
-use Rattle.pim_form.specs.Messages.{Writing, Rps}
+use Rattle.pim_form.specs.Messages.{Writing}
 use Rattle.pim_change.specs.Change.{ChangeUnit}
 use Rattle.pim_change.specs.Told.{told_message}
 use Rattle.pim_change.specs.Laws.{AreReadAsRuns}
@@ -21,7 +21,7 @@ read_message : (family : AddressFamily) (source bytes : List ℕ) (said : Messag
 read_message family source bytes said is = ap (λ c. message_of family (body_of c)) is.holds ∙ is.reads
 
 -- the message of this number, by this writer
-pub record IsMessageAt (family : AddressFamily) (writing : Writing) (rps : Rps) (messages : List (List ℕ)) (i : ℕ) : Type 0 where
+pub record IsMessageAt (family : AddressFamily) (writing : Writing) (rps : List ℕ → Option (List ℕ)) (messages : List (List ℕ)) (i : ℕ) : Type 0 where
   pub said : Message
   pub read : IsReadAs family writing.own (get_or messages i []) said
   pub upstream : said.upstream ≡ writing.upstream
@@ -29,7 +29,7 @@ pub record IsMessageAt (family : AddressFamily) (writing : Writing) (rps : Rps) 
   pub events : events_at rps (map (message_in family) messages) i ≡ events_of rps said
   pub groups : AllByRecursion (SetHasGroup family) said.sets
 
-module _ (family : AddressFamily) (writing : Writing) (rps : Rps) where
+module _ (family : AddressFamily) (writing : Writing) (rps : List ℕ → Option (List ℕ)) where
   pub message_at : (messages : List (List ℕ)) (runs : List (List ChangeUnit)) (i : ℕ) → AreReadAsRuns family writing rps runs messages → AllByRecursion (AllByRecursion (OfGroup family)) runs → i < length messages → IsMessageAt family writing rps messages i
   unfolding AreReadAsRuns
   message_at [] runs i are groups within = absurd (omega (arith, within))

@@ -3,9 +3,8 @@
 use Rattle.std.specs.Prelude.{◌≡◌, ℕ, ◌≤◌, true, List, [], ◌∷◌, ◌++◌, length, None}
 use Rattle.pim_addr.specs.declared.family.AddressFamily.{AddressFamily}
 use Rattle.pim_addr.specs.Address.{IsGroupAddress}
-use Rattle.pim_addr.specs.Routes.{RouteTable}
+use Rattle.pim_addr.specs.Routes.{RouteTable, rp_of}
 use Rattle.pim_down.specs.declared.machines.event.Timing.{Timing}
-use Rattle.pim_down.specs.Known.{known_in}
 use Rattle.pim_down.specs.Sound.{IsSound}
 use Rattle.pim_form.specs.Messages.{Writing}
 use Rattle.pim_form.specs.NormalForm.{GroupForm, IsNormal, IsFormOf}
@@ -33,7 +32,7 @@ AreBetween from (delivery ∷ earlier) to = (delivery.moment ≤ to) × AreBetwe
 pub record IsFormToward (family : AddressFamily) (table : RouteTable) (neighbour : List ℕ) (form : List GroupForm)
     : Type 0 where
   pub normal : IsNormal family form
-  pub toward : is_toward (known_in family table) (via_in family table) neighbour form ≡ true
+  pub toward : is_toward (rp_of family table) (via_in family table) neighbour form ≡ true
 
 -- A router of one port whose machines are settled at the form.
 pub record StandsAt (family : AddressFamily) (form : List GroupForm) (state : RouterState) : Type 0 where
@@ -48,7 +47,7 @@ pub record KnowsUntil (family : AddressFamily) (table : RouteTable) (writing : W
     (state : RouterState) : Type 0 where
   pub hears : HearsWriter writing 0 timing state
   pub same_rps : (group : List ℕ) → IsGroupAddress family group →
-      known_in family state.routes group ≡ known_in family table group
+      rp_of family state.routes group ≡ rp_of family table group
   pub neighbours : Lasts moment state
 
 -- ---- its Expiry Timers

@@ -1,10 +1,9 @@
 -- The laws in `src/laws.rt`.
 use Rattle.std.specs.Prelude.{◌≡◌, ℕ, ◌≤◌, ◌-◌, List, length, None}
 use Rattle.pim_addr.specs.declared.family.AddressFamily.{AddressFamily}
-use Rattle.pim_addr.specs.Routes.{RouteTable, IsRouteTable}
+use Rattle.pim_addr.specs.Routes.{RouteTable, IsRouteTable, rp_of}
 use Rattle.pim_down.specs.declared.machines.event.Timing.{Timing}
 use Rattle.pim_down.specs.Hearing.{start_of}
-use Rattle.pim_down.specs.Known.{known_in}
 use Rattle.pim_down.specs.Sound.{IsSound}
 use Rattle.pim_form.specs.Messages.{Writing, IsWriting}
 use Rattle.pim_form.specs.NormalForm.{GroupForm, IsNormal}
@@ -33,7 +32,7 @@ ChangeMovesARouter = (family : AddressFamily) (table : RouteTable) (writing : Wr
     (old new : List GroupForm) (messages : List (List ℕ)) (deliveries : List Delivery) (moment : ℕ)
     (start after : RouterState) → IsRouteTable family table → IsWriting family writing →
     IsFormToward family table writing.upstream old → IsFormToward family table writing.upstream new →
-    TellChange family writing (known_in family table) old new messages →
+    TellChange family writing (rp_of family table) old new messages →
     StandsAt family old start → KnowsUntil family table writing timing moment start →
     IsGiven family writing timing messages deliveries moment start after →
     HasMoved family table writing new moment start after
@@ -45,7 +44,7 @@ LongTimersLast = (family : AddressFamily) (table : RouteTable) (writing : Writin
     (old new : List GroupForm) (messages : List (List ℕ)) (deliveries : List Delivery) (moment : ℕ)
     (start : RouterState) → IsRouteTable family table → IsWriting family writing →
     IsFormToward family table writing.upstream old → IsFormToward family table writing.upstream new →
-    TellChange family writing (known_in family table) old new messages →
+    TellChange family writing (rp_of family table) old new messages →
     IsSound family start.machines → KnowsUntil family table writing timing moment start →
     AreOf (length messages) deliveries → AreBetween start.machines.moment deliveries moment →
     NoneExpires moment start.machines →

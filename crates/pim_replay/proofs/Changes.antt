@@ -3,11 +3,10 @@ use Rattle.std.proofs.Common.{◌≡◌, ℕ, List, Option, None, Some, Ok, Err,
 use Rattle.std.specs.Io.KnownBytes.{Appends}
 use Rattle.std.proofs.KnownBytes.{Appends-trans}
 use Rattle.pim_addr.specs.declared.family.AddressFamily.{AddressFamily}
-use Rattle.pim_addr.specs.Routes.{RouteTable}
+use Rattle.pim_addr.specs.Routes.{RouteTable, rp_of}
 use Rattle.pim_change.specs.Change.{change}
 use Rattle.pim_change.specs.Told.{TellChange}
 use Rattle.pim_change.specs.TooBig as changed
-use Rattle.pim_down.specs.Known.{known_in}
 use Rattle.pim_form.specs.Laws.{OneNormalForm}
 use Rattle.pim_form.specs.Messages.{Writing}
 use Rattle.pim_form.specs.NormalForm.{GroupForm}
@@ -65,9 +64,9 @@ told_between form family table writing one other before changes wanted here ther
       was = sent_by form family table writing one before here was fits;
       is = sent_by form family table writing other wanted there is fit;
       told =
-          subst (λ (f : List GroupForm). TellChange family writing (known_in family table) f is.form changes) old
-          (subst (λ (f : List GroupForm). TellChange family writing (known_in family table) between.form f changes) new
-          (subst (λ (t : RouteTable). TellChange family writing (known_in family t) between.form between.told.form changes) (sym there) between.told.told));
+          subst (λ (f : List GroupForm). TellChange family writing (rp_of family table) f is.form changes) old
+          (subst (λ (f : List GroupForm). TellChange family writing (rp_of family table) between.form f changes) new
+          (subst (λ (t : RouteTable). TellChange family writing (rp_of family t) between.form between.told.form changes) (sym there) between.told.told));
     }
 
 -- ---- what is written of the change

@@ -5,8 +5,7 @@ use Rattle.std.specs.List.{AllByRecursion, IsDistinct}
 use Rattle.std.proofs.lemmas.Bool.{eqb-false}
 use Rattle.std.proofs.lemmas.List.{reverse-append, map-append}
 use Rattle.pim_addr.specs.declared.family.AddressFamily.{AddressFamily}
-use Rattle.pim_addr.specs.Routes.{RouteTable, IsRouteTable}
-use Rattle.pim_down.specs.Known.{known_in}
+use Rattle.pim_addr.specs.Routes.{RouteTable, IsRouteTable, rp_of}
 use Rattle.pim_form.specs.Laws.{OneNormalForm}
 use Rattle.pim_form.specs.Messages.{Writing, IsWriting, AreCanonical}
 use Rattle.pim_form.specs.NormalForm.{GroupForm, Demand, IsFormOf}
@@ -190,7 +189,7 @@ module _ (family : AddressFamily) (table : RouteTable) (writing : Writing) (mess
   pub same_again : (others : List (List ℕ)) → IsAskedBy family writing router others → others ≡ messages
   same_again others asked = again.asks.same_messages asked.form others
       (subst (λ t. IsFormOf family (asked_of family t writing.upstream router.machines) asked.form) again.routes asked.is)
-      (subst (λ t. AreCanonical family writing (known_in family t) asked.form others) again.routes asked.told)
+      (subst (λ t. AreCanonical family writing (rp_of family t) asked.form others) again.routes asked.told)
 
   pub fits_again : IsTooBig family writing router None
   fits_again = record {
@@ -231,7 +230,7 @@ sent_by one family table writing router messages same asked fits = record {
   asked = record {
     form = asked.form;
     is = subst (λ t. IsFormOf family (asked_of family t writing.upstream router.machines) asked.form) (sym same) asked.is;
-    told = subst (λ t. AreCanonical family writing (known_in family t) asked.form messages) (sym same) asked.told;
+    told = subst (λ t. AreCanonical family writing (rp_of family t) asked.form messages) (sym same) asked.told;
   };
   fitting = ap (too_big family writing.budget) (one_of one family (asked_of family router.routes writing.upstream router.machines) asked.form fits.form asked.is fits.is) ∙ fits.least;
 }

@@ -3,9 +3,8 @@ use Rattle.std.proofs.Common.{◌≡◌, ◌≤◌, ◌<◌, ◌^◌, ◌+◌, �
 use Rattle.std.specs.List.{AllByRecursion, flat_map}
 use Rattle.std.proofs.lemmas.Bool.{false≢true}
 use Rattle.pim_addr.specs.declared.family.AddressFamily.{AddressFamily}
-use Rattle.pim_addr.specs.Routes.{RouteTable, IsRouteTable}
+use Rattle.pim_addr.specs.Routes.{RouteTable, IsRouteTable, rp_of}
 use Rattle.pim_change.specs.Laws.{ChangeMessagesAreShort}
-use Rattle.pim_down.specs.Known.{known_in}
 use Rattle.pim_down.specs.Sound.{IsSound}
 use Rattle.pim_down.specs.Time.{Downstream}
 use Rattle.pim_form.specs.Messages.{Writing, IsWriting, AreCanonical}
@@ -80,7 +79,7 @@ pub change_short : ChangeMessagesAreShort → AskedStarsHaveRps → (family : Ad
     → AreTold family table writing before change wanted → AllByRecursion (λ (message : List ℕ). length message < 2 ^ 32) change
 change_short short stars family table writing before change wanted sound is_writing told =
     all_short writing.budget is_writing.most change
-    (short family writing (known_in family table) told.was.asked.form told.is.asked.form change is_writing told.was.asked.is.normal told.is.asked.is.normal
+    (short family writing (rp_of family table) told.was.asked.form told.is.asked.form change is_writing told.was.asked.is.normal told.is.asked.is.normal
     (stars family table writing.upstream told.was.state told.was.asked.form sound told.was.asked.is) (stars family table writing.upstream told.is.state told.is.asked.form sound told.is.asked.is) told.told)
 
 -- from the writer
@@ -98,7 +97,7 @@ second_true false b e = absurd (false≢true e)
 asked_is_toward : TestTellsWhoIsAsked → (family : AddressFamily) (table : RouteTable) (neighbour : List ℕ) (state : Downstream) (form : List GroupForm) → IsFormOf family (asked_of family table neighbour state) form
     → IsFormToward family table neighbour form
 asked_is_toward tests family table neighbour state form is =
-    let rps = known_in family table in
+    let rps = rp_of family table in
     let via = via_in family table in
     record {
       normal = is.normal;
@@ -156,7 +155,7 @@ module _ (laws : Laws) (family : AddressFamily) (table : RouteTable) (writing : 
     knows_until : KnowsUntil family table writing (timing_of its) last router
     knows_until =
         let knows = tells.answers.knows last later tt in
-        record { hears = knows.hears; same_rps = λ group is. ap (λ (t : RouteTable). known_in family t group) routes; neighbours = knows.lasts }
+        record { hears = knows.hears; same_rps = λ group is. ap (λ (t : RouteTable). rp_of family t group) routes; neighbours = knows.lasts }
 
     toward_was : IsFormToward family table writing.upstream told.was.asked.form
     toward_was = asked_is_toward laws.tests family table writing.upstream told.was.state told.was.asked.form told.was.asked.is
@@ -213,7 +212,7 @@ module _ (laws : Laws) (family : AddressFamily) (table : RouteTable) (writing : 
       same_then others asked =
           (laws.same family table writing after.machines told.is.state asked.form told.is.asked.form others wanted sound is_writing
           (subst (λ (t : RouteTable). IsFormOf family (asked_of family t writing.upstream after.machines) asked.form) routes_then asked.is) told.is.asked.is
-          (subst (λ (t : RouteTable). AreCanonical family writing (known_in family t) asked.form others) routes_then asked.told) told.is.asked.told).1
+          (subst (λ (t : RouteTable). AreCanonical family writing (rp_of family t) asked.form others) routes_then asked.told) told.is.asked.told).1
           (λ source group tree valid of_group. asks.wants source group tree valid of_group ∙ sym (told.is.asked.is.wants source group tree valid of_group))
 
       hears_both : HearsBoth family table writing limit before change None

@@ -3,9 +3,8 @@
 use Rattle.std.specs.Prelude.{◌≡◌, ◌⊎◌, ℕ, ◌+◌, List, [], ◌∷◌, ◌++◌, length, Option, None, Some, Result, Ok, Err}
 use Rattle.std.specs.List.{flat_map}
 use Rattle.pim_addr.specs.declared.family.AddressFamily.{AddressFamily}
-use Rattle.pim_addr.specs.Routes.{RouteTable}
+use Rattle.pim_addr.specs.Routes.{RouteTable, rp_of}
 use Rattle.pim_change.specs.Told.{TellChange}
-use Rattle.pim_down.specs.Known.{known_in}
 use Rattle.pim_form.specs.Messages.{Writing}
 use Rattle.pim_mirror.specs.Mirror.{GoesThrough, delivery_inputs, first_needed}
 use Rattle.pim_mirror.specs.declared.mirroring.MirrorFault.{MirrorFault}
@@ -31,7 +30,7 @@ module _ (family : AddressFamily) (table : RouteTable) (writing : Writing) where
   pub record AreTold (before change wanted : List (List ℕ)) : Type 0 where
     pub was : AreSent family table writing before
     pub is : AreSent family table writing wanted
-    pub told : TellChange family writing (known_in family table) was.asked.form is.asked.form change
+    pub told : TellChange family writing (rp_of family table) was.asked.form is.asked.form change
 
   module _ (limit : ℕ) (before change : List (List ℕ)) where
     -- The fresh router heard the messages `before`, and at its final moment those of the change.

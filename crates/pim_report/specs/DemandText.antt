@@ -3,9 +3,8 @@
 use Rattle.std.specs.Prelude.{ℕ, Bool, true, false, List, [], ◌++◌, Option, None, Some, codes}
 use Rattle.std.specs.List.{flat_map}
 use Rattle.pim_addr.specs.declared.family.AddressFamily.{AddressFamily}
-use Rattle.pim_addr.specs.Routes.{RouteTable}
+use Rattle.pim_addr.specs.Routes.{RouteTable, rp_of}
 use Rattle.pim_addr.specs.Text.{address_text}
-use Rattle.pim_down.specs.Known.{known_in}
 use Rattle.pim_down.specs.declared.machines.key.What.{What}
 use Rattle.pim_down.specs.declared.machines.key.What.TheVariants.{Star, Source}
 use Rattle.pim_form.specs.NormalForm.{GroupForm}
@@ -26,7 +25,7 @@ via_words family true asked = codes " via " ++ neighbour_words family asked
 -- The upstream neighbour toward the RP of the group under the route table. It is RPF'(*,G) of
 -- RFC 7761, 4.1, without asserts.
 abbrev pub star_via : AddressFamily → RouteTable → List ℕ → Option (List ℕ)
-star_via family routes group = via_rp (via_in family routes) (known_in family routes group)
+star_via family routes group = via_rp (via_in family routes) (rp_of family routes group)
 
 module _ (family : AddressFamily) (tells_via : Bool) where
   -- `want star G` or `want source S G`: the (*,G) or (S,G) demand of a group.

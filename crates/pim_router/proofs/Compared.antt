@@ -1,8 +1,7 @@
 -- What two routers ask of one upstream neighbour.
 use Rattle.std.proofs.Common.{◌≡◌, ◌↔◌, ℕ, List, sym, subst}
 use Rattle.pim_addr.specs.declared.family.AddressFamily.{AddressFamily}
-use Rattle.pim_addr.specs.Routes.{IsRouteTable}
-use Rattle.pim_down.specs.Known.{known_in}
+use Rattle.pim_addr.specs.Routes.{IsRouteTable, rp_of}
 use Rattle.pim_form.specs.Messages.{Writing, IsWriting, AreCanonical}
 use Rattle.pim_form.specs.NormalForm.{IsFormOf, Agree}
 use Rattle.pim_form.specs.TowardLaws.{asked_of, SameMessagesSameAsked}
@@ -17,8 +16,8 @@ pub same_exactly : (family : AddressFamily) (writing : Writing) (one other : Rou
 same_exactly family writing one other first second law sound is_writing e by_first by_second =
     let is : IsFormOf family (asked_of family one.routes writing.upstream other.machines) by_second.form =
     subst (λ table. IsFormOf family (asked_of family table writing.upstream other.machines) by_second.form) (sym e) by_second.is in
-    let told : AreCanonical family writing (known_in family one.routes) by_second.form second =
-    subst (λ table. AreCanonical family writing (known_in family table) by_second.form second) (sym e) by_second.told in
+    let told : AreCanonical family writing (rp_of family one.routes) by_second.form second =
+    subst (λ table. AreCanonical family writing (rp_of family table) by_second.form second) (sym e) by_second.told in
     subst (λ table. (first ≡ second)
     ↔ Agree family (asked_of family one.routes writing.upstream one.machines) (asked_of family table writing.upstream other.machines)) e
     (law family one.routes writing one.machines other.machines by_first.form by_second.form first second sound is_writing by_first.is is by_first.told told)

@@ -5,7 +5,7 @@ use Rattle.pim_change.specs.Change.{change}
 use Rattle.pim_change.specs.Laws.{OneListOfChange}
 use Rattle.pim_change.specs.Told.{TellChange}
 use Rattle.pim_change.specs.TooBig as changed
-use Rattle.pim_down.specs.Known.{known_in}
+use Rattle.pim_addr.specs.Routes.{rp_of}
 use Rattle.pim_form.specs.Laws.{OneNormalForm, OneListOfMessages}
 use Rattle.pim_form.specs.Messages.{AreCanonical}
 use Rattle.pim_form.specs.NormalForm.{GroupForm, Demand, IsFormOf}
@@ -20,8 +20,8 @@ one_form normal family demand one other is too =
 pub one_list_is_asked : OneNormalForm → OneListOfMessages → OneListIsAsked
 one_list_is_asked normal list family writing state one other is too =
     let same = one_form normal family _ is.form too.form is.is too.is in
-    list family writing (known_in family state.routes) is.form one other is.told
-    (subst (λ (f : List GroupForm). AreCanonical family writing (known_in family state.routes) f other) (sym same) too.told)
+    list family writing (rp_of family state.routes) is.form one other is.told
+    (subst (λ (f : List GroupForm). AreCanonical family writing (rp_of family state.routes) f other) (sym same) too.told)
 
 pub one_is_too_big : OneNormalForm → OneIsTooBig
 one_is_too_big normal family writing state one other is too =
@@ -31,8 +31,8 @@ one_is_too_big normal family writing state one other is too =
 pub one_list_is_told : OneNormalForm → OneListOfChange → OneListIsTold
 one_list_is_told normal list family writing last state one other is too =
     let same = one_form normal family _ is.form too.form is.is too.is in
-    list family writing (known_in family state.routes) last is.form one other is.told
-    (subst (λ (f : List GroupForm). TellChange family writing (known_in family state.routes) last f other) (sym same) too.told)
+    list family writing (rp_of family state.routes) last is.form one other is.told
+    (subst (λ (f : List GroupForm). TellChange family writing (rp_of family state.routes) last f other) (sym same) too.told)
 
 pub one_is_too_big_to_tell : OneNormalForm → OneIsTooBigToTell
 one_is_too_big_to_tell normal family writing last state one other is too =

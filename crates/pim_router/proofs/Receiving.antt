@@ -2,14 +2,13 @@
 use Rattle.std.proofs.Common.{◌≡◌, ◌∙◌, ◌-◌, ℕ, List, Result, Ok, Err, nat_lt, refl, sym, ap, subst, OnOk, OnErr, IsTrue, arith}
 use Rattle.std.proofs.lemmas.Bool.{lt-ltb, le-ltb}
 use Rattle.pim_addr.specs.declared.family.AddressFamily.{AddressFamily}
-use Rattle.pim_addr.specs.Routes.{RouteTable}
+use Rattle.pim_addr.specs.Routes.{RouteTable, rp_of}
 use Rattle.pim_hello.specs.Neighbours.{Table}
 use Rattle.pim_jp.specs.Message.{Message}
 use Rattle.std.specs.declared.alloc.AllocError.{AllocError}
 use Rattle.pim_down.specs.declared.machines.event.Timing.{Timing}
 use Rattle.pim_down.specs.Time.{Downstream}
 use Rattle.pim_down.specs.Heard.{heard, IsWithin, MayWantMemory}
-use Rattle.pim_down.specs.Known.{known_in}
 use Rattle.pim_down.specs.declared.machines.fault.HearFault.{HearFault}
 use Rattle.pim_down.specs.declared.machines.fault.HearFault.TheVariants as machines
 use Rattle.pim_router.specs.declared.config.PortConfig.{PortConfig}
@@ -35,7 +34,7 @@ module _ (family : AddressFamily) (port : ℕ) (message : Message) (old : Router
       (message_verdict result) (with_machines old after)
 
   pub applies : (result : Result (Unit {0}) HearFault) (after : Downstream) →
-      OnOk result (after ≡ heard port message (known_in family old.routes) (timing_on port old) old.machines) →
+      OnOk result (after ≡ heard port message (rp_of family old.routes) (timing_on port old) old.machines) →
       OnErr result (after ≡ old.machines) →
       IsWithin old.machines.limit (needed_by family port message old) result → Applies result after
   applies (Ok done) after ok err room =
@@ -48,7 +47,7 @@ module _ (family : AddressFamily) (port : ℕ) (message : Message) (old : Router
 
   -- none of it takes time
   pub at_once : (result : Result (Unit {0}) HearFault) (after : Downstream) →
-      OnOk result (after ≡ heard port message (known_in family old.routes) (timing_on port old) old.machines) →
+      OnOk result (after ≡ heard port message (rp_of family old.routes) (timing_on port old) old.machines) →
       OnErr result (after ≡ old.machines) → after.moment ≡ old.machines.moment
   at_once (Ok done) after ok err = ap (λ (d : Downstream). d.moment) ok
   at_once (Err fault) after ok err = ap (λ (d : Downstream). d.moment) err
@@ -66,16 +65,16 @@ module _ {A : Type 0} (bytes_of : A → List ℕ) (ports : List (PortConfig A)) 
         (unless (room_causes family port now message) now (message_taken family port now message)) now told after
 
     applied_seen : (timing : Timing) → timing ≡ timing_on port seen → (result : Result (Unit {0}) HearFault) (after : Downstream) →
-        OnOk result (after ≡ heard port message (known_in family routes) timing machines) → OnErr result (after ≡ machines) →
+        OnOk result (after ≡ heard port message (rp_of family routes) timing machines) → OnErr result (after ≡ machines) →
         IsWithin machines.limit (needed_by family port message seen) result →
         Applied seen (message_verdict result) (router_seen bytes_of ports routes after tables next)
     applied_seen timing is result after ok err room =
-        let done = subst (λ t. OnOk result (after ≡ heard port message (known_in family routes) t machines)) is ok in
+        let done = subst (λ t. OnOk result (after ≡ heard port message (rp_of family routes) t machines)) is ok in
         subst (λ end. Applied seen (message_verdict result) end) (same_time after (at_once family port message seen result after done err))
         (applies family port message seen result after done err room)
 
     pub applied_now : (now : RouterState) → seen ≡ now → (timing : Timing) → timing ≡ timing_on port now → (result : Result (Unit {0}) HearFault) (after : Downstream) →
-        OnOk result (after ≡ heard port message (known_in family routes) timing machines) → OnErr result (after ≡ machines) →
+        OnOk result (after ≡ heard port message (rp_of family routes) timing machines) → OnErr result (after ≡ machines) →
         IsWithin machines.limit (needed_by family port message seen) result → (told : Result Verdict AllocError) → told ≡ message_verdict result →
         Applied now told (router_seen bytes_of ports routes after tables next)
     applied_now now same timing is result after ok err room told says =

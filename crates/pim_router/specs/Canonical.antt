@@ -2,7 +2,7 @@
 -- machines want (RFC 7761, 4.1 and 4.9.5).
 use Rattle.std.specs.Prelude.{◌≡◌, ◌⊎◌, ℕ, true, List, Option, None, is_some}
 use Rattle.pim_addr.specs.declared.family.AddressFamily.{AddressFamily}
-use Rattle.pim_down.specs.Known.{known_in}
+use Rattle.pim_addr.specs.Routes.{rp_of}
 use Rattle.pim_form.specs.Messages.{Writing, AreCanonical}
 use Rattle.pim_form.specs.NormalForm.{GroupForm, Demand, IsFormOf}
 use Rattle.pim_form.specs.TooBig.{too_big}
@@ -20,7 +20,7 @@ pub record IsAskedBy (family : AddressFamily) (writing : Writing) (state : Route
     : Type 0 where
   pub form : List GroupForm
   pub is : IsFormOf family (asked family writing.upstream state) form
-  pub told : AreCanonical family writing (known_in family state.routes) form messages
+  pub told : AreCanonical family writing (rp_of family state.routes) form messages
 
 -- ---- stars that are too big for a message
 

@@ -2,7 +2,7 @@
 -- and 4.9.5).
 use Rattle.std.specs.Prelude.{◌≡◌, ℕ, List, Option}
 use Rattle.pim_addr.specs.declared.family.AddressFamily.{AddressFamily}
-use Rattle.pim_down.specs.Known.{known_in}
+use Rattle.pim_addr.specs.Routes.{rp_of}
 use Rattle.pim_form.specs.Messages.{Writing}
 use Rattle.pim_form.specs.NormalForm.{GroupForm, IsFormOf}
 use Rattle.pim_change.specs.Change.{change}
@@ -17,7 +17,7 @@ pub record IsToldOf (family : AddressFamily) (writing : Writing) (last : List Gr
     (messages : List (List ℕ)) : Type 0 where
   pub form : List GroupForm
   pub is : IsFormOf family (asked family writing.upstream state) form
-  pub told : TellChange family writing (known_in family state.routes) last form messages
+  pub told : TellChange family writing (rp_of family state.routes) last form messages
 
 -- `group` is the least group of that change whose star is announced anew and, with all its
 -- exceptions, is too big for a message alone; `None` where there is no such group.

@@ -17,7 +17,7 @@ use Rattle.pim_jp.specs.Faults.{faults as join_prune_faults}
 use Rattle.pim_jp.specs.Message.{Message, message_of}
 use Rattle.pim_down.specs.declared.machines.event.Timing.{Timing}
 use Rattle.pim_down.specs.Heard.{heard, needed_for, new_for}
-use Rattle.pim_down.specs.Known.{known_in}
+use Rattle.pim_addr.specs.Routes.{rp_of}
 use Rattle.pim_router.specs.declared.verdict.Verdict.{Verdict}
 use Rattle.pim_router.specs.declared.verdict.Verdict.TheVariants as verdict
 use Rattle.pim_router.specs.declared.verdict.Malformed.TheVariants as malformed
@@ -61,7 +61,7 @@ own_address port state = (port_at port state).address
 -- The number of records that the port may need for a Join/Prune message: those that it holds and
 -- those that the message makes, repeats counted.
 abbrev pub needed_by : AddressFamily → ℕ → Message → RouterState → ℕ
-needed_by family port message state = needed_for port message (known_in family state.routes) state.machines
+needed_by family port message state = needed_for port message (rp_of family state.routes) state.machines
 
 -- The causes that refuse a Hello without a fault: the port has no room for one more neighbour.
 abbrev pub hello_causes : ℕ → List ℕ → RouterState → Parameters → List Verdict
@@ -118,7 +118,7 @@ hello_taken port source state said = (
 abbrev pub message_taken : AddressFamily → ℕ → RouterState → Message → Verdict × RouterState
 message_taken family port state message = (
   verdict.Applied,
-  with_machines state (heard port message (known_in family state.routes) (timing_on port state) state.machines),
+  with_machines state (heard port message (rp_of family state.routes) (timing_on port state) state.machines),
 )
 
 -- The verdict and the state after a body that no cause refuses. A message of another type changes
@@ -157,7 +157,7 @@ Receives causes end old (Err refused) new = (causes ≡ []) × (new ≡ old)
 
 -- The number of records that a Join/Prune message makes, repeats counted.
 abbrev pub new_by : AddressFamily → ℕ → Message → RouterState → ℕ
-new_by family port message state = new_for port message (known_in family state.routes) state.machines
+new_by family port message state = new_for port message (rp_of family state.routes) state.machines
 
 -- Taking the message may need memory. A Hello may, unless it is a goodbye, or comes from a known
 -- neighbour with holdtime 65,535. A Join/Prune message may where it makes a record.

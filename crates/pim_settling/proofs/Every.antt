@@ -15,7 +15,6 @@ use Rattle.pim_down.specs.declared.machines.key.Key.{Key}
 use Rattle.pim_down.specs.Key.{same_key}
 use Rattle.pim_down.specs.Hearing.{Event, is_known, event, list_events, key_of}
 use Rattle.pim_down.specs.Laws.{KeysAreToldApart}
-use Rattle.pim_form.specs.Messages.{Rps}
 use Rattle.pim_form.specs.NormalForm.{GroupForm, same_address, is_listed, groups_of}
 use Rattle.pim_form.specs.Merge.{by_order}
 use Rattle.pim_form.specs.Settled.{group_in, unwanted}
@@ -152,7 +151,7 @@ module _ (group : List ℕ) where
 
 -- ---- what is told is named
 
-module _ (keys : KeysAreToldApart) (rps : Rps) (old new : List GroupForm) (port : ℕ) (stars_old : KnowRps rps old) (stars_new : KnowRps rps new) (group : List ℕ) where
+module _ (keys : KeysAreToldApart) (rps : List ℕ → Option (List ℕ)) (old new : List GroupForm) (port : ℕ) (stars_old : KnowRps rps old) (stars_new : KnowRps rps new) (group : List ℕ) where
   abbrev key_for : What (List ℕ) → Key (List ℕ)
   key_for what = record { port = port; group = group; what = what }
 

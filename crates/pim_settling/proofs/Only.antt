@@ -12,7 +12,6 @@ use Rattle.pim_down.specs.declared.machines.key.Key.{Key}
 use Rattle.pim_down.specs.Key.{same_key}
 use Rattle.pim_down.specs.Hearing.{Event, is_known, event, entry_events, list_events, set_events, key_of, is_star_join}
 use Rattle.pim_down.specs.Laws.{KeysAreToldApart}
-use Rattle.pim_form.specs.Messages.{Rps}
 use Rattle.pim_form.specs.NormalForm.{GroupForm, same_address, is_listed}
 use Rattle.pim_form.specs.Rows.{exceptions_of}
 use Rattle.pim_form.specs.Settled.{group_in}
@@ -31,7 +30,7 @@ or_left false b e = absurd (false≢true e)
 pub or_second : (a b : Bool) → b ≡ true → (a || b) ≡ true
 or_second a b e = ap (λ c. a || c) e ∙ or_true a
 
-module _ (keys : KeysAreToldApart) (rps : Rps) (old new : List GroupForm) (port : ℕ) where
+module _ (keys : KeysAreToldApart) (rps : List ℕ → Option (List ℕ)) (old new : List GroupForm) (port : ℕ) where
   -- ---- the events of a telling
 
   abbrev pub joined_of : List ℕ → Telling → List Event

@@ -4,7 +4,7 @@ use Rattle.std.specs.Option.{is_some}
 use Rattle.std.proofs.lemmas.Bool.{false≢true}
 use Rattle.pim_addr.specs.declared.family.AddressFamily.{AddressFamily}
 use Rattle.pim_down.specs.Hearing.{Event}
-use Rattle.pim_form.specs.Messages.{Rps, Writing, IsRpOf, HaveRps}
+use Rattle.pim_form.specs.Messages.{Writing, IsRpOf, HaveRps}
 use Rattle.pim_form.specs.NormalForm.{GroupForm, same_address}
 use Rattle.pim_form.specs.Settled.{group_in}
 use Rattle.pim_change.specs.Change.{ChangeUnit}
@@ -24,7 +24,7 @@ some_rp family rp None is s = absurd (false≢true s)
 some_rp family None (Some exceptions) is s = absurd is
 some_rp family (Some address) (Some exceptions) is s = refl
 
-know_rps : (family : AddressFamily) (rps : Rps) (form : List GroupForm) → HaveRps family rps form → KnowRps rps form
+know_rps : (family : AddressFamily) (rps : List ℕ → Option (List ℕ)) (form : List GroupForm) → HaveRps family rps form → KnowRps rps form
 unfolding group_in
 know_rps family rps [] have group s = absurd (false≢true s)
 know_rps family rps (this ∷ form) have group s =
@@ -35,7 +35,7 @@ know_rps family rps (this ∷ form) have group s =
 
 -- ---- messages
 
-module _ (family : AddressFamily) (writing : Writing) (rps : Rps) where
+module _ (family : AddressFamily) (writing : Writing) (rps : List ℕ → Option (List ℕ)) where
   no_run : [] ≡ run_events rps []
   unfolding grouped
   no_run = refl

@@ -1,12 +1,12 @@
 -- Where machines end that hear messages: the laws in `src/laws.rt`.
-use Rattle.std.specs.Prelude.{◌≡◌, ℕ, ◌≤◌, List}
+use Rattle.std.specs.Prelude.{◌≡◌, ℕ, ◌≤◌, List, Option}
 use Rattle.std.specs.List.{flat_map}
 use Rattle.pim_addr.specs.declared.family.AddressFamily.{AddressFamily}
 use Rattle.pim_down.specs.declared.machines.key.Key.{Key}
 use Rattle.pim_down.specs.Records.{IsAscending, machine_at}
 use Rattle.pim_down.specs.Sound.{IsSound}
 use Rattle.pim_down.specs.Time.{Downstream}
-use Rattle.pim_form.specs.Messages.{Rps, Writing, IsWriting, HaveRps}
+use Rattle.pim_form.specs.Messages.{Writing, IsWriting, HaveRps}
 use Rattle.pim_form.specs.NormalForm.{GroupForm, IsNormal, IsFormOf}
 use Rattle.pim_form.specs.Settled.{IsSettledAt}
 use Rattle.pim_form.specs.Wants.{wants}
@@ -42,7 +42,7 @@ ChangeSettles = (family : AddressFamily) (exchange : Exchange) (old new : List G
 -- If each message of a change came and the RPs of all stars are known, the messages say exactly
 -- that change, cut into any runs.
 abbrev pub RunsTellTheChange : Type 0
-RunsTellTheChange = (rps : Rps) (old new : List GroupForm) (runs : List (List ChangeUnit)) (exchange : Exchange)
+RunsTellTheChange = (rps : List ℕ → Option (List ℕ)) (old new : List GroupForm) (runs : List (List ChangeUnit)) (exchange : Exchange)
     (deliveries : List Delivery) → flat_map (λ run. run) runs ≡ change old new → KnowRps rps old → KnowRps rps new →
     AreHeard rps runs exchange → AllCame runs deliveries → TellsChange exchange old new deliveries
 
@@ -50,7 +50,7 @@ RunsTellTheChange = (rps : Rps) (old new : List GroupForm) (runs : List (List Ch
 -- bytes are read, each comes at least once and nothing else, and no Expiry Timer ends. From the
 -- final moment of these deliveries on it is settled at the other form.
 abbrev pub ToldChangeSettles : Type 0
-ToldChangeSettles = (family : AddressFamily) (writing : Writing) (rps : Rps) (old new : List GroupForm)
+ToldChangeSettles = (family : AddressFamily) (writing : Writing) (rps : List ℕ → Option (List ℕ)) (old new : List GroupForm)
     (messages : List (List ℕ)) (exchange : Exchange) (start after : Downstream) (deliveries : List Delivery)
     (moment : ℕ) → IsWriting family writing → IsNormal family old → IsNormal family new →
     HaveRps family rps old → HaveRps family rps new → TellChange family writing rps old new messages →

@@ -12,7 +12,7 @@ use Rattle.pim_jp.specs.Faults.{faults as join_prune_faults}
 use Rattle.pim_jp.specs.Message.{Message, message_of}
 use Rattle.pim_down.specs.declared.machines.machine.Record.{Record}
 use Rattle.pim_down.specs.Hearing.{events_of, start_of}
-use Rattle.pim_down.specs.Known.{known_in}
+use Rattle.pim_addr.specs.Routes.{rp_of}
 use Rattle.pim_down.specs.Laws.{KeysAreToldApart, HearingKeepsTheOrder, HearingLeavesOtherPorts}
 use Rattle.pim_down.specs.Records.{IsAscending}
 use Rattle.pim_router.specs.declared.verdict.Verdict.{Verdict}
@@ -124,7 +124,7 @@ module _ (apart : KeysAreToldApart) (keeps : HearingKeepsTheOrder) (leaves : Hea
 
   heard_lead : (message : Message) (changes : List (Transition (List ℕ))) →
       AreTransitions packet.port (start_of message.holdtime (timing_on packet.port state))
-      (events_of (known_in family state.routes) message) state.machines.records
+      (events_of (rp_of family state.routes) message) state.machines.records
       (records_after family packet.port state message) changes →
       LeadsAll (place ledger state) (events_of_all (applied_whats message changes))
       (record {
@@ -133,7 +133,7 @@ module _ (apart : KeysAreToldApart) (keeps : HearingKeepsTheOrder) (leaves : Hea
         causes = (changed_by changes).causes;
       })
   heard_lead message changes are =
-      let ignored = all_ignored frame packet.source (known_in family state.routes) message.sets in
+      let ignored = all_ignored frame packet.source (rp_of family state.routes) message.sets in
       let first = judgment family frame packet verdict.Applied ∷ ignored in
       let neighbours = length (neighbours_on packet.port state).entries in
       let changed = changes_of ledger (as_cause frame packet state) neighbours changes in
@@ -146,10 +146,10 @@ module _ (apart : KeysAreToldApart) (keeps : HearingKeepsTheOrder) (leaves : Hea
       (sym (map-append (event_on ledger state.machines.moment packet.port) first changed))
       (all_on (place ledger state) (place ledger state) last (events_of_all first) (events_of_all changed)
       (all_quiet (place ledger state) ledger state.machines.moment packet.port first up
-      ((λ key port. refl), quiet_ignored frame packet.source (known_in family state.routes) message.sets))
+      ((λ key port. refl), quiet_ignored frame packet.source (rp_of family state.routes) message.sets))
       (changes_lead apart packet.port frame packet.source state.machines.moment neighbours leaves keeps
       (start_of message.holdtime (timing_on packet.port state))
-      (events_of (known_in family state.routes) message) state.machines.records up changes are ledger ledger))
+      (events_of (rp_of family state.routes) message) state.machines.records up changes are ledger ledger))
 
   abbrev Are : Verdict → Option Message → List (Transition (List ℕ)) → Type 0
   Are v message changes = AreChangesOf family packet state end.1 v message changes
@@ -174,7 +174,7 @@ module _ (apart : KeysAreToldApart) (keeps : HearingKeepsTheOrder) (leaves : Hea
       (heard_lead message changes
       (subst (λ (rs : List (Record (List ℕ))).
       AreTransitions packet.port (start_of message.holdtime (timing_on packet.port state))
-      (events_of (known_in family state.routes) message) state.machines.records rs changes) records are))
+      (events_of (rp_of family state.routes) message) state.machines.records rs changes) records are))
 
   -- another verdict than `Applied`
   alone : (v : Verdict) → end.0 ≡ v → (v ≡ verdict.Applied → ⊥) → (what : Happened) → Quiet what →

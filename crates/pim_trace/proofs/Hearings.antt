@@ -10,7 +10,7 @@ use Rattle.pim_hello.specs.Neighbours.{neighbour_at}
 use Rattle.pim_hello.specs.declared.heard.Heard.{Heard}
 use Rattle.pim_jp.specs.Message.{GroupSet, Message}
 use Rattle.pim_down.specs.Hearing.{events_of, start_of}
-use Rattle.pim_down.specs.Known.{known_in}
+use Rattle.pim_addr.specs.Routes.{rp_of}
 use Rattle.pim_router.specs.declared.verdict.Verdict.{Verdict}
 use Rattle.pim_router.specs.declared.verdict.Verdict.TheVariants as verdict
 use Rattle.pim_router.specs.Packets.{Packet, received, message_taken, neighbours_on, timing_on, own_address}
@@ -361,7 +361,7 @@ module _ (family : AddressFamily) (frame : ℕ) (packet : Packet) (ledger : Ledg
         by (Some m) e verdict.NotForUs v_is = none_if (λ is. let differ : verdict.NotForUs ≡ verdict.Applied = sym v_is ∙ is in absurd cc)
         by (Some m) e (verdict.Full full) v_is = none_if (λ is. let differ : verdict.Full full ≡ verdict.Applied = sym v_is ∙ is in absurd cc)
         by (Some m) e verdict.Applied v_is =
-            let has = law packet.port (start_of m.holdtime (timing_on packet.port state)) (events_of (known_in family state.routes) m) state.machines.records
+            let has = law packet.port (start_of m.holdtime (timing_on packet.port state)) (events_of (rp_of family state.routes) m) state.machines.records
             (records_after family packet.port state m) in
             record { changes = has.0; are = changed_by m e v_is has.0 has.1 }
 

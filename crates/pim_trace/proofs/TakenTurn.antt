@@ -8,7 +8,7 @@ use Rattle.pim_merge.specs.Content.{Content, holds, of_other_family, without_pac
 use Rattle.pim_merge.specs.Merge.{Taken}
 use Rattle.pim_jp.specs.Message.{Message}
 use Rattle.pim_down.specs.Hearing.{events_of, start_of}
-use Rattle.pim_down.specs.Known.{known_in}
+use Rattle.pim_addr.specs.Routes.{rp_of}
 use Rattle.pim_router.specs.declared.verdict.Verdict.{Verdict}
 use Rattle.pim_router.specs.declared.verdict.Verdict.TheVariants as verdict
 use Rattle.pim_router.specs.Packets.{Packet, received, timing_on}
@@ -42,7 +42,7 @@ module _ (law : TransitionsAreThere) (family : AddressFamily) where
 
   some_changes : (packet : Packet) (state after : RouterState) (told : Verdict) (message : Option Message) → HasChanges packet state after told message
   some_changes packet state after verdict.Applied (Some message) =
-      let list = law packet.port (start_of message.holdtime (timing_on packet.port state)) (events_of (known_in family state.routes) message) state.machines.records after.machines.records in
+      let list = law packet.port (start_of message.holdtime (timing_on packet.port state)) (events_of (rp_of family state.routes) message) state.machines.records after.machines.records in
       record { changes = list.0; are = list.1 }
   some_changes packet state after verdict.Applied None = record { changes = []; are = refl }
   some_changes packet state after verdict.Mine message = record { changes = []; are = refl }

@@ -15,7 +15,7 @@ use Rattle.pim_down.specs.declared.machines.machine.State.{State}
 use Rattle.pim_down.specs.declared.machines.machine.State.TheVariants.{PrunePending}
 use Rattle.pim_down.specs.declared.machines.machine.Record.{Record}
 use Rattle.pim_down.specs.Hearing.{is_known, events_of, start_of, hearing}
-use Rattle.pim_down.specs.Known.{known_in}
+use Rattle.pim_addr.specs.Routes.{rp_of}
 use Rattle.pim_down.specs.Records.{state_of_machine}
 use Rattle.pim_router.specs.declared.verdict.Verdict.{Verdict}
 use Rattle.pim_router.specs.declared.verdict.Verdict.TheVariants as verdict
@@ -161,7 +161,7 @@ sent_by frame ms heard = Some (record { frame = frame; ms = ms })
 abbrev pub message_says : AddressFamily → ℕ → Packet → RouterState → Ledger → List GroupSet →
     List (Transition (List ℕ)) → List Happened
 message_says family frame packet state ledger sets changes =
-    all_ignored frame packet.source (known_in family state.routes) sets
+    all_ignored frame packet.source (rp_of family state.routes) sets
     ++ changes_of ledger (as_cause frame packet state) (length (neighbours_on packet.port state).entries) changes
 
 -- What the trace says of a packet with this verdict, and remembers afterwards. `changes` are the
@@ -192,14 +192,14 @@ module _ (family : AddressFamily) (frame : ℕ) (packet : Packet) (state : Route
 -- The records after a message is heard on a port.
 abbrev pub records_after : AddressFamily → ℕ → RouterState → Message → List (Record (List ℕ))
 records_after family port state message =
-    hearing port (start_of message.holdtime (timing_on port state)) (events_of (known_in family state.routes) message)
+    hearing port (start_of message.holdtime (timing_on port state)) (events_of (rp_of family state.routes) message)
     state.machines.records
 
 -- These are the transitions of a message that is heard on a port.
 abbrev pub AreTransitionsOf : AddressFamily → ℕ → RouterState → Message → List (Transition (List ℕ)) → Type 0
 AreTransitionsOf family port state message changes =
     AreTransitions port (start_of message.holdtime (timing_on port state))
-    (events_of (known_in family state.routes) message) state.machines.records
+    (events_of (rp_of family state.routes) message) state.machines.records
     (records_after family port state message) changes
 
 -- The transitions of a packet: those of the machines of its port, if it was applied.
@@ -207,7 +207,7 @@ abbrev pub AreChangesOf : AddressFamily → Packet → RouterState → RouterSta
     List (Transition (List ℕ)) → Type 0
 AreChangesOf family packet state after verdict.Applied (Some message) changes =
     AreTransitions packet.port (start_of message.holdtime (timing_on packet.port state))
-    (events_of (known_in family state.routes) message) state.machines.records after.machines.records changes
+    (events_of (rp_of family state.routes) message) state.machines.records after.machines.records changes
 AreChangesOf family packet state after told message changes = changes ≡ []
 
 -- A port receives a packet: these are its events, and `ledger'` is what the trace remembers.

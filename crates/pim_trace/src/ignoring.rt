@@ -4,7 +4,7 @@
 ghost use Rattle.std.specs.Prelude.{◌≡◌, option_map};
 ghost use Rattle.pim_device.specs.Device.{AppendsAll, failures_after};
 ghost use Rattle.pim_down.specs.Hearing.{is_known};
-ghost use Rattle.pim_down.specs.Known.{known_in};
+ghost use Rattle.pim_addr.specs.Routes.{rp_of};
 ghost use Rattle.pim_jp.specs.Seen.{entry_seen};
 ghost use Rattle.pim_trace.specs.Heard.{ignored_entry, ignored_in, all_ignored};
 ghost use Rattle.pim_trace.specs.Kept.{ledger_seen};
@@ -38,7 +38,7 @@ fn ignored_by<F: Family>(
 ) -> Option<Ignored<F::Addr>>
     ensures { ignored_list F.bytes_of result
         ≡ ignored_entry packet.now.frame (F.bytes_of packet.now.source)
-        (known_in F.family router.now.routes) (F.bytes_of group) (entry_seen F.bytes_of entry) }
+        (rp_of F.family router.now.routes) (F.bytes_of group) (entry_seen F.bytes_of entry) }
 {
     let Entry::Star(names) = entry else {
         return None;
@@ -95,7 +95,7 @@ fn tell_ignored_in<F: Family, W, T: Teller<F, W>>(
     ensures bytes { AppendsAll (T.contents device.old) (T.contents device.new) result
         (text_on (T.line teller.now) (ledger_seen F.bytes_of ledger.now) router.now.machines.moment
         packet.now.port (ignored_in packet.now.frame (F.bytes_of packet.now.source)
-        (known_in F.family router.now.routes) set.now)) }
+        (rp_of F.family router.now.routes) set.now)) }
     ensures count { T.failures device.new ≡ failures_after (T.failures device.old) result }
 {
     let ms = router.now();
@@ -122,7 +122,7 @@ pub(crate) fn tell_ignored<F: Family, W, T: Teller<F, W>>(
     ensures bytes { AppendsAll (T.contents device.old) (T.contents device.new) result
         (text_on (T.line teller.now) (ledger_seen F.bytes_of ledger.now) router.now.machines.moment
         packet.now.port (all_ignored packet.now.frame (F.bytes_of packet.now.source)
-        (known_in F.family router.now.routes) sets.entry)) }
+        (rp_of F.family router.now.routes) sets.entry)) }
     ensures count { T.failures device.new ≡ failures_after (T.failures device.old) result }
 {
     for set in sets {

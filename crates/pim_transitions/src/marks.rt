@@ -2,7 +2,7 @@
 
 ghost use Rattle.std.specs.Prelude.{◌≡◌, ◌++◌, IfOk, OnOk, map};
 ghost use Rattle.pim_down.specs.Hearing.{events_of, list_events};
-ghost use Rattle.pim_down.specs.Known.{known_in};
+ghost use Rattle.pim_addr.specs.Routes.{rp_of};
 ghost use Rattle.pim_down.specs.Seen.{event_seen};
 ghost use Rattle.pim_transitions.specs.Marks.{candidate_of, if_last, lasts};
 ghost use Rattle.pim_transitions.specs.Named.{candidate_seen};
@@ -24,7 +24,7 @@ fn push_list<F: Family>(
 ) -> Result<(), AllocError>
     ensures { OnOk result (map (event_seen F.bytes_of) marks.new.items
         ≡ map (event_seen F.bytes_of) marks.old.items
-        ++ list_events (known_in F.family routes.now) joins (F.bytes_of group) entries.entry) }
+        ++ list_events (rp_of F.family routes.now) joins (F.bytes_of group) entries.entry) }
 {
     for entry in entries {
         match event_of::<F>(routes, joins, group, entry) {
@@ -43,7 +43,7 @@ pub(crate) fn push_events<F: Family>(
 ) -> Result<(), AllocError>
     ensures { OnOk result (map (event_seen F.bytes_of) marks.new.items
         ≡ map (event_seen F.bytes_of) marks.old.items
-        ++ events_of (known_in F.family routes.now) message.now) }
+        ++ events_of (rp_of F.family routes.now) message.now) }
 {
     for set in message.sets() {
         let group = set.group();

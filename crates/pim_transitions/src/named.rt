@@ -2,7 +2,7 @@
 
 ghost use Rattle.std.specs.Prelude.{◌≡◌, IfOk, map};
 ghost use Rattle.pim_down.specs.Hearing.{events_of};
-ghost use Rattle.pim_down.specs.Known.{known_in};
+ghost use Rattle.pim_addr.specs.Routes.{rp_of};
 ghost use Rattle.pim_transitions.specs.Named.{IsNamed, transitions_to, candidate_seen};
 
 use crate::candidate::Candidate;
@@ -52,7 +52,7 @@ impl<F: Family> Named<F> {
         routes: &Routes<F>,
     ) -> Result<Named<F>, AllocError>
         ensures { IfOk result (λ named.
-            IsNamed port (events_of (known_in F.family routes.now) message.now)
+            IsNamed port (events_of (rp_of F.family routes.now) message.now)
             ports.now.records named) }
     {
         let mut marks = star_marks::<F>(alloc, ports, port, message, routes)?;

@@ -4,7 +4,7 @@ ghost use Rattle.std.specs.Prelude.{◌≡◌, ◌++◌, ℕ, List, true, nat_eq
 ghost use Rattle.std.specs.List.{AllByRecursion, list_any};
 ghost use Rattle.std.specs.Cmp.Lexicographic.{pointwise};
 ghost use Rattle.pim_down.specs.Hearing.{events_of, set_events};
-ghost use Rattle.pim_down.specs.Known.{known_in};
+ghost use Rattle.pim_addr.specs.Routes.{rp_of};
 ghost use Rattle.pim_down.specs.Seen.{event_seen, told_seen, what_seen};
 ghost use Rattle.pim_transitions.specs.Marks.{rpt_mark, rpt_marks, HaveRptsOf};
 ghost use Rattle.pim_transitions.specs.Marks.{AddRptsOf, AddStarsOf, AreStarMarks};
@@ -122,7 +122,7 @@ fn push_set<F: Family>(
         (HaveRptsOf port ports.now.records (map (event_seen F.bytes_of) marks.old.items))
         (map F.bytes_of walked.old.items) }
     ensures stars { OnOk result (AddStarsOf port ports.now.records
-        (set_events (known_in F.family routes.now) set.now)
+        (set_events (rp_of F.family routes.now) set.now)
         (map (event_seen F.bytes_of) marks.old.items)
         (map (event_seen F.bytes_of) marks.new.items)) }
     ensures walked { OnOk result (AllByRecursion
@@ -146,7 +146,7 @@ pub(crate) fn star_marks<F: Family>(
     routes: &Routes<F>,
 ) -> Result<Vec<Event<F::Addr>>, AllocError>
     ensures { IfOk result (λ marks. AreStarMarks port
-        (events_of (known_in F.family routes.now) message.now)
+        (events_of (rp_of F.family routes.now) message.now)
         ports.now.records (map (event_seen F.bytes_of) marks.items)) }
 {
     let mut marks = Vec::new(alloc);

@@ -3,10 +3,10 @@
 ghost use Rattle.std.specs.Prelude.{◌≡◌, IfOk, IfSome, true, [], option_map, replicate};
 ghost use Rattle.pim_addr.specs.Address.{address_length, is_source};
 ghost use Rattle.pim_addr.specs.RouteLaws.{first_group, all_addresses, all_groups};
-ghost use Rattle.pim_addr.specs.Routes.{group_bits, no_routes, with_rp, with_via};
+ghost use Rattle.pim_addr.specs.Routes.{no_routes, with_rp, with_via};
 ghost use Rattle.pim_words.specs.Table.{given_table};
 
-use pim_addr::{AddressFamily, Family, RouteFault, Routes};
+use pim_addr::{AddressFamily, Family, RouteFault, Routes, group_bits};
 use std::alloc::{AllocError, Global};
 
 /// The first address of the prefix of all groups: 224.0.0.0 or ff00::.
@@ -24,16 +24,6 @@ fn first_address<F: Family>() -> F::Addr
     ensures { F.bytes_of result ≡ replicate (address_length F.family) 0 }
 {
     F::take(&[0; 16])
-}
-
-/// The length of the prefix of all groups, in bits.
-fn group_bits<F: Family>() -> u8
-    ensures { result ≡ group_bits F.family }
-{
-    match F::family() {
-        AddressFamily::Ipv4 => 4,
-        AddressFamily::Ipv6 => 8,
-    }
 }
 
 /// Adds the row that maps all groups to this RP. The table must have no rows.

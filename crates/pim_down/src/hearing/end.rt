@@ -4,7 +4,7 @@
 
 ghost use Rattle.std.specs.Prelude.{◌≡◌, not, map, true, Some};
 ghost use Rattle.pim_down.specs.Words.{filter, list_any, IsAscending, each_changed, at_end};
-ghost use Rattle.pim_down.specs.Words.{events_of, is_star_join, list_events, known_in, is_over_in};
+ghost use Rattle.pim_down.specs.Words.{events_of, is_star_join, list_events, rp_of, is_over_in};
 ghost use Rattle.pim_down.specs.Words.{AreOverIn, records_seen, event_seen, is_temporary};
 
 use crate::hearing::hear::{RptsOf, event_of, is_rpt_of, is_star_join};
@@ -47,7 +47,7 @@ fn end_group<F: Family>(records: &mut Store<F::Addr, OfFamily<F>>, port: usize, 
 /// Returns whether a joined list of the group has a Join(\*,G) whose RP is RP(G).
 pub fn has_star_join<F: Family>(routes: &Routes<F>, group: F::Addr, joined: Entries<'_, F>) -> bool
     ensures { result ≡ list_any is_star_join
-        (list_events (known_in F.family routes.now) true (F.bytes_of group) joined.entry) }
+        (list_events (rp_of F.family routes.now) true (F.bytes_of group) joined.entry) }
 {
     for entry in joined {
         match event_of::<F>(routes, true, group, entry) {
@@ -71,7 +71,7 @@ pub(crate) fn end_sets<F: Family>(
     message: &JpView<'_, F>,
 )
     requires ascending { IsAscending (records_seen F.bytes_of records.old.items) }
-    requires groups { AreOverIn port (events_of (known_in F.family routes.now) message.now)
+    requires groups { AreOverIn port (events_of (rp_of F.family routes.now) message.now)
         (records_seen F.bytes_of records.old.items) }
     ensures { records_seen F.bytes_of records.new.items
         ≡ each_changed (at_end port) (records_seen F.bytes_of records.old.items) }

@@ -5,7 +5,7 @@ ghost use Rattle.std.specs.Prelude.{◌≡◌, ◌≤◌, ◌+◌, ℕ, List, le
 ghost use Rattle.pim_down.specs.Words.{entry_seen, IsAscending, changed, each_changed, is_known};
 ghost use Rattle.pim_down.specs.Words.{entry_events, start_of, on_own, is_rpt_of, on_rpts};
 ghost use Rattle.pim_down.specs.Words.{is_star_join, key_of, act, is_rpt, beside_rpts, IsLateStart};
-ghost use Rattle.pim_down.specs.Words.{known_in, start_after, start_seen, machine_seen, what_seen};
+ghost use Rattle.pim_down.specs.Words.{rp_of, start_after, start_seen, machine_seen, what_seen};
 ghost use Rattle.pim_down.specs.Words.{key_seen, records_seen, event_seen, events_seen};
 
 use crate::machines::event::{Event, Timing};
@@ -51,7 +51,7 @@ pub(crate) fn start_at(holdtime: u16, timing: Timing, now: u64) -> Start
 
 /// Whether this address is RP(G) of the group by the route table.
 fn is_known<F: Family>(routes: &Routes<F>, group: F::Addr, rp: F::Addr) -> bool
-    ensures { result ≡ is_known (known_in F.family routes.now (F.bytes_of group)) (F.bytes_of rp) }
+    ensures { result ≡ is_known (rp_of F.family routes.now (F.bytes_of group)) (F.bytes_of rp) }
 {
     match routes.rp_of(group) {
         None => false,
@@ -68,7 +68,7 @@ pub fn event_of<F: Family>(
     entry: Entry<F::Addr>,
 ) -> Option<Event<F::Addr>>
     ensures { events_seen F.bytes_of result
-        ≡ entry_events (known_in F.family routes.now) joins (F.bytes_of group)
+        ≡ entry_events (rp_of F.family routes.now) joins (F.bytes_of group)
         (entry_seen F.bytes_of entry) }
 {
     let what = match entry {

@@ -6,7 +6,7 @@ ghost use Rattle.std.specs.Prelude.{◌≡◌, ◌≤◌, ◌<◌, ◌+◌, ℕ,
 ghost use Rattle.std.specs.Prelude.{OnOk, OnErr, IfOk, IfSome};
 ghost use Rattle.pim_down.specs.Words.{flat_map, IsAscending, count_on, list_events, set_events};
 ghost use Rattle.pim_down.specs.Words.{events_of, act_all, hearing, creates, is_new, count_new};
-ghost use Rattle.pim_down.specs.Words.{needed, IsWithin, MayWantMemory, OnFull, known_in, AreAlike};
+ghost use Rattle.pim_down.specs.Words.{needed, IsWithin, MayWantMemory, OnFull, rp_of, AreAlike};
 ghost use Rattle.pim_down.specs.Words.{HasRoom, IsSettled, start_seen, records_seen, event_seen};
 
 use crate::hearing::end::{end_events, end_sets};
@@ -71,7 +71,7 @@ fn count_list<F: Family>(
 ) -> usize
     requires { IsAscending (records_seen F.bytes_of records.now.items) }
     ensures count { result ≡ count_new port (records_seen F.bytes_of records.now.items)
-        (list_events (known_in F.family routes.now) joins (F.bytes_of group) entries.entry) }
+        (list_events (rp_of F.family routes.now) joins (F.bytes_of group) entries.entry) }
     ensures bound { result ≤ 65535 }
 {
     let _most = entries.count_left();
@@ -100,10 +100,10 @@ fn hear_list<F: Family>(
 )
     requires ascending { IsAscending (records_seen F.bytes_of records.old.items) }
     requires room { HasRoom port (start_seen start) records.old.capacity
-        (list_events (known_in F.family routes.now) joins (F.bytes_of group) entries)
+        (list_events (rp_of F.family routes.now) joins (F.bytes_of group) entries)
         (records_seen F.bytes_of records.old.items) }
     ensures records { records_seen F.bytes_of records.new.items ≡ act_all port (start_seen start)
-        (list_events (known_in F.family routes.now) joins (F.bytes_of group) entries.entry)
+        (list_events (rp_of F.family routes.now) joins (F.bytes_of group) entries.entry)
         (records_seen F.bytes_of records.old.items) }
     ensures capacity { records.old.capacity ≤ records.new.capacity }
 {
@@ -129,7 +129,7 @@ fn count_sets<F: Family>(
 ) -> usize
     requires { IsAscending (records_seen F.bytes_of records.now.items) }
     ensures count { result ≡ count_new port (records_seen F.bytes_of records.now.items)
-        (flat_map (set_events (known_in F.family routes.now)) sets.entry) }
+        (flat_map (set_events (rp_of F.family routes.now)) sets.entry) }
     ensures bound { result ≤ 33422850 }
 {
     let _most = sets.count_left();
@@ -157,10 +157,10 @@ fn hear_sets<F: Family>(
 )
     requires ascending { IsAscending (records_seen F.bytes_of records.old.items) }
     requires room { HasRoom port (start_seen start) records.old.capacity
-        (events_of (known_in F.family routes.now) message.now)
+        (events_of (rp_of F.family routes.now) message.now)
         (records_seen F.bytes_of records.old.items) }
     ensures { records_seen F.bytes_of records.new.items ≡ act_all port (start_seen start)
-        (events_of (known_in F.family routes.now) message.now)
+        (events_of (rp_of F.family routes.now) message.now)
         (records_seen F.bytes_of records.old.items) }
 {
     let mut near = Place::START;
@@ -192,10 +192,10 @@ fn judge_full<F: Family>(
     requires within { count_on port (records_seen F.bytes_of records.now.items) ≤ 100000 }
     ensures most { IfOk result (λ most.
         count_new port (records_seen F.bytes_of records.now.items)
-        (events_of (known_in F.family routes.now) message.now) ≤ most) }
+        (events_of (rp_of F.family routes.now) message.now) ≤ most) }
     ensures memory { MayWantMemory 0 result }
     ensures room { IsWithin limit (needed port (records_seen F.bytes_of records.now.items)
-        (events_of (known_in F.family routes.now) message.now)) result }
+        (events_of (rp_of F.family routes.now) message.now)) result }
 {
     let held = count_on::<F>(records, port);
     let entries = entry_count::<F>(message);
@@ -221,12 +221,12 @@ fn make_room<F: Family>(
 ) -> Result<(), AllocError>
     requires ascending { IsAscending (records_seen F.bytes_of records.old.items) }
     requires most { count_new port (records_seen F.bytes_of records.old.items)
-        (events_of (known_in F.family routes.now) message.now) ≤ most }
+        (events_of (rp_of F.family routes.now) message.now) ≤ most }
     ensures ok { OnOk result (length records.new.items
         + count_new port (records_seen F.bytes_of records.old.items)
-        (events_of (known_in F.family routes.now) message.now) ≤ records.new.capacity) }
+        (events_of (rp_of F.family routes.now) message.now) ≤ records.new.capacity) }
     ensures err { OnErr result (1 ≤ count_new port (records_seen F.bytes_of records.old.items)
-        (events_of (known_in F.family routes.now) message.now)) }
+        (events_of (rp_of F.family routes.now) message.now)) }
     ensures items { records.new.items ≡ records.old.items }
 {
     if records.reserve(most).is_ok() {
@@ -249,12 +249,12 @@ fn hear_all<F: Family>(
     requires settled { IsSettled (records_seen F.bytes_of records.old.items) }
     requires alike { IfSome ordered.now
         (λ events. AreAlike (map (event_seen F.bytes_of) events.items)
-        (events_of (known_in F.family routes.now) message.now)) }
+        (events_of (rp_of F.family routes.now) message.now)) }
     requires room { length records.old.items
         + count_new port (records_seen F.bytes_of records.old.items)
-        (events_of (known_in F.family routes.now) message.now) ≤ records.old.capacity }
+        (events_of (rp_of F.family routes.now) message.now) ≤ records.old.capacity }
     ensures { records_seen F.bytes_of records.new.items ≡ hearing port (start_seen start)
-        (events_of (known_in F.family routes.now) message.now)
+        (events_of (rp_of F.family routes.now) message.now)
         (records_seen F.bytes_of records.old.items) }
 {
     match ordered {
@@ -287,14 +287,14 @@ pub(crate) fn hear_message<F: Family>(
     requires within { count_on port (records_seen F.bytes_of records.old.items) ≤ 100000 }
     ensures ok { OnOk result (records_seen F.bytes_of records.new.items
         ≡ hearing port (start_seen start)
-        (events_of (known_in F.family routes.now) message.now)
+        (events_of (rp_of F.family routes.now) message.now)
         (records_seen F.bytes_of records.old.items)) }
     ensures err { OnErr result (records.new.items ≡ records.old.items) }
     ensures kept { OnFull result (records.new ≡ records.old) }
     ensures memory { MayWantMemory (count_new port (records_seen F.bytes_of records.old.items)
-        (events_of (known_in F.family routes.now) message.now)) result }
+        (events_of (rp_of F.family routes.now) message.now)) result }
     ensures room { IsWithin limit (needed port (records_seen F.bytes_of records.old.items)
-        (events_of (known_in F.family routes.now) message.now)) result }
+        (events_of (rp_of F.family routes.now) message.now)) result }
 {
     let most = judge_full::<F>(records, limit, port, routes, message)?;
     if make_room::<F>(records, port, routes, message, most).is_err() {

@@ -10,7 +10,7 @@
 
 ghost use Rattle.std.specs.Prelude.{◌≡◌, ◌≤◌, ℕ, List, Option, true, ◌++◌, map, OnOk, IfOk, IfSome};
 ghost use Rattle.pim_down.specs.Words.{list_any, IsPermutation, IsStableBy, Record, key_of};
-ghost use Rattle.pim_down.specs.Words.{list_events, events_of, count_new, key_cmp, known_in};
+ghost use Rattle.pim_down.specs.Words.{list_events, events_of, count_new, key_cmp, rp_of};
 ghost use Rattle.pim_down.specs.Words.{comes_before, source_or_star, source_key_of};
 ghost use Rattle.pim_down.specs.Words.{comes_before_by_source, is_of_rpts_of, StarsComeFirst};
 ghost use Rattle.pim_down.specs.Words.{AreAlike, what_seen, event_seen};
@@ -71,7 +71,7 @@ fn push_list<F: Family>(
 ) -> Result<(), AllocError>
     ensures { OnOk result (map (event_seen F.bytes_of) events.new.items
         ≡ map (event_seen F.bytes_of) events.old.items
-        ++ list_events (known_in F.family routes.now) joins (F.bytes_of group) entries.entry) }
+        ++ list_events (rp_of F.family routes.now) joins (F.bytes_of group) entries.entry) }
 {
     for entry in entries {
         match event_of::<F>(routes, joins, group, entry) {
@@ -104,7 +104,7 @@ fn events_of<F: Family>(
     message: &JpView<'_, F>,
 ) -> Result<Vec<Event<F::Addr>>, AllocError>
     ensures { IfOk result (λ events. map (event_seen F.bytes_of) events.items
-        ≡ events_of (known_in F.family routes.now) message.now) }
+        ≡ events_of (rp_of F.family routes.now) message.now) }
 {
     let mut events = Vec::new(alloc);
     events.reserve(entry_count::<F>(message))?;
@@ -211,7 +211,7 @@ pub(crate) fn in_key_order<F: Family>(
     message: &JpView<'_, F>,
 ) -> Option<Vec<Event<F::Addr>>>
     ensures { IfSome result (λ events. AreAlike (map (event_seen F.bytes_of) events.items)
-        (events_of (known_in F.family routes.now) message.now)) }
+        (events_of (rp_of F.family routes.now) message.now)) }
 {
     if !is_scattered::<F>(message) {
         return None;

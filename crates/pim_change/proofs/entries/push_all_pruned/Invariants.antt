@@ -1,6 +1,6 @@
 use Rattle.std.proofs.Common.{◌≡◌, ◌++◌, map, drop}
 use Rattle.std.specs.List.{flat_map}
-use Rattle.pim_down.specs.Known.{known_in}
+use Rattle.pim_addr.specs.Routes.{rp_of}
 use Rattle.pim_jp.specs.Seen.{entry_seen}
 use Rattle.pim_change.specs.Seen.{tellings_seen}
 use Rattle.pim_change.specs.Told.{pruned_entries}
@@ -11,8 +11,8 @@ abbrev pub invariant-loop-unit : goal.invariant-loop-unit
 invariant-loop-unit g l =
     let bytes_of = g.F.Family.bytes_of in
     map (entry_seen bytes_of) l.entries.items
-    ++ flat_map (pruned_entries (known_in g.F.Family.family l.routes (bytes_of l.group)))
+    ++ flat_map (pruned_entries (rp_of g.F.Family.family l.routes (bytes_of l.group)))
     (tellings_seen bytes_of (drop l.unit-index l.units))
     ≡ map (entry_seen bytes_of) l.fn.entries.items
-    ++ flat_map (pruned_entries (known_in g.F.Family.family l.routes (bytes_of l.group)))
+    ++ flat_map (pruned_entries (rp_of g.F.Family.family l.routes (bytes_of l.group)))
     (tellings_seen bytes_of l.units)

@@ -1,13 +1,13 @@
 use Rattle.std.proofs.Common.{length, ap, subst, arith}
 use Rattle.std.specs.List.{AllByRecursion}
-use Rattle.pim_down.specs.Known.{known_in}
+use Rattle.pim_addr.specs.Routes.{rp_of}
 use Rattle.pim_change.specs.Told.{IsShort}
 use Rattle.pim_change.proofs.SetSteps.{step, one_longer, one_appended, no_sets, none_longer, none_appended}
 use Rattle.pim_change.proofs.message.append_sets.Goals as goal
 
 pub append_set-requires : goal.append_set-requires
 append_set-requires g c =
-    let rps = known_in g.F.Family.family c.args.routes.now in
+    let rps = rp_of g.F.Family.family c.args.routes.now in
     let is = step g.F.Family.bytes_of rps c.args.units.now c.loop-start.start c.front_length-length.result
     c.index-units-start.result c.split_at.result.1.now c.split_at-in-loop-start.result.1.now
     c.split_at-in-loop-start-2.result.0.now (omega (arith, c.loop-start-test.true)) c.split_at.ensures.back
@@ -17,7 +17,7 @@ append_set-requires g c =
 
 pub overflow_add-count : goal.overflow_add-count
 overflow_add-count g c =
-    let rps = known_in g.F.Family.family c.args.routes.now in
+    let rps = rp_of g.F.Family.family c.args.routes.now in
     let is = step g.F.Family.bytes_of rps c.args.units.now c.loop-start.start c.front_length-length.result
     c.index-units-start.result c.split_at.result.1.now c.split_at-in-loop-start.result.1.now
     c.split_at-in-loop-start-2.result.0.now (omega (arith, c.loop-start-test.true)) c.split_at.ensures.back
@@ -28,7 +28,7 @@ overflow_add-count g c =
 pub loop-start-preserved : goal.loop-start-preserved
 loop-start-preserved g c =
     let family = g.F.Family.family in
-    let rps = known_in family c.args.routes.now in
+    let rps = rp_of family c.args.routes.now in
     let is = step g.F.Family.bytes_of rps c.args.units.now c.loop-start.start c.front_length-length.result
     c.index-units-start.result c.split_at.result.1.now c.split_at-in-loop-start.result.1.now
     c.split_at-in-loop-start-2.result.0.now (omega (arith, c.loop-start-test.true)) c.split_at.ensures.back
@@ -51,17 +51,17 @@ loop-start-preserved g c =
 pub returns-clause-appended : goal.returns-clause-appended
 returns-clause-appended g c =
     none_appended g.F.Family.family _ _ _
-    (no_sets g.F.Family.bytes_of (known_in g.F.Family.family c.args.routes.now) c.args.units.now c.loop-start.start
+    (no_sets g.F.Family.bytes_of (rp_of g.F.Family.family c.args.routes.now) c.args.units.now c.loop-start.start
     (omega (arith, c.loop-start-test.false))) c.loop-start.invariant.appended
 
 pub returns-clause-longer : goal.returns-clause-longer
 returns-clause-longer g c =
     none_longer g.F.Family.family _ _ _
-    (no_sets g.F.Family.bytes_of (known_in g.F.Family.family c.args.routes.now) c.args.units.now c.loop-start.start
+    (no_sets g.F.Family.bytes_of (rp_of g.F.Family.family c.args.routes.now) c.args.units.now c.loop-start.start
     (omega (arith, c.loop-start-test.false))) c.loop-start.invariant.longer
 
 pub returns-clause-counted : goal.returns-clause-counted
 returns-clause-counted g c =
-    let none = no_sets g.F.Family.bytes_of (known_in g.F.Family.family c.args.routes.now) c.args.units.now
+    let none = no_sets g.F.Family.bytes_of (rp_of g.F.Family.family c.args.routes.now) c.args.units.now
     c.loop-start.start (omega (arith, c.loop-start-test.false)) in
     omega (arith, ap length none, c.loop-start.invariant.counted)

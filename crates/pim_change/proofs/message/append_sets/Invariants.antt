@@ -1,6 +1,6 @@
 use Rattle.std.proofs.Common.{◌≡◌, ◌+◌, ◌++◌, ◌≤◌, ◌-◌, length, drop}
 use Rattle.std.specs.List.{AllByRecursion, flat_map}
-use Rattle.pim_down.specs.Known.{known_in}
+use Rattle.pim_addr.specs.Routes.{rp_of}
 use Rattle.pim_jp.specs.Canonical.{canonical_set, canonical_sets_length}
 use Rattle.pim_change.specs.Seen.{units_seen}
 use Rattle.pim_change.specs.Told.{IsShort, told_sets}
@@ -11,7 +11,7 @@ abbrev pub invariant-loop-start : goal.invariant-loop-start
 invariant-loop-start g l =
     let family = g.F.Family.family in
     let bytes_of = g.F.Family.bytes_of in
-    let sets = told_sets (known_in family l.routes) in record {
+    let sets = told_sets (rp_of family l.routes) in record {
       within : l.start ≤ length l.units;
       short : AllByRecursion IsShort (sets (units_seen bytes_of (drop l.start l.units)));
       counted : l.count + length (sets (units_seen bytes_of (drop l.start l.units)))

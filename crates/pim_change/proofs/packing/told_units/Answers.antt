@@ -1,5 +1,5 @@
 use Rattle.std.proofs.Common.{◌≡◌, ◌∙◌, ◌++◌, ◌∷◌, ℕ, true, List, [], take, drop, subst, ap, arith}
-use Rattle.pim_down.specs.Known.{known_in}
+use Rattle.pim_addr.specs.Routes.{rp_of}
 use Rattle.pim_form.specs.Packing.{fits, StopsBefore}
 use Rattle.pim_change.specs.declared.unit.Unit.{Unit}
 use Rattle.pim_change.specs.Seen.{units_seen}
@@ -31,7 +31,7 @@ loop-start-preserved g c =
     (weights (units_seen bytes_of (drop length left)))) c.budget.ensures c.run_length-length.ensures.stops in
     record {
       within = omega (arith, c.run_length-length.ensures.within, c.split_at.ensures.back_len, c.loop-start-test.true);
-      goes = goes_on family c.args.writer.now (known_in family c.args.routes.now) bytes_of c.args.units.now
+      goes = goes_on family c.args.writer.now (rp_of family c.args.routes.now) bytes_of c.args.units.now
           c.loop-start.start length left c.split_at-in-loop-start.result.0.now c.loop-start.messages c.push.new.self
           c.in_ok-bytes.bytes.items c.split_at.ensures.back c.split_at-in-loop-start.ensures.front
           c.loop-start-test.true c.run_length-length.ensures.some fitting stops c.in_ok-bytes.ensures
@@ -41,6 +41,6 @@ loop-start-preserved g c =
 
 pub returns : goal.returns
 returns g c =
-    goes_to g.F.Family.family c.args.writer.now (known_in g.F.Family.family c.args.routes.now) g.F.Family.bytes_of
+    goes_to g.F.Family.family c.args.writer.now (rp_of g.F.Family.family c.args.routes.now) g.F.Family.bytes_of
     c.args.units.now c.loop-start.start c.loop-start.messages (omega (arith, c.loop-start-test.false))
     c.loop-start.invariant.goes

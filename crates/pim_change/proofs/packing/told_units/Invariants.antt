@@ -1,5 +1,5 @@
 use Rattle.std.proofs.Common.{◌≤◌, ◌-◌, ◌++◌, ℕ, List, length, drop}
-use Rattle.pim_down.specs.Known.{known_in}
+use Rattle.pim_addr.specs.Routes.{rp_of}
 use Rattle.pim_change.specs.Seen.{units_seen}
 use Rattle.pim_change.specs.Told.{TellUnits}
 use Rattle.pim_change.proofs.packing.told_units.Given as goal
@@ -8,7 +8,7 @@ use Rattle.pim_change.proofs.packing.told_units.Given as goal
 abbrev pub invariant-loop-start : goal.invariant-loop-start
 invariant-loop-start g l =
     let bytes_of = g.F.Family.bytes_of in
-    let tell = TellUnits g.F.Family.family l.writer (known_in g.F.Family.family l.routes) in record {
+    let tell = TellUnits g.F.Family.family l.writer (rp_of g.F.Family.family l.routes) in record {
       within : l.start ≤ length l.units;
       goes : (left : List (List ℕ)) → tell (units_seen bytes_of (drop l.start l.units)) left →
           tell (units_seen bytes_of l.units) (l.messages ++ left);

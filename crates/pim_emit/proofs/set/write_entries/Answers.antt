@@ -1,6 +1,6 @@
 use Rattle.std.proofs.Common.{◌≡◌, ◌+◌, ◌*◌, ◌++◌, ℕ, List, length, take, subst, arith}
 use Rattle.pim_addr.specs.Encoded.{source_length}
-use Rattle.pim_emit.specs.Asking.{rps_of}
+use Rattle.pim_addr.specs.Routes.{rp_of}
 use Rattle.pim_emit.specs.Left.{star_of, exceptions_in, piece_seen}
 use Rattle.pim_emit.specs.Sets.{source_entries, exception_entries, cut_piece, told_seen}
 use Rattle.pim_emit.proofs.SetWritten.{told_count, joined_count, entries_written, no_exceptions, all_exceptions}
@@ -13,7 +13,7 @@ returns-then-piece-clause-joined g c =
     let told = c.write_sources-told in
     let this = cut_piece told.result.count (piece_seen bytes_of c.args.piece.now) form in
     let sources = told_count (piece_seen bytes_of c.args.piece.now) form c.args.most (told_seen bytes_of told.result) told.ensures.told in
-    omega (arith, joined_count (rps_of g.F.Family.family c.args.asked.now) this, sources, c.write_star-stars.ensures.count, c.write_star-stars.ensures.one)
+    omega (arith, joined_count (rp_of g.F.Family.family c.args.asked.now.table) this, sources, c.write_star-stars.ensures.count, c.write_star-stars.ensures.one)
 
 pub returns-else-piece-clause-joined : goal.returns-else-piece-clause-joined
 returns-else-piece-clause-joined g c =
@@ -22,7 +22,7 @@ returns-else-piece-clause-joined g c =
     let told = c.write_sources-told in
     let this = cut_piece told.result.count (piece_seen bytes_of c.args.piece.now) form in
     let sources = told_count (piece_seen bytes_of c.args.piece.now) form c.args.most (told_seen bytes_of told.result) told.ensures.told in
-    omega (arith, joined_count (rps_of g.F.Family.family c.args.asked.now) this, sources, c.write_star-stars.ensures.count, c.write_star-stars.ensures.one)
+    omega (arith, joined_count (rp_of g.F.Family.family c.args.asked.now.table) this, sources, c.write_star-stars.ensures.count, c.write_star-stars.ensures.one)
 
 pub returns-then-piece-clause-written : goal.returns-then-piece-clause-written
 returns-then-piece-clause-written g c =
@@ -33,7 +33,7 @@ returns-then-piece-clause-written g c =
     let this = cut_piece told.result.count (piece_seen bytes_of c.args.piece.now) form in
     let size = c.source_length.ensures in
     let exceptions : exceptions_in (bytes_of c.args.piece.now.group) form ≡ _ = all_exceptions c.args.piece.now.starred (star_of (bytes_of c.args.piece.now.group) form) c.if-piece.true in
-    entries_written family (rps_of family c.args.asked.now) this c.write_star-stars.result told.result.count (source_length family)
+    entries_written family (rp_of family c.args.asked.now.table) this c.write_star-stars.result told.result.count (source_length family)
     c.write_star-stars.new.bytes told.new.bytes c.write_exceptions.new.bytes c.write_star-stars.ensures.count
     (told_count (piece_seen bytes_of c.args.piece.now) form c.args.most (told_seen bytes_of told.result) told.ensures.told) c.write_star-stars.ensures.written
     (subst (λ n. take (c.write_star-stars.result * n + told.result.count * source_length family) told.new.bytes
@@ -52,7 +52,7 @@ returns-else-piece-clause-written g c =
     let form = c.args.asked.now.form in
     let told = c.write_sources-told in
     let this = cut_piece told.result.count (piece_seen bytes_of c.args.piece.now) form in
-    entries_written family (rps_of family c.args.asked.now) this c.write_star-stars.result told.result.count (source_length family)
+    entries_written family (rp_of family c.args.asked.now.table) this c.write_star-stars.result told.result.count (source_length family)
     c.write_star-stars.new.bytes told.new.bytes told.new.bytes c.write_star-stars.ensures.count
     (told_count (piece_seen bytes_of c.args.piece.now) form c.args.most (told_seen bytes_of told.result) told.ensures.told) c.write_star-stars.ensures.written
     (subst (λ n. take (c.write_star-stars.result * n + told.result.count * source_length family) told.new.bytes

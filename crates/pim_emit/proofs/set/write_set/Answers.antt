@@ -1,5 +1,5 @@
 use Rattle.std.proofs.Common.{◌∙◌, ◌+◌, ◌/◌, ◌%◌, ℕ, List, [], ◌∷◌, sym, arith}
-use Rattle.pim_emit.specs.Asking.{rps_of}
+use Rattle.pim_addr.specs.Routes.{rp_of}
 use Rattle.pim_emit.specs.Left.{piece_seen}
 use Rattle.pim_emit.specs.Sets.{cut_piece}
 use Rattle.pim_emit.proofs.SetWritten.{pruned_count, set_written}
@@ -13,7 +13,7 @@ pub returns-clause-written : goal.returns-clause-written
 returns-clause-written g c =
     let family = g.F.Family.family in
     let bytes_of = g.F.Family.bytes_of in
-    let rps = rps_of family c.args.asked.now in
+    let rps = rp_of family c.args.asked.now.table in
     let form = c.args.asked.now.form in
     let told = c.write_entries-told in
     let this = cut_piece told.result.count (piece_seen bytes_of c.args.piece.now) form in

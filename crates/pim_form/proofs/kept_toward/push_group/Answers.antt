@@ -1,6 +1,6 @@
 use Rattle.std.proofs.Common.{List, ℕ, ◌≡◌, ◌∙◌, ap, map, length, arith}
 use Rattle.std.specs.List.{filter}
-use Rattle.pim_down.specs.Known.{known_in}
+use Rattle.pim_addr.specs.Routes.{rp_of}
 use Rattle.pim_form.specs.Toward.{via_in}
 use Rattle.pim_form.specs.KeptToward.{is_reached, group_toward}
 use Rattle.pim_form.proofs.PushedGroups.{filter_mapped, pushed}
@@ -9,7 +9,7 @@ use Rattle.pim_form.proofs.kept_toward.push_group.Goals as goal
 pub returns : goal.returns
 returns g c =
     let bytes_of = g.F.Family.bytes_of in
-    let rps = known_in g.F.Family.family c.args.routes.now in
+    let rps = rp_of g.F.Family.family c.args.routes.now in
     let via = via_in g.F.Family.family c.args.routes.now in
     let upstream : List ℕ = bytes_of c.args.upstream in
     let kept : List g.row.F-Addr.Denot = filter (λ source. is_reached rps via upstream (bytes_of source)) c.sources.result.now in

@@ -1,5 +1,5 @@
 use Rattle.std.proofs.Common.{◌≡◌, ◌∙◌, ℕ, List, ap, Result, Ok, Err, IfOk, subst, sym, map}
-use Rattle.pim_down.specs.Known.{known_in}
+use Rattle.pim_addr.specs.Routes.{rp_of}
 use Rattle.std.specs.List.{AllByRecursion}
 use Rattle.pim_form.specs.NormalForm.{GroupForm}
 use Rattle.pim_form.specs.Units.{units_of}
@@ -25,7 +25,7 @@ pub told_plan-requires-clause-rps : goal.told_plan-requires-clause-rps
 told_plan-requires-clause-rps g c =
     let bytes_of = g.F.Family.bytes_of in
     let family = g.F.Family.family in
-    let rps = known_in family c.args.routes.now in
+    let rps = rp_of family c.args.routes.now in
     let pieces = c.in_ok-plan.plan.pieces.items in
     let ends = c.in_ok-plan.plan.ends.items in
     let inside = c.normal.inside in
@@ -43,7 +43,7 @@ pub returns : goal.returns
 returns g c =
     let bytes_of = g.F.Family.bytes_of in
     let family = g.F.Family.family in
-    let rps = known_in family c.args.routes.now in
+    let rps = rp_of family c.args.routes.now in
     let pieces = c.in_ok-plan.plan.pieces.items in
     let ends = c.in_ok-plan.plan.ends.items in
     let inside = c.normal.inside in

@@ -1,5 +1,5 @@
 use Rattle.std.proofs.Common.{◌≡◌, ◌∙◌, ◌+◌, List, length, get_or, drop, ap, subst, arith}
-use Rattle.pim_down.specs.Known.{known_in}
+use Rattle.pim_addr.specs.Routes.{rp_of}
 use Rattle.pim_form.specs.Messages.{TellsRun}
 use Rattle.pim_form.specs.Rows.{between}
 use Rattle.pim_form.specs.Plan.{run_of}
@@ -26,7 +26,7 @@ add-requires-clause-kept g c =
 pub add-requires-clause-rps : goal.add-requires-clause-rps
 add-requires-clause-rps g c =
     of_next c.args.plan.now.pieces.items c.deref-end-items.result.now c.args.plan.now.ends.items c.loop-end.end-index c.loop-end.start c.deref-end-items.ensures.value c.loop-end-test.true
-    (PartHasRps g.F.Family.bytes_of g.F.Family.family (known_in g.F.Family.family c.args.routes.now) c.args.row.now) c.loop-end.invariant.rps
+    (PartHasRps g.F.Family.bytes_of g.F.Family.family (rp_of g.F.Family.family c.args.routes.now) c.args.row.now) c.loop-end.invariant.rps
     _ _ c.deref.ensures.value c.between-part.ensures
 
 pub add-requires-clause-fitting : goal.add-requires-clause-fitting
@@ -47,7 +47,7 @@ loop-end-preserved g c =
     let added = c.in_ok-add.ensures in
     let bytes_of = g.F.Family.bytes_of in
     let family = g.F.Family.family in
-    let rps = known_in family c.args.routes.now in
+    let rps = rp_of family c.args.routes.now in
     let run = run_of bytes_of c.args.row.now in
     let part : c.between-part.result.now ≡ between c.loop-end.start end pieces = c.between-part.ensures ∙ ap (between c.loop-end.start end) c.deref.ensures.value in
     let tells = subst (λ (these : List _). TellsRun family c.args.writer.now rps (run these) added.message) part
@@ -64,4 +64,4 @@ returns g c =
     let plan = c.args.plan.now in
     let none = no_end c.deref-end-items.result.now plan.ends.items c.loop-end.end-index c.deref-end-items.ensures.value c.loop-end-test.false in
     no_more_told plan.pieces.items c.loop-end.start (drop c.loop-end.end-index plan.ends.items) none g.F.Family.family (run_of g.F.Family.bytes_of c.args.row.now) c.args.writer.now
-    (known_in g.F.Family.family c.args.routes.now) _ c.loop-end.messages c.loop-end.invariant.told
+    (rp_of g.F.Family.family c.args.routes.now) _ c.loop-end.messages c.loop-end.invariant.told

@@ -1,6 +1,6 @@
 use Rattle.std.proofs.Common.{ℕ, List, ◌++◌, length, map, drop}
 use Rattle.std.specs.List.{AllByRecursion}
-use Rattle.pim_down.specs.Known.{known_in}
+use Rattle.pim_addr.specs.Routes.{rp_of}
 use Rattle.pim_form.specs.Messages.{TellRuns}
 use Rattle.pim_form.specs.Parts.{IsFitting, PartHasRps}
 use Rattle.pim_form.specs.Plan.{AreEnds, parts_from, run_of}
@@ -11,7 +11,7 @@ abbrev pub invariant-loop-end : goal.invariant-loop-end
 invariant-loop-end g l = record {
   ends : AreEnds l.start (length l.plan.pieces.items) (drop l.end-index l.plan.ends.items);
   parts : AllByRecursion (IsFitting g.F.Family.bytes_of g.F.Family.family l.writer.budget l.row) (parts_from l.start (drop l.end-index l.plan.ends.items) l.plan.pieces.items);
-  rps : AllByRecursion (PartHasRps g.F.Family.bytes_of g.F.Family.family (known_in g.F.Family.family l.routes) l.row) (parts_from l.start (drop l.end-index l.plan.ends.items) l.plan.pieces.items);
-  told : (others : List (List ℕ)) → TellRuns g.F.Family.family l.writer (known_in g.F.Family.family l.routes) (map (run_of g.F.Family.bytes_of l.row) (parts_from l.start (drop l.end-index l.plan.ends.items) l.plan.pieces.items)) others
-      → TellRuns g.F.Family.family l.writer (known_in g.F.Family.family l.routes) (map (run_of g.F.Family.bytes_of l.row) (parts_from 0 l.plan.ends.items l.plan.pieces.items)) (l.messages ++ others);
+  rps : AllByRecursion (PartHasRps g.F.Family.bytes_of g.F.Family.family (rp_of g.F.Family.family l.routes) l.row) (parts_from l.start (drop l.end-index l.plan.ends.items) l.plan.pieces.items);
+  told : (others : List (List ℕ)) → TellRuns g.F.Family.family l.writer (rp_of g.F.Family.family l.routes) (map (run_of g.F.Family.bytes_of l.row) (parts_from l.start (drop l.end-index l.plan.ends.items) l.plan.pieces.items)) others
+      → TellRuns g.F.Family.family l.writer (rp_of g.F.Family.family l.routes) (map (run_of g.F.Family.bytes_of l.row) (parts_from 0 l.plan.ends.items l.plan.pieces.items)) (l.messages ++ others);
 }

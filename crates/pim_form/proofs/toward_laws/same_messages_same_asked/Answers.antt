@@ -1,4 +1,4 @@
-use Rattle.pim_down.specs.Known.{known_in}
+use Rattle.pim_addr.specs.Routes.{rp_of}
 use Rattle.pim_form.specs.Toward.{via_in}
 use Rattle.pim_form.specs.Wants.{wants}
 use Rattle.pim_form.specs.TowardLaws.{asked_of}
@@ -8,7 +8,7 @@ use Rattle.pim_form.proofs.toward_laws.same_messages_same_asked.Goals as goal
 
 pub returns : goal.returns
 returns c = λ family table writing this that one other first second sound is_writing of_this of_that told_first told_second.
-    let rps = known_in family table in
+    let rps = rp_of family table in
     let via = via_in family table in
     let have_one = have_rps family table sound via writing.upstream one (asked_is_toward rps via writing.upstream family (wants this) one of_this) in
     let have_other = have_rps family table sound via writing.upstream other (asked_is_toward rps via writing.upstream family (wants that) other of_that) in

@@ -1,27 +1,27 @@
 use Rattle.std.proofs.Common.{arith}
 use Rattle.std.proofs.lemmas.List.{length-map}
-use Rattle.pim_down.specs.Known.{known_in}
+use Rattle.pim_addr.specs.Routes.{rp_of}
 use Rattle.pim_form.specs.Messages.{told_set}
 use Rattle.pim_form.proofs.PartMessage.{message_is, message_room, sealed_is}
 use Rattle.pim_form.proofs.written.write_message.Goals as goal
 
 pub overflow_cast-count_left : goal.overflow_cast-count_left
 overflow_cast-count_left g c =
-    let is = message_is g.F.Family.family c.args.writer.now (known_in g.F.Family.family c.args.routes.now) c.args.part c.requires.normal c.requires.rps c.requires.fitting c.is_writing.ensures in
-    omega (arith, is.2, c.count_left.ensures, length-map c.args.part (told_set (known_in g.F.Family.family c.args.routes.now)))
+    let is = message_is g.F.Family.family c.args.writer.now (rp_of g.F.Family.family c.args.routes.now) c.args.part c.requires.normal c.requires.rps c.requires.fitting c.is_writing.ensures in
+    omega (arith, is.2, c.count_left.ensures, length-map c.args.part (told_set (rp_of g.F.Family.family c.args.routes.now)))
 
 pub write_sets-requires-clause-sets : goal.write_sets-requires-clause-sets
 write_sets-requires-clause-sets g c =
-    (message_is g.F.Family.family c.args.writer.now (known_in g.F.Family.family c.args.routes.now) c.args.part c.requires.normal c.requires.rps c.requires.fitting c.is_writing.ensures).3
+    (message_is g.F.Family.family c.args.writer.now (rp_of g.F.Family.family c.args.routes.now) c.args.part c.requires.normal c.requires.rps c.requires.fitting c.is_writing.ensures).3
 
 pub write_sets-requires-clause-length : goal.write_sets-requires-clause-length
 write_sets-requires-clause-length g c =
-    let room = message_room g.F.Family.family c.args.writer.now (known_in g.F.Family.family c.args.routes.now) c.args.part c.requires.normal c.requires.rps c.requires.fitting in
+    let room = message_room g.F.Family.family c.args.writer.now (rp_of g.F.Family.family c.args.routes.now) c.args.part c.requires.normal c.requires.rps c.requires.fitting in
     omega (arith, room, c.requires.length, c.split_at_mut-body.ensures.back_len, c.split_at_mut-head.ensures.back_len, c.head_length.ensures)
 
 pub returns : goal.returns
 returns g c =
-    sealed_is g.F.Family.family c.args.writer.now (known_in g.F.Family.family c.args.routes.now) c.args.part c.requires.normal c.requires.rps c.requires.fitting
+    sealed_is g.F.Family.family c.args.writer.now (rp_of g.F.Family.family c.args.routes.now) c.args.part c.requires.normal c.requires.rps c.requires.fitting
     c.count_left.result c.holdtime.result _ _ _ c.split_at_mut-body.result.0.now c.put_head.new.bytes c.write_sets.new.bytes c.seal.new.bytes
     c.split_at_mut-body.ensures.front_len c.count_left.ensures c.upstream.ensures c.holdtime.ensures c.put_head.ensures c.write_sets.ensures c.own.ensures c.all_routers.ensures
     c.seal.ensures.sealed

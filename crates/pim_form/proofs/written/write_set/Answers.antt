@@ -3,7 +3,7 @@ use Rattle.std.specs.List.{flat_map}
 use Rattle.std.proofs.lemmas.List.{length-map}
 use Rattle.pim_addr.specs.Canonical.{canonical_group}
 use Rattle.pim_addr.specs.Encoded.{group_length, source_length}
-use Rattle.pim_down.specs.Known.{known_in}
+use Rattle.pim_addr.specs.Routes.{rp_of}
 use Rattle.pim_form.specs.Entries.{canonical_source_entry, canonical_rpt_entry}
 use Rattle.pim_form.specs.Rows.{exceptions_of}
 use Rattle.pim_form.specs.Messages.{star_entries, told_set}
@@ -21,7 +21,7 @@ rooms size group star sources joined pruned whole first second join is one = (gr
 
 pub split_at_mut-star-requires : goal.split_at_mut-star-requires
 split_at_mut-star-requires g c =
-    let rps = known_in g.F.Family.family c.args.routes.now in
+    let rps = rp_of g.F.Family.family c.args.routes.now in
     let this = c.args.group.now in
     let sources : length c.sources-sources.result.now ≡ length this.sources = sym (length-map c.sources-sources.result.now g.F.Family.bytes_of) ∙ ap length c.sources-sources.ensures in
     let stars : c.from-stars.result ≡ length (star_entries (rps this.group) this.star) =
@@ -33,7 +33,7 @@ split_at_mut-star-requires g c =
 
 pub split_at_mut-joins-requires : goal.split_at_mut-joins-requires
 split_at_mut-joins-requires g c =
-    let rps = known_in g.F.Family.family c.args.routes.now in
+    let rps = rp_of g.F.Family.family c.args.routes.now in
     let this = c.args.group.now in
     let sources : length c.sources-sources.result.now ≡ length this.sources = sym (length-map c.sources-sources.result.now g.F.Family.bytes_of) ∙ ap length c.sources-sources.ensures in
     let stars : c.from-stars.result ≡ length (star_entries (rps this.group) this.star) =
@@ -46,7 +46,7 @@ split_at_mut-joins-requires g c =
 
 pub write_exceptions-requires : goal.write_exceptions-requires
 write_exceptions-requires g c =
-    let rps = known_in g.F.Family.family c.args.routes.now in
+    let rps = rp_of g.F.Family.family c.args.routes.now in
     let this = c.args.group.now in
     let sources : length c.sources-sources.result.now ≡ length this.sources = sym (length-map c.sources-sources.result.now g.F.Family.bytes_of) ∙ ap length c.sources-sources.ensures in
     let exceptions : length c.exceptions-exceptions.result.now ≡ length (exceptions_of this.star) =
@@ -62,7 +62,7 @@ write_exceptions-requires g c =
 
 pub returns : goal.returns
 returns g c =
-    let rps = known_in g.F.Family.family c.args.routes.now in
+    let rps = rp_of g.F.Family.family c.args.routes.now in
     let this = c.args.group.now in
     let sources : length c.sources-sources.result.now ≡ length this.sources = sym (length-map c.sources-sources.result.now g.F.Family.bytes_of) ∙ ap length c.sources-sources.ensures in
     let exceptions : length c.exceptions-exceptions.result.now ≡ length (exceptions_of this.star) =

@@ -1,16 +1,16 @@
 use Rattle.std.proofs.Common.{◌≡◌, ◌∙◌, ℕ, ◌+◌, List, length, take, ◌++◌, ap, arith}
 use Rattle.pim_jp.specs.Canonical.{canonical_set_length}
-use Rattle.pim_down.specs.Known.{known_in}
+use Rattle.pim_addr.specs.Routes.{rp_of}
 use Rattle.pim_form.specs.Messages.{told_set}
 use Rattle.pim_form.proofs.Sets.{few_sources, front_and_piece}
 use Rattle.pim_form.proofs.written.write_set_at.Goals as goal
 
 pub joined_count-requires : goal.joined_count-requires
-joined_count-requires g c = few_sources (known_in g.F.Family.family c.args.routes.now) c.args.group.now c.requires.set.3
+joined_count-requires g c = few_sources (rp_of g.F.Family.family c.args.routes.now) c.args.group.now c.requires.set.3
 
 pub split_at_mut-place-requires : goal.split_at_mut-place-requires
 split_at_mut-place-requires g c =
-    let rps = known_in g.F.Family.family c.args.routes.now in
+    let rps = rp_of g.F.Family.family c.args.routes.now in
     let this = c.args.group.now in
     let size : c.set_length-length.result ≡ canonical_set_length g.F.Family.family (length (told_set rps this).joined) (length (told_set rps this).pruned) =
     c.set_length-length.ensures ∙ ap (λ (n : ℕ). canonical_set_length g.F.Family.family n c.pruned_count.result) (c.joined_count.ensures rps c.requires.rp)
@@ -19,7 +19,7 @@ split_at_mut-place-requires g c =
 
 pub write_set-requires-clause-length : goal.write_set-requires-clause-length
 write_set-requires-clause-length g c =
-    let rps = known_in g.F.Family.family c.args.routes.now in
+    let rps = rp_of g.F.Family.family c.args.routes.now in
     let this = c.args.group.now in
     let size : c.set_length-length.result ≡ canonical_set_length g.F.Family.family (length (told_set rps this).joined) (length (told_set rps this).pruned) =
     c.set_length-length.ensures ∙ ap (λ (n : ℕ). canonical_set_length g.F.Family.family n c.pruned_count.result) (c.joined_count.ensures rps c.requires.rp)
@@ -28,7 +28,7 @@ write_set-requires-clause-length g c =
 
 pub returns-clause-end : goal.returns-clause-end
 returns-clause-end g c =
-    let rps = known_in g.F.Family.family c.args.routes.now in
+    let rps = rp_of g.F.Family.family c.args.routes.now in
     let this = c.args.group.now in
     let size : c.set_length-length.result ≡ canonical_set_length g.F.Family.family (length (told_set rps this).joined) (length (told_set rps this).pruned) =
     c.set_length-length.ensures ∙ ap (λ (n : ℕ). canonical_set_length g.F.Family.family n c.pruned_count.result) (c.joined_count.ensures rps c.requires.rp)

@@ -3,18 +3,18 @@ use Rattle.std.specs.List.{AllByRecursion}
 use Rattle.pim_jp.specs.Canonical.{IsMessageSet}
 use Rattle.pim_form.specs.NormalForm.{GroupForm}
 use Rattle.pim_form.specs.Messages.{HaveRps, told_set}
-use Rattle.pim_down.specs.Known.{known_in}
+use Rattle.pim_addr.specs.Routes.{rp_of}
 use Rattle.pim_form.proofs.Sets.{room_of_first, room_of_others, one_more_set, no_more_set}
 use Rattle.pim_form.proofs.written.write_sets.Goals as goal
 
 pub write_set_at-at-requires-clause-room : goal.write_set_at-at-requires-clause-room
 write_set_at-at-requires-clause-room g c =
-    room_of_first g.F.Family.family (known_in g.F.Family.family c.args.routes.now) c.loop-group.group-iterator c.next.new.self c.in-Some.group c.loop-group.at _ c.in-Some.ensures.steps c.loop-group.invariant.room
+    room_of_first g.F.Family.family (rp_of g.F.Family.family c.args.routes.now) c.loop-group.group-iterator c.next.new.self c.in-Some.group c.loop-group.at _ c.in-Some.ensures.steps c.loop-group.invariant.room
 
 pub loop-group-preserved : goal.loop-group-preserved
 loop-group-preserved g c =
     let family = g.F.Family.family in
-    let rps = known_in g.F.Family.family c.args.routes.now in
+    let rps = rp_of g.F.Family.family c.args.routes.now in
     let steps : c.loop-group.group-iterator ≡ c.in-Some.group ∷ c.next.new.self = c.in-Some.ensures.steps in
     record {
       rps = (subst (HaveRps family rps) steps c.loop-group.invariant.rps).1;
@@ -28,5 +28,5 @@ loop-group-preserved g c =
 
 pub returns : goal.returns
 returns g c =
-    no_more_set g.F.Family.family (known_in g.F.Family.family c.args.routes.now) c.loop-group.group-iterator c.loop-group.at c.loop-group.bytes _ c.in-None.ensures.steps.0
+    no_more_set g.F.Family.family (rp_of g.F.Family.family c.args.routes.now) c.loop-group.group-iterator c.loop-group.at c.loop-group.bytes _ c.in-None.ensures.steps.0
     c.loop-group.invariant.room c.loop-group.invariant.written

@@ -1,5 +1,5 @@
 use Rattle.std.proofs.Common.{sym, subst}
-use Rattle.pim_down.specs.Known.{known_in}
+use Rattle.pim_addr.specs.Routes.{rp_of}
 use Rattle.pim_mirror.specs.Config.{Fresh, fresh_seen}
 use Rattle.pim_mirror.specs.Fits.{Fits}
 use Rattle.pim_replay.proofs.FreshHearings.{fitting, all_short, mirrored, tells_once}
@@ -16,7 +16,7 @@ mirror-requires-clause-short g c =
     let table = c.args.fresh.now.routes.now in
     let asked = c.requires.sent.asked in
     all_short c.args.by.now.budget c.is_writing.ensures.most c.args.messages.now
-    (c.canonical_messages_are_short.ensures family c.args.by.now (known_in family table) asked.form c.args.messages.now c.is_writing.ensures asked.is.normal
+    (c.canonical_messages_are_short.ensures family c.args.by.now (rp_of family table) asked.form c.args.messages.now c.is_writing.ensures asked.is.normal
     (c.asked_stars_have_rps.ensures family table c.args.by.now.upstream c.requires.sent.state asked.form c.is_sound.ensures asked.is) asked.told)
 
 pub returns-clause-mirrored : goal.returns-clause-mirrored

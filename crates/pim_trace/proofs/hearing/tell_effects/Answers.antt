@@ -1,6 +1,6 @@
 use Rattle.std.proofs.Common.{length, sym, subst}
 use Rattle.pim_device.specs.Device.{AppendsFront, AppendsAll}
-use Rattle.pim_down.specs.Known.{known_in}
+use Rattle.pim_addr.specs.Routes.{rp_of}
 use Rattle.pim_router.specs.Packets.{neighbours_on}
 use Rattle.pim_transitions.specs.Named.{transitions_to}
 use Rattle.pim_trace.specs.Heard.{all_ignored, changes_of, as_cause}
@@ -17,7 +17,7 @@ returns-in_default-clause-bytes g c =
     let state = c.args.router.now in
     let ledger = ledger_seen g.F.Family.bytes_of c.args.ledger.now in
     let packet = packet_in g.F.Family.bytes_of c.args.packet.now in
-    let first = all_ignored c.args.packet.now.frame packet.source (known_in g.F.Family.family state.routes) c.args.effects.sets in
+    let first = all_ignored c.args.packet.now.frame packet.source (rp_of g.F.Family.family state.routes) c.args.effects.sets in
     let more = changes_of ledger (as_cause c.args.packet.now.frame packet state) (length (neighbours_on packet.port state).entries) (transitions_to state.machines.records c.args.effects.named) in
     let old = g.T.Teller.contents c.args.device.now in
     let new = g.T.Teller.contents c.tell_ignored.new.device in
@@ -30,7 +30,7 @@ returns-clause-bytes g c =
     let state = c.args.router.now in
     let ledger = ledger_seen g.F.Family.bytes_of c.args.ledger.now in
     let packet = packet_in g.F.Family.bytes_of c.args.packet.now in
-    let first = all_ignored c.args.packet.now.frame packet.source (known_in g.F.Family.family state.routes) c.args.effects.sets in
+    let first = all_ignored c.args.packet.now.frame packet.source (rp_of g.F.Family.family state.routes) c.args.effects.sets in
     let more = changes_of ledger (as_cause c.args.packet.now.frame packet state) (length (neighbours_on packet.port state).entries) (transitions_to state.machines.records c.args.effects.named) in
     let old = g.T.Teller.contents c.args.device.now in
     let between = g.T.Teller.contents c.tell_ignored.new.device in

@@ -1,5 +1,5 @@
 use Rattle.std.proofs.Common.{refl, ◌∙◌}
-use Rattle.pim_down.specs.Known.{known_in}
+use Rattle.pim_addr.specs.Routes.{rp_of}
 use Rattle.pim_trace.specs.Heard.{ignored_in}
 use Rattle.pim_trace.specs.Kept.{ledger_seen}
 use Rattle.pim_trace.proofs.Loops.{item_told, item_begun}
@@ -9,7 +9,7 @@ use Rattle.pim_trace.proofs.ignoring.tell_ignored.Goals as goal
 pub loop-set-preserved : goal.loop-set-preserved
 loop-set-preserved g c =
     let bytes_of = g.F.Family.bytes_of in
-    let says = ignored_in c.args.packet.now.frame (bytes_of c.args.packet.now.source) (known_in g.F.Family.family c.args.router.now.routes) in (
+    let says = ignored_in c.args.packet.now.frame (bytes_of c.args.packet.now.source) (rp_of g.F.Family.family c.args.router.now.routes) in (
       item_told (g.T.Teller.line c.args.teller.now) (ledger_seen bytes_of c.args.ledger.now) c.args.router.now.machines.moment c.args.packet.now.port says _ _ _ _ _ _ _ _ c.loop-set.invariant.0 c.in-Some.ensures.steps
           refl c.in_ok-tell_ignored_in.ensures.bytes,
       c.in_ok-tell_ignored_in.ensures.count ∙ c.loop-set.invariant.1,
@@ -18,7 +18,7 @@ loop-set-preserved g c =
 pub returns-in_err-tell_ignored_in-clause-bytes : goal.returns-in_err-tell_ignored_in-clause-bytes
 returns-in_err-tell_ignored_in-clause-bytes g c =
     let bytes_of = g.F.Family.bytes_of in
-    let says = ignored_in c.args.packet.now.frame (bytes_of c.args.packet.now.source) (known_in g.F.Family.family c.args.router.now.routes) in
+    let says = ignored_in c.args.packet.now.frame (bytes_of c.args.packet.now.source) (rp_of g.F.Family.family c.args.router.now.routes) in
     stopped _ _ c.from_residual.result _ c.from_residual.ensures.0
     (item_begun (g.T.Teller.line c.args.teller.now) (ledger_seen bytes_of c.args.ledger.now) c.args.router.now.machines.moment c.args.packet.now.port says _ _ _ _ _ _ _ _ c.loop-set.invariant.0 c.in-Some.ensures.steps
     refl c.in_err-tell_ignored_in.ensures.bytes)

@@ -1,5 +1,5 @@
 use Rattle.std.proofs.Common.{◌≡◌}
-use Rattle.pim_down.specs.Known.{known_in}
+use Rattle.pim_addr.specs.Routes.{rp_of}
 use Rattle.pim_trace.specs.Heard.{ignored_in}
 use Rattle.pim_trace.specs.Kept.{ledger_seen}
 use Rattle.pim_trace.proofs.Loops.{told_of}
@@ -10,7 +10,7 @@ use Rattle.pim_trace.proofs.ignoring.tell_ignored.Given as goal
 abbrev pub invariant-loop-set : goal.invariant-loop-set
 invariant-loop-set g l =
     let bytes_of = g.F.Family.bytes_of in
-    let says = ignored_in l.packet.frame (bytes_of l.packet.source) (known_in g.F.Family.family l.router.routes) in
+    let says = ignored_in l.packet.frame (bytes_of l.packet.source) (rp_of g.F.Family.family l.router.routes) in
     let told = told_of (g.T.Teller.line l.teller) (ledger_seen bytes_of l.ledger) l.router.machines.moment l.packet.port says in
     IsWriting (g.T.Teller.contents l.fn.device) (g.T.Teller.contents l.device) (told l.set-iterator) (told l.fn.sets)
     × (g.T.Teller.failures l.device ≡ g.T.Teller.failures l.fn.device)

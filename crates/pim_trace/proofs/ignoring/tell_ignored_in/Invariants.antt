@@ -1,5 +1,5 @@
 use Rattle.std.proofs.Common.{◌≡◌}
-use Rattle.pim_down.specs.Known.{known_in}
+use Rattle.pim_addr.specs.Routes.{rp_of}
 use Rattle.pim_trace.specs.Heard.{ignored_entry}
 use Rattle.pim_trace.specs.Kept.{ledger_seen}
 use Rattle.pim_trace.proofs.Loops.{told_of}
@@ -10,7 +10,7 @@ use Rattle.pim_trace.proofs.ignoring.tell_ignored_in.Given as goal
 abbrev pub invariant-loop-entry : goal.invariant-loop-entry
 invariant-loop-entry g l =
     let bytes_of = g.F.Family.bytes_of in
-    let says = ignored_entry l.packet.frame (bytes_of l.packet.source) (known_in g.F.Family.family l.router.routes) (bytes_of l.group) in
+    let says = ignored_entry l.packet.frame (bytes_of l.packet.source) (rp_of g.F.Family.family l.router.routes) (bytes_of l.group) in
     let told = told_of (g.T.Teller.line l.teller) (ledger_seen bytes_of l.ledger) l.ms l.packet.port says in
     IsWriting (g.T.Teller.contents l.fn.device) (g.T.Teller.contents l.device) (told l.entry-iterator) (told l.fn.set.joined)
     × (g.T.Teller.failures l.device ≡ g.T.Teller.failures l.fn.device)

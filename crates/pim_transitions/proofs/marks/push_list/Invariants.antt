@@ -1,11 +1,11 @@
 use Rattle.std.proofs.Common.{◌≡◌, ◌++◌, map}
 use Rattle.pim_down.specs.Hearing.{list_events}
-use Rattle.pim_down.specs.Known.{known_in}
+use Rattle.pim_addr.specs.Routes.{rp_of}
 use Rattle.pim_down.specs.Seen.{event_seen}
 use Rattle.pim_transitions.proofs.marks.push_list.Given as goal
 
 -- the marks so far and the events of the entries that are left are those before and those of all
 abbrev pub invariant-loop-entry : goal.invariant-loop-entry
 invariant-loop-entry g l =
-    map (event_seen g.F.Family.bytes_of) l.marks.items ++ list_events (known_in g.F.Family.family l.routes) l.joins (g.F.Family.bytes_of l.group) l.entry-iterator
-    ≡ map (event_seen g.F.Family.bytes_of) l.fn.marks.items ++ list_events (known_in g.F.Family.family l.routes) l.joins (g.F.Family.bytes_of l.group) l.fn.entries
+    map (event_seen g.F.Family.bytes_of) l.marks.items ++ list_events (rp_of g.F.Family.family l.routes) l.joins (g.F.Family.bytes_of l.group) l.entry-iterator
+    ≡ map (event_seen g.F.Family.bytes_of) l.fn.marks.items ++ list_events (rp_of g.F.Family.family l.routes) l.joins (g.F.Family.bytes_of l.group) l.fn.entries

@@ -1,6 +1,6 @@
 use Rattle.std.proofs.Common.{flat_map, ap}
 use Rattle.pim_down.specs.Hearing.{set_events, events_of}
-use Rattle.pim_down.specs.Known.{known_in}
+use Rattle.pim_addr.specs.Routes.{rp_of}
 use Rattle.pim_transitions.proofs.StarSets.{marked_more, all_marked}
 use Rattle.pim_transitions.proofs.stars.star_marks.Goals as goal
 
@@ -14,6 +14,6 @@ loop-set-preserved g c =
 
 pub returns : goal.returns
 returns g c =
-    let known = known_in g.F.Family.family c.args.routes.now in
+    let known = rp_of g.F.Family.family c.args.routes.now in
     all_marked c.args.port c.args.ports.now.records (events_of known c.args.message.now) _ _ _
     (ap (flat_map (set_events known)) c.in-None.ensures.steps.0) c.loop-set.invariant

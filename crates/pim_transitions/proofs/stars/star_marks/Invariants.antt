@@ -1,6 +1,6 @@
 use Rattle.std.proofs.Common.{map, flat_map}
 use Rattle.pim_down.specs.Hearing.{set_events, events_of}
-use Rattle.pim_down.specs.Known.{known_in}
+use Rattle.pim_addr.specs.Routes.{rp_of}
 use Rattle.pim_down.specs.Seen.{event_seen}
 use Rattle.pim_transitions.proofs.StarSets.{AreMarkedTo}
 use Rattle.pim_transitions.proofs.stars.star_marks.Given as goal
@@ -9,6 +9,6 @@ use Rattle.pim_transitions.proofs.stars.star_marks.Given as goal
 abbrev pub invariant-loop-set : goal.invariant-loop-set
 invariant-loop-set g l =
     let bytes_of = g.F.Family.bytes_of in
-    let known = known_in g.F.Family.family l.routes in
+    let known = rp_of g.F.Family.family l.routes in
     AreMarkedTo l.port l.ports.records (events_of known l.message) (flat_map (set_events known) l.set-iterator)
     (map (event_seen bytes_of) l.marks.items) (map bytes_of l.walked.items)

@@ -1,4 +1,4 @@
-use Rattle.pim_down.proofs.Words.{◌≡◌, map, length, arith, length-map, events_of, known_in, start_seen, records_seen, event_seen}
+use Rattle.pim_down.proofs.Words.{◌≡◌, map, length, arith, length-map, events_of, rp_of, start_seen, records_seen, event_seen}
 use Rattle.pim_down.proofs.Act.{IsAscending-act_all}
 use Rattle.pim_down.proofs.Ending.{over_heard}
 use Rattle.pim_down.proofs.Events.{room_for}
@@ -26,7 +26,7 @@ pub hear_sets-requires-clause-room : goal.hear_sets-requires-clause-room
 hear_sets-requires-clause-room g c =
     let held = records_seen g.F.Family.bytes_of c.args.records.now.items in
     let long : length held ≡ length c.args.records.now.items = simp length-map in
-    room_for c.args.port (start_seen c.args.start) c.args.records.now.capacity (events_of (known_in g.F.Family.family c.args.routes.now) c.args.message.now) held c.requires.ascending (omega (arith, c.requires.room, long))
+    room_for c.args.port (start_seen c.args.start) c.args.records.now.capacity (events_of (rp_of g.F.Family.family c.args.routes.now) c.args.message.now) held c.requires.ascending (omega (arith, c.requires.room, long))
 
 pub end_sets-requires-clause-ascending : goal.end_sets-requires-clause-ascending
 end_sets-requires-clause-ascending g c =

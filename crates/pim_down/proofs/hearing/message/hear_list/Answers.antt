@@ -1,4 +1,4 @@
-use Rattle.pim_down.proofs.Words.{◌∙◌, List, sym, ap, subst, arith, entry_seen, Event, list_events, act_all, act, known_in, HasRoom, start_seen, records_seen, event_seen}
+use Rattle.pim_down.proofs.Words.{◌∙◌, List, sym, ap, subst, arith, entry_seen, Event, list_events, act_all, act, rp_of, HasRoom, start_seen, records_seen, event_seen}
 use Rattle.pim_down.proofs.Act.{IsAscending-act}
 use Rattle.pim_down.proofs.Events.{events_one, room_at, left_at, nothing_left, room_grows}
 use Rattle.pim_down.proofs.Refreshed.{Follows, front_heard, no_event}
@@ -7,7 +7,7 @@ use Rattle.pim_down.proofs.hearing.message.hear_list.Goals as goal
 pub act-requires-clause-ascending : goal.act-requires-clause-ascending
 act-requires-clause-ascending g c =
     let bytes_of = g.F.Family.bytes_of in
-    let known = known_in g.F.Family.family c.args.routes.now in
+    let known = rp_of g.F.Family.family c.args.routes.now in
     let group = bytes_of c.args.group in
     let start = start_seen c.args.start in
     let here = c.loop-entry.invariant in
@@ -20,7 +20,7 @@ act-requires-clause-ascending g c =
 pub act-requires-clause-room : goal.act-requires-clause-room
 act-requires-clause-room g c =
     let bytes_of = g.F.Family.bytes_of in
-    let known = known_in g.F.Family.family c.args.routes.now in
+    let known = rp_of g.F.Family.family c.args.routes.now in
     let group = bytes_of c.args.group in
     let start = start_seen c.args.start in
     let here = c.loop-entry.invariant in
@@ -37,7 +37,7 @@ act-requires-clause-room g c =
 pub loop-entry-preserved-in-Some-event_of : goal.loop-entry-preserved-in-Some-event_of
 loop-entry-preserved-in-Some-event_of g c =
     let bytes_of = g.F.Family.bytes_of in
-    let known = known_in g.F.Family.family c.args.routes.now in
+    let known = rp_of g.F.Family.family c.args.routes.now in
     let group = bytes_of c.args.group in
     let start = start_seen c.args.start in
     let here = c.loop-entry.invariant in
@@ -61,7 +61,7 @@ loop-entry-preserved-in-Some-event_of g c =
 pub loop-entry-preserved : goal.loop-entry-preserved
 loop-entry-preserved g c =
     let bytes_of = g.F.Family.bytes_of in
-    let known = known_in g.F.Family.family c.args.routes.now in
+    let known = rp_of g.F.Family.family c.args.routes.now in
     let group = bytes_of c.args.group in
     let start = start_seen c.args.start in
     let here = c.loop-entry.invariant in
@@ -80,7 +80,7 @@ loop-entry-preserved g c =
 pub returns-in_default-clause-records : goal.returns-in_default-clause-records
 returns-in_default-clause-records g c =
     let bytes_of = g.F.Family.bytes_of in
-    let known = known_in g.F.Family.family c.args.routes.now in
+    let known = rp_of g.F.Family.family c.args.routes.now in
     let group = bytes_of c.args.group in
     let start = start_seen c.args.start in
     let here = c.loop-entry.invariant in

@@ -1,4 +1,4 @@
-use Rattle.pim_down.proofs.Words.{◌∙◌, true, false, refl, sym, ap, list_events, act_all, known_in, start_seen, records_seen}
+use Rattle.pim_down.proofs.Words.{◌∙◌, true, false, refl, sym, ap, list_events, act_all, rp_of, start_seen, records_seen}
 use Rattle.pim_down.proofs.Act.{IsAscending-act_all}
 use Rattle.pim_down.proofs.Events.{sets_events, set_room, set_left, no_set_left, room_grows}
 use Rattle.pim_down.proofs.hearing.message.hear_sets.Goals as goal
@@ -14,7 +14,7 @@ loop-set-init g c =
 
 pub hear_list-requires-clause-room : goal.hear_list-requires-clause-room
 hear_list-requires-clause-room g c =
-    let space = set_room c.args.port (start_seen c.args.start) c.loop-set.records.capacity (known_in g.F.Family.family c.args.routes.now) c.in-Some.set c.loop-set.set-iterator c.next.new.self (records_seen g.F.Family.bytes_of c.loop-set.records.items) c.in-Some.ensures.steps c.loop-set.invariant.room in
+    let space = set_room c.args.port (start_seen c.args.start) c.loop-set.records.capacity (rp_of g.F.Family.family c.args.routes.now) c.in-Some.set c.loop-set.set-iterator c.next.new.self (records_seen g.F.Family.bytes_of c.loop-set.records.items) c.in-Some.ensures.steps c.loop-set.invariant.room in
     rw (c.group-group.ensures, c.joined-joined.ensures) space.0
 
 pub hear_list-requires-in-loop-set-clause-ascending : goal.hear_list-requires-in-loop-set-clause-ascending
@@ -23,7 +23,7 @@ hear_list-requires-in-loop-set-clause-ascending g c =
 
 pub hear_list-requires-in-loop-set-clause-room : goal.hear_list-requires-in-loop-set-clause-room
 hear_list-requires-in-loop-set-clause-room g c =
-    let known = known_in g.F.Family.family c.args.routes.now in
+    let known = rp_of g.F.Family.family c.args.routes.now in
     let set = c.in-Some.set in
     let seen = records_seen g.F.Family.bytes_of c.loop-set.records.items in
     let space = set_room c.args.port (start_seen c.args.start) c.loop-set.records.capacity known set c.loop-set.set-iterator c.next.new.self seen c.in-Some.ensures.steps c.loop-set.invariant.room in
@@ -33,7 +33,7 @@ hear_list-requires-in-loop-set-clause-room g c =
 
 pub loop-set-preserved : goal.loop-set-preserved
 loop-set-preserved g c =
-    let known = known_in g.F.Family.family c.args.routes.now in
+    let known = rp_of g.F.Family.family c.args.routes.now in
     let set = c.in-Some.set in
     let rest = sets_events known c.next.new.self in
     let seen = records_seen g.F.Family.bytes_of c.loop-set.records.items in
@@ -55,4 +55,4 @@ loop-set-preserved g c =
 
 pub returns : goal.returns
 returns g c =
-    sym (no_set_left c.args.port (start_seen c.args.start) (known_in g.F.Family.family c.args.routes.now) c.loop-set.set-iterator (records_seen g.F.Family.bytes_of c.loop-set.records.items) c.in-None.ensures.steps.0) ∙ c.loop-set.invariant.left
+    sym (no_set_left c.args.port (start_seen c.args.start) (rp_of g.F.Family.family c.args.routes.now) c.loop-set.set-iterator (records_seen g.F.Family.bytes_of c.loop-set.records.items) c.in-None.ensures.steps.0) ∙ c.loop-set.invariant.left

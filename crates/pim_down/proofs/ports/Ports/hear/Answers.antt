@@ -1,4 +1,4 @@
-use Rattle.pim_down.proofs.Words.{◌≡◌, ◌≢◌, ◌<◌, ℕ, List, refl, sym, ap, subst, arith, on_ok_weaker, Key, machine_at, Downstream, downstream_at, known_in, start_seen, records_seen, events_of}
+use Rattle.pim_down.proofs.Words.{◌≡◌, ◌≢◌, ◌<◌, ℕ, List, refl, sym, ap, subst, arith, on_ok_weaker, Key, machine_at, Downstream, downstream_at, rp_of, start_seen, records_seen, events_of}
 use Rattle.pim_down.proofs.Late.{late_heard}
 use Rattle.pim_down.proofs.Kept.{ascending_back, settled_back}
 use Rattle.pim_down.proofs.Origin.{count_on_later}
@@ -31,7 +31,7 @@ pub invariant_of-self : goal.invariant_of-self
 invariant_of-self g c =
     let p = c.self.inside in
     let bytes_of = g.F.Family.bytes_of in
-    let known = known_in g.F.Family.family c.args.routes.now in
+    let known = rp_of g.F.Family.family c.args.routes.now in
     let message = c.args.message.now in
     let old = downstream_at bytes_of p.ports p.limit p.moment p.records.items in
     let new = downstream_at bytes_of p.ports p.limit p.moment c.hear_message.new.records.items in
@@ -45,23 +45,23 @@ pub returns-clause-ok : goal.returns-clause-ok
 returns-clause-ok g c =
     let p = c.self.inside in
     let starts = rw c.holdtime.ensures at c.start_at-start.ensures.starts in
-    on_ok_weaker c.hear_message.result (heard_is g.F.Family.bytes_of p.ports p.limit p.moment c.args.port c.args.message.now (known_in g.F.Family.family c.args.routes.now) c.args.timing (start_seen c.start_at-start.result) p.records.items c.hear_message.new.records.items c.args.self.now starts c.self.view_is) c.hear_message.ensures.ok
+    on_ok_weaker c.hear_message.result (heard_is g.F.Family.bytes_of p.ports p.limit p.moment c.args.port c.args.message.now (rp_of g.F.Family.family c.args.routes.now) c.args.timing (start_seen c.start_at-start.result) p.records.items c.hear_message.new.records.items c.args.self.now starts c.self.view_is) c.hear_message.ensures.ok
 
 pub returns-clause-room : goal.returns-clause-room
 returns-clause-room g c =
     let p = c.self.inside in
-    within_is g.F.Family.bytes_of p.ports p.limit p.moment c.args.port c.args.message.now (known_in g.F.Family.family c.args.routes.now) c.args.timing c.hear_message.result p.records.items c.args.self.now c.self.view_is c.hear_message.ensures.room
+    within_is g.F.Family.bytes_of p.ports p.limit p.moment c.args.port c.args.message.now (rp_of g.F.Family.family c.args.routes.now) c.args.timing c.hear_message.result p.records.items c.args.self.now c.self.view_is c.hear_message.ensures.room
 
 pub returns-clause-memory : goal.returns-clause-memory
 returns-clause-memory g c =
     let p = c.self.inside in
-    memory_is g.F.Family.bytes_of p.ports p.limit p.moment c.args.port c.args.message.now (known_in g.F.Family.family c.args.routes.now) c.args.timing c.hear_message.result p.records.items c.args.self.now c.self.view_is c.hear_message.ensures.memory
+    memory_is g.F.Family.bytes_of p.ports p.limit p.moment c.args.port c.args.message.now (rp_of g.F.Family.family c.args.routes.now) c.args.timing c.hear_message.result p.records.items c.args.self.now c.self.view_is c.hear_message.ensures.memory
 
 pub returns-clause-others : goal.returns-clause-others
 returns-clause-others g c =
     let p = c.self.inside in
     let bytes_of = g.F.Family.bytes_of in
-    let known = known_in g.F.Family.family c.args.routes.now in
+    let known = rp_of g.F.Family.family c.args.routes.now in
     let message = c.args.message.now in
     let old = downstream_at bytes_of p.ports p.limit p.moment p.records.items in
     let new = downstream_at bytes_of p.ports p.limit p.moment c.hear_message.new.records.items in
