@@ -6,6 +6,7 @@
 It checks
 - that each crate has the layout of `rt fmt`,
 - that each must-fail edit fits its file,
+- that the modules of definitions and proofs exist that `use` lines name,
 - that each bench compiles,
 - if a reader of captures differs from BASE, that random captures are read as a slow reader reads them,
 - that documents keep their length, and that the files which they name exist,
@@ -68,6 +69,7 @@ WITHIN = {
     "fired": ("cause", ["frame", "from", "ms"]),
     "end": ("skipped", ["cut", "not-ip", "bad-header", "not-pim", "fragment", "family"]),
 }
+USED = re.compile(r"\buse Rattle\.(\w+)\.(specs|proofs)\.([\w.]+?)(?:\.\{| as |;|$)", re.MULTILINE)
 NAMED = re.compile(r"(?<![\w./~@-])(?:[\w.*-]+/)+[\w.*-]*")
 FOLDERS = ("benches/", "crates/", "docs/", "examples/", "tools/")
 
@@ -84,6 +86,21 @@ def edits():
     """The must-fail edits that don't fit their file."""
     ran = subprocess.run([f"{TOP}/tools/edits_fit.py"], capture_output=True, text=True)
     return ran.stdout.splitlines()[:-1] if ran.returncode else []
+
+
+def missing_modules(crate):
+    """The `use` lines of a crate that name a module of our crates that isn't there."""
+    wrong = []
+    for path in glob.glob(f"{TOP}/crates/{crate}/*/**/*.*t", recursive=True):
+        if "/out/" in path or not path.endswith((".rt", ".antt")):
+            continue
+        with open(path, encoding="utf-8") as file:
+            named = USED.findall(file.read())
+        files = [f"{TOP}/crates/{owner}/{kind}/{module.replace('.', '/')}" for owner, kind, module in named
+                 if owner in crates() and not module.startswith("declared.") and not module.endswith((".Goals", ".Given"))]
+        wrong += [f"{os.path.relpath(path, TOP)}: no {os.path.relpath(it, TOP)}.antt" for it in files
+                  if not any(map(os.path.exists, (f"{it}.antt", f"{it}/Lib.antt", f"{os.path.dirname(it)}.antt")))]
+    return wrong
 
 
 def is_there(path):
@@ -215,7 +232,8 @@ def main():
     with tempfile.TemporaryDirectory() as folder, concurrent.futures.ThreadPoolExecutor(os.cpu_count()) as pool:
         parts = [pool.submit(tests, it) for it in tested_crates(base)]
         parts += [pool.submit(benches, folder), pool.submit(captures, folder, base)]
-        parts += [pool.submit(layout, it) for it in crates()] + [pool.submit(edits), pool.submit(json_lines)]
+        parts += [pool.submit(check, it) for it in crates() for check in (layout, missing_modules)]
+        parts += [pool.submit(edits), pool.submit(json_lines)]
         parts += [pool.submit(document, it) for it in WORDS]
         for part in concurrent.futures.as_completed(parts):
             for line in part.result():
