@@ -31,13 +31,13 @@ def lines(part, data):
 
 def case(name, command, kind):
     """The case of a command with the words of the replay, if there is a file of this kind with its output.
-    Only a replay reads classic captures alone, and so has an error where a file is cut."""
+    Where a file is cut, a replay has an error, since it reads classic captures alone, and a trace a warning."""
     output = content(name, kind)
     if not output:
         return ""
     words = " ".join(command + content(name, "words").decode().split()[1:])
-    errors = content(name, "errors") if kind == "report" else b""
-    status = "status 2\n" if errors else ""
+    errors = content(name, "errors" if kind == "report" else "warnings")
+    status = "status 2\n" if errors and kind == "report" else ""
     return f"\nwords {words}\n" + lines("output", output) + lines("errors", errors) + status
 
 
