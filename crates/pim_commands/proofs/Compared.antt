@@ -5,7 +5,7 @@ use Rattle.pim_form.specs.Messages.{Writing}
 use Rattle.pim_form.specs.Writer.{has_bad_address}
 use Rattle.pim_merge.specs.declared.end.End.{End}
 use Rattle.pim_merge.specs.Next.{MergeState}
-use Rattle.pim_replay.specs.declared.replay.ReplayFault.TheVariants as of_replay
+use Rattle.pim_run.specs.declared.fault.RunFault.TheVariants as of_replay
 use Rattle.pim_replay.specs.declared.same.SameFault.{SameFault}
 use Rattle.pim_replay.specs.declared.same.SameFault.TheVariants as of_same
 use Rattle.pim_replay.specs.Same.{Compares, failures_of_answer}

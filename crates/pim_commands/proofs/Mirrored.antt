@@ -7,7 +7,7 @@ use Rattle.pim_merge.specs.declared.end.End.{End}
 use Rattle.pim_merge.specs.Next.{MergeState}
 use Rattle.pim_replay.specs.declared.mirror_text.MirrorTextFault.{MirrorTextFault}
 use Rattle.pim_replay.specs.declared.mirror_text.MirrorTextFault.TheVariants as of_mirror
-use Rattle.pim_replay.specs.declared.replay.ReplayFault.TheVariants as of_replay
+use Rattle.pim_run.specs.declared.fault.RunFault.TheVariants as of_replay
 use Rattle.pim_replay.specs.MirrorText.{TellsMirror, failures_of_mirror}
 use Rattle.pim_router.specs.Config.{config_faults}
 use Rattle.pim_router.specs.State.{RouterState, Setup, new_router}

@@ -8,9 +8,9 @@ use Rattle.pim_capture.specs.Next.{latest_moment}
 use Rattle.pim_merge.specs.declared.end.End.{End}
 use Rattle.pim_merge.specs.declared.merge.MergeFault.{MergeFault}
 use Rattle.pim_merge.specs.Next.{MergeState}
-use Rattle.pim_replay.specs.declared.replay.ReplayFault.{ReplayFault}
-use Rattle.pim_replay.specs.declared.replay.ReplayFault.TheVariants as of_replay
-use Rattle.pim_replay.specs.Replay.{failures_of_device}
+use Rattle.pim_run.specs.declared.fault.RunFault.{RunFault}
+use Rattle.pim_run.specs.declared.fault.RunFault.TheVariants as of_replay
+use Rattle.pim_run.specs.Faults.{failures_of_device}
 use Rattle.pim_replay.specs.Report.{Replays}
 use Rattle.pim_router.specs.declared.config.ConfigFault.{ConfigFault}
 use Rattle.pim_router.specs.declared.config.ConfigFault.TheVariants as of_config
@@ -51,7 +51,7 @@ pub unmade : {A : Type 0} (ports : List (PortFiles A)) (family : AddressFamily) 
 unmade ports family via end merge setup wanted written fault same is = inl (subst (λ (s : Setup). IsUnmade (config_faults family s) fault) same is, refl, refl)
 
 pub replayed : {A : Type 0} (ports : List (PortFiles A)) (family : AddressFamily) (via : Bool) (end : End) (merge merge' : MergeState) (setup wanted : Setup) (router after : RouterState) (old new : Option (List ℕ))
-    (told : Result ℕ ReplayFault) (result : Result ℕ Fault) → setup ≡ wanted → router ≡ new_router setup → Replays family via end merge merge' router after old new told
+    (told : Result ℕ RunFault) (result : Result ℕ Fault) → setup ≡ wanted → router ≡ new_router setup → Replays family via end merge merge' router after old new told
     → result ≡ answer_of ports told → ReplaysNew ports family via end merge merge' wanted old new result
 replayed ports family via end merge merge' setup wanted router after old new (Ok status) result same made is answer =
     rw (answer) (record {
@@ -81,7 +81,7 @@ pub capture_is_read : {A : Type 0} (before : ℕ) (ports : List (PortFiles A)) (
 capture_is_read before ports told = told_is_read before (file_at ports told.capture told.file) told.«record» (cause_of told.fault)
 
 -- the device's failures are those that are told
-pub failures_are_told : {A : Type 0} (before : ℕ) (ports : List (PortFiles A)) (told : Result ℕ ReplayFault) → failures_of_device before told ≡ write_failures_after before (answer_of ports told)
+pub failures_are_told : {A : Type 0} (before : ℕ) (ports : List (PortFiles A)) (told : Result ℕ RunFault) → failures_of_device before told ≡ write_failures_after before (answer_of ports told)
 failures_are_told before ports (Ok status) = refl
 failures_are_told before ports (Err (of_replay.Capture told)) = sym (capture_is_read before ports told)
 failures_are_told before ports (Err of_replay.Output) = refl

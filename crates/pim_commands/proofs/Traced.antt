@@ -10,7 +10,7 @@ use Rattle.pim_events.specs.Filter.{filter_seen, if_shown}
 use Rattle.pim_merge.specs.declared.end.End.{End}
 use Rattle.pim_merge.specs.Next.{MergeState}
 use Rattle.pim_router.specs.State.{Setup, RouterState, new_router}
-use Rattle.pim_trace.specs.declared.trace.TraceFault.{TraceFault}
+use Rattle.pim_run.specs.declared.fault.RunFault.{RunFault}
 use Rattle.pim_files.specs.Captures.{PortFiles}
 use Rattle.pim_words.specs.declared.task.Tracing.{Tracing}
 use Rattle.pim_check.specs.declared.fault.Fault.{Fault}
@@ -31,7 +31,7 @@ module _ {A : Type 0} (family : AddressFamily) (bytes_of : A → List ℕ) (name
 
 -- a new router was traced
 pub traced : {A : Type 0} (ports : List (PortFiles A)) (family : AddressFamily) (line : Occurrence → List ℕ) (end : End) (merge merge' : MergeState) (setup wanted : Setup) (router after : RouterState) (old new : Option (List ℕ))
-    (told : Result (Unit {0}) TraceFault) (result : Result ℕ Fault) → setup ≡ wanted → router ≡ new_router setup → TracesBy family line end merge merge' router after old new told
+    (told : Result (Unit {0}) RunFault) (result : Result ℕ Fault) → setup ≡ wanted → router ≡ new_router setup → TracesBy family line end merge merge' router after old new told
     → result ≡ tracing_answer ports told → TracesNew ports family line end merge merge' wanted old new result
 traced ports family line end merge merge' setup wanted router after old new (Ok done) result same made is answer =
     subst (λ (r : Result ℕ Fault). TracesNew ports family line end merge merge' wanted old new r) (sym answer)

@@ -6,8 +6,8 @@ use Rattle.pim_files.specs.Captures.{PortFiles}
 use Rattle.pim_merge.specs.declared.end.End.{End}
 use Rattle.pim_merge.specs.declared.end.End.TheVariants.{After, At}
 use Rattle.pim_merge.specs.Next.{MergeState}
-use Rattle.pim_replay.specs.declared.replay.ReplayFault.{ReplayFault}
-use Rattle.pim_replay.specs.declared.replay.ReplayFault.TheVariants as of_replay
+use Rattle.pim_run.specs.declared.fault.RunFault.{RunFault}
+use Rattle.pim_run.specs.declared.fault.RunFault.TheVariants as of_replay
 use Rattle.pim_replay.specs.Report.{Replays}
 use Rattle.pim_router.specs.declared.config.ConfigFault.{ConfigFault}
 use Rattle.pim_router.specs.declared.config.ConfigFault.TheVariants as of_config
@@ -48,13 +48,13 @@ config_fault of_config.Memory = Memory
 config_fault other = config_told cause.Ports
 
 -- The program's fault for a fault of the replay of a router with these ports.
-abbrev pub replay_fault : {A : Type 0} → List (PortFiles A) → ReplayFault → Fault
+abbrev pub replay_fault : {A : Type 0} → List (PortFiles A) → RunFault → Fault
 replay_fault ports (of_replay.Capture told) = port_fault ports told
 replay_fault ports of_replay.Output = Output
 replay_fault ports of_replay.Memory = Memory
 
 -- The program's result for a result of that replay.
-abbrev pub answer_of : {A : Type 0} → List (PortFiles A) → Result ℕ ReplayFault → Result ℕ Fault
+abbrev pub answer_of : {A : Type 0} → List (PortFiles A) → Result ℕ RunFault → Result ℕ Fault
 answer_of ports (Ok status) = Ok status
 answer_of ports (Err fault) = Err (replay_fault ports fault)
 
@@ -76,7 +76,7 @@ IsUnmade (first ∷ others) fault = fault ≡ config_fault first
 pub record IsReplayed {A : Type 0} (ports : List (PortFiles A)) (family : AddressFamily) (tells_via : Bool) (end : End) (merge merge' : MergeState)
     (setup : Setup) (old new : Option (List ℕ)) (result : Result ℕ Fault) : Type 0 where
   pub after : RouterState
-  pub told : Result ℕ ReplayFault
+  pub told : Result ℕ RunFault
   pub replays : Replays family tells_via end merge merge' (new_router setup) after old new told
   pub answer : result ≡ answer_of ports told
 

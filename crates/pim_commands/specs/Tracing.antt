@@ -14,8 +14,8 @@ use Rattle.pim_merge.specs.declared.end.End.{End}
 use Rattle.pim_merge.specs.Next.{MergeState}
 use Rattle.pim_router.specs.Config.{config_faults}
 use Rattle.pim_router.specs.State.{Setup, RouterState, new_router}
-use Rattle.pim_trace.specs.declared.trace.TraceFault.{TraceFault}
-use Rattle.pim_trace.specs.declared.trace.TraceFault.TheVariants as of_trace
+use Rattle.pim_run.specs.declared.fault.RunFault.{RunFault}
+use Rattle.pim_run.specs.declared.fault.RunFault.TheVariants as of_trace
 use Rattle.pim_trace.specs.Trace.{Traces}
 use Rattle.pim_files.specs.Captures.{PortFiles}
 use Rattle.pim_words.specs.declared.task.TimeForm.{TimeForm}
@@ -62,18 +62,18 @@ line_of family bytes_of names tracing event = if_shown (selection_of bytes_of tr
 
 -- What the engine returns and writes for a router, with this line of each event.
 abbrev pub TracesBy : AddressFamily → (Occurrence → List ℕ) → End → MergeState → MergeState → RouterState →
-    RouterState → Option (List ℕ) → Option (List ℕ) → Result (Unit {0}) TraceFault → Type 0
+    RouterState → Option (List ℕ) → Option (List ℕ) → Result (Unit {0}) RunFault → Type 0
 TracesBy family line end merge merge' state after old new told =
     Traces line family end merge merge' state after old new told
 
 -- The program's fault for a fault of the trace of a router with these ports.
-abbrev pub trace_fault : {A : Type 0} → List (PortFiles A) → TraceFault → Fault
+abbrev pub trace_fault : {A : Type 0} → List (PortFiles A) → RunFault → Fault
 trace_fault ports (of_trace.Capture told) = port_fault ports told
 trace_fault ports of_trace.Output = Output
 trace_fault ports of_trace.Memory = Memory
 
 -- The program's result for a result of that trace.
-abbrev pub tracing_answer : {A : Type 0} → List (PortFiles A) → Result (Unit {0}) TraceFault → Result ℕ Fault
+abbrev pub tracing_answer : {A : Type 0} → List (PortFiles A) → Result (Unit {0}) RunFault → Result ℕ Fault
 tracing_answer ports (Ok done) = Ok 0
 tracing_answer ports (Err fault) = Err (trace_fault ports fault)
 
@@ -81,7 +81,7 @@ tracing_answer ports (Err fault) = Err (trace_fault ports fault)
 pub record IsTracedNew {A : Type 0} (ports : List (PortFiles A)) (family : AddressFamily) (line : Occurrence → List ℕ)
     (end : End) (merge merge' : MergeState) (setup : Setup) (old new : Option (List ℕ)) (result : Result ℕ Fault) : Type 0 where
   pub after : RouterState
-  pub told : Result (Unit {0}) TraceFault
+  pub told : Result (Unit {0}) RunFault
   pub traces : TracesBy family line end merge merge' (new_router setup) after old new told
   pub answer : result ≡ tracing_answer ports told
 

@@ -25,7 +25,8 @@ use pim_addr::{Drain, Family, Feed, Routes};
 use pim_check::Fault;
 use pim_files::Opener;
 use pim_merge::{End, Merge};
-use pim_replay::{ReplayFault, replay_into};
+use pim_replay::replay_into;
+use pim_run::RunFault;
 use pim_router::{Config, ConfigFault, PortConfig, Router};
 use pim_words::{Captures, ConfigCause, Port, Side};
 use std::alloc::{AllocError, Global};
@@ -91,21 +92,21 @@ fn config_fault(fault: ConfigFault) -> Fault<'static>
 pub fn replay_fault<'a, A: Copy>(
     captures: &Captures<'a, A>,
     side: Option<Side>,
-    fault: ReplayFault,
+    fault: RunFault,
 ) -> Fault<'a>
     ensures { result ≡ replay_fault (ports_of side (port_files captures.now)) fault }
 {
     match fault {
-        ReplayFault::Capture(told) => port_fault(captures, side, told),
-        ReplayFault::Output => Fault::Output,
-        ReplayFault::Memory => Fault::Memory,
+        RunFault::Capture(told) => port_fault(captures, side, told),
+        RunFault::Output => Fault::Output,
+        RunFault::Memory => Fault::Memory,
     }
 }
 
 /// The program's result for a result of a replay.
 fn answer_of<'a, A: Copy>(
     captures: &Captures<'a, A>,
-    told: Result<u8, ReplayFault>,
+    told: Result<u8, RunFault>,
 ) -> Result<u8, Fault<'a>>
     ensures { result ≡ answer_of (port_files captures.now) told }
 {

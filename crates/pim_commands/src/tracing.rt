@@ -29,7 +29,8 @@ use pim_files::Opener;
 use pim_lines::Name;
 use pim_merge::Merge;
 use pim_router::Router;
-use pim_trace::{TraceFault, trace_into};
+use pim_run::RunFault;
+use pim_trace::trace_into;
 use pim_words::{Captures, TimeForm, Tracing};
 use std::alloc::{AllocError, Global};
 
@@ -86,20 +87,20 @@ fn filter_of<'t, A>(tracing: &'t Tracing<'_, A>) -> Filter<'t, A>
 }
 
 /// The program's fault for a fault of a trace.
-fn trace_fault<'a, A: Copy>(captures: &Captures<'a, A>, fault: TraceFault) -> Fault<'a>
+fn trace_fault<'a, A: Copy>(captures: &Captures<'a, A>, fault: RunFault) -> Fault<'a>
     ensures { result ≡ trace_fault (port_files captures.now) fault }
 {
     match fault {
-        TraceFault::Capture(told) => port_fault(captures, None, told),
-        TraceFault::Output => Fault::Output,
-        TraceFault::Memory => Fault::Memory,
+        RunFault::Capture(told) => port_fault(captures, None, told),
+        RunFault::Output => Fault::Output,
+        RunFault::Memory => Fault::Memory,
     }
 }
 
 /// The program's result for a result of a trace.
 fn tracing_answer<'a, A: Copy>(
     captures: &Captures<'a, A>,
-    told: Result<(), TraceFault>,
+    told: Result<(), RunFault>,
 ) -> Result<u8, Fault<'a>>
     ensures { result ≡ tracing_answer (port_files captures.now) told }
 {
@@ -117,7 +118,7 @@ fn trace_by<F: Family, R: Feed + Drop, W: Drain>(
     merge: &mut Merge<R>,
     router: &mut Router<'_, F>,
     writer: &mut W,
-) -> Result<(), TraceFault>
+) -> Result<(), RunFault>
     requires after { IsBounded asked.0.now }
     requires ports { length merge.old.lanes ≡ length router.old.ports }
     requires moment { router.old.machines.moment ≤ latest_moment }

@@ -23,8 +23,8 @@ use Rattle.pim_merge.specs.Next.{MergeState}
 use Rattle.pim_merge.specs.Run.{IsTallied}
 use Rattle.pim_replay.specs.declared.mirror_text.MirrorTextFault.{MirrorTextFault}
 use Rattle.pim_replay.specs.declared.mirror_text.MirrorTextFault.TheVariants.{Replay, Second, TooBig, Full}
-use Rattle.pim_replay.specs.declared.replay.ReplayFault.{ReplayFault}
-use Rattle.pim_replay.specs.declared.replay.ReplayFault.TheVariants.{Capture, Output, Memory}
+use Rattle.pim_run.specs.declared.fault.RunFault.{RunFault}
+use Rattle.pim_run.specs.declared.fault.RunFault.TheVariants.{Capture, Output, Memory}
 use Rattle.pim_replay.specs.ChangeHearing.{AreTold, MovedAgain}
 use Rattle.pim_replay.specs.ChangeText.{IsChangeBetween, TellsBetween, TellsChange, TellsMove}
 use Rattle.pim_report.specs.MessageText.{messages_text}
@@ -95,7 +95,7 @@ module _ (family : AddressFamily) (table : RouteTable) (writing : Writing) (limi
 
 -- the first replay stopped, so nothing of the second router was taken
 pub first_stopped : (F A N : Type 0) (bytes_of : A → List ℕ) (family : AddressFamily) (end : End) (writing : Writing) (limit : ℕ) (merge merge' : MergeState) (state after : RouterState) (other : MergeState) (state_of : RouterState)
-    (fault : ReplayFault) (old : Option (List ℕ)) → RunsQuietly family end merge merge' state after {A = Unit {0}} (Err fault)
+    (fault : RunFault) (old : Option (List ℕ)) → RunsQuietly family end merge merge' state after {A = Unit {0}} (Err fault)
     → TellsChange family end writing limit merge merge' state after other other state_of state_of {F = F} {N = N} bytes_of old old (Err (Replay fault))
 first_stopped F A N bytes_of family end writing limit merge merge' state after other state_of (Capture told) old stops = (stops, refl, keeps_same old)
 first_stopped F A N bytes_of family end writing limit merge merge' state after other state_of Output old stops = absurd stops

@@ -1,4 +1,4 @@
--- The end of a replay: the time after the last turn, and the state's text.
+-- The end of a replay: what it returns, and the state's text.
 use Rattle.std.proofs.Common.{◌≡◌, ◌∙◌, ℕ, Bool, List, [], ◌++◌, Option, None, Some, Ok, Err, refl, sym, ap, subst, arith, inl, inr}
 use Rattle.std.specs.Io.KnownBytes.{Appends}
 use Rattle.std.proofs.KnownBytes.{Appends-trans}
@@ -6,23 +6,22 @@ use Rattle.pim_addr.specs.declared.family.AddressFamily.{AddressFamily}
 use Rattle.pim_device.specs.Device.{AppendsFront}
 use Rattle.pim_merge.specs.declared.end.End.{End}
 use Rattle.pim_merge.specs.Next.{MergeState}
-use Rattle.pim_merge.specs.Run.{CountsAll, IsTallied}
-use Rattle.pim_merge.specs.Ends.{end_moment, clock_of, Takes}
+use Rattle.pim_merge.specs.Run.{IsTallied}
+use Rattle.pim_merge.specs.Ends.{Takes}
 use Rattle.pim_merge.specs.Tally.{tallies_after}
 use Rattle.pim_router.specs.State.{RouterState}
-use Rattle.pim_replay.specs.declared.replay.ReplayFault.{ReplayFault}
-use Rattle.pim_replay.specs.declared.replay.ReplayFault.TheVariants.{Capture, Output, Memory}
+use Rattle.pim_run.specs.declared.fault.RunFault.{RunFault}
+use Rattle.pim_run.specs.declared.fault.RunFault.TheVariants.{Capture, Output, Memory}
 use Rattle.pim_report.specs.declared.state_text.Counts.{Counts}
 use Rattle.pim_report.specs.declared.state_text.TextFault.{TextFault}
 use Rattle.pim_report.specs.declared.state_text.TextFault.TheVariants as text
 use Rattle.pim_report.specs.StateText.{IsTold, WritesState, text_with}
-use Rattle.pim_replay.specs.Events.{Event, Account, nothing, joined, counted, HasTold, HasBegun}
-use Rattle.pim_replay.specs.Passing.{PassesTime}
-use Rattle.pim_replay.specs.Replay.{TellsTurns, PassesToEnd, TellsAll, Stops, none_yet, failures_of_device}
-use Rattle.pim_replay.specs.Report.{event_line, lines_of, Reports, Replays}
+use Rattle.pim_replay.specs.Events.{Account, nothing, counted, HasTold}
+use Rattle.pim_replay.specs.Replay.{TellsAll, Stops, none_yet}
+use Rattle.pim_run.specs.Faults.{failures_of_device}
+use Rattle.pim_replay.specs.Report.{of_text, event_line, lines_of, Reports, Replays}
 use Rattle.pim_replay.specs.Quiet.{RunsQuietly}
-use Rattle.pim_replay.specs.Underway.{of_text, HasEnded, HasAll, Steps}
-use Rattle.pim_replay.proofs.Told.{nothing_last, both, none_is_front, told_more, begun_more}
+use Rattle.pim_replay.proofs.Told.{nothing_last, none_is_front, begun_more}
 use Rattle.pim_replay.proofs.Written.{front-more}
 
 -- no turn was taken
@@ -34,39 +33,9 @@ untaken end start = record {
   tallies = refl;
 }
 
--- ---- the time after the last turn
-
-module _ (line : Event → List ℕ) (family : AddressFamily) (end : End) (start : MergeState) (state : RouterState) (old : Option (List ℕ)) where
-  pub no_more : (counts : Counts) (merge : MergeState) (now : RouterState) (new : Option (List ℕ)) (next : Option Counts) → next ≡ None → Steps line family end start state old counts merge now new (Ok next)
-      → HasAll line family end start state old merge now new counts
-  no_more counts merge now new next none steps = subst (λ (n : Option Counts). Steps line family end start state old counts merge now new (Ok n)) none steps
-
-  pub counts_all : (merge : MergeState) (now : RouterState) (new : Option (List ℕ)) (counts : Counts) → HasAll line family end start state old merge now new counts → CountsAll end start merge
-  counts_all merge now new counts h = record { taken = h.tells.taken; are = h.tells.are; tallies = h.tells.tallies }
-
-  module _ (merge : MergeState) (now : RouterState) (new newer : Option (List ℕ)) (counts : Counts) (h : HasAll line family end start state old merge now new counts) (moment : ℕ)
-      (is_end : moment ≡ end_moment end merge.clock now.machines.moment) where
-    abbrev Ended : Account → RouterState → Type 0
-    Ended = HasEnded family end start state merge
-
-    ends : (way : Account) (after : RouterState) → PassesTime moment now way after → TellsAll family end start state (joined h.account way) after
-    ends way after passes = record {
-      taken = h.tells.taken;
-      are = h.tells.are;
-      tells = both (TellsTurns family h.tells.taken state) (PassesToEnd end (clock_of start.clock h.tells.taken)) h.account way now after h.tells.tells
-          (subst (λ (m : ℕ). PassesTime m now way after) (is_end ∙ ap (λ c. end_moment end c now.machines.moment) h.tells.clock) passes);
-    }
-
-    pub all_stopped : HasBegun line (PassesTime moment now) new newer → HasBegun line (TellsAll family end start state) old newer
-    all_stopped way = begun_more line Ended (TellsAll family end start state) now old new newer none_yet counts h way.account way.after (ends way.account way.after way.tells) way.written
-
-    pub all_passed : (after : RouterState) (more : Counts) → HasTold line (PassesTime moment now) after new newer counts more → HasTold line (TellsAll family end start state) after old newer none_yet more
-    all_passed after more way =
-        told_more line Ended (TellsAll family end start state) now old new newer none_yet counts h way.account after more (ends way.account after way.tells) way.written way.is_counted
-
 -- ---- the run of a replay that writes nothing
 
-pub quiet : (family : AddressFamily) (end : End) (start merge : MergeState) (state after : RouterState) (fault : ReplayFault) → Stops (λ event. []) family end start state (Some []) (Some []) merge fault
+pub quiet : (family : AddressFamily) (end : End) (start merge : MergeState) (state after : RouterState) (fault : RunFault) → Stops (λ event. []) family end start state (Some []) (Some []) merge fault
     → 0 ≡ failures_of_device {A = ℕ} 0 (Err fault) → IsTallied end start merge → RunsQuietly family end start merge state after {A = Unit {0}} (Err fault)
 quiet family end start merge state after (Capture told) stops none tallied = stops.0
 quiet family end start merge state after Output stops none tallied = absurd (omega (arith, none))
@@ -75,7 +44,7 @@ quiet family end start merge state after Memory stops none tallied = tallied
 -- ---- the state
 
 module _ (family : AddressFamily) (end : End) (start : MergeState) (state : RouterState) (old : Option (List ℕ)) (tells_via : Bool) where
-  pub cut_short : (merge : MergeState) (after : RouterState) (new : Option (List ℕ)) (fault : ReplayFault) → Stops (event_line family) family end start state old new merge fault
+  pub cut_short : (merge : MergeState) (after : RouterState) (new : Option (List ℕ)) (fault : RunFault) → Stops (event_line family) family end start state old new merge fault
       → IsTallied end start merge → Replays family tells_via end start merge state after old new (Err fault)
   cut_short merge after new (Capture told) stops tallied = stops
   cut_short merge after new Output stops tallied = (inl stops, tallied)
@@ -108,6 +77,6 @@ module _ (family : AddressFamily) (end : End) (start : MergeState) (state : Rout
       tallied,
     )
 
-    pub not_told : (merge : MergeState) (fault : TextFault) (answer : ReplayFault) → answer ≡ of_text fault → WritesState family tells_via after counts new newer (Err fault)
+    pub not_told : (merge : MergeState) (fault : TextFault) (answer : RunFault) → answer ≡ of_text fault → WritesState family tells_via after counts new newer (Err fault)
         → IsTallied end start merge → Replays family tells_via end start merge state after old newer (Err answer)
     not_told merge fault answer is told tallied = subst (λ a. Replays family tells_via end start merge state after old newer (Err a)) (sym is) (by_text merge fault told tallied)

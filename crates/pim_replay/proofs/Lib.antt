@@ -3,7 +3,7 @@ pub mod Ending
 pub mod OneReport
 pub mod OnTheWay
 pub mod Taken
-pub mod Underway
+pub mod AllTurns
 pub mod Written
 pub mod Told
 pub mod FreshHearings

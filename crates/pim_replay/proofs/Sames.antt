@@ -5,10 +5,10 @@ use Rattle.pim_form.specs.Messages.{Writing}
 use Rattle.pim_merge.specs.declared.end.End.{End}
 use Rattle.pim_merge.specs.Next.{MergeState}
 use Rattle.pim_router.specs.State.{RouterState}
-use Rattle.pim_replay.specs.declared.replay.ReplayFault.TheVariants.{Capture, Output, Memory}
+use Rattle.pim_run.specs.declared.fault.RunFault.TheVariants.{Capture, Output, Memory}
 use Rattle.pim_replay.specs.declared.same.SameFault.{SameFault}
 use Rattle.pim_replay.specs.declared.same.SameFault.TheVariants.{Replay, Second, TooBig}
-use Rattle.pim_replay.specs.declared.replay.ReplayFault.{ReplayFault}
+use Rattle.pim_run.specs.declared.fault.RunFault.{RunFault}
 use Rattle.pim_replay.specs.Quiet.{RunsAll, RunsQuietly}
 use Rattle.pim_replay.specs.Same.{Compares, Says, WantTheSame}
 use Rattle.pim_replay.proofs.Ending.{untaken}
@@ -29,7 +29,7 @@ module _ {F A N : Type 0} (bytes_of : A → List ℕ) (family : AddressFamily) (
 
 -- the first replay stopped, so nothing of the second router was taken
 pub first_stopped : (F A N : Type 0) (bytes_of : A → List ℕ) (family : AddressFamily) (end : End) (writing : Writing) (merge merge' : MergeState) (state after : RouterState) (other : MergeState) (state_of : RouterState)
-    (fault : ReplayFault) (old : Option (List ℕ)) → RunsQuietly family end merge merge' state after {A = Unit {0}} (Err fault)
+    (fault : RunFault) (old : Option (List ℕ)) → RunsQuietly family end merge merge' state after {A = Unit {0}} (Err fault)
     → Compares family end writing merge merge' state after other other state_of state_of {F = F} {N = N} bytes_of old old (Err (Replay fault))
 first_stopped F A N bytes_of family end writing merge merge' state after other state_of (Capture told) old stops = (stops, refl, keeps_same old)
 first_stopped F A N bytes_of family end writing merge merge' state after other state_of Output old stops = absurd stops

@@ -16,8 +16,8 @@ use Rattle.pim_router.specs.Change.{IsToldOf}
 use Rattle.pim_router.specs.State.{RouterState}
 use Rattle.pim_replay.specs.declared.mirror_text.MirrorTextFault.{MirrorTextFault}
 use Rattle.pim_replay.specs.declared.mirror_text.MirrorTextFault.TheVariants.{Replay, Second, TooBig, Full}
-use Rattle.pim_replay.specs.declared.replay.ReplayFault.{ReplayFault}
-use Rattle.pim_replay.specs.declared.replay.ReplayFault.TheVariants.{Capture, Output, Memory}
+use Rattle.pim_run.specs.declared.fault.RunFault.{RunFault}
+use Rattle.pim_run.specs.declared.fault.RunFault.TheVariants.{Capture, Output, Memory}
 use Rattle.pim_replay.specs.ChangeHearing.{HasRoom, HasNoRoom}
 use Rattle.pim_report.specs.MessageText.{messages_text}
 use Rattle.pim_replay.specs.MirrorText.{agreed_text}
@@ -77,7 +77,7 @@ module _ (family : AddressFamily) (end : End) (writing : Writing) (limit : ℕ) 
 -- ---- used by private functions only
 
 -- Why the call fails when the second router's replay stops.
-abbrev pub of_second : {F A N : Type 0} → ReplayFault → MirrorTextFault F A N
+abbrev pub of_second : {F A N : Type 0} → RunFault → MirrorTextFault F A N
 of_second (Capture told) = Second told
 of_second Output = Replay Output
 of_second Memory = Replay Memory

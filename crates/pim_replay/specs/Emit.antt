@@ -12,7 +12,7 @@ use Rattle.pim_merge.specs.Run.{IsTallied}
 use Rattle.pim_router.specs.State.{RouterState}
 use Rattle.pim_replay.specs.declared.emit.EmitFault.{EmitFault}
 use Rattle.pim_replay.specs.declared.emit.EmitFault.TheVariants.{Replay, TooBig}
-use Rattle.pim_replay.specs.declared.replay.ReplayFault.TheVariants.{Capture, Output, Memory}
+use Rattle.pim_run.specs.declared.fault.RunFault.TheVariants.{Capture, Output, Memory}
 use Rattle.pim_replay.specs.Quiet.{RunsAll}
 use Rattle.pim_replay.specs.Replay.{StopsAt}
 

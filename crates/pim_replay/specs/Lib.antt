@@ -4,7 +4,6 @@ pub mod Passing
 pub mod Turn
 pub mod Replay
 pub mod Report
-pub mod Underway
 pub mod Same
 pub mod Laws
 pub mod FreshHearing

@@ -15,7 +15,7 @@ use Rattle.pim_router.specs.Canonical.{IsAskedBy, IsTooBig}
 use Rattle.pim_router.specs.State.{RouterState}
 use Rattle.pim_replay.specs.declared.mirror_text.MirrorTextFault.{MirrorTextFault}
 use Rattle.pim_replay.specs.declared.mirror_text.MirrorTextFault.TheVariants.{Replay, Second, TooBig, Full}
-use Rattle.pim_replay.specs.declared.replay.ReplayFault.TheVariants.{Capture, Output, Memory}
+use Rattle.pim_run.specs.declared.fault.RunFault.TheVariants.{Capture, Output, Memory}
 use Rattle.pim_replay.specs.FreshHearing.{HaveRoom, IsFull}
 use Rattle.pim_report.specs.MessageText.{messages_text}
 use Rattle.pim_lines.specs.Pieces.{line}

@@ -5,8 +5,8 @@ use Rattle.pim_merge.specs.declared.end.End.{End}
 use Rattle.pim_merge.specs.Next.{MergeState}
 use Rattle.pim_merge.specs.Run.{CountsAll, IsTallied}
 use Rattle.pim_router.specs.State.{RouterState}
-use Rattle.pim_replay.specs.declared.replay.ReplayFault.{ReplayFault}
-use Rattle.pim_replay.specs.declared.replay.ReplayFault.TheVariants.{Capture, Output, Memory}
+use Rattle.pim_run.specs.declared.fault.RunFault.{RunFault}
+use Rattle.pim_run.specs.declared.fault.RunFault.TheVariants.{Capture, Output, Memory}
 use Rattle.pim_replay.specs.Events.{Account}
 use Rattle.pim_replay.specs.Replay.{TellsAll, StopsAt}
 
@@ -22,7 +22,7 @@ pub record RunsAll (family : AddressFamily) (end : End) (merge merge' : MergeSta
 -- capture's fault. It has no device that can fail, so the result is never `Output`. Where memory is
 -- refused, the tallies of `merge'` count some first turns.
 abbrev pub RunsQuietly : AddressFamily → End → MergeState → MergeState → RouterState → RouterState →
-    {A : Type 0} → Result A ReplayFault → Type 0
+    {A : Type 0} → Result A RunFault → Type 0
 RunsQuietly family end merge merge' state after (Ok done) = RunsAll family end merge merge' state after
 RunsQuietly family end merge merge' state after (Err (Capture told)) = StopsAt family end merge state merge' told
 RunsQuietly family end merge merge' state after (Err Output) = ⊥

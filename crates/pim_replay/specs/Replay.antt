@@ -1,9 +1,8 @@
 -- A replay: the turns of a merge, then the time up to the end of the run.
-use Rattle.std.specs.Prelude.{◌≡◌, ◌≢◌, ◌⊎◌, ⊤, ℕ, ◌+◌, min, List, [], ◌∷◌, Option, None, Some, Result, Ok, Err}
+use Rattle.std.specs.Prelude.{◌≡◌, ◌≢◌, ◌⊎◌, ⊤, ℕ, List, [], ◌∷◌, Option, None, Some, Result, Ok, Err}
 use Rattle.std.specs.Io.KnownBytes.{Appends}
 use Rattle.std.specs.List.{flat_map}
 use Rattle.pim_addr.specs.declared.family.AddressFamily.{AddressFamily}
-use Rattle.pim_device.specs.Device.{top_count}
 use Rattle.pim_capture.specs.declared.fault.CaptureFault.TheVariants as fault
 use Rattle.pim_capture.specs.Next.{IsRefusal}
 use Rattle.pim_merge.specs.declared.clock.Clock.{Clock}
@@ -17,8 +16,8 @@ use Rattle.pim_merge.specs.Tally.{tallies_after}
 use Rattle.pim_merge.specs.Ends.{AreAll, AreFirst, AreBefore, end_moment, clock_of}
 use Rattle.pim_report.specs.declared.state_text.Counts.{Counts}
 use Rattle.pim_router.specs.State.{RouterState}
-use Rattle.pim_replay.specs.declared.replay.ReplayFault.{ReplayFault}
-use Rattle.pim_replay.specs.declared.replay.ReplayFault.TheVariants.{Capture, Output, Memory}
+use Rattle.pim_run.specs.declared.fault.RunFault.{RunFault}
+use Rattle.pim_run.specs.declared.fault.RunFault.TheVariants.{Capture, Output, Memory}
 use Rattle.pim_replay.specs.Events.{Event, Account, nothing, Follows, HasTold, HasBegun}
 use Rattle.pim_replay.specs.Passing.{PassesTime}
 use Rattle.pim_replay.specs.Turn.{TellsTurn}
@@ -82,7 +81,7 @@ module _ (line : Event → List ℕ) (family : AddressFamily) (end : End) (merge
 
   -- What a replay with this fault has written. After a fault of a capture, it is exactly what is
   -- written of the events of the turns before it. After any other fault, it is a prefix.
-  abbrev pub Stops : MergeState → ReplayFault → Type 0
+  abbrev pub Stops : MergeState → RunFault → Type 0
   Stops merge' (Capture told) =
       (stop : StopsAt family end merge state merge' told) × Appends old new (flat_map line stop.account.events)
   Stops merge' Output = Begins
@@ -91,16 +90,8 @@ module _ (line : Event → List ℕ) (family : AddressFamily) (end : End) (merge
 -- What `replay_for` returns and writes. At Ok it has written all events and returns the counts, and
 -- the tallies of `merge'` count all turns.
 abbrev pub Hears : (Event → List ℕ) → AddressFamily → End → MergeState → MergeState → RouterState → RouterState →
-    Option (List ℕ) → Option (List ℕ) → Result Counts ReplayFault → Type 0
+    Option (List ℕ) → Option (List ℕ) → Result Counts RunFault → Type 0
 Hears line family end merge merge' state after old new (Ok counts) =
     HasTold line (TellsAll family end merge state) after old new none_yet counts × CountsAll end merge merge'
 Hears line family end merge merge' state after old new (Err fault) =
     Stops line family end merge state old new merge' fault
-
--- How often the device has failed after the call: once more if the result is `Output`, otherwise as
--- often as before it. The count stops at 2^64 - 1.
-abbrev pub failures_of_device : {A : Type 0} → ℕ → Result A ReplayFault → ℕ
-failures_of_device before (Ok done) = before
-failures_of_device before (Err (Capture told)) = before
-failures_of_device before (Err Output) = min (before + 1) top_count
-failures_of_device before (Err Memory) = before

@@ -14,9 +14,11 @@ use Rattle.pim_router.specs.State.{RouterState}
 use Rattle.pim_report.specs.EchoLine.{echo_line}
 use Rattle.pim_report.specs.PacketLine.{packet_line}
 use Rattle.pim_report.specs.StateText.{text_with}
+use Rattle.pim_report.specs.declared.state_text.TextFault.{TextFault}
+use Rattle.pim_report.specs.declared.state_text.TextFault.TheVariants as text
 use Rattle.pim_replay.specs.declared.event.ReplayEvent.TheVariants.{Packet, Echo}
-use Rattle.pim_replay.specs.declared.replay.ReplayFault.{ReplayFault}
-use Rattle.pim_replay.specs.declared.replay.ReplayFault.TheVariants.{Capture, Output, Memory}
+use Rattle.pim_run.specs.declared.fault.RunFault.{RunFault}
+use Rattle.pim_run.specs.declared.fault.RunFault.TheVariants.{Capture, Output, Memory}
 use Rattle.pim_replay.specs.Events.{Event, Account, counted}
 use Rattle.pim_replay.specs.Replay.{TellsAll, StopsAt, Begins, none_yet}
 
@@ -62,7 +64,7 @@ BeginsReport family tells_via end merge state old new =
 -- prefix of the report was. The tallies of `merge'` count the turns: all at Ok, those before the
 -- fault of a capture, or some first ones.
 abbrev pub Replays : AddressFamily → Bool → End → MergeState → MergeState → RouterState → RouterState →
-    Option (List ℕ) → Option (List ℕ) → Result ℕ ReplayFault → Type 0
+    Option (List ℕ) → Option (List ℕ) → Result ℕ RunFault → Type 0
 Replays family tells_via end merge merge' state after old new (Ok status) =
     (status ≡ 0) × Reports family tells_via end merge state after (Appends old new) × CountsAll end merge merge'
 Replays family tells_via end merge merge' state after old new (Err (Capture told)) =
@@ -71,3 +73,10 @@ Replays family tells_via end merge merge' state after old new (Err Output) =
     BeginsReport family tells_via end merge state old new × IsTallied end merge merge'
 Replays family tells_via end merge merge' state after old new (Err Memory) =
     BeginsReport family tells_via end merge state old new × IsTallied end merge merge'
+
+-- ---- used by private functions only
+
+-- Why a replay ends when its final state isn't written.
+abbrev pub of_text : TextFault → RunFault
+of_text text.Output = Output
+of_text text.Memory = Memory

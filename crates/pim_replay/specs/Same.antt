@@ -13,8 +13,8 @@ use Rattle.pim_merge.specs.Next.{MergeState}
 use Rattle.pim_merge.specs.Run.{IsTallied}
 use Rattle.pim_router.specs.Canonical.{asked, IsFirstTooBig}
 use Rattle.pim_router.specs.State.{RouterState}
-use Rattle.pim_replay.specs.declared.replay.ReplayFault.{ReplayFault}
-use Rattle.pim_replay.specs.declared.replay.ReplayFault.TheVariants.{Capture, Output, Memory}
+use Rattle.pim_run.specs.declared.fault.RunFault.{RunFault}
+use Rattle.pim_run.specs.declared.fault.RunFault.TheVariants.{Capture, Output, Memory}
 use Rattle.pim_replay.specs.declared.same.SameFault.{SameFault}
 use Rattle.pim_replay.specs.declared.same.SameFault.TheVariants.{Replay, Second, TooBig}
 use Rattle.pim_report.specs.SameLine.{same_line}
@@ -78,7 +78,7 @@ failures_of_answer before (Err (Replay Memory)) = before
 -- ---- used by private functions only
 
 -- Why the call fails when the second router's replay stops.
-abbrev pub of_second : {F A N : Type 0} → ReplayFault → SameFault F A N
+abbrev pub of_second : {F A N : Type 0} → RunFault → SameFault F A N
 of_second (Capture told) = Second told
 of_second Output = Replay Output
 of_second Memory = Replay Memory

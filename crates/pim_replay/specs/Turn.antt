@@ -1,15 +1,12 @@
 -- A turn of a replay: the router runs to the moment of a record, then the port of its capture takes
 -- the record.
-use Rattle.std.specs.Prelude.{◌≡◌, ℕ, ◌+◌, min, List, Result, Ok, Err}
+use Rattle.std.specs.Prelude.{◌≡◌, ℕ, List}
 use Rattle.pim_addr.specs.declared.family.AddressFamily.{AddressFamily}
-use Rattle.pim_device.specs.Device.{top_count}
 use Rattle.pim_capture.specs.Capture.{Told}
 use Rattle.pim_merge.specs.Content.{Content, holds, no_record, content_in}
 use Rattle.pim_merge.specs.Merge.{Taken}
 use Rattle.pim_router.specs.Packets.{Packet, received}
 use Rattle.pim_router.specs.State.{RouterState}
-use Rattle.pim_report.specs.declared.state_text.TextFault.{TextFault}
-use Rattle.pim_report.specs.declared.state_text.TextFault.TheVariants.{Output, Memory}
 use Rattle.pim_replay.specs.declared.event.ReplayEvent.TheVariants as event
 use Rattle.pim_replay.specs.Events.{Account, nothing, of_event, one_skipped, Follows}
 use Rattle.pim_replay.specs.Passing.{PassesTime}
@@ -66,10 +63,3 @@ TellsTurn family turn state = Follows (PassesTime turn.moment state) (TakesRecor
 abbrev pub skips_in : Content → ℕ
 skips_in no_record = 0
 skips_in other = 1
-
--- How often the device has failed after the call: once more if the result is `Output`, otherwise as
--- often as before it.
-abbrev pub failures_by : {A : Type 0} → ℕ → Result A TextFault → ℕ
-failures_by before (Ok done) = before
-failures_by before (Err Output) = min (before + 1) top_count
-failures_by before (Err Memory) = before

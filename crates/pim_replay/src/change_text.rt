@@ -17,21 +17,21 @@ ghost use Rattle.pim_replay.specs.MirrorText.{failures_of_mirror};
 use crate::change_hearing::move_again;
 use crate::mirror_text::{MirrorTextFault, ask, judgement, of_mirror};
 use crate::quiet::replay_quietly;
-use crate::replay::ReplayFault;
 use pim_addr::{Drain, Family, Feed, Routes, write_all};
 use pim_form::{FormFault, Messages, NormalForm, Writer, one_normal_form};
 use pim_merge::{End, Merge};
 use pim_moving::change_fits;
 use pim_report::write_messages;
 use pim_router::Router;
+use pim_run::RunFault;
 use std::alloc::Global;
 
 /// Why the call fails when the second router's replay stops.
-fn of_second<F: Family>(fault: ReplayFault) -> MirrorTextFault<F>
+fn of_second<F: Family>(fault: RunFault) -> MirrorTextFault<F>
     ensures { result ≡ of_second fault }
 {
     match fault {
-        ReplayFault::Capture(told) => MirrorTextFault::Second(told),
+        RunFault::Capture(told) => MirrorTextFault::Second(told),
         _ => MirrorTextFault::Replay(fault),
     }
 }
@@ -51,13 +51,13 @@ fn tell<F: Family>(
     one_normal_form();
     change_fits();
     let Ok(last) = NormalForm::toward(alloc, one.ports(), one.routes(), by.upstream()) else {
-        return Err(MirrorTextFault::Replay(ReplayFault::Memory));
+        return Err(MirrorTextFault::Replay(RunFault::Memory));
     };
     match other.triggered(alloc, &last, by) {
         Ok(change) => Ok(change),
         Err(FormFault::TooBig(_)) => unreachable!(),
         Err(FormFault::Memory | FormFault::Tables) => {
-            Err(MirrorTextFault::Replay(ReplayFault::Memory))
+            Err(MirrorTextFault::Replay(RunFault::Memory))
         }
     }
 }
@@ -82,14 +82,14 @@ fn move_on<F: Family, W: Drain>(
     ensures count { W.failures writer.new ≡ failures_of_mirror (W.failures writer.old) result }
 {
     let Ok(()) = write_messages(writer, change) else {
-        return Err(MirrorTextFault::Replay(ReplayFault::Output));
+        return Err(MirrorTextFault::Replay(RunFault::Output));
     };
     let again = match move_again::<F>(alloc, before, change, by, routes, limit) {
         Ok(again) => again,
         Err(fault) => return Err(of_mirror(fault)),
     };
     let Ok(()) = write_all(writer, judgement(wanted, &again)) else {
-        return Err(MirrorTextFault::Replay(ReplayFault::Output));
+        return Err(MirrorTextFault::Replay(RunFault::Output));
     };
     Ok(0)
 }

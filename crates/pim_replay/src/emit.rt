@@ -7,19 +7,19 @@ ghost use Rattle.pim_merge.specs.Run.{IsTallied};
 ghost use Rattle.pim_replay.specs.Emit.{Emits, SendsAsked, failures_of_emission};
 
 use crate::quiet::replay_quietly;
-use crate::replay::ReplayFault;
 use pim_addr::{Drain, Family, Feed};
 use pim_emit::{WriteFault, write_canonical};
 use pim_form::Writer;
 use pim_merge::{End, Merge};
 use pim_router::Router;
+use pim_run::RunFault;
 use std::alloc::{AllocError, Global};
 
 /// Why the messages of a replay's final state aren't written, or not all of them.
 #[derive(Debug, Drop, PartialEq, Eq)]
 pub enum EmitFault<F: Family> {
     /// The replay stopped, memory was refused, or the device failed.
-    Replay(ReplayFault),
+    Replay(RunFault),
     /// The star of this group, with all its exceptions, doesn't fit a message of the writer's
     /// budget.
     TooBig(F::Addr),
@@ -45,12 +45,12 @@ fn send_asked<F: Family, W: Drain>(
     ensures count { W.failures writer.new ≡ failures_of_emission (W.failures writer.old) result }
 {
     let Ok(mut buffer) = blank(alloc, by.budget()) else {
-        return Err(EmitFault::Replay(ReplayFault::Memory));
+        return Err(EmitFault::Replay(RunFault::Memory));
     };
     match write_canonical::<F, W>(router.ports(), by, router.routes(), &mut buffer, writer) {
         Ok(_) => Ok(0),
         Err(WriteFault::TooBig(group)) => Err(EmitFault::TooBig(group)),
-        Err(WriteFault::Output { .. }) => Err(EmitFault::Replay(ReplayFault::Output)),
+        Err(WriteFault::Output { .. }) => Err(EmitFault::Replay(RunFault::Output)),
     }
 }
 

@@ -5,7 +5,7 @@ use pim_router::Verdict;
 
 /// An event of a replay. Its moment is in milliseconds since the first record.
 #[derive(Clone, Copy, Debug, PartialEq, Eq)]
-pub enum ReplayEvent<A> {
+pub(crate) enum ReplayEvent<A> {
     /// A port took a packet.
     Packet {
         /// The moment.

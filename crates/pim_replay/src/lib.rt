@@ -1,9 +1,9 @@
 //! The replay of a router's captures, and what is written of it: a report, a comparison, or
 //! messages.
 //!
-//! `replay_for` turns the captures' merge into events: packets that ports took, and echoes. A
-//! `Listener` hears each event and writes to a device what its output has of it. So a new output of
-//! a replay is one module with a listener, as `report` is.
+//! A replay is a run (`pim_run`) with events: packets that ports took, and echoes. A listener hears
+//! each event and writes to a device what its output has of it. So a new output of a replay is one
+//! module with a listener, as `report` is.
 //!
 //! `specs/` defines each text byte by byte. At Ok the whole text was written. If the device fails,
 //! a prefix of it was, and only then does the device's count of failures rise.
@@ -46,11 +46,8 @@ mod turns;
 
 pub use change_text::change_into;
 pub use emit::{EmitFault, emit_into};
-pub use event::ReplayEvent;
 pub use laws::{report_begins_with_its_lines, report_has_one_text};
-pub use listener::Listener;
 pub use mirror_text::{MirrorTextFault, mirror_into};
-pub use quiet::{Quiet, replay_quietly};
-pub use replay::{ReplayFault, replay_for};
-pub use report::{ReportPrinter, replay_into};
+pub use quiet::replay_quietly;
+pub use report::replay_into;
 pub use same::{SameFault, same_into};

@@ -8,7 +8,7 @@ use crate::event::ReplayEvent;
 use pim_addr::{Failed, Family};
 
 /// What hears the events of a replay, one by one, and writes them to a device.
-pub trait Listener<F: Family, W> {
+pub(crate) trait Listener<F: Family, W> {
     // What it writes of an event.
     ghost line: { Self → Event → List ℕ };
 

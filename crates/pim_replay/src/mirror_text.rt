@@ -16,13 +16,13 @@ ghost use Rattle.pim_replay.specs.MirrorText.{failures_of_mirror};
 
 use crate::fresh_hearing::hear_again;
 use crate::quiet::replay_quietly;
-use crate::replay::ReplayFault;
 use pim_addr::{Drain, Family, Feed, Routes, write_all};
 use pim_form::{FormFault, Messages, Writer, one_normal_form};
 use pim_merge::{End, Merge, MergeFault};
 use pim_mirror::MirrorFault;
 use pim_report::write_messages;
 use pim_router::Router;
+use pim_run::RunFault;
 use std::alloc::Global;
 
 /// Why the messages aren't written, or why the fresh router can't hear them.
@@ -30,7 +30,7 @@ use std::alloc::Global;
 pub enum MirrorTextFault<F: Family> {
     /// A replay stopped, memory was refused, or the device failed. In `change_into` it is the first
     /// router's replay.
-    Replay(ReplayFault),
+    Replay(RunFault),
     /// The second router's replay stopped at this fault of one of its captures. `mirror_into` never
     /// returns it.
     Second(MergeFault),
@@ -51,7 +51,7 @@ pub(crate) fn of_mirror<F: Family>(fault: MirrorFault) -> MirrorTextFault<F>
 {
     match fault {
         MirrorFault::Full { needed } => MirrorTextFault::Full { needed },
-        MirrorFault::Memory => MirrorTextFault::Replay(ReplayFault::Memory),
+        MirrorFault::Memory => MirrorTextFault::Replay(RunFault::Memory),
     }
 }
 
@@ -67,7 +67,7 @@ pub(crate) fn ask<F: Family>(
         Ok(messages) => Ok(messages),
         Err(FormFault::TooBig(group)) => Err(MirrorTextFault::TooBig(group)),
         Err(FormFault::Memory | FormFault::Tables) => {
-            Err(MirrorTextFault::Replay(ReplayFault::Memory))
+            Err(MirrorTextFault::Replay(RunFault::Memory))
         }
     }
 }
@@ -100,14 +100,14 @@ fn exchange<F: Family, W: Drain>(
     ensures count { W.failures writer.new ≡ failures_of_mirror (W.failures writer.old) result }
 {
     let Ok(()) = write_messages(writer, messages) else {
-        return Err(MirrorTextFault::Replay(ReplayFault::Output));
+        return Err(MirrorTextFault::Replay(RunFault::Output));
     };
     let again = match hear_again::<F>(alloc, messages, by, routes, limit) {
         Ok(again) => again,
         Err(fault) => return Err(of_mirror(fault)),
     };
     let Ok(()) = write_all(writer, judgement(messages, &again)) else {
-        return Err(MirrorTextFault::Replay(ReplayFault::Output));
+        return Err(MirrorTextFault::Replay(RunFault::Output));
     };
     Ok(0)
 }

@@ -9,14 +9,15 @@ ghost use Rattle.pim_replay.specs.Quiet.{RunsQuietly};
 
 use crate::event::ReplayEvent;
 use crate::listener::Listener;
-use crate::replay::{ReplayFault, replay_for};
+use crate::replay::replay_for;
 use pim_addr::{Failed, Family, Feed};
 use pim_merge::{End, Merge};
 use pim_router::Router;
+use pim_run::RunFault;
 
 /// Hears events and writes nothing. It needs no device.
 #[derive(Clone, Copy, Debug, PartialEq, Eq)]
-pub struct Quiet;
+pub(crate) struct Quiet;
 
 impl<F: Family> Listener<F, ()> for Quiet {
     ghost use Rattle.std.specs.Prelude.{[], Some};
@@ -47,7 +48,7 @@ pub fn replay_quietly<F: Family, R: Feed + Drop>(
     merge: &mut Merge<R>,
     router: &mut Router<'_, F>,
     end: End,
-) -> Result<(), ReplayFault>
+) -> Result<(), RunFault>
     requires ports { length merge.old.lanes ≡ length router.old.ports }
     requires moment { router.old.machines.moment ≤ latest_moment }
     requires end { IsBoundedEnd end }

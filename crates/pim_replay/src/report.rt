@@ -6,21 +6,22 @@ ghost use Rattle.pim_device.specs.Device.{AppendsAll, failures_after};
 ghost use Rattle.pim_merge.specs.Ends.{IsBoundedEnd};
 ghost use Rattle.pim_merge.specs.Run.{IsTallied};
 ghost use Rattle.pim_replay.specs.Events.{event_seen};
-ghost use Rattle.pim_replay.specs.Replay.{failures_of_device};
-ghost use Rattle.pim_replay.specs.Report.{Replays, event_line};
+ghost use Rattle.pim_run.specs.Faults.{failures_of_device};
+ghost use Rattle.pim_replay.specs.Report.{Replays, event_line, of_text};
 
 use crate::event::ReplayEvent;
 use crate::listener::Listener;
-use crate::replay::{ReplayFault, of_text, replay_for};
+use crate::replay::replay_for;
 use pim_addr::{Drain, Failed, Family, Feed};
 use pim_merge::{End, Merge};
-use pim_report::{write_echo_line, write_packet_line, write_state};
+use pim_report::{TextFault, write_echo_line, write_packet_line, write_state};
 use pim_router::Router;
+use pim_run::RunFault;
 use std::alloc::Global;
 
 /// Writes the line of each event, as a report has it.
 #[derive(Clone, Copy, Debug, PartialEq, Eq)]
-pub struct ReportPrinter;
+pub(crate) struct ReportPrinter;
 
 impl<F: Family, W: Drain> Listener<F, W> for ReportPrinter {
     ghost line = { λ printer event. event_line F.family event };
@@ -51,6 +52,16 @@ impl<F: Family, W: Drain> Listener<F, W> for ReportPrinter {
     }
 }
 
+/// Why a replay stops when its final state isn't written.
+fn of_text(fault: TextFault) -> RunFault
+    ensures { result ≡ of_text fault }
+{
+    match fault {
+        TextFault::Output => RunFault::Output,
+        TextFault::Memory => RunFault::Memory,
+    }
+}
+
 /// Replays the captures of a router's ports, one for each port and in their order, and writes the
 /// report. The report has a line for each packet of the router's family and for each echo, in order
 /// of time. The state that the router holds at the end of the run follows.
@@ -71,7 +82,7 @@ pub fn replay_into<F: Family, R: Feed + Drop, W: Drain>(
     end: End,
     tells_via: bool,
     writer: &mut W,
-) -> Result<u8, ReplayFault>
+) -> Result<u8, RunFault>
     requires ports { length merge.old.lanes ≡ length router.old.ports }
     requires moment { router.old.machines.moment ≤ latest_moment }
     requires end { IsBoundedEnd end }

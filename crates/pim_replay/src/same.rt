@@ -13,19 +13,19 @@ ghost use Rattle.pim_replay.specs.Same.{failures_of_answer};
 ghost use Rattle.pim_replay.specs.Same.{answer_status};
 
 use crate::quiet::replay_quietly;
-use crate::replay::ReplayFault;
 use pim_addr::{Drain, Family, Feed, write_all};
 use pim_form::{FormFault, Writer};
 use pim_merge::{End, Merge, MergeFault};
 use pim_report::same_line;
 use pim_router::{Router, same_wants};
+use pim_run::RunFault;
 use std::alloc::Global;
 
 /// Why two replays aren't compared.
 #[derive(Debug, Drop, PartialEq, Eq)]
 pub enum SameFault<F: Family> {
     /// The first router's replay stopped, memory was refused, or the device failed.
-    Replay(ReplayFault),
+    Replay(RunFault),
     /// The second router's replay stopped at this fault of one of its captures.
     Second(MergeFault),
     /// The star of this group, with all its exceptions, doesn't fit a message of the writer's
@@ -33,22 +33,22 @@ pub enum SameFault<F: Family> {
     TooBig(F::Addr),
 }
 
-impl<F: Family> From<ReplayFault> for SameFault<F> {
+impl<F: Family> From<RunFault> for SameFault<F> {
     ghost use Rattle.pim_replay.specs.declared.same.SameFault.TheVariants.{Replay};
 
     ghost from_gives = { λ told fault. fault ≡ Replay told };
 
-    fn from(told: ReplayFault) -> Self {
+    fn from(told: RunFault) -> Self {
         SameFault::Replay(told)
     }
 }
 
 /// Why the call fails when the second router's replay stops.
-fn of_second<F: Family>(fault: ReplayFault) -> SameFault<F>
+fn of_second<F: Family>(fault: RunFault) -> SameFault<F>
     ensures { result ≡ of_second fault }
 {
     match fault {
-        ReplayFault::Capture(told) => SameFault::Second(told),
+        RunFault::Capture(told) => SameFault::Second(told),
         _ => SameFault::Replay(fault),
     }
 }
@@ -60,7 +60,7 @@ fn of_form<F: Family>(fault: FormFault<F>) -> SameFault<F>
 {
     match fault {
         FormFault::TooBig(group) => SameFault::TooBig(group),
-        FormFault::Memory | FormFault::Tables => SameFault::Replay(ReplayFault::Memory),
+        FormFault::Memory | FormFault::Tables => SameFault::Replay(RunFault::Memory),
     }
 }
 
@@ -93,7 +93,7 @@ fn say<F: Family, W: Drain>(same: bool, writer: &mut W) -> Result<u8, SameFault<
     ensures count { W.failures writer.new ≡ failures_of_answer (W.failures writer.old) result }
 {
     let Ok(()) = write_all(writer, same_line(same)) else {
-        return Err(SameFault::Replay(ReplayFault::Output));
+        return Err(SameFault::Replay(RunFault::Output));
     };
     Ok(answer_status(same))
 }

@@ -1,22 +1,24 @@
 //! A turn of a replay: the router runs to the moment of a record, then the port of its capture
 //! takes the record.
 
-ghost use Rattle.std.specs.Prelude.{◌≡◌, ◌<◌, ◌≤◌, ◌^◌, ℕ, List, length, max, OnOk};
+ghost use Rattle.std.specs.Prelude.{◌≡◌, ◌<◌, ◌≤◌, ℕ, List, length, OnOk};
 ghost use Rattle.pim_capture.specs.Capture.{most_captured};
 ghost use Rattle.pim_capture.specs.Next.{PayloadLiesIn};
 ghost use Rattle.pim_merge.specs.Content.{content_seen};
 ghost use Rattle.pim_merge.specs.Run.{turn_seen};
 ghost use Rattle.pim_router.specs.State.{setup_of};
 ghost use Rattle.pim_replay.specs.Events.{Tells};
-ghost use Rattle.pim_replay.specs.Turn.{TakesRecord, TellsTurn, failures_by, skips_in};
+ghost use Rattle.pim_run.specs.Faults.{failures_by};
+ghost use Rattle.pim_replay.specs.Turn.{TakesRecord, skips_in};
 
 use crate::event::ReplayEvent;
 use crate::listener::Listener;
 use crate::passing::pass_time;
 use pim_addr::Family;
 use pim_merge::{Content, Turn};
-use pim_report::{Counts, TextFault};
+use pim_report::Counts;
 use pim_router::Router;
+use pim_run::{Hooks, TurnFault};
 
 /// The number of records that are skipped of what holds no packet of the router's family: none of
 /// what is no record.
@@ -38,7 +40,7 @@ fn take_record<F: Family, W, L: Listener<F, W>>(
     turn: &Turn,
     bytes: &[u8],
     counts: Counts,
-) -> Result<Counts, TextFault>
+) -> Result<Counts, TurnFault>
     requires port { turn.now.capture < length router.old.ports }
     requires payload { PayloadLiesIn bytes.now turn.now.event }
     requires bytes { length bytes.now ≤ most_captured }
@@ -59,7 +61,7 @@ fn take_record<F: Family, W, L: Listener<F, W>>(
     let port = turn.capture;
     let moment = router.now();
     let Ok(verdict) = router.take_packet(port, sent.source, sent.destination, sent.payload) else {
-        return Err(TextFault::Memory);
+        return Err(TurnFault::Memory);
     };
     let event = ReplayEvent::Packet {
         moment,
@@ -68,41 +70,51 @@ fn take_record<F: Family, W, L: Listener<F, W>>(
         verdict,
     };
     let Ok(()) = listener.hear(device, event) else {
-        return Err(TextFault::Output);
+        return Err(TurnFault::Output);
     };
     Ok(counts)
 }
 
-/// Takes a turn of a merge whose record has these bytes: lets the router run to its moment, then
-/// lets the port of its capture take the packet. The listener hears the echoes on the way, then the
-/// packet. A record without a packet of the router's family is counted as skipped. Returns the
-/// counts after the turn, which stop at 2^64 - 1.
-///
-/// # Errors
-/// - `Output` if the device fails: a prefix of what is written of the turn was written.
-/// - `Memory` if memory for the packet is refused: likewise.
-pub(crate) fn take_turn<F: Family, W, L: Listener<F, W>>(
-    listener: &L,
-    device: &mut W,
-    router: &mut Router<'_, F>,
-    turn: &Turn,
-    bytes: &[u8],
-    counts: Counts,
-) -> Result<Counts, TextFault>
-    requires port { turn.now.capture < length router.old.ports }
-    requires moment { turn.now.moment ≤ 10 ^ 15 }
-    requires payload { PayloadLiesIn bytes.now turn.now.event }
-    requires bytes { length bytes.now ≤ most_captured }
-    ensures told { Tells (L.line listener.now)
-        (TellsTurn F.family (turn_seen bytes.now turn.now) router.old) router.new
-        (L.contents device.old) (L.contents device.new) counts result }
-    ensures count { L.failures device.new ≡ failures_by (L.failures device.old) result }
-    ensures moment { OnOk result
-        (router.new.machines.moment ≡ max router.old.machines.moment turn.now.moment) }
-    ensures setup { setup_of router.new ≡ setup_of router.old }
-{
-    let Ok(counts) = pass_time(listener, device, router, turn.moment, counts) else {
-        return Err(TextFault::Output);
-    };
-    take_record(listener, device, router, turn, bytes, counts)
+/// A replay whose listener hears each event.
+#[derive(Drop)]
+pub(crate) struct Replay<'l, L> {
+    pub(crate) listener: &'l L,
+}
+
+impl<'l, F: Family, W, L: Listener<F, W>> Hooks<F, W, Counts> for Replay<'l, L> {
+    ghost use Rattle.pim_replay.specs.Events.{HasTold, HasBegun};
+    ghost use Rattle.pim_replay.specs.Turn.{TellsTurn};
+
+    ghost takes = { λ replay turn counts state old more after new.
+        HasTold (L.line replay.listener.now) (TellsTurn F.family turn state) after old new
+        counts more };
+
+    ghost begins = { λ replay turn counts state old new.
+        HasBegun (L.line replay.listener.now) (TellsTurn F.family turn state) old new };
+
+    ghost is_ready = { λ counts state. Unit {0} };
+
+    ghost contents = { L.contents };
+
+    ghost failures = { L.failures };
+
+    fn take(
+        &self,
+        device: &mut W,
+        router: &mut Router<'_, F>,
+        counts: &mut Counts,
+        turn: &Turn,
+        bytes: &[u8],
+    ) -> Result<(), TurnFault> {
+        let Ok(passed) = pass_time(self.listener, device, router, turn.moment, *counts) else {
+            return Err(TurnFault::Output);
+        };
+        match take_record(self.listener, device, router, turn, bytes, passed) {
+            Ok(more) => {
+                *counts = more;
+                Ok(())
+            }
+            Err(fault) => Err(fault),
+        }
+    }
 }

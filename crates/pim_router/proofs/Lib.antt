@@ -5,6 +5,7 @@ pub mod Current
 pub mod Receiving
 pub mod HeardHello
 pub mod Unless
+pub mod AsRead
 pub mod Runs
 pub mod Turns
 pub mod Setups

@@ -3,7 +3,6 @@ use Rattle.std.proofs.Common.{◌≡◌, ◌∙◌, ℕ, zero, suc, ◌==◌, Bo
 use Rattle.std.specs.Bool.{⊤}
 use Rattle.std.specs.List.{list_any}
 use Rattle.pim_addr.specs.declared.family.AddressFamily.{AddressFamily}
-use Rattle.pim_frame.specs.Frame.{Content, hello, join_prune, other, content}
 use Rattle.pim_down.specs.declared.machines.machine.Record.{Record}
 use Rattle.pim_down.specs.declared.machines.step.Step.{Step as Fires}
 use Rattle.pim_down.specs.declared.machines.step.Step.TheVariants as fires
@@ -11,17 +10,19 @@ use Rattle.pim_down.specs.Time.{fired}
 use Rattle.pim_router.specs.declared.step.Step.{Step}
 use Rattle.pim_router.specs.declared.verdict.Verdict.{Verdict}
 use Rattle.pim_router.specs.State.{RouterState, setup_of}
-use Rattle.pim_router.specs.Packets.{Packet, Receives, causes, unless, body_taken, received}
+use Rattle.pim_router.specs.Packets.{Receives, unless}
+use Rattle.pim_router.specs.Reading.{Reading, read_hello, read_message, read_other, read_fault, read_causes, read_taken, read_received}
 use Rattle.pim_router.specs.Time.{Outcome, rests, moves, tells, has_ended, told, turn, turn_of_timers, turn_of_time, run_on, run_within, Runs}
 use Rattle.pim_router.proofs.Runs.{Answer, pair_of, no_run}
 
 -- ---- a packet
 
-taken_keeps : (family : AddressFamily) (port : ℕ) (source : List ℕ) (state : RouterState) (body : Content) →
-    setup_of (body_taken family port source state body).1 ≡ setup_of state
-taken_keeps family port source state (other type) = refl
-taken_keeps family port source state (hello body) = refl
-taken_keeps family port source state (join_prune body) = refl
+taken_keeps : (family : AddressFamily) (port : ℕ) (source : List ℕ) (state : RouterState) (reading : Reading) →
+    setup_of (read_taken family port source state reading).1 ≡ setup_of state
+taken_keeps family port source state (read_hello said) = refl
+taken_keeps family port source state (read_message message) = refl
+taken_keeps family port source state (read_other type) = refl
+taken_keeps family port source state (read_fault fault) = refl
 
 unless_keeps : (told : List Verdict) (state : RouterState) (taken : Verdict × RouterState) → setup_of taken.1 ≡ setup_of state →
     setup_of (unless told state taken).1 ≡ setup_of state
@@ -33,13 +34,14 @@ receives_keep : {E : Type 0} (told : List Verdict) (end : Verdict × RouterState
 receives_keep told end old (Ok verdict) new keeps ends = ap (λ (x : Verdict × RouterState). setup_of x.1) ends ∙ keeps
 receives_keep told end old (Err refused) new keeps ends = ap setup_of ends.1
 
-pub packet_keeps : {E : Type 0} (family : AddressFamily) (packet : Packet) (old : RouterState) (result : Result Verdict E)
-    (new : RouterState) → Receives (causes family packet old) (received family packet old) old result new →
+pub reading_keeps : {E : Type 0} (family : AddressFamily) (port : ℕ) (source : List ℕ) (old : RouterState) (reading : Reading)
+    (result : Result Verdict E) (new : RouterState) →
+    Receives (read_causes family port source old reading) (read_received family port source old reading) old result new →
     setup_of new ≡ setup_of old
-packet_keeps family packet old result new ends =
-    receives_keep (causes family packet old) (received family packet old) old result new
-    (unless_keeps (causes family packet old) old (body_taken family packet.port packet.source old (content packet.bytes))
-    (taken_keeps family packet.port packet.source old (content packet.bytes)))
+reading_keeps family port source old reading result new ends =
+    receives_keep (read_causes family port source old reading) (read_received family port source old reading) old result new
+    (unless_keeps (read_causes family port source old reading) old (read_taken family port source old reading)
+    (taken_keeps family port source old reading))
     ends
 
 -- ---- time

@@ -3,6 +3,7 @@ pub mod Seen
 pub mod Config
 pub mod Sound
 pub mod Packets
+pub mod Reading
 pub mod Told
 pub mod Time
 pub mod Refreshes

@@ -136,11 +136,6 @@ abbrev pub unless : List Verdict → RouterState → Verdict × RouterState → 
 unless [] state taken = taken
 unless (cause ∷ others) state taken = (cause, state)
 
--- The verdict on the body of a PIM message, and the state after it.
-abbrev pub body_received : AddressFamily → ℕ → List ℕ → RouterState → Content → Verdict × RouterState
-body_received family port source state body =
-    unless (body_causes family port source state body) state (body_taken family port source state body)
-
 -- The verdict on a packet, and the state after it.
 abbrev pub received : AddressFamily → Packet → RouterState → Verdict × RouterState
 received family packet state = unless (causes family packet state) state

@@ -7,9 +7,15 @@ ghost use Rattle.pim_router.specs.Laws.{HappeningHasOneEnd};
 ghost use Rattle.pim_router.specs.Laws.{FiringPasses, NobodyGoesBeforeFirstTimeout};
 ghost use Rattle.pim_router.specs.Laws.{TheEndedGoAtFirstTimeout};
 ghost use Rattle.pim_router.specs.Laws.{RunsPastAreTurns, EveryStateGoesOn};
+ghost use Rattle.pim_router.specs.Reading.{PacketIsTakenAsRead};
 
 use pim_down::timers_run_out;
 use pim_hello::time_is_over_from_next_end;
+
+/// A port takes a packet as it takes what the packet's message reads as.
+pub fn packet_is_taken_as_read()
+    ensures { PacketIsTakenAsRead }
+{}
 
 /// A run up to a moment has at most one end.
 pub fn run_has_one_end()

@@ -8,7 +8,8 @@
 //!
 //! `take_packet` returns the first verdict that applies. Only a Hello or a Join/Prune message that
 //! is taken changes the state. Refused memory is an error of such a packet alone, and then nothing
-//! has changed. The port exists, and the packet has fewer than 2^32 bytes.
+//! has changed. The port exists, and the packet has fewer than 2^32 bytes. It is `read_message` and
+//! then `take_read`, for callers that look at the message themselves.
 //!
 //! `run_to` lets time pass up to a moment of at most 10^15 ms and stops at each PruneEcho and each
 //! refresh. `run_past_refreshes` stops at a PruneEcho alone and counts the refreshes. `fire_to`
@@ -32,6 +33,7 @@ mod canonical;
 mod change;
 mod config;
 mod laws;
+mod message;
 mod one_list;
 mod router;
 mod step;
@@ -42,9 +44,10 @@ pub use config::{Config, ConfigFault, PortConfig};
 pub use laws::{
     course_goes_on, course_has_one_end, every_list_has_a_course, every_state_goes_on,
     firing_passes, happening_goes_on, happening_has_one_end, nobody_goes_before_first_timeout,
-    passing_goes_on, run_goes_on, run_has_one_end, runs_come_nearer, runs_past_are_turns,
-    the_ended_go_at_first_timeout,
+    packet_is_taken_as_read, passing_goes_on, run_goes_on, run_has_one_end, runs_come_nearer,
+    runs_past_are_turns, the_ended_go_at_first_timeout,
 };
+pub use message::{PimMessage, read_message};
 pub use one_list::{one_list_is_asked, one_list_is_told};
 pub use router::Router;
 pub use step::Step;

@@ -11,16 +11,17 @@ ghost use Rattle.std.specs.Prelude.{◌≡◌, ◌≢◌, ◌<◌, ◌≤◌, �
 ghost use Rattle.std.specs.Prelude.{max};
 ghost use Rattle.std.specs.Prelude.{IfOk, OnErr, IsTrue, not, nat_lt, None, option_map};
 ghost use Rattle.pim_hello.specs.Laws.{expired_at};
-ghost use Rattle.pim_frame.specs.Frame.{content, hello, join_prune};
+ghost use Rattle.pim_frame.specs.Frame.{content};
 ghost use Rattle.pim_hello.specs.Neighbours.{no_neighbours, needs_no_memory, sooner, entry_at};
 ghost use Rattle.pim_hello.specs.Seen.{hello_seen};
 ghost use Rattle.pim_hello.specs.Walk.{neighbour_seen};
 ghost use Rattle.pim_router.specs.Config.{config_faults, IsMadeUnless};
-ghost use Rattle.pim_router.specs.Packets.{Receives, causes, received, body_causes, body_received};
-ghost use Rattle.pim_router.specs.Packets.{message_causes};
+ghost use Rattle.pim_router.specs.Packets.{Receives, causes, received, message_causes};
 ghost use Rattle.pim_router.specs.Packets.{hello_causes, hello_taken, new_by, may_grow};
 ghost use Rattle.pim_router.specs.Packets.{message_taken, room_causes, unless, timing_on, knows};
 ghost use Rattle.pim_router.specs.Packets.{neighbours_on};
+ghost use Rattle.pim_router.specs.Reading.{reading_seen, message_refusals, read_causes};
+ghost use Rattle.pim_router.specs.Reading.{read_taken, read_received, read_may_grow};
 ghost use Rattle.pim_router.specs.Seen.{setup_seen, port_seen, packet_seen, step_seen};
 ghost use Rattle.pim_router.specs.Time.{Runs, turns_left};
 ghost use Rattle.pim_router.specs.Refreshes.{RunsPast, told_behind, first_untold};
@@ -34,12 +35,12 @@ ghost use Rattle.pim_router.specs.Sound.{IsRouter};
 ghost use Rattle.pim_router.specs.State.{new_router, port_at, setup_of, table_at};
 
 use crate::config::{Config, ConfigFault, PortConfig, check};
-use crate::laws::runs_come_nearer;
+use crate::laws::{packet_is_taken_as_read, runs_come_nearer};
+use crate::message::{PimMessage, read_message};
 use crate::step::Step;
-use crate::verdict::{Malformed, Store, Verdict};
+use crate::verdict::{Store, Verdict};
 use pim_addr::{Family, Routes};
 use pim_down::{Firing, HearFault, Ports, Step as Fires, Timing, firing_says_more, timers_run_out};
-use pim_frame::{Body, open};
 use pim_hello::{
     Heard, Hello, KnownNeighbour, KnownNeighbours, NeighbourFault, Neighbours, PortDelays,
     expiring_twice_is_expiring_once,
@@ -385,22 +386,6 @@ impl<'a, F: Family> Router<'a, F> {
         hello_verdict(heard)
     }
 
-    /// Receives the body of a Hello from `src`.
-    fn take_hello(&mut self, port: usize, src: F::Addr, body: &[u8]) -> Result<Verdict, AllocError>
-        requires { port < length self.old.ports }
-        ensures told { Receives
-            (body_causes F.family port (F.bytes_of src) self.old (hello body.now))
-            (body_received F.family port (F.bytes_of src) self.old (hello body.now)) self.old result
-            self.new }
-        ensures memory { OnErr result
-            (IsTrue (may_grow F.family port (F.bytes_of src) self.old (hello body.now))) }
-    {
-        match Hello::<F>::read(body) {
-            Ok(hello) => self.hear_hello(port, src, &hello),
-            Err(fault) => Ok(Verdict::Malformed(Malformed::Hello(fault))),
-        }
-    }
-
     /// Applies a Join/Prune message that is for this port to its machines.
     fn apply(&mut self, port: usize, message: &JpView<'_, F>) -> Result<Verdict, AllocError>
         requires { port < length self.old.ports }
@@ -439,25 +424,59 @@ impl<'a, F: Family> Router<'a, F> {
         self.apply(port, message)
     }
 
-    /// Receives the body of a Join/Prune message from `src`.
-    fn take_join_prune(
+    /// Receives a message from another address than the port's own.
+    fn take_message_from(
         &mut self,
         port: usize,
         src: F::Addr,
-        body: &[u8],
+        message: &PimMessage<'_, F>,
     ) -> Result<Verdict, AllocError>
         requires { port < length self.old.ports }
         ensures told { Receives
-            (body_causes F.family port (F.bytes_of src) self.old (join_prune body.now))
-            (body_received F.family port (F.bytes_of src) self.old (join_prune body.now)) self.old
-            result self.new }
-        ensures memory { OnErr result
-            (IsTrue (may_grow F.family port (F.bytes_of src) self.old (join_prune body.now))) }
+            (message_refusals F.family port (F.bytes_of src) self.old
+            (reading_seen F.family message.now))
+            (unless
+            (message_refusals F.family port (F.bytes_of src) self.old
+            (reading_seen F.family message.now))
+            self.old
+            (read_taken F.family port (F.bytes_of src) self.old (reading_seen F.family message.now)))
+            self.old result self.new }
+        ensures memory { OnErr result (IsTrue (read_may_grow F.family port (F.bytes_of src) self.old
+            (reading_seen F.family message.now))) }
     {
-        match JpView::<F>::read(body) {
-            Ok(message) => self.take_message(port, src, &message),
-            Err(fault) => Ok(Verdict::Malformed(Malformed::JoinPrune(fault))),
+        match message {
+            PimMessage::Hello(hello) => self.hear_hello(port, src, hello),
+            PimMessage::JoinPrune(message) => self.take_message(port, src, message),
+            PimMessage::Other(message_type) => Ok(Verdict::OtherType(*message_type)),
+            PimMessage::Malformed(fault) => Ok(Verdict::Malformed(*fault)),
         }
+    }
+
+    /// Receives on a port a message that `read_message` read. Returns the verdict. A packet is
+    /// taken as its message is (`packet_is_taken_as_read`).
+    ///
+    /// # Errors
+    /// Those of `take_packet`. Nothing has changed then.
+    pub fn take_read(
+        &mut self,
+        port: usize,
+        src: F::Addr,
+        message: &PimMessage<'_, F>,
+    ) -> Result<Verdict, AllocError>
+        requires { port < length self.old.ports }
+        ensures told { Receives
+            (read_causes F.family port (F.bytes_of src) self.old (reading_seen F.family message.now))
+            (read_received F.family port (F.bytes_of src) self.old
+            (reading_seen F.family message.now))
+            self.old result self.new }
+        ensures memory { OnErr result (IsTrue (read_may_grow F.family port (F.bytes_of src) self.old
+            (reading_seen F.family message.now))) }
+        ensures setup { setup_of self.new ≡ setup_of self.old }
+    {
+        if src == self.port(port).address {
+            return Ok(Verdict::Mine);
+        }
+        self.take_message_from(port, src, message)
     }
 
     /// Receives a packet on a port: its IP source and destination, and its PIM message. Returns the
@@ -490,35 +509,11 @@ impl<'a, F: Family> Router<'a, F> {
             (IsTrue (may_grow F.family port (F.bytes_of src) self.old (content bytes.now))) }
         ensures setup { setup_of self.new ≡ setup_of self.old }
     {
-        self.receive(port, src, dst, bytes)
-    }
-
-    /// Receives a packet on a port.
-    fn receive(
-        &mut self,
-        port: usize,
-        src: F::Addr,
-        dst: F::Addr,
-        bytes: &[u8],
-    ) -> Result<Verdict, AllocError>
-        requires port { port < length self.old.ports }
-        requires bytes { length bytes.now < 2 ^ 32 }
-        ensures told { Receives
-            (causes F.family (packet_seen F.bytes_of port src dst bytes.now) self.old)
-            (received F.family (packet_seen F.bytes_of port src dst bytes.now) self.old) self.old
-            result self.new }
-        ensures memory { OnErr result
-            (IsTrue (may_grow F.family port (F.bytes_of src) self.old (content bytes.now))) }
-    {
+        packet_is_taken_as_read();
         if src == self.port(port).address {
             return Ok(Verdict::Mine);
         }
-        match open::<F>(src, dst, bytes) {
-            Ok(Body::Hello(body)) => self.take_hello(port, src, body),
-            Ok(Body::JoinPrune(body)) => self.take_join_prune(port, src, body),
-            Ok(Body::Other(message_type)) => Ok(Verdict::OtherType(message_type)),
-            Err(fault) => Ok(Verdict::Malformed(Malformed::Frame(fault))),
-        }
+        self.take_read(port, src, &read_message::<F>(src, dst, bytes))
     }
 
     /// Lets time pass up to this moment, in milliseconds, at most 10^15, or until the next

@@ -1,5 +1,5 @@
 -- The end of a trace: the time behind the last turn, and the end of the run.
-use Rattle.std.proofs.Common.{◌≡◌, ◌∙◌, ℕ, Bool, true, false, List, [], ◌∷◌, ◌++◌, Option, Ok, Err, refl, ap, subst, inl}
+use Rattle.std.proofs.Common.{◌≡◌, ◌∙◌, ℕ, List, [], ◌∷◌, ◌++◌, Option, Err, refl, ap, subst, inl}
 use Rattle.pim_addr.specs.declared.family.AddressFamily.{AddressFamily}
 use Rattle.pim_merge.specs.declared.end.End.{End}
 use Rattle.pim_merge.specs.Ends.{end_moment, clock_of, Takes}
@@ -10,35 +10,17 @@ use Rattle.pim_router.specs.State.{RouterState}
 use Rattle.std.specs.Io.KnownBytes.{Appends}
 use Rattle.pim_device.specs.Device.{AppendsFront}
 use Rattle.pim_events.specs.Events.{Occurrence}
-use Rattle.pim_trace.specs.declared.trace.TraceFault.{TraceFault}
-use Rattle.pim_trace.specs.declared.trace.TraceFault.TheVariants.{Capture, Output, Memory}
+use Rattle.pim_run.specs.declared.fault.RunFault.{RunFault}
+use Rattle.pim_run.specs.declared.fault.RunFault.TheVariants.{Capture, Output, Memory}
 use Rattle.pim_trace.specs.Ledger.{Ledger}
 use Rattle.pim_trace.specs.Passing.{PassesTime}
 use Rattle.pim_trace.specs.Telling.{HasTold, HasBegun}
 use Rattle.pim_trace.specs.Trace.{TellsTurns, TellsAll, IsTrace, ending, ledger_for, HasSome, HasTrace, Wrote, WroteFront, Traces}
-use Rattle.pim_trace.specs.Underway.{HasAll, Steps, RunsTurns, IfMore}
+use Rattle.pim_trace.specs.Underway.{HasAll, RunsTurns}
 use Rattle.pim_trace.proofs.Underway.{begun_first}
 use Rattle.pim_trace.proofs.Pieces.{none_told, all_told, told_then, told_begun, begun_longer, one_told, one_begun}
 
--- a fact that holds after one more turn
-pub if_more : {P : Type 0} (more : Bool) → more ≡ true → IfMore (Ok more) P → P
-if_more {P} more is holds = subst (λ (b : Bool). IfMore (Ok b) P) is holds
-
 module _ (line : Occurrence → List ℕ) (family : AddressFamily) (end : End) (start : MergeState) (state : RouterState) (old : Option (List ℕ)) where
-  pub one_more : (merge : MergeState) (ledger : Ledger) (now : RouterState) (new : Option (List ℕ)) (more : Bool) → more ≡ true → Steps line family end start state old merge ledger now new (Ok more)
-      → Steps line family end start state old merge ledger now new (Ok true)
-  one_more merge ledger now new more is steps = subst (λ (b : Bool). Steps line family end start state old merge ledger now new (Ok b)) is steps
-
-  pub no_more : (merge : MergeState) (ledger : Ledger) (now : RouterState) (new : Option (List ℕ)) (more : Bool) → more ≡ false → Steps line family end start state old merge ledger now new (Ok more)
-      → HasAll line family end start state old merge ledger now new
-  no_more merge ledger now new more is steps = subst (λ (b : Bool). Steps line family end start state old merge ledger now new (Ok b)) is steps
-
-  pub ends_so : (merge : MergeState) (ledger : Ledger) (now : RouterState) (new : Option (List ℕ)) (fault : TraceFault) → Steps line family end start state old merge ledger now new (Err fault)
-      → RunsTurns line family end start state old {A = Unit {0}} merge ledger now new (Err fault)
-  ends_so merge ledger now new (Capture told) p = p
-  ends_so merge ledger now new Output p = p
-  ends_so merge ledger now new Memory p = p
-
   -- nothing was told, since there was no memory for the ledger
   pub nothing_yet : EveryStateGoesOn → HasSome line family end start state old old
   unfolding Takes TellsTurns
@@ -48,7 +30,7 @@ module _ (line : Occurrence → List ℕ) (family : AddressFamily) (end : End) (
       (all_told line old old [] (none_told line old))
 
   -- the turns ended the trace
-  pub turns_end_it : (merge : MergeState) (ledger : Ledger) (now after : RouterState) (new : Option (List ℕ)) (fault : TraceFault) → RunsTurns line family end start state old {A = Unit {0}} merge ledger now new (Err fault)
+  pub turns_end_it : (merge : MergeState) (ledger : Ledger) (now after : RouterState) (new : Option (List ℕ)) (fault : RunFault) → RunsTurns line family end start state old {A = Unit {0}} merge ledger now new (Err fault)
       → IsTallied end start merge → Traces {A = Unit {0}} line family end start merge state after old new (Err fault)
   turns_end_it merge ledger now after new (Capture told) p tallied = p
   turns_end_it merge ledger now after new Output p tallied = (inl p, tallied)

@@ -28,11 +28,11 @@ use Rattle.pim_trace.specs.Heard.{event_on, greeting, judgment, all_ignored, cha
 use Rattle.pim_trace.specs.Heard.{after_own, message_says, applied_says, says, remembers, records_after, AreChangesOf}
 use Rattle.pim_trace.specs.Heard.{HearsPacket}
 use Rattle.pim_trace.specs.Ledger.{Ledger, with_changes}
-use Rattle.pim_trace.specs.Reading.{Read, as_hello, as_message, unread, message_by, message_in, read_by, hello_read}
-use Rattle.pim_trace.specs.Reading.{message_read, packet_read}
+use Rattle.pim_router.specs.Reading.{message_by, read_by, packet_read}
+use Rattle.pim_trace.specs.Reading.{message_in, hello_read, message_read}
 use Rattle.pim_trace.proofs.Folding.{Quiet, AllQuiet, Place, place, LeadsAll, all_on, all_quiet}
 use Rattle.pim_trace.proofs.FoldedHearing.{changes_lead, quiet_ignored, quiet_restarts}
-use Rattle.pim_trace.proofs.Verdicts.{by_causes, applied_leaves, packet_moment}
+use Rattle.pim_trace.proofs.Verdicts.{by_causes, reads_as, applied_leaves, packet_moment}
 
 -- ---- packets that are not applied leave the machines
 
@@ -80,16 +80,6 @@ module _ (family : AddressFamily) (packet : Packet) (state : RouterState) where
       by none (hello body) bodies never = refl
       by none (join_prune body) bodies never =
           absurd (some_none (message_of family body) (sym (message_reads none body bodies) ∙ never refl))
-
-  -- a packet with a message reads as it
-  reads_as : (message : Message) → message_read family packet ≡ Some message → packet_read family packet
-      ≡ as_message message
-  reads_as message = by (packet_read family packet)
-    where
-      by : (read : Read) → message_in read ≡ Some message → read ≡ as_message message
-      by (as_hello said) e = absurd cc
-      by (as_message said) e = cc
-      by unread e = absurd cc
 
 -- ---- the events of a packet
 
@@ -164,7 +154,7 @@ module _ (apart : KeysAreToldApart) (keeps : HearingKeepsTheOrder) (leaves : Hea
       quietly (λ applied. read) (judgment family frame packet verdict.Applied ∷ []) ((λ key port. refl), tt)
       (changed_by changes) (ap (λ items. (changed_by items).causes) are)
   applied_lead is (Some message) read changes are =
-      let left = applied_leaves family packet state message (reads_as family packet state message read) is in
+      let left = applied_leaves family packet state message (reads_as (packet_read family packet) message read) is in
       let records : end.1.machines.records ≡ records_after family packet.port state message =
       ap (λ (s : RouterState). s.machines.records) left in
       let moment = packet_moment family packet state in

@@ -5,7 +5,7 @@ use Rattle.std.proofs.lemmas.Bool.{false≢true}
 use Rattle.std.specs.Io.KnownBytes.{Appends}
 use Rattle.pim_addr.specs.declared.family.AddressFamily.{AddressFamily}
 use Rattle.pim_device.specs.Device.{AppendsFront, AppendsAll}
-use Rattle.pim_hello.specs.Hello.{Parameters}
+use Rattle.pim_hello.specs.Hello.{Hello, Parameters}
 use Rattle.pim_hello.specs.Neighbours.{neighbour_at}
 use Rattle.pim_hello.specs.declared.heard.Heard.{Heard}
 use Rattle.pim_jp.specs.Message.{GroupSet, Message}
@@ -19,13 +19,14 @@ use Rattle.pim_events.specs.Events.{Happened, Occurrence, hello_taken}
 use Rattle.pim_transitions.specs.declared.transition.Transition.{Transition}
 use Rattle.pim_down.specs.declared.machines.machine.Record.{Record}
 use Rattle.pim_transitions.specs.Laws.{TransitionsAreThere}
-use Rattle.pim_trace.specs.declared.telling.TellFault.{TellFault}
+use Rattle.pim_run.specs.declared.fault.TurnFault.{TurnFault}
 use Rattle.pim_trace.specs.Ledger.{Ledger, with_own, with_hello, with_changes}
 use Rattle.pim_trace.specs.Heard.{event_on, generation_of, generation_in, greeting, judgment, restart_of, restarts, after_own, as_cause, sent_by, message_says, applied_says, says, remembers, records_after, AreTransitionsOf, AreChangesOf, HearsPacket}
-use Rattle.pim_trace.specs.Read.{IsHello, IsForOther, as_read, is_applied}
-use Rattle.pim_trace.specs.Reading.{Read, as_hello, as_message, unread, hello_in, message_in, packet_read, hello_read, message_read}
+use Rattle.pim_router.specs.Reading.{read_hello, read_message, packet_read}
+use Rattle.pim_trace.specs.Read.{IsNoHello, IsForOther, is_applied}
+use Rattle.pim_trace.specs.Reading.{hello_in, message_in, hello_read, message_read}
 use Rattle.pim_trace.specs.Telling.{HasBegun, Tells, text_on}
-use Rattle.pim_trace.proofs.Verdicts.{taken_reads, applied_leaves, other_is_refused}
+use Rattle.pim_trace.proofs.Verdicts.{taken_reads, reads_as, applied_leaves, other_is_refused}
 use Rattle.pim_trace.proofs.Written.{front-longer}
 use Rattle.pim_trace.proofs.Writing.{all-more, none-is-front, text-append}
 
@@ -37,36 +38,18 @@ pub record SaysHello (generation : Option ℕ) (family : AddressFamily) (packet 
   pub is : said.generation ≡ generation
   pub no_message : message_read family packet ≡ None
 
-pub says_hello : (generation : Option ℕ) (family : AddressFamily) (packet : Packet) → IsHello generation (packet_read family packet) → SaysHello generation family packet
-says_hello generation family packet h = by (packet_read family packet) refl h
-  where
-    by : (r : Read) → packet_read family packet ≡ r → IsHello generation r → SaysHello generation family packet
-    by (as_hello said) e h = record { said = said; hello = ap hello_in e; is = h; no_message = ap message_in e }
-    by (as_message message) e h = absurd h
-    by unread e h = absurd h
+pub says_hello : (family : AddressFamily) (packet : Packet) (said : Hello) → packet_read family packet ≡ read_hello said → SaysHello said.parameters.generation family packet
+says_hello family packet said is = record { said = said.parameters; hello = ap hello_in is; is = refl; no_message = ap message_in is }
 
-as_read_hello : (message : Option Message) → hello_in (as_read message) ≡ None
-as_read_hello None = refl
-as_read_hello (Some message) = refl
+-- a message is no Hello
+pub no_hello : (family : AddressFamily) (packet : Packet) (message : Message) → packet_read family packet ≡ read_message message → IsNoHello (Some message) (packet_read family packet)
+no_hello family packet message is = (ap hello_in is, ap message_in is)
 
-as_read_message : (message : Option Message) → message_in (as_read message) ≡ message
-as_read_message None = refl
-as_read_message (Some message) = refl
-
-as_read_other : (message : Option Message) (said : Parameters) → as_read message ≡ as_hello said → ⊥
-as_read_other None said e = cc
-as_read_other (Some message) said e = cc
-
-pub message_of_read : (family : AddressFamily) (packet : Packet) (message : Option Message) → packet_read family packet ≡ as_read message → message_read family packet ≡ message
-message_of_read family packet message e = ap message_in e ∙ as_read_message message
-
-no_hello_read : (family : AddressFamily) (packet : Packet) (message : Option Message) → packet_read family packet ≡ as_read message → hello_read family packet ≡ None
-no_hello_read family packet message e = ap hello_in e ∙ as_read_hello message
-
-none_taken : (family : AddressFamily) (packet : Packet) (state : RouterState) (message : Option Message) → packet_read family packet ≡ as_read message → (heard : Heard) → (received family packet state).0 ≡ verdict.HelloTaken heard → ⊥
-none_taken family packet state message e heard is =
+none_taken : (family : AddressFamily) (packet : Packet) (state : RouterState) (message : Option Message) → IsNoHello message (packet_read family packet) → (heard : Heard) → (received family packet state).0 ≡ verdict.HelloTaken heard → ⊥
+none_taken family packet state message read heard is =
     let r = taken_reads family packet state heard is in
-    as_read_other message r.said (sym e ∙ r.is)
+    let both : Some r.said.parameters ≡ None = sym (ap hello_in r.is) ∙ read.0 in
+    cc
 
 on_ok : {A E P : Type 0} (r : Result A E) → P → OnOk r P
 on_ok (Ok x) p = p
@@ -77,10 +60,10 @@ on_ok_by (Ok a) x y z e p = p ∙ e
 on_ok_by (Err f) x y z e p = tt
 
 -- a message for another router isn't applied
-pub other_unapplied : (family : AddressFamily) (packet : Packet) (state : RouterState) (message : Option Message) → packet_read family packet ≡ as_read message → IsForOther (own_address packet.port state) message
+pub other_unapplied : (family : AddressFamily) (packet : Packet) (state : RouterState) (message : Option Message) → IsNoHello message (packet_read family packet) → IsForOther (own_address packet.port state) message
     → (received family packet state).0 ≡ verdict.Applied → message ≡ None
 other_unapplied family packet state None read names is = refl
-other_unapplied family packet state (Some message) read names is = absurd (other_is_refused family packet state message read names is)
+other_unapplied family packet state (Some message) read names is = absurd (other_is_refused family packet state message (reads_as (packet_read family packet) message read.1) names is)
 
 -- it was applied, or it was not
 pub was_applied : (v : Verdict) (applied : Bool) → applied ≡ is_applied v → applied ≡ true → v ≡ verdict.Applied
@@ -135,7 +118,7 @@ module _ (family : AddressFamily) (frame : ℕ) (packet : Packet) (ledger : Ledg
     text told = text_on line ledger state.machines.moment packet.port told
 
     -- all of what the packet says was told, or a front of it
-    pub tells : (told : List Happened) (remembered : Ledger) → Says told remembered → (r : Result (Unit {0}) TellFault) (ledger' : Ledger) (after : RouterState) (old new : Option (List ℕ))
+    pub tells : (told : List Happened) (remembered : Ledger) → Says told remembered → (r : Result (Unit {0}) TurnFault) (ledger' : Ledger) (after : RouterState) (old new : Option (List ℕ))
         → OnOk r (ledger' ≡ remembered) → OnOk r (after ≡ state_is) → AppendsAll old new r (text told) → Tells line Hears ledger' after old new r
     tells told remembered s (Ok done) ledger' after old new kept left written = record {
       events = map (event_on ledger state.machines.moment packet.port) told;
@@ -255,9 +238,9 @@ module _ (family : AddressFamily) (frame : ℕ) (packet : Packet) (ledger : Ledg
 
   -- ---- another packet
 
-  module _ (message : Option Message) (read : packet_read family packet ≡ as_read message) where
+  module _ (message : Option Message) (read : IsNoHello message (packet_read family packet)) where
     same_message : message_read family packet ≡ message
-    same_message = message_of_read family packet message read
+    same_message = read.1
 
     -- the verdict comes first
     more_said : Verdict → List (Transition (List ℕ)) → List Happened
@@ -270,7 +253,7 @@ module _ (family : AddressFamily) (frame : ℕ) (packet : Packet) (ledger : Ledg
       where
         by : (v : Verdict) → ((heard : Heard) → v ≡ verdict.HelloTaken heard → ⊥) → says family frame packet state ledger v changes ≡ judgment family frame packet v ∷ more_said v changes
         by verdict.Mine none =
-            ap (λ (h : Option Parameters). judgment family frame packet verdict.Mine ∷ restarts frame (slice_index_or ledger.own packet.port None) h) (no_hello_read family packet message read)
+            ap (λ (h : Option Parameters). judgment family frame packet verdict.Mine ∷ restarts frame (slice_index_or ledger.own packet.port None) h) read.0
         by (verdict.Malformed fault) none = refl
         by (verdict.OtherType type) none = refl
         by (verdict.HelloTaken heard) none = absurd (none heard refl)
@@ -313,7 +296,7 @@ module _ (family : AddressFamily) (frame : ℕ) (packet : Packet) (ledger : Ledg
     unapplied_kept applied = by verdict_is (none_taken family packet state message read)
       where
         by : (v : Verdict) → ((heard : Heard) → v ≡ verdict.HelloTaken heard → ⊥) → remembers family frame packet state ledger v [] ≡ ledger
-        by verdict.Mine none = ap (λ (h : Option Parameters). after_own packet.port h ledger) (no_hello_read family packet message read)
+        by verdict.Mine none = ap (λ (h : Option Parameters). after_own packet.port h ledger) read.0
         by (verdict.Malformed fault) none = refl
         by (verdict.OtherType type) none = refl
         by (verdict.HelloTaken heard) none = absurd (none heard refl)
@@ -335,7 +318,7 @@ module _ (family : AddressFamily) (frame : ℕ) (packet : Packet) (ledger : Ledg
         → AreTransitionsOf family packet.port state m changes
         → Changed verdict_is changes
     changed_by m e v_is changes are =
-        let left : state_is ≡ (message_taken family packet.port state m).1 = applied_leaves family packet state m (read ∙ ap as_read e) v_is in
+        let left : state_is ≡ (message_taken family packet.port state m).1 = applied_leaves family packet state m (reads_as (packet_read family packet) m (read.1 ∙ e)) v_is in
         subst (λ (v : Verdict). AreChangesOf family packet state state_is v (message_read family packet) changes) (sym v_is)
         (subst (λ (o : Option Message). AreChangesOf family packet state state_is verdict.Applied o changes) (sym (same_message ∙ e))
         (subst (λ (after : RouterState). AreChangesOf family packet state after verdict.Applied (Some m) changes) (sym left) are))
@@ -391,13 +374,13 @@ module _ (family : AddressFamily) (frame : ℕ) (packet : Packet) (ledger : Ledg
         → AreTransitionsOf family packet.port state m (found (records_after family packet.port state m))
         → (sets : List GroupSet) → sets ≡ m.sets
         → (line : Occurrence → List ℕ) (after : RouterState) → after ≡ state_is
-        → (r : Result (Unit {0}) TellFault) (ledger' : Ledger) (a b c : Option (List ℕ))
+        → (r : Result (Unit {0}) TurnFault) (ledger' : Ledger) (a b c : Option (List ℕ))
         → Appends a b (text_on line ledger state.machines.moment packet.port (judgment family frame packet verdict_is ∷ []))
         → AppendsAll b c r (text_on line ledger after.machines.moment packet.port (message_says family frame packet after ledger sets (found after.machines.records)))
         → OnOk r (ledger' ≡ with_changes (as_cause frame packet after) (found after.machines.records) ledger)
         → Tells line Hears ledger' after a c r
     applied_told m e v_is found are sets sets_is line after after_is r ledger' a b c first written kept =
-        let left : after ≡ (message_taken family packet.port state m).1 = after_is ∙ applied_leaves family packet state m (read ∙ ap as_read e) v_is in
+        let left : after ≡ (message_taken family packet.port state m).1 = after_is ∙ applied_leaves family packet state m (reads_as (packet_read family packet) m (read.1 ∙ e)) v_is in
         let changes = found (records_after family packet.port state m) in
         let says_all : Says (judgment family frame packet verdict_is ∷ message_says family frame packet state ledger m.sets changes) (with_changes (as_cause frame packet state) changes ledger) = record {
           changes = changes;
@@ -425,22 +408,25 @@ module _ (family : AddressFamily) (frame : ℕ) (packet : Packet) (ledger : Ledg
   pair_is : (v w : Verdict) (after : RouterState) → ◌≡◌ {A = Verdict × RouterState} (v, after) (received family packet state) → v ≡ w → (received family packet state).0 ≡ w
   pair_is v w after pair is = sym (ap (λ (end : Verdict × RouterState). end.0) pair) ∙ is
 
-  module _ (generation : Option ℕ) (reads : IsHello generation (packet_read family packet)) where
+  module _ (said : Hello) (reads : packet_read family packet ≡ read_hello said) where
+    abbrev generation : Option ℕ
+    generation = said.parameters.generation
+
     -- memory was refused before the Hello was told
     pub hello_stopped : (old : Option (List ℕ)) → HasBegun line HearsIt old old
     hello_stopped old =
-        let s = some_hello family frame packet ledger state generation (says_hello generation family packet reads) in
+        let s = some_hello family frame packet ledger state generation (says_hello family packet said reads) in
         nothing_told family frame packet ledger state line _ _ s old
 
     module _ (v : Verdict) (after : RouterState) (pair : ◌≡◌ {A = Verdict × RouterState} (v, after) (received family packet state)) (ms : ℕ) (now : ms ≡ state.machines.moment)
-        (r : Result (Unit {0}) TellFault) (ledger' : Ledger) (old new : Option (List ℕ)) where
+        (r : Result (Unit {0}) TurnFault) (ledger' : Ledger) (old new : Option (List ℕ)) where
       pub hello_told : (heard : Heard) (was : Option ℕ) → v ≡ verdict.HelloTaken heard → was ≡ generation_of (neighbour_at packet.source (neighbours_on packet.port state))
           → AppendsAll old new r (text_on line ledger ms packet.port (hello_taken (record { frame = frame; from = packet.source; verdict = heard; was = was; generation = generation }) ∷ []))
           → OnOk r (ledger' ≡ with_hello packet.port packet.source (sent_by frame ms heard) ledger) → Tells line HearsIt ledger' after old new r
       hello_told heard was is was_is written kept =
           tells family frame packet ledger state line (hello_taken (record { frame = frame; from = packet.source; verdict = heard; was = was; generation = generation }) ∷ [])
           (with_hello packet.port packet.source (sent_by frame state.machines.moment heard) ledger)
-          (greets family frame packet ledger state generation (says_hello generation family packet reads) heard was (pair_is v (verdict.HelloTaken heard) after pair is) was_is)
+          (greets family frame packet ledger state generation (says_hello family packet said reads) heard was (pair_is v (verdict.HelloTaken heard) after pair is) was_is)
           r ledger' after old new
           (subst (λ m. OnOk r (ledger' ≡ with_hello packet.port packet.source (sent_by frame m heard) ledger)) now kept)
           (on_ok r (pair_left v after pair))
@@ -451,7 +437,7 @@ module _ (family : AddressFamily) (frame : ℕ) (packet : Packet) (ledger : Ledg
           → OnOk r (ledger' ≡ with_own packet.port generation ledger) → Tells line HearsIt ledger' after old new r
       own_told is written kept =
           tells family frame packet ledger state line (judgment family frame packet verdict.Mine ∷ restart_of frame (slice_index_or ledger.own packet.port None) generation) (with_own packet.port generation ledger)
-          (restarts_by family frame packet ledger state generation (says_hello generation family packet reads) (pair_is v verdict.Mine after pair is))
+          (restarts_by family frame packet ledger state generation (says_hello family packet said reads) (pair_is v verdict.Mine after pair is))
           r ledger' after old new kept (on_ok r (pair_left v after pair))
           (subst (λ m. AppendsAll old new r (text_on line ledger m packet.port (judgment family frame packet verdict.Mine ∷ restart_of frame (slice_index_or ledger.own packet.port None) generation))) now written)
 
@@ -459,16 +445,16 @@ module _ (family : AddressFamily) (frame : ℕ) (packet : Packet) (ledger : Ledg
           → AppendsAll old new r (text_on line ledger ms packet.port (judgment family frame packet v ∷ [])) → Tells line HearsIt ledger' after old new r
       verdict_told no_hello not_mine same written =
           tells family frame packet ledger state line (judgment family frame packet v ∷ []) ledger
-          (judges family frame packet ledger state generation (says_hello generation family packet reads) v (pair_is v v after pair refl) no_hello not_mine)
+          (judges family frame packet ledger state generation (says_hello family packet said reads) v (pair_is v v after pair refl) no_hello not_mine)
           r ledger' after old new (on_ok r same) (on_ok r (pair_left v after pair))
           (subst (λ m. AppendsAll old new r (text_on line ledger m packet.port (judgment family frame packet v ∷ []))) now written)
 
-  module _ (message : Option Message) (read : packet_read family packet ≡ as_read message) where
+  module _ (message : Option Message) (read : IsNoHello message (packet_read family packet)) where
     abbrev told_first : List ℕ
     told_first = text_on line ledger state.machines.moment packet.port (judgment family frame packet (received family packet state).0 ∷ [])
 
     -- a packet that isn't applied
-    pub other_told : ((received family packet state).0 ≡ verdict.Applied → message ≡ None) → (r : Result (Unit {0}) TellFault) (after : RouterState) (old new : Option (List ℕ))
+    pub other_told : ((received family packet state).0 ≡ verdict.Applied → message ≡ None) → (r : Result (Unit {0}) TurnFault) (after : RouterState) (old new : Option (List ℕ))
         → OnOk r (after ≡ (received family packet state).1) → AppendsAll old new r told_first → Tells line HearsIt ledger after old new r
     other_told none r after old new left written =
         tells family frame packet ledger state line (judgment family frame packet (received family packet state).0 ∷ []) ledger (unapplied family frame packet ledger state message read none)

@@ -22,6 +22,8 @@ use Rattle.pim_trace.specs.Heard.{AreChangesOf, event_on, says, remembers}
 use Rattle.pim_trace.specs.Ledger.{Ledger, frame_of, with_skip}
 use Rattle.pim_trace.specs.Passing.{PassesTime}
 use Rattle.pim_trace.specs.Reading.{message_read}
+use Rattle.pim_run.specs.declared.fault.TurnFault.{TurnFault}
+use Rattle.pim_run.specs.Run.{OnTurn}
 use Rattle.pim_trace.specs.Telling.{HasTold, HasBegun, Tells}
 use Rattle.pim_trace.specs.Turn.{packet_on, Skips, TakesContent, TakesRecord, counting, TellsTurn}
 use Rattle.pim_trace.proofs.Pieces.{none_told, one_told, one_begun, told_then, told_begun, begun_longer}
@@ -186,7 +188,7 @@ module _ (line : Occurrence → List ℕ) (family : AddressFamily) (turn : Taken
       written = told_begun line old mid new way.events one.events way.written one.written;
     }
 
-    pub turn_over : {E : Type 0} (ledger' : Ledger) (after : RouterState) (new : Option (List ℕ)) (result : Result (Unit {0}) E) → Tells line Takes ledger' after mid new result
-        → Tells line Tell ledger' after old new result
+    pub turn_over : (ledger' : Ledger) (after : RouterState) (new : Option (List ℕ)) (result : Result (Unit {0}) TurnFault) → Tells line Takes ledger' after mid new result
+        → OnTurn (HasTold line Tell ledger' after old new) (HasBegun line Tell old new) result
     turn_over ledger' after new (Ok done) p = turn_told ledger' after new p
     turn_over ledger' after new (Err fault) p = turn_begun new p

@@ -1,5 +1,5 @@
 -- What a verdict tells of the packet, and what the packet tells of its verdict.
-use Rattle.std.proofs.Common.{◌≡◌, ℕ, Bool, true, false, not, nat_eq, nat_lt, List, [], ◌∷◌, ◌++◌, map, Result, Ok, Err, IfOk, refl, sym, ap, ◌∙◌}
+use Rattle.std.proofs.Common.{◌≡◌, ℕ, Bool, true, false, not, nat_eq, nat_lt, List, [], ◌∷◌, ◌++◌, map, Some, Result, Ok, Err, IfOk, refl, sym, ap, ◌∙◌}
 use Rattle.std.specs.List.{AllByRecursion}
 use Rattle.std.specs.Cmp.Lexicographic.{pointwise}
 use Rattle.std.proofs.lemmas.Bool.{false≢true}
@@ -8,7 +8,7 @@ use Rattle.pim_addr.specs.Faults.{fault_if, judged}
 use Rattle.pim_frame.specs.Frame.{Content, hello, join_prune, other, content, frame_faults}
 use Rattle.pim_frame.specs.declared.frame.FrameFault.{FrameFault}
 use Rattle.pim_hello.specs.Faults.{faults as hello_faults}
-use Rattle.pim_hello.specs.Hello.{Hello, Parameters}
+use Rattle.pim_hello.specs.Hello.{Hello}
 use Rattle.pim_hello.specs.declared.fault.HelloFault.{HelloFault}
 use Rattle.pim_hello.specs.declared.heard.Heard.{Heard}
 use Rattle.pim_hello.specs.Value.{hello_of}
@@ -21,7 +21,8 @@ use Rattle.pim_router.specs.declared.verdict.Malformed.TheVariants as malformed
 use Rattle.pim_router.specs.declared.verdict.Store.TheVariants as store
 use Rattle.pim_router.specs.Packets.{Packet, Receives, received, unless, causes, body_causes, message_causes, hello_causes, room_causes, body_taken, message_taken, knows, own_address, needed_by}
 use Rattle.pim_router.specs.State.{RouterState}
-use Rattle.pim_trace.specs.Reading.{as_hello, as_message, hello_by, message_by, read_by, packet_read}
+use Rattle.pim_router.specs.Reading.{Reading, read_hello, read_message, read_other, read_fault, hello_by, message_by, read_by, packet_read, read_causes, read_received, IsTakenAsRead}
+use Rattle.pim_trace.specs.Reading.{message_in}
 
 -- ---- lists of causes
 
@@ -121,8 +122,8 @@ unfolding refuses
 applied_refuses v e is = false≢true (sym (ap refuses is) ∙ e)
 
 pub record ReadsHello (family : AddressFamily) (packet : Packet) : Type 0 where
-  pub said : Parameters
-  pub is : packet_read family packet ≡ as_hello said
+  pub said : Hello
+  pub is : packet_read family packet ≡ read_hello said
 
 -- a Hello is taken only if the packet reads as one
 pub taken_reads : (family : AddressFamily) (packet : Packet) (state : RouterState) (heard : Heard) → (received family packet state).0 ≡ verdict.HelloTaken heard → ReadsHello family packet
@@ -131,17 +132,24 @@ taken_reads family packet state heard =
     (λ v e is. absurd (taken_refuses v heard e is)) (λ frames bodies is. record { said = (reads frames (content packet.bytes) bodies is).0; is = (reads frames (content packet.bytes) bodies is).1 })
   where
     reads : {faults : List FrameFault} → faults ≡ [] → (body : Content) → body_causes family packet.port packet.source state body ≡ [] → (body_taken family packet.port packet.source state body).0 ≡ verdict.HelloTaken heard
-        → (said : Parameters) × (read_by family (judged faults body) ≡ as_hello said)
+        → (said : Hello) × (read_by family (judged faults body) ≡ read_hello said)
     reads {faults = faults} none (other type) bodies is = absurd cc
     reads {faults = faults} none (hello body) bodies is =
         let parts = nil_parts (map (λ (fault : HelloFault). verdict.Malformed (malformed.Hello fault)) (hello_faults body)) (hello_causes packet.port packet.source state (hello_of family body).parameters) bodies in
         let no_faults = map_nil (λ (fault : HelloFault). verdict.Malformed (malformed.Hello fault)) (hello_faults body) parts.0 in (
-          (hello_of family body).parameters,
+          hello_of family body,
           ap (λ fs. read_by family (judged fs (hello body))) none ∙ ap (λ fs. hello_by (judged fs (hello_of family body))) no_faults,
         )
     reads {faults = faults} none (join_prune body) bodies is = absurd cc
 
 -- ---- a message
+
+-- what has this message reads as it
+pub reads_as : (reading : Reading) (message : Message) → message_in reading ≡ Some message → reading ≡ read_message message
+reads_as (read_hello said) message e = absurd cc
+reads_as (read_message said) message e = cc
+reads_as (read_other type) message e = absurd cc
+reads_as (read_fault fault) message e = absurd cc
 
 -- the message is the body of the packet
 record IsBody (family : AddressFamily) (faults : List FrameFault) (body : Content) (message : Message) : Type 0 where
@@ -150,21 +158,21 @@ record IsBody (family : AddressFamily) (faults : List FrameFault) (body : Conten
   body_is : body ≡ join_prune bytes
   is : message_of family bytes ≡ message
 
-message_is : (family : AddressFamily) (faults : List FrameFault) (body : Content) (message : Message) → read_by family (judged faults body) ≡ as_message message → IsBody family faults body message
+message_is : (family : AddressFamily) (faults : List FrameFault) (body : Content) (message : Message) → read_by family (judged faults body) ≡ read_message message → IsBody family faults body message
 message_is family (fault ∷ faults) body message e = absurd cc
 message_is family [] (other type) message e = absurd cc
 message_is family [] (hello body) message e = absurd (by (judged (hello_faults body) (hello_of family body)) e)
   where
-    by : (r : Result Hello HelloFault) → hello_by r ≡ as_message message → ⊥
+    by : (r : Result Hello HelloFault) → hello_by r ≡ read_message message → ⊥
     by (Ok said) e = cc
     by (Err fault) e = cc
 message_is family [] (join_prune body) message e = by (join_prune_faults family body) e
   where
-    by : (faults : List JpFault) → message_by (judged faults (message_of family body)) ≡ as_message message → IsBody family [] (join_prune body) message
+    by : (faults : List JpFault) → message_by (judged faults (message_of family body)) ≡ read_message message → IsBody family [] (join_prune body) message
     by [] e = record { bytes = body; sound = refl; body_is = refl; is = cc }
     by (fault ∷ faults) e = absurd cc
 
-module _ (family : AddressFamily) (packet : Packet) (state : RouterState) (message : Message) (read : packet_read family packet ≡ as_message message) where
+module _ (family : AddressFamily) (packet : Packet) (state : RouterState) (message : Message) (read : packet_read family packet ≡ read_message message) where
   body_of : IsBody family (frame_faults family packet.source packet.destination packet.bytes) (content packet.bytes) message
   body_of = message_is family (frame_faults family packet.source packet.destination packet.bytes) (content packet.bytes) message read
 
@@ -214,11 +222,15 @@ packet_moment family packet state =
 
 -- ---- the call that receives a packet
 
-pub received_ok : {E : Type 0} (told : List Verdict) (end : Verdict × RouterState) (old new : RouterState) (r : Result Verdict E) → Receives told end old r new → IfOk r (λ v. (v, new) ≡ end)
-received_ok told end old new (Ok v) p = p
-received_ok told end old new (Err e) p = tt
+-- of a packet, as of what it reads as
+pub received_ok : {E : Type 0} (family : AddressFamily) (packet : Packet) (state : RouterState) → IsTakenAsRead family packet state → (reading : Reading) → packet_read family packet ≡ reading →
+    (r : Result Verdict E) (new : RouterState) →
+    Receives (read_causes family packet.port packet.source state reading) (read_received family packet.port packet.source state reading) state r new →
+    IfOk r (λ v. (v, new) ≡ received family packet state)
+received_ok family packet state law reading is (Ok v) new takes = takes ∙ (ap (read_received family packet.port packet.source state) (sym is) ∙ law.received_is)
+received_ok family packet state law reading is (Err e) new takes = tt
 
-pub received_moment : {E : Type 0} (family : AddressFamily) (packet : Packet) (told : List Verdict) (old new : RouterState) (r : Result Verdict E) → Receives told (received family packet old) old r new
-    → new.machines.moment ≡ old.machines.moment
-received_moment family packet told old new (Ok v) p = ap (λ (end : Verdict × RouterState). end.1.machines.moment) p ∙ packet_moment family packet old
-received_moment family packet told old new (Err e) p = ap (λ (s : RouterState). s.machines.moment) p.1
+pub received_moment : {E : Type 0} (family : AddressFamily) (packet : Packet) (told : List Verdict) (end : Verdict × RouterState) (old new : RouterState) (r : Result Verdict E) → Receives told end old r new
+    → IfOk r (λ v. (v, new) ≡ received family packet old) → new.machines.moment ≡ old.machines.moment
+received_moment family packet told end old new (Ok v) p is = ap (λ (end : Verdict × RouterState). end.1.machines.moment) is ∙ packet_moment family packet old
+received_moment family packet told end old new (Err e) p is = ap (λ (s : RouterState). s.machines.moment) p.1

@@ -1,34 +1,20 @@
--- How contracts see a packet, and what its message reads as.
+-- How contracts see a packet and what it reads as.
 use Rattle.std.specs.Prelude.{◌≡◌, ℕ, Bool, true, false, nat_eq, List, [], ◌∷◌, Option, None, Some}
 use Rattle.std.specs.Cmp.Lexicographic.{pointwise}
 use Rattle.pim_jp.specs.Message.{Message}
 use Rattle.pim_router.specs.declared.verdict.Verdict.{Verdict}
 use Rattle.pim_router.specs.declared.verdict.Verdict.TheVariants.{Applied}
 use Rattle.pim_router.specs.Packets as router
+use Rattle.pim_router.specs.Reading.{Reading}
 use Rattle.pim_router.specs.Seen.{packet_seen}
 use Rattle.pim_events.specs.declared.event.Ignored.{Ignored}
 use Rattle.pim_events.specs.Events.{Happened, join_ignored, ignored_seen}
 use Rattle.pim_trace.specs.declared.hearing.Packet.{Packet}
-use Rattle.pim_trace.specs.Reading.{Read, as_hello, as_message, unread}
-use Rattle.pim_trace.specs.declared.reading.Reading.{Reading}
-use Rattle.pim_trace.specs.declared.reading.Reading.TheVariants.{Hello, JoinPrune, Other}
+use Rattle.pim_trace.specs.Reading.{hello_in, message_in}
 
--- It is a Hello with this Generation ID.
-abbrev pub IsHello : Option ℕ → Read → Type 0
-IsHello generation (as_hello said) = said.generation ≡ generation
-IsHello generation (as_message message) = ⊥
-IsHello generation unread = ⊥
-
--- The value of the code is this. Of a Hello it has the Generation ID alone.
-abbrev pub IsRead : {F A N : Type 0} → Reading F A N → Read → Type 0
-IsRead (Hello generation) read = IsHello generation read
-IsRead (JoinPrune message) read = read ≡ as_message message
-IsRead Other read = read ≡ unread
-
--- A packet that is no Hello: a Join/Prune message, or neither.
-abbrev pub as_read : Option Message → Read
-as_read None = unread
-as_read (Some message) = as_message message
+-- The packet is no Hello, and this is its Join/Prune message, if it is one.
+abbrev pub IsNoHello : Option Message → Reading → Type 0
+IsNoHello message reading = (hello_in reading ≡ None) × (message_in reading ≡ message)
 
 -- The message, if there is one, names another upstream neighbour than this address.
 abbrev pub IsForOther : List ℕ → Option Message → Type 0

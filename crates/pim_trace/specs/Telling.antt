@@ -1,12 +1,10 @@
 -- What a call tells that goes on with a trace.
-use Rattle.std.specs.Prelude.{ℕ, ◌+◌, min, List, map, Option, Result, Ok, Err}
+use Rattle.std.specs.Prelude.{ℕ, List, map, Option, Result, Ok, Err}
 use Rattle.std.specs.Io.KnownBytes.{Appends}
 use Rattle.std.specs.List.{flat_map}
-use Rattle.pim_device.specs.Device.{AppendsFront, top_count}
+use Rattle.pim_device.specs.Device.{AppendsFront}
 use Rattle.pim_router.specs.State.{RouterState}
 use Rattle.pim_events.specs.Events.{Happened, Occurrence}
-use Rattle.pim_trace.specs.declared.telling.TellFault.{TellFault}
-use Rattle.pim_trace.specs.declared.telling.TellFault.TheVariants.{Output, Memory}
 use Rattle.pim_trace.specs.Ledger.{Ledger}
 use Rattle.pim_trace.specs.Heard.{event_on}
 
@@ -32,13 +30,6 @@ module _ (line : Occurrence → List ℕ) (Are : List Occurrence → Ledger → 
   abbrev pub Tells : {A E : Type 0} → Ledger → RouterState → Option (List ℕ) → Option (List ℕ) → Result A E → Type 0
   Tells ledger after old new (Ok done) = HasTold ledger after old new
   Tells ledger after old new (Err fault) = HasBegun old new
-
--- How often the device has failed after a call with this result: once more if the result is
--- `Output`, otherwise as often as before it.
-abbrev pub failures_by : {A : Type 0} → ℕ → Result A TellFault → ℕ
-failures_by before (Ok done) = before
-failures_by before (Err Output) = min (before + 1) top_count
-failures_by before (Err Memory) = before
 
 -- What is written of what happens on a port at one moment. `line` is what is written of an event.
 abbrev pub text_on : (Occurrence → List ℕ) → Ledger → ℕ → ℕ → List Happened → List ℕ

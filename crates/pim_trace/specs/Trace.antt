@@ -1,12 +1,12 @@
 -- The whole trace: the events of the turns of a merge, then those of the time up to the end of the
 -- run, then the end itself. Where a fault of a capture stops the run, what is still due at the
 -- moment of the last turn happens before it.
-use Rattle.std.specs.Prelude.{◌≡◌, ◌≢◌, ◌⊎◌, ⊤, ℕ, ◌+◌, min, List, [], ◌∷◌, ◌++◌, length, Option, None, Some}
+use Rattle.std.specs.Prelude.{◌≡◌, ◌≢◌, ◌⊎◌, ⊤, ℕ, ◌+◌, List, [], ◌∷◌, ◌++◌, length, Option, None, Some}
 use Rattle.std.specs.Prelude.{Result, Ok, Err}
 use Rattle.std.specs.Io.KnownBytes.{Appends}
 use Rattle.std.specs.List.{flat_map}
 use Rattle.pim_addr.specs.declared.family.AddressFamily.{AddressFamily}
-use Rattle.pim_device.specs.Device.{AppendsFront, top_count}
+use Rattle.pim_device.specs.Device.{AppendsFront}
 use Rattle.pim_capture.specs.declared.fault.CaptureFault.TheVariants as fault
 use Rattle.pim_capture.specs.Next.{IsRefusal}
 use Rattle.pim_hello.specs.Neighbours.{Table}
@@ -20,8 +20,8 @@ use Rattle.pim_merge.specs.Next.{MergeState, IsNumbered}
 use Rattle.pim_merge.specs.Run.{CountsAll, IsTallied}
 use Rattle.pim_router.specs.State.{RouterState}
 use Rattle.pim_events.specs.Events.{Occurrence, run_ended}
-use Rattle.pim_trace.specs.declared.trace.TraceFault.{TraceFault}
-use Rattle.pim_trace.specs.declared.trace.TraceFault.TheVariants.{Capture, Output, Memory}
+use Rattle.pim_run.specs.declared.fault.RunFault.{RunFault}
+use Rattle.pim_run.specs.declared.fault.RunFault.TheVariants.{Capture, Output, Memory}
 use Rattle.pim_trace.specs.Ledger.{Ledger, new_ledger, epoch_of}
 use Rattle.pim_trace.specs.Passing.{PassesTime}
 use Rattle.pim_trace.specs.Turn.{TellsTurn}
@@ -152,7 +152,7 @@ module _ (line : Occurrence → List ℕ) (family : AddressFamily) (end : End) (
 -- The tallies of `merge'` count the turns: all at Ok, those before the fault of a capture, or some
 -- first ones.
 abbrev pub Traces : {A : Type 0} → (Occurrence → List ℕ) → AddressFamily → End → MergeState → MergeState →
-    RouterState → RouterState → Option (List ℕ) → Option (List ℕ) → Result A TraceFault → Type 0
+    RouterState → RouterState → Option (List ℕ) → Option (List ℕ) → Result A RunFault → Type 0
 Traces line family end merge merge' state after old new (Ok done) =
     HasTrace line family end merge state after (Wrote line old new) × CountsAll end merge merge'
 Traces line family end merge merge' state after old new (Err (Capture told)) =
@@ -161,11 +161,3 @@ Traces line family end merge merge' state after old new (Err Output) =
     BeginsTrace line family end merge state old new × IsTallied end merge merge'
 Traces line family end merge merge' state after old new (Err Memory) =
     BeginsTrace line family end merge state old new × IsTallied end merge merge'
-
--- How often the device has failed after a trace with this result: once more if the result is `Output`,
--- otherwise as often as before it. The count stops at 2^64 - 1.
-abbrev pub failures_of_device : {A : Type 0} → ℕ → Result A TraceFault → ℕ
-failures_of_device before (Ok done) = before
-failures_of_device before (Err (Capture told)) = before
-failures_of_device before (Err Output) = min (before + 1) top_count
-failures_of_device before (Err Memory) = before

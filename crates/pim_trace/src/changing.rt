@@ -11,15 +11,17 @@ ghost use Rattle.pim_trace.specs.Heard.{as_cause, change_of, changes_of};
 ghost use Rattle.pim_trace.specs.Ledger.{with_change, with_changes};
 ghost use Rattle.pim_trace.specs.Kept.{ledger_seen};
 ghost use Rattle.pim_trace.specs.Read.{packet_in};
-ghost use Rattle.pim_trace.specs.Telling.{text_on, failures_by};
+ghost use Rattle.pim_run.specs.Faults.{failures_by};
+ghost use Rattle.pim_trace.specs.Telling.{text_on};
 
 use crate::hearing::Packet;
 use crate::ledger::Ledger;
-use crate::telling::{TellFault, tell_on};
+use crate::telling::tell_on;
 use pim_addr::Family;
 use pim_down::{Machine, State};
 use pim_events::{Cause, Happening, Teller, Transition};
 use pim_router::Router;
+use pim_run::TurnFault;
 use pim_transitions::{Named, Transition as Change};
 
 /// A message that changed machines.
@@ -71,7 +73,7 @@ fn tell_change<F: Family, W, T: Teller<F, W>>(
     ledger: &mut Ledger<F>,
     by: &Changer<F::Addr>,
     change: &Change<F::Addr>,
-) -> Result<(), TellFault>
+) -> Result<(), TurnFault>
     ensures bytes { AppendsAll (T.contents device.old) (T.contents device.new) result
         (text_on (T.line teller.now) (ledger_seen F.bytes_of ledger.old) by.now.packet.ms
         by.now.port (change_of (ledger_seen F.bytes_of ledger.old)
@@ -86,10 +88,10 @@ fn tell_change<F: Family, W, T: Teller<F, W>>(
 {
     let event = Happening::Transition(change_of(ledger, by, change));
     let Ok(()) = tell_on(teller, device, ledger, by.packet.ms, by.port, event) else {
-        return Err(TellFault::Output);
+        return Err(TurnFault::Output);
     };
     let Ok(()) = ledger.change(by.packet, change) else {
-        return Err(TellFault::Memory);
+        return Err(TurnFault::Memory);
     };
     Ok(())
 }
@@ -135,7 +137,7 @@ pub(crate) fn tell_changes<F: Family, W, T: Teller<F, W>>(
     ledger: &mut Ledger<F>,
     packet: &Packet<'_, F::Addr>,
     named: &Named<F>,
-) -> Result<(), TellFault>
+) -> Result<(), TurnFault>
     requires { packet.now.port < length router.now.ports }
     ensures bytes { AppendsAll (T.contents device.old) (T.contents device.new) result
         (text_on (T.line teller.now) (ledger_seen F.bytes_of ledger.old) router.now.machines.moment

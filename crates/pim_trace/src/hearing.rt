@@ -1,6 +1,6 @@
 //! A packet that a port receives: the router takes it, and the trace says what it did.
 //!
-//! The message is read before the router takes it, since what it says is told beside the verdict.
+//! The message is read once: the router takes it, and the trace says what it is beside the verdict.
 //! The machines that a message may change are looked up only if it is for this router.
 
 ghost use Rattle.std.specs.Prelude.{◌≡◌, ◌<◌, ◌^◌, [], ◌∷◌, None, nat_eq, length, IfOk, OnOk};
@@ -17,20 +17,23 @@ ghost use Rattle.pim_trace.specs.Heard.{as_cause, sent_by, message_says, records
 ghost use Rattle.pim_trace.specs.Heard.{AreTransitionsOf};
 ghost use Rattle.pim_trace.specs.Ledger.{with_own, with_hello, with_changes};
 ghost use Rattle.pim_trace.specs.Kept.{ledger_seen};
-ghost use Rattle.pim_trace.specs.Read.{packet_in, IsHello, IsForOther, as_read, is_applied};
-ghost use Rattle.pim_trace.specs.Reading.{packet_read, message_read, as_message};
-ghost use Rattle.pim_trace.specs.Telling.{Tells, text_on, failures_by};
+ghost use Rattle.pim_hello.specs.Seen.{hello_seen};
+ghost use Rattle.pim_router.specs.Reading.{reading_seen, read_hello, read_message, packet_read};
+ghost use Rattle.pim_trace.specs.Read.{packet_in, IsForOther, is_applied};
+ghost use Rattle.pim_trace.specs.Reading.{hello_in, message_in, message_read};
+ghost use Rattle.pim_run.specs.Faults.{failures_by};
+ghost use Rattle.pim_trace.specs.Telling.{Tells, text_on};
 
 use crate::changing::tell_changes;
 use crate::ignoring::tell_ignored;
 use crate::ledger::{Ledger, Sent};
-use crate::reading::{Reading, read};
-use crate::telling::{TellFault, tell_on};
+use crate::telling::tell_on;
 use pim_addr::Family;
 use pim_events::{Greeting, Happening, Judgment, OwnRestart, Teller};
-use pim_hello::Heard;
+use pim_hello::{Heard, Hello};
 use pim_jp::{JpView, Sets};
-use pim_router::{Router, Verdict};
+use pim_router::{PimMessage, Router, Verdict, packet_is_taken_as_read, read_message};
+use pim_run::TurnFault;
 use pim_transitions::{Named, candidates_tell_transitions, transitions_are_there};
 use std::alloc::{AllocError, Global};
 
@@ -54,19 +57,22 @@ struct Effects<'m, F: Family> {
     named: Named<F>,
 }
 
-/// Lets the router take a packet.
+/// Lets the router take a packet whose message was read.
 fn take<F: Family>(
     router: &mut Router<'_, F>,
     packet: &Packet<'_, F::Addr>,
+    message: &PimMessage<'_, F>,
 ) -> Result<Verdict, AllocError>
     requires port { packet.now.port < length router.old.ports }
-    requires bytes { length packet.now.bytes.now < 2 ^ 32 }
+    requires read { packet_read F.family (packet_in F.bytes_of packet.now)
+        ≡ reading_seen F.family message.now }
     ensures told { IfOk result (λ verdict.
         (verdict, router.new) ≡ received F.family (packet_in F.bytes_of packet.now) router.old) }
     ensures setup { setup_of router.new ≡ setup_of router.old }
     ensures moment { router.new.machines.moment ≡ router.old.machines.moment }
 {
-    router.take_packet(packet.port, packet.source, packet.destination, packet.bytes)
+    packet_is_taken_as_read();
+    router.take_read(packet.port, packet.source, message)
 }
 
 /// The Generation ID that is kept of the packet's sender.
@@ -126,7 +132,7 @@ fn greet<F: Family, W, T: Teller<F, W>>(
     ms: u64,
     port: usize,
     greeting: Greeting<F::Addr>,
-) -> Result<(), TellFault>
+) -> Result<(), TurnFault>
     ensures bytes { AppendsAll (T.contents device.old) (T.contents device.new) result
         (text_on (T.line teller.now) (ledger_seen F.bytes_of ledger.old) ms port
         (hello_taken (greeting_seen F.bytes_of greeting) ∷ [])) }
@@ -139,10 +145,10 @@ fn greet<F: Family, W, T: Teller<F, W>>(
 {
     let event = Happening::Hello(greeting);
     let Ok(()) = tell_on(teller, device, ledger, ms, port, event) else {
-        return Err(TellFault::Output);
+        return Err(TurnFault::Output);
     };
     let Ok(()) = remember_hello(ledger, ms, port, &greeting) else {
-        return Err(TellFault::Memory);
+        return Err(TurnFault::Memory);
     };
     Ok(())
 }
@@ -155,7 +161,7 @@ fn tell_verdict<F: Family, W, T: Teller<F, W>>(
     ms: u64,
     packet: &Packet<'_, F::Addr>,
     verdict: Verdict,
-) -> Result<(), TellFault>
+) -> Result<(), TurnFault>
     requires { message_read F.family (packet_in F.bytes_of packet.now) ≡ None }
     ensures bytes { AppendsAll (T.contents device.old) (T.contents device.new) result
         (text_on (T.line teller.now) (ledger_seen F.bytes_of ledger.now) ms packet.now.port
@@ -169,7 +175,7 @@ fn tell_verdict<F: Family, W, T: Teller<F, W>>(
         message: None,
     });
     let Ok(()) = tell_on(teller, device, ledger, ms, packet.port, event) else {
-        return Err(TellFault::Output);
+        return Err(TurnFault::Output);
     };
     Ok(())
 }
@@ -183,7 +189,7 @@ fn tell_restart<F: Family, W, T: Teller<F, W>>(
     ms: u64,
     packet: &Packet<'_, F::Addr>,
     generation: Option<u32>,
-) -> Result<(), TellFault>
+) -> Result<(), TurnFault>
     requires { packet.now.port < length ledger.old.own.items }
     ensures bytes { AppendsAll (T.contents device.old) (T.contents device.new) result
         (text_on (T.line teller.now) (ledger_seen F.bytes_of ledger.old) ms packet.now.port
@@ -205,7 +211,7 @@ fn tell_restart<F: Family, W, T: Teller<F, W>>(
         generation,
     });
     let Ok(()) = tell_on(teller, device, ledger, ms, packet.port, restart) else {
-        return Err(TellFault::Output);
+        return Err(TurnFault::Output);
     };
     Ok(())
 }
@@ -218,7 +224,7 @@ fn hear_own<F: Family, W, T: Teller<F, W>>(
     ms: u64,
     packet: &Packet<'_, F::Addr>,
     generation: Option<u32>,
-) -> Result<(), TellFault>
+) -> Result<(), TurnFault>
     requires own { packet.now.port < length ledger.old.own.items }
     requires message { message_read F.family (packet_in F.bytes_of packet.now) ≡ None }
     ensures bytes { AppendsAll (T.contents device.old) (T.contents device.new) result
@@ -236,19 +242,19 @@ fn hear_own<F: Family, W, T: Teller<F, W>>(
     tell_restart(teller, device, ledger, ms, packet, generation)
 }
 
-/// A port receives a Hello with this Generation ID.
+/// A port receives a Hello.
 fn hear_hello<F: Family, W, T: Teller<F, W>>(
     teller: &T,
     device: &mut W,
     router: &mut Router<'_, F>,
     ledger: &mut Ledger<F>,
     packet: &Packet<'_, F::Addr>,
-    generation: Option<u32>,
-) -> Result<(), TellFault>
+    hello: Hello<'_, F>,
+) -> Result<(), TurnFault>
     requires port { packet.now.port < length router.old.ports }
     requires own { packet.now.port < length ledger.old.own.items }
-    requires bytes { length packet.now.bytes.now < 2 ^ 32 }
-    requires hello { IsHello generation (packet_read F.family (packet_in F.bytes_of packet.now)) }
+    requires read { packet_read F.family (packet_in F.bytes_of packet.now)
+        ≡ read_hello (hello_seen F.family hello) }
     ensures told { Tells (T.line teller.now)
         (HearsPacket F.family packet.now.frame (packet_in F.bytes_of packet.now)
         (ledger_seen F.bytes_of ledger.old) router.old)
@@ -262,8 +268,9 @@ fn hear_hello<F: Family, W, T: Teller<F, W>>(
 {
     let ms = router.now();
     let was = generation_kept(router, packet);
-    let Ok(verdict) = take(router, packet) else {
-        return Err(TellFault::Memory);
+    let generation = hello.generation;
+    let Ok(verdict) = take(router, packet, &PimMessage::Hello(hello)) else {
+        return Err(TurnFault::Memory);
     };
     match verdict {
         Verdict::HelloTaken(heard) => {
@@ -290,6 +297,16 @@ fn is_applied(verdict: Verdict) -> bool
     matches!(verdict, Verdict::Applied)
 }
 
+/// The Join/Prune message, if it is one.
+fn join_prune_in<'m, F: Family>(message: PimMessage<'m, F>) -> Option<JpView<'m, F>>
+    ensures { result ≡ message_in (reading_seen F.family message.entry) }
+{
+    match message {
+        PimMessage::JoinPrune(message) => Some(message),
+        _ => None,
+    }
+}
+
 /// Lets the router take a packet that is no Hello, and tells the verdict. Returns whether it was
 /// applied.
 fn judge<F: Family, W, T: Teller<F, W>>(
@@ -298,11 +315,11 @@ fn judge<F: Family, W, T: Teller<F, W>>(
     router: &mut Router<'_, F>,
     ledger: &Ledger<F>,
     packet: &Packet<'_, F::Addr>,
-    message: Option<JpView<'_, F>>,
-) -> Result<bool, TellFault>
+    message: PimMessage<'_, F>,
+) -> Result<bool, TurnFault>
     requires port { packet.now.port < length router.old.ports }
-    requires bytes { length packet.now.bytes.now < 2 ^ 32 }
-    requires message { message_read F.family (packet_in F.bytes_of packet.now) ≡ message }
+    requires read { packet_read F.family (packet_in F.bytes_of packet.now)
+        ≡ reading_seen F.family message }
     ensures bytes { AppendsAll (T.contents device.old) (T.contents device.new) result
         (text_on (T.line teller.now) (ledger_seen F.bytes_of ledger.now) router.old.machines.moment
         packet.now.port (judgment F.family packet.now.frame (packet_in F.bytes_of packet.now)
@@ -316,17 +333,17 @@ fn judge<F: Family, W, T: Teller<F, W>>(
     ensures moment { router.new.machines.moment ≡ router.old.machines.moment }
 {
     let ms = router.now();
-    let Ok(verdict) = take(router, packet) else {
-        return Err(TellFault::Memory);
+    let Ok(verdict) = take(router, packet, &message) else {
+        return Err(TurnFault::Memory);
     };
     let event = Happening::Packet(Judgment {
         frame: packet.frame,
         from: packet.source,
         verdict,
-        message,
+        message: join_prune_in(message),
     });
     let Ok(()) = tell_on(teller, device, ledger, ms, packet.port, event) else {
-        return Err(TellFault::Output);
+        return Err(TurnFault::Output);
     };
     Ok(is_applied(verdict))
 }
@@ -356,7 +373,7 @@ fn tell_effects<F: Family, W, T: Teller<F, W>>(
     ledger: &mut Ledger<F>,
     packet: &Packet<'_, F::Addr>,
     effects: Effects<'_, F>,
-) -> Result<(), TellFault>
+) -> Result<(), TurnFault>
     requires { packet.now.port < length router.now.ports }
     ensures bytes { AppendsAll (T.contents device.old) (T.contents device.new) result
         (text_on (T.line teller.now) (ledger_seen F.bytes_of ledger.old) router.now.machines.moment
@@ -373,7 +390,7 @@ fn tell_effects<F: Family, W, T: Teller<F, W>>(
 {
     let Effects { sets, named } = effects;
     let Ok(()) = tell_ignored(teller, device, router, ledger, packet, sets) else {
-        return Err(TellFault::Output);
+        return Err(TurnFault::Output);
     };
     tell_changes(teller, device, router, ledger, packet, &named)
 }
@@ -386,10 +403,9 @@ fn hear_message<F: Family, W, T: Teller<F, W>>(
     ledger: &mut Ledger<F>,
     packet: &Packet<'_, F::Addr>,
     message: JpView<'_, F>,
-) -> Result<(), TellFault>
+) -> Result<(), TurnFault>
     requires port { packet.now.port < length router.old.ports }
-    requires bytes { length packet.now.bytes.now < 2 ^ 32 }
-    requires message { packet_read F.family (packet_in F.bytes_of packet.now) ≡ as_message message }
+    requires read { packet_read F.family (packet_in F.bytes_of packet.now) ≡ read_message message }
     ensures told { Tells (T.line teller.now)
         (HearsPacket F.family packet.now.frame (packet_in F.bytes_of packet.now)
         (ledger_seen F.bytes_of ledger.old) router.old)
@@ -404,10 +420,11 @@ fn hear_message<F: Family, W, T: Teller<F, W>>(
     transitions_are_there();
     let sets = message.sets();
     let Ok(named) = named_by(ledger.alloc(), router, packet.port, &message) else {
-        return Err(TellFault::Memory);
+        return Err(TurnFault::Memory);
     };
     let effects = Effects { sets, named };
-    let applied = judge(teller, device, router, ledger, packet, Some(message))?;
+    let message = PimMessage::JoinPrune(message);
+    let applied = judge(teller, device, router, ledger, packet, message)?;
     if !applied {
         return Ok(());
     }
@@ -421,12 +438,14 @@ fn hear_other<F: Family, W, T: Teller<F, W>>(
     router: &mut Router<'_, F>,
     ledger: &Ledger<F>,
     packet: &Packet<'_, F::Addr>,
-    message: Option<JpView<'_, F>>,
-) -> Result<(), TellFault>
+    message: PimMessage<'_, F>,
+) -> Result<(), TurnFault>
     requires port { packet.now.port < length router.old.ports }
-    requires bytes { length packet.now.bytes.now < 2 ^ 32 }
-    requires read { packet_read F.family (packet_in F.bytes_of packet.now) ≡ as_read message }
-    requires other { IsForOther (own_address packet.now.port router.old) message }
+    requires read { packet_read F.family (packet_in F.bytes_of packet.now)
+        ≡ reading_seen F.family message }
+    requires none { hello_in (reading_seen F.family message) ≡ None }
+    requires other { IsForOther (own_address packet.now.port router.old)
+        (message_in (reading_seen F.family message)) }
     ensures told { Tells (T.line teller.now)
         (HearsPacket F.family packet.now.frame (packet_in F.bytes_of packet.now)
         (ledger_seen F.bytes_of ledger.now) router.old)
@@ -452,7 +471,7 @@ pub(crate) fn hear_packet<F: Family, W, T: Teller<F, W>>(
     router: &mut Router<'_, F>,
     ledger: &mut Ledger<F>,
     packet: &Packet<'_, F::Addr>,
-) -> Result<(), TellFault>
+) -> Result<(), TurnFault>
     requires port { packet.now.port < length router.old.ports }
     requires own { packet.now.port < length ledger.old.own.items }
     requires bytes { length packet.now.bytes.now < 2 ^ 32 }
@@ -467,16 +486,15 @@ pub(crate) fn hear_packet<F: Family, W, T: Teller<F, W>>(
     ensures frames { ledger.new.frames.items ≡ ledger.old.frames.items }
     ensures own { length ledger.new.own.items ≡ length ledger.old.own.items }
 {
-    match read::<F>(packet.source, packet.destination, packet.bytes) {
-        Reading::Hello { generation } => {
-            hear_hello(teller, device, router, ledger, packet, generation)
-        }
-        Reading::JoinPrune(message) => {
+    match read_message::<F>(packet.source, packet.destination, packet.bytes) {
+        PimMessage::Hello(hello) => hear_hello(teller, device, router, ledger, packet, hello),
+        PimMessage::JoinPrune(message) => {
             if is_for_port(router, packet.port, &message) {
                 return hear_message(teller, device, router, ledger, packet, message);
             }
-            hear_other(teller, device, router, ledger, packet, Some(message))
+            let message = PimMessage::JoinPrune(message);
+            hear_other(teller, device, router, ledger, packet, message)
         }
-        Reading::Other => hear_other(teller, device, router, ledger, packet, None),
+        other => hear_other(teller, device, router, ledger, packet, other),
     }
 }

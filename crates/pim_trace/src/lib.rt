@@ -1,8 +1,8 @@
 //! Turns the captures of a router into events: each change of each machine, in time, with its
 //! cause.
 //!
-//! `trace_into` goes over the records of a merge as a replay does. It tells a `Teller` of
-//! `pim_events` what happens. The clause `Traces` of `specs/Trace.antt` says which events a run
+//! `trace_into` is a run over the records of a merge (`pim_run`), as a replay is. A `Teller` of
+//! `pim_events` gets what happens. The clause `Traces` of `specs/Trace.antt` says which events a run
 //! has, what was written of them at the end, and what was written before a fault. At a fault of a
 //! capture, what is due at the moment of the last record has still happened.
 //!
@@ -22,7 +22,6 @@ mod ignoring;
 mod laws;
 mod ledger;
 mod passing;
-mod reading;
 mod telling;
 mod trace;
 mod turns;
@@ -31,4 +30,4 @@ pub use laws::{
     events_tell_the_state, runs_lead_on, runs_name_causes, trace_names_causes, turns_name_causes,
     turns_tell_the_state,
 };
-pub use trace::{TraceFault, trace_into};
+pub use trace::trace_into;

@@ -10,15 +10,6 @@ use crate::ledger::Ledger;
 use pim_addr::{Failed, Family};
 use pim_events::{Event, Happening, Teller};
 
-/// Why an event isn't told.
-#[derive(Clone, Copy, Debug, PartialEq, Eq)]
-pub(crate) enum TellFault {
-    /// The device failed.
-    Output,
-    /// Memory was refused.
-    Memory,
-}
-
 /// Tells an event of this port at this moment, in milliseconds.
 ///
 /// # Errors

@@ -1,108 +1,28 @@
 //! A trace goes over the records of a router's captures and tells each change of each machine, with
 //! its cause.
 
-ghost use Rattle.std.specs.Prelude.{◌≡◌, ◌<◌, ◌≤◌, ℕ, List, Option, length, OnOk};
+ghost use Rattle.std.specs.Prelude.{◌≡◌, ◌≤◌, length, OnOk};
 ghost use Rattle.pim_capture.specs.Next.{latest_moment};
 ghost use Rattle.pim_device.specs.Device.{AppendsAll, failures_after};
 ghost use Rattle.pim_merge.specs.Ends.{IsBoundedEnd};
-ghost use Rattle.pim_merge.specs.Merge.{Taken};
-ghost use Rattle.pim_merge.specs.Run.{HasTaken, IsTallied};
-ghost use Rattle.pim_merge.specs.Next.{MergeState, turns_left};
-ghost use Rattle.pim_router.specs.State.{RouterState};
+ghost use Rattle.pim_merge.specs.Run.{IsTallied};
+ghost use Rattle.pim_run.specs.Faults.{failures_of_device};
 ghost use Rattle.pim_trace.specs.Kept.{ledger_seen};
 ghost use Rattle.pim_trace.specs.Trace.{neighbours_in, ending, ledger_for, Traces};
-ghost use Rattle.pim_trace.specs.Trace.{failures_of_device};
-ghost use Rattle.pim_trace.specs.Underway.{stopped_by, of_telling, AreAlike, IsUnderway, Steps};
-ghost use Rattle.pim_trace.specs.Underway.{RunsTurns, IfMore};
+ghost use Rattle.pim_trace.specs.Underway.{RunsTurns};
 
 use crate::ledger::Ledger;
 use crate::passing::pass_time;
-use crate::telling::TellFault;
-use crate::turns::take_turn;
+use crate::turns::Tracer;
 use pim_addr::{Failed, Family, Feed};
-use pim_capture::CaptureFault;
 use pim_events::{Ending, Event, Happening, Teller};
-use pim_merge::{End, Merge, MergeFault};
+use pim_merge::{End, Merge};
 use pim_router::{Router, every_state_goes_on};
+use pim_run::{RunFault, run};
 use std::alloc::Global;
 
-/// Why a trace stopped.
-#[derive(Clone, Copy, Debug, PartialEq, Eq)]
-pub enum TraceFault {
-    /// The next answer of a capture is this fault, or a read of it failed. It is never `Memory`. If
-    /// several captures have a fault, it is that of the first one.
-    Capture(MergeFault),
-    /// The device failed.
-    Output,
-    /// Memory was refused.
-    Memory,
-}
-
-/// Why a trace stops at this fault of its merge.
-fn stopped_by(told: MergeFault) -> TraceFault
-    ensures { result ≡ stopped_by told }
-{
-    match told.fault {
-        CaptureFault::Memory => TraceFault::Memory,
-        _ => TraceFault::Capture(told),
-    }
-}
-
-/// Why a trace stops when a turn isn't told.
-fn of_telling(fault: TellFault) -> TraceFault
-    ensures { result ≡ of_telling fault }
-{
-    match fault {
-        TellFault::Output => TraceFault::Output,
-        TellFault::Memory => TraceFault::Memory,
-    }
-}
-
-/// Takes the next turn before the end of the run, if there is one. Where the merge has a fault,
-/// what is still due at the present moment happens before it.
-fn step<F: Family, R: Feed + Drop, W, T: Teller<F, W>>(
-    teller: &T,
-    device: &mut W,
-    merge: &mut Merge<R>,
-    router: &mut Router<'_, F>,
-    ledger: &mut Ledger<F>,
-    end: End,
-) -> Result<bool, TraceFault>
-    requires alike { AreAlike merge.old (ledger_seen F.bytes_of ledger.old) router.old }
-    ensures told { (start : MergeState) (state : RouterState) (old : Option (List ℕ)) →
-        IsUnderway (T.line teller.now) F.family end start state old
-        merge.old (ledger_seen F.bytes_of ledger.old) router.old (T.contents device.old) →
-        Steps (T.line teller.now) F.family end start state old
-        merge.new (ledger_seen F.bytes_of ledger.new) router.new (T.contents device.new) result }
-    ensures count { T.failures device.new ≡ failures_of_device (T.failures device.old) result }
-    ensures alike { OnOk result
-        (AreAlike merge.new (ledger_seen F.bytes_of ledger.new) router.new) }
-    ensures nearer { IfMore result (turns_left merge.new < turns_left merge.old) }
-    ensures tallied { (start : MergeState) (taken : List Taken) →
-        HasTaken end start taken merge.old → IsTallied end start merge.new }
-{
-    every_state_goes_on();
-    let next = match merge.advance(end) {
-        Ok(next) => next,
-        Err(told) => {
-            let now = router.now();
-            let Ok(()) = pass_time(teller, device, router, ledger, now) else {
-                return Err(TraceFault::Output);
-            };
-            return Err(stopped_by(told));
-        }
-    };
-    let Some(turn) = next else {
-        return Ok(false);
-    };
-    let bytes = merge.bytes(turn.capture);
-    match take_turn(teller, device, router, ledger, &turn, bytes) {
-        Ok(()) => Ok(true),
-        Err(fault) => Err(of_telling(fault)),
-    }
-}
-
-/// Takes all turns before the end of the run, where nothing was told before.
+/// Takes all turns before the end of the run, where nothing was told before. Where the merge has a
+/// fault, what is still due at the present moment happens before it.
 fn run_turns<F: Family, R: Feed + Drop, W, T: Teller<F, W>>(
     teller: &T,
     device: &mut W,
@@ -110,9 +30,10 @@ fn run_turns<F: Family, R: Feed + Drop, W, T: Teller<F, W>>(
     router: &mut Router<'_, F>,
     ledger: &mut Ledger<F>,
     end: End,
-) -> Result<(), TraceFault>
+) -> Result<(), RunFault>
     requires new { ledger_seen F.bytes_of ledger.old ≡ ledger_for router.old }
-    requires alike { AreAlike merge.old (ledger_seen F.bytes_of ledger.old) router.old }
+    requires ports { length merge.old.lanes ≡ length router.old.ports }
+    requires moment { router.old.machines.moment ≤ latest_moment }
     ensures told { RunsTurns (T.line teller.now) F.family end
         merge.old router.old (T.contents device.old)
         merge.new (ledger_seen F.bytes_of ledger.new) router.new (T.contents device.new) result }
@@ -120,8 +41,19 @@ fn run_turns<F: Family, R: Feed + Drop, W, T: Teller<F, W>>(
     ensures moment { OnOk result (router.new.machines.moment ≤ latest_moment) }
     ensures tallied { IsTallied end merge.old merge.new }
 {
-    while step(teller, device, merge, router, ledger, end)? {}
-    Ok(())
+    every_state_goes_on();
+    match run(&Tracer { teller }, device, merge, router, ledger, end) {
+        Ok(()) => Ok(()),
+        Err(RunFault::Capture(fault)) => {
+            let now = router.now();
+            let Ok(()) = pass_time(teller, device, router, ledger, now) else {
+                return Err(RunFault::Output);
+            };
+            Err(RunFault::Capture(fault))
+        }
+        Err(RunFault::Output) => Err(RunFault::Output),
+        Err(RunFault::Memory) => Err(RunFault::Memory),
+    }
 }
 
 /// The number of neighbours of all ports.
@@ -182,9 +114,10 @@ fn trace_with<F: Family, R: Feed + Drop, W, T: Teller<F, W>>(
     router: &mut Router<'_, F>,
     ledger: &mut Ledger<F>,
     end: End,
-) -> Result<(), TraceFault>
+) -> Result<(), RunFault>
     requires new { ledger_seen F.bytes_of ledger.old ≡ ledger_for router.old }
-    requires alike { AreAlike merge.old (ledger_seen F.bytes_of ledger.old) router.old }
+    requires ports { length merge.old.lanes ≡ length router.old.ports }
+    requires moment { router.old.machines.moment ≤ latest_moment }
     requires end { IsBoundedEnd end }
     ensures events { Traces (T.line teller.now) F.family end
         merge.old merge.new router.old router.new
@@ -195,10 +128,10 @@ fn trace_with<F: Family, R: Feed + Drop, W, T: Teller<F, W>>(
     run_turns(teller, device, merge, router, ledger, end)?;
     let moment = merge.end_moment(end, router.now());
     let Ok(()) = pass_time(teller, device, router, ledger, moment) else {
-        return Err(TraceFault::Output);
+        return Err(RunFault::Output);
     };
     let Ok(()) = tell_end(teller, device, router, ledger) else {
-        return Err(TraceFault::Output);
+        return Err(RunFault::Output);
     };
     Ok(())
 }
@@ -222,7 +155,7 @@ pub fn trace_into<F: Family, R: Feed + Drop, W, T: Teller<F, W>>(
     merge: &mut Merge<R>,
     router: &mut Router<'_, F>,
     end: End,
-) -> Result<(), TraceFault>
+) -> Result<(), RunFault>
     requires ports { length merge.old.lanes ≡ length router.old.ports }
     requires moment { router.old.machines.moment ≤ latest_moment }
     requires end { IsBoundedEnd end }
@@ -235,7 +168,7 @@ pub fn trace_into<F: Family, R: Feed + Drop, W, T: Teller<F, W>>(
 {
     every_state_goes_on();
     let Ok(mut ledger) = Ledger::<F>::new(alloc, router.port_count()) else {
-        return Err(TraceFault::Memory);
+        return Err(RunFault::Memory);
     };
     trace_with(teller, device, merge, router, &mut ledger, end)
 }

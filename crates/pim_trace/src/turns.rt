@@ -1,23 +1,24 @@
 //! A turn of a trace: time passes up to the moment of a record, then the port of its capture takes
 //! the record.
 
-ghost use Rattle.std.specs.Prelude.{◌≡◌, ◌<◌, ◌≤◌, ◌^◌, ℕ, List, length, max, OnOk};
+ghost use Rattle.std.specs.Prelude.{◌≡◌, ◌<◌, ◌≤◌, length};
 ghost use Rattle.pim_capture.specs.Capture.{most_captured};
 ghost use Rattle.pim_capture.specs.Next.{PayloadLiesIn, event_seen};
-ghost use Rattle.pim_merge.specs.Run.{turn_seen};
 ghost use Rattle.pim_router.specs.State.{setup_of};
 ghost use Rattle.pim_trace.specs.Kept.{ledger_seen};
-ghost use Rattle.pim_trace.specs.Telling.{Tells, failures_by};
-ghost use Rattle.pim_trace.specs.Turn.{Skips, TakesRecord, TellsTurn};
+ghost use Rattle.pim_run.specs.Faults.{failures_by};
+ghost use Rattle.pim_trace.specs.Telling.{Tells};
+ghost use Rattle.pim_trace.specs.Turn.{Skips, TakesRecord};
 
 use crate::hearing::{Packet, hear_packet};
 use crate::ledger::{Ledger, frame_after};
 use crate::passing::pass_time;
-use crate::telling::{TellFault, tell_on};
+use crate::telling::tell_on;
 use pim_addr::Family;
 use pim_events::{Happening, Skip, Skipping, Teller};
 use pim_merge::{Content, Turn};
 use pim_router::Router;
+use pim_run::{Hooks, TurnFault};
 use pim_transitions::transitions_are_there;
 
 /// Tells a record that is skipped, and counts it.
@@ -28,7 +29,7 @@ fn skip<F: Family, W, T: Teller<F, W>>(
     ledger: &mut Ledger<F>,
     port: usize,
     skipped: Skipping,
-) -> Result<(), TellFault>
+) -> Result<(), TurnFault>
     ensures told { Tells (T.line teller.now)
         (Skips port skipped (ledger_seen F.bytes_of ledger.old) router.now)
         (ledger_seen F.bytes_of ledger.new) router.now
@@ -39,7 +40,7 @@ fn skip<F: Family, W, T: Teller<F, W>>(
 {
     let what = Happening::Skipped(skipped);
     let Ok(()) = tell_on(teller, device, ledger, router.now(), port, what) else {
-        return Err(TellFault::Output);
+        return Err(TurnFault::Output);
     };
     ledger.skip(skipped.why);
     Ok(())
@@ -53,7 +54,7 @@ fn take_record<F: Family, W, T: Teller<F, W>>(
     ledger: &mut Ledger<F>,
     turn: &Turn,
     bytes: &[u8],
-) -> Result<(), TellFault>
+) -> Result<(), TurnFault>
     requires port { turn.now.capture < length router.old.ports }
     requires frames { turn.now.capture < length ledger.old.frames.items }
     requires own { turn.now.capture < length ledger.old.own.items }
@@ -97,41 +98,48 @@ fn take_record<F: Family, W, T: Teller<F, W>>(
     }
 }
 
-/// Takes a turn of a merge whose record has these bytes.
-///
-/// # Errors
-/// The device failed, or memory was refused: some of the turn's events were told.
-pub(crate) fn take_turn<F: Family, W, T: Teller<F, W>>(
-    teller: &T,
-    device: &mut W,
-    router: &mut Router<'_, F>,
-    ledger: &mut Ledger<F>,
-    turn: &Turn,
-    bytes: &[u8],
-) -> Result<(), TellFault>
-    requires port { turn.now.capture < length router.old.ports }
-    requires frames { turn.now.capture < length ledger.old.frames.items }
-    requires own { turn.now.capture < length ledger.old.own.items }
-    requires moment { turn.now.moment ≤ 10 ^ 15 }
-    requires payload { PayloadLiesIn bytes.now turn.now.event }
-    requires bytes { length bytes.now ≤ most_captured }
-    ensures told { Tells (T.line teller.now)
-        (TellsTurn F.family (turn_seen bytes.now turn.now)
-        (ledger_seen F.bytes_of ledger.old) router.old)
-        (ledger_seen F.bytes_of ledger.new) router.new
-        (T.contents device.old) (T.contents device.new) result }
-    ensures count { T.failures device.new ≡ failures_by (T.failures device.old) result }
-    ensures reached { OnOk result
-        (router.new.machines.moment ≡ max router.old.machines.moment turn.now.moment) }
-    ensures setup { setup_of router.new ≡ setup_of router.old }
-    ensures frames { length ledger.new.frames.items ≡ length ledger.old.frames.items }
-    ensures own { length ledger.new.own.items ≡ length ledger.old.own.items }
-{
-    transitions_are_there();
-    let frame = frame_after(&turn.event, ledger.frame(turn.capture));
-    ledger.open(turn.capture, frame, turn.time());
-    let Ok(()) = pass_time(teller, device, router, ledger, turn.moment) else {
-        return Err(TellFault::Output);
-    };
-    take_record(teller, device, router, ledger, turn, bytes)
+/// A trace whose teller gets each event.
+#[derive(Drop)]
+pub(crate) struct Tracer<'t, T> {
+    pub(crate) teller: &'t T,
+}
+
+impl<'t, F: Family, W, T: Teller<F, W>> Hooks<F, W, Ledger<F>> for Tracer<'t, T> {
+    ghost use Rattle.std.specs.Prelude.{◌≡◌, length};
+    ghost use Rattle.pim_trace.specs.Kept.{ledger_seen};
+    ghost use Rattle.pim_trace.specs.Telling.{HasTold, HasBegun};
+    ghost use Rattle.pim_trace.specs.Turn.{TellsTurn};
+
+    ghost takes = { λ tracer turn ledger state old ledger' after new.
+        HasTold (T.line tracer.teller.now)
+        (TellsTurn F.family turn (ledger_seen F.bytes_of ledger) state)
+        (ledger_seen F.bytes_of ledger') after old new };
+
+    ghost begins = { λ tracer turn ledger state old new.
+        HasBegun (T.line tracer.teller.now)
+        (TellsTurn F.family turn (ledger_seen F.bytes_of ledger) state) old new };
+
+    ghost is_ready = { λ ledger state. (length ledger.frames.items ≡ length state.ports)
+        × (length ledger.own.items ≡ length state.ports) };
+
+    ghost contents = { T.contents };
+
+    ghost failures = { T.failures };
+
+    fn take(
+        &self,
+        device: &mut W,
+        router: &mut Router<'_, F>,
+        ledger: &mut Ledger<F>,
+        turn: &Turn,
+        bytes: &[u8],
+    ) -> Result<(), TurnFault> {
+        transitions_are_there();
+        let frame = frame_after(&turn.event, ledger.frame(turn.capture));
+        ledger.open(turn.capture, frame, turn.time());
+        let Ok(()) = pass_time(self.teller, device, router, ledger, turn.moment) else {
+            return Err(TurnFault::Output);
+        };
+        take_record(self.teller, device, router, ledger, turn, bytes)
+    }
 }

@@ -5,18 +5,14 @@ use Rattle.pim_transitions.specs.Named.{transitions_to}
 use Rattle.pim_trace.specs.Heard.{HearsPacket}
 use Rattle.pim_trace.specs.Kept.{ledger_seen}
 use Rattle.pim_trace.specs.Read.{packet_in}
-use Rattle.pim_trace.proofs.Hearings.{message_of_read, message_stopped, verdict_begun, begun_err, other_told, was_applied, not_applied, applied_told}
+use Rattle.pim_trace.proofs.Hearings.{no_hello, message_stopped, verdict_begun, begun_err, other_told, was_applied, not_applied, applied_told}
 use Rattle.pim_trace.proofs.hearing.hear_message.Goals as goal
 
 pub returns-in_default-clause-told : goal.returns-in_default-clause-told
 returns-in_default-clause-told g c =
     let bytes_of = g.F.Family.bytes_of in
     message_stopped g.F.Family.family c.args.packet.now.frame (packet_in bytes_of c.args.packet.now) (ledger_seen bytes_of c.args.ledger.now) c.args.router.now (g.T.Teller.line c.args.teller.now)
-    (Some c.args.message) c.requires.message c.transitions_are_there.ensures (g.T.Teller.contents c.args.device.now)
-
-pub judge-requires-clause-message : goal.judge-requires-clause-message
-judge-requires-clause-message g c =
-    message_of_read g.F.Family.family (packet_in g.F.Family.bytes_of c.args.packet.now) (Some c.args.message) c.requires.message
+    (Some c.args.message) (no_hello g.F.Family.family (packet_in bytes_of c.args.packet.now) c.args.message c.requires.read) c.transitions_are_there.ensures (g.T.Teller.contents c.args.device.now)
 
 pub returns-in_err-applied-clause-told : goal.returns-in_err-applied-clause-told
 returns-in_err-applied-clause-told g c =
@@ -27,14 +23,14 @@ returns-in_err-applied-clause-told g c =
     begun_err line (HearsPacket g.F.Family.family c.args.packet.now.frame packet ledger c.args.router.now) c.from_residual.result ledger c.judge.new.router
     (g.T.Teller.contents c.args.device.now) (g.T.Teller.contents c.judge.new.device) c.from_residual.ensures.0
     (verdict_begun g.F.Family.family c.args.packet.now.frame packet ledger c.args.router.now line
-    (Some c.args.message) c.requires.message c.transitions_are_there.ensures (g.T.Teller.contents c.args.device.now) (g.T.Teller.contents c.judge.new.device) c.in_err-applied.ensures.bytes)
+    (Some c.args.message) (no_hello g.F.Family.family (packet_in bytes_of c.args.packet.now) c.args.message c.requires.read) c.transitions_are_there.ensures (g.T.Teller.contents c.args.device.now) (g.T.Teller.contents c.judge.new.device) c.in_err-applied.ensures.bytes)
 
 pub returns-then-not-applied-clause-told : goal.returns-then-not-applied-clause-told
 returns-then-not-applied-clause-told g c =
     let bytes_of = g.F.Family.bytes_of in
     let packet = packet_in bytes_of c.args.packet.now in
     other_told g.F.Family.family c.args.packet.now.frame packet (ledger_seen bytes_of c.args.ledger.now) c.args.router.now (g.T.Teller.line c.args.teller.now)
-    (Some c.args.message) c.requires.message
+    (Some c.args.message) (no_hello g.F.Family.family (packet_in bytes_of c.args.packet.now) c.args.message c.requires.read)
     (not_applied (received g.F.Family.family packet c.args.router.now).0 c.in_ok-applied.applied c.in_ok-applied.ensures.applied c.if-not-applied.true)
     (Ok tt) c.judge.new.router (g.T.Teller.contents c.args.device.now) (g.T.Teller.contents c.judge.new.device) c.in_ok-applied.ensures.router c.in_ok-applied.ensures.bytes
 
@@ -45,7 +41,7 @@ returns-clause-told g c =
     let state = c.args.router.now in
     let m = c.args.message in
     applied_told g.F.Family.family c.args.packet.now.frame packet (ledger_seen bytes_of c.args.ledger.now) state
-    (Some m) c.requires.message m refl (was_applied (received g.F.Family.family packet state).0 c.in_ok-applied.applied c.in_ok-applied.ensures.applied c.if-not-applied.false)
+    (Some m) (no_hello g.F.Family.family packet m c.requires.read) m refl (was_applied (received g.F.Family.family packet state).0 c.in_ok-applied.applied c.in_ok-applied.ensures.applied c.if-not-applied.false)
     (λ (records : List (Record (List ℕ))). transitions_to records c.in-Ok.named) c.in-Ok.ensures c.sets-sets.result c.sets-sets.ensures
     (g.T.Teller.line c.args.teller.now) c.judge.new.router c.in_ok-applied.ensures.router
     c.tell_effects.result (ledger_seen bytes_of c.tell_effects.new.ledger) (g.T.Teller.contents c.args.device.now) (g.T.Teller.contents c.judge.new.device) (g.T.Teller.contents c.tell_effects.new.device)

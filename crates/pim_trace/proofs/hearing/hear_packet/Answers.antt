@@ -1,7 +1,9 @@
+use Rattle.std.proofs.Common.{◌∙◌, sym, ap}
+use Rattle.pim_router.specs.Reading.{reading_seen}
 use Rattle.pim_trace.proofs.hearing.hear_packet.Goals as goal
 
-pub hear_hello-requires-clause-hello : goal.hear_hello-requires-clause-hello
-hear_hello-requires-clause-hello g c = c.in-Hello.ensures
+pub hear_hello-requires-clause-read : goal.hear_hello-requires-clause-read
+hear_hello-requires-clause-read g c = sym c.read_message.ensures ∙ ap (reading_seen g.F.Family.family) c.in-Hello.is
 
-pub hear_message-requires-clause-message : goal.hear_message-requires-clause-message
-hear_message-requires-clause-message g c = c.in-JoinPrune.ensures
+pub hear_message-requires-clause-read : goal.hear_message-requires-clause-read
+hear_message-requires-clause-read g c = sym c.read_message.ensures ∙ ap (reading_seen g.F.Family.family) c.in-JoinPrune.is

@@ -1,14 +1,20 @@
-use Rattle.pim_router.specs.Packets.{causes, received}
+use Rattle.pim_router.specs.Reading.{reading_seen, read_causes, read_received}
 use Rattle.pim_trace.specs.Read.{packet_in}
 use Rattle.pim_trace.proofs.Verdicts.{received_ok, received_moment}
 use Rattle.pim_trace.proofs.hearing.take.Goals as goal
 
 pub returns-clause-told : goal.returns-clause-told
 returns-clause-told g c =
+    let family = g.F.Family.family in
     let packet = packet_in g.F.Family.bytes_of c.args.packet.now in
-    received_ok (causes g.F.Family.family packet c.args.router.now) (received g.F.Family.family packet c.args.router.now) c.args.router.now c.take_packet.new.self c.take_packet.result c.take_packet.ensures.told
+    received_ok family packet c.args.router.now (c.packet_is_taken_as_read.ensures family packet c.args.router.now) (reading_seen family c.args.message.now) c.requires.read
+    c.take_read.result c.take_read.new.self c.take_read.ensures.told
 
 pub returns-clause-moment : goal.returns-clause-moment
 returns-clause-moment g c =
+    let family = g.F.Family.family in
     let packet = packet_in g.F.Family.bytes_of c.args.packet.now in
-    received_moment g.F.Family.family packet (causes g.F.Family.family packet c.args.router.now) c.args.router.now c.take_packet.new.self c.take_packet.result c.take_packet.ensures.told
+    let reading = reading_seen family c.args.message.now in
+    received_moment family packet (read_causes family packet.port packet.source c.args.router.now reading) (read_received family packet.port packet.source c.args.router.now reading) c.args.router.now c.take_read.new.self
+    c.take_read.result c.take_read.ensures.told
+    (received_ok family packet c.args.router.now (c.packet_is_taken_as_read.ensures family packet c.args.router.now) reading c.requires.read c.take_read.result c.take_read.new.self c.take_read.ensures.told)

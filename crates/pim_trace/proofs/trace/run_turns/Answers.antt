@@ -1,46 +1,41 @@
-use Rattle.std.proofs.Common.{refl, ◌∙◌}
-use Rattle.std.proofs.lemmas.Result.{err_from_is_err_and}
+use Rattle.std.proofs.Common.{inl, inr}
 use Rattle.pim_trace.specs.Kept.{ledger_seen}
-use Rattle.pim_trace.proofs.Underway.{begin}
-use Rattle.pim_trace.proofs.Ending.{one_more, no_more, ends_so, if_more}
+use Rattle.pim_trace.proofs.Underway.{new_frames, new_own, has_all, broken_off, stops_at, failed_on_the_way, stopped}
 use Rattle.pim_trace.proofs.trace.run_turns.Goals as goal
 
-pub loop-init : goal.loop-init
-loop-init g c = record {
-  underway = begin (g.T.Teller.line c.args.teller.now) g.F.Family.family c.args.end c.args.merge.now c.args.router.now (g.T.Teller.contents c.args.device.now)
-      (ledger_seen g.F.Family.bytes_of c.args.ledger.now) c.requires.new;
-  failures = refl;
-  alike = c.requires.alike;
-}
+pub run-requires-clause-ready : goal.run-requires-clause-ready
+run-requires-clause-ready g c = (
+  new_frames (ledger_seen g.F.Family.bytes_of c.args.ledger.now) c.args.router.now c.requires.new,
+  new_own (ledger_seen g.F.Family.bytes_of c.args.ledger.now) c.args.router.now c.requires.new,
+)
 
-pub loop-smaller : goal.loop-smaller
-loop-smaller g c = if_more c.in_ok-step.field-0 c.if-branch.true c.in_ok-step.ensures.nearer
+pub returns-in-Ok-clause-told : goal.returns-in-Ok-clause-told
+returns-in-Ok-clause-told g c =
+    has_all (ledger_seen g.F.Family.bytes_of) (g.T.Teller.line c.args.teller.now) g.F.Family.family c.args.end c.args.merge.now c.args.ledger.now c.args.router.now (g.T.Teller.contents c.args.device.now) c.requires.new
+    c.run.new.merge c.run.new.kept c.run.new.router (g.T.Teller.contents c.run.new.device) c.in-Ok.ensures.runs
 
-pub loop-preserved : goal.loop-preserved
-loop-preserved g c = record {
-  underway = one_more (g.T.Teller.line c.args.teller.now) g.F.Family.family c.args.end c.args.merge.now c.args.router.now (g.T.Teller.contents c.args.device.now)
-      c.step.new.merge (ledger_seen g.F.Family.bytes_of c.step.new.ledger) c.step.new.router (g.T.Teller.contents c.step.new.device) c.in_ok-step.field-0 c.if-branch.true
-      (c.in_ok-step.ensures.told c.args.merge.now c.args.router.now (g.T.Teller.contents c.args.device.now) c.loop.invariant.underway);
-  failures = c.in_ok-step.ensures.count ∙ c.loop.invariant.failures;
-  alike = c.in_ok-step.ensures.alike;
-}
+pub returns-in_default-clause-told : goal.returns-in_default-clause-told
+returns-in_default-clause-told g c =
+    failed_on_the_way (ledger_seen g.F.Family.bytes_of) (g.T.Teller.line c.args.teller.now) g.F.Family.family c.args.end c.args.merge.now c.args.ledger.now c.args.router.now (g.T.Teller.contents c.args.device.now) c.requires.new
+    c.run.new.merge c.in-Err-Capture.fault c.run.new.kept c.run.new.router (g.T.Teller.contents c.run.new.device) (g.T.Teller.contents c.pass_time.new.device)
+    (stops_at (ledger_seen g.F.Family.bytes_of) (g.T.Teller.line c.args.teller.now) g.F.Family.family c.args.end c.args.merge.now c.args.ledger.now c.args.router.now (g.T.Teller.contents c.args.device.now) c.requires.new
+    c.run.new.merge c.run.new.kept c.run.new.router (g.T.Teller.contents c.run.new.device) c.in-Err-Capture.field-0 c.in-Err-Capture.fault c.in-Err-Capture.field-0-is c.in-Err-Capture.ensures.runs)
+    c.now-now.result c.now-now.ensures c.in_default.ensures.told
 
-pub returns-in_err-step-clause-told : goal.returns-in_err-step-clause-told
-returns-in_err-step-clause-told g c =
-    let p = err_from_is_err_and c.from_residual.result c.from_residual.ensures.1 in
-    rw (p.1, p.2)
-    (ends_so (g.T.Teller.line c.args.teller.now) g.F.Family.family c.args.end c.args.merge.now c.args.router.now (g.T.Teller.contents c.args.device.now)
-    c.step.new.merge (ledger_seen g.F.Family.bytes_of c.step.new.ledger) c.step.new.router (g.T.Teller.contents c.step.new.device) c.in_err-step.field-0.0
-    (c.in_err-step.ensures.told c.args.merge.now c.args.router.now (g.T.Teller.contents c.args.device.now) c.loop.invariant.underway))
+pub returns-in-Ok-pass_time-clause-told : goal.returns-in-Ok-pass_time-clause-told
+returns-in-Ok-pass_time-clause-told g c =
+    stopped (ledger_seen g.F.Family.bytes_of) (g.T.Teller.line c.args.teller.now) g.F.Family.family c.args.end c.args.merge.now c.args.ledger.now c.args.router.now (g.T.Teller.contents c.args.device.now) c.requires.new
+    c.run.new.merge c.in-Err-Capture.fault c.run.new.kept c.run.new.router (g.T.Teller.contents c.run.new.device) (g.T.Teller.contents c.pass_time.new.device)
+    (stops_at (ledger_seen g.F.Family.bytes_of) (g.T.Teller.line c.args.teller.now) g.F.Family.family c.args.end c.args.merge.now c.args.ledger.now c.args.router.now (g.T.Teller.contents c.args.device.now) c.requires.new
+    c.run.new.merge c.run.new.kept c.run.new.router (g.T.Teller.contents c.run.new.device) c.in-Err-Capture.field-0 c.in-Err-Capture.fault c.in-Err-Capture.field-0-is c.in-Err-Capture.ensures.runs)
+    c.now-now.result c.now-now.ensures (ledger_seen g.F.Family.bytes_of c.pass_time.new.ledger) c.pass_time.new.router c.in-Ok-pass_time.ensures.told
 
-pub returns-clause-told : goal.returns-clause-told
-returns-clause-told g c =
-    no_more (g.T.Teller.line c.args.teller.now) g.F.Family.family c.args.end c.args.merge.now c.args.router.now (g.T.Teller.contents c.args.device.now)
-    c.step.new.merge (ledger_seen g.F.Family.bytes_of c.step.new.ledger) c.step.new.router (g.T.Teller.contents c.step.new.device) c.in_ok-step.field-0 c.if-branch.false
-    (c.in_ok-step.ensures.told c.args.merge.now c.args.router.now (g.T.Teller.contents c.args.device.now) c.loop.invariant.underway)
+pub returns-in-Err-Output-clause-told : goal.returns-in-Err-Output-clause-told
+returns-in-Err-Output-clause-told g c =
+    broken_off (ledger_seen g.F.Family.bytes_of) (g.T.Teller.line c.args.teller.now) g.F.Family.family c.args.end c.args.merge.now c.args.ledger.now c.args.router.now (g.T.Teller.contents c.args.device.now) c.requires.new
+    c.every_state_goes_on.ensures c.run.new.merge c.run.new.kept c.run.new.router (g.T.Teller.contents c.run.new.device) c.in-Err-Output.field-0 (inl c.in-Err-Output.field-0-is) c.in-Err-Output.ensures.runs
 
-pub returns-in_err-step-clause-tallied : goal.returns-in_err-step-clause-tallied
-returns-in_err-step-clause-tallied g c = c.step.ensures.tallied c.args.merge.now c.loop.invariant.underway.taken c.loop.invariant.underway.run
-
-pub returns-clause-tallied : goal.returns-clause-tallied
-returns-clause-tallied g c = c.step.ensures.tallied c.args.merge.now c.loop.invariant.underway.taken c.loop.invariant.underway.run
+pub returns-in-Err-Memory-clause-told : goal.returns-in-Err-Memory-clause-told
+returns-in-Err-Memory-clause-told g c =
+    broken_off (ledger_seen g.F.Family.bytes_of) (g.T.Teller.line c.args.teller.now) g.F.Family.family c.args.end c.args.merge.now c.args.ledger.now c.args.router.now (g.T.Teller.contents c.args.device.now) c.requires.new
+    c.every_state_goes_on.ensures c.run.new.merge c.run.new.kept c.run.new.router (g.T.Teller.contents c.run.new.device) c.in-Err-Memory.field-0 (inr c.in-Err-Memory.field-0-is) c.in-Err-Memory.ensures.runs

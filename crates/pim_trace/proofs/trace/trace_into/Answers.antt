@@ -1,8 +1,7 @@
 use Rattle.std.proofs.Common.{◌∙◌, ap, inl}
-use Rattle.pim_trace.specs.Kept.{ledger_seen}
 use Rattle.pim_trace.specs.Ledger.{new_ledger}
 use Rattle.pim_trace.proofs.Ending.{nothing_yet}
-use Rattle.pim_trace.proofs.Underway.{alike_new, untaken}
+use Rattle.pim_trace.proofs.Underway.{untaken}
 use Rattle.pim_trace.proofs.trace.trace_into.Goals as goal
 
 pub returns-in_default-clause-events : goal.returns-in_default-clause-events
@@ -11,10 +10,6 @@ returns-in_default-clause-events g c =
 
 pub trace_with-requires-clause-new : goal.trace_with-requires-clause-new
 trace_with-requires-clause-new g c = c.in-Ok.ensures ∙ ap new_ledger c.port_count.ensures
-
-pub trace_with-requires-clause-alike : goal.trace_with-requires-clause-alike
-trace_with-requires-clause-alike g c =
-    alike_new c.args.merge.now (ledger_seen g.F.Family.bytes_of c.in-Ok.ledger) c.args.router.now (c.in-Ok.ensures ∙ ap new_ledger c.port_count.ensures) c.requires.ports c.requires.moment
 
 pub returns-in_default-clause-tallied : goal.returns-in_default-clause-tallied
 returns-in_default-clause-tallied g c = untaken c.args.end c.args.merge.now

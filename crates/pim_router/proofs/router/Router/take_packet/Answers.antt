@@ -1,8 +1,16 @@
+use Rattle.pim_router.specs.Reading.{reading_seen}
 use Rattle.pim_router.specs.Seen.{packet_seen}
-use Rattle.pim_router.proofs.Setups.{packet_keeps}
+use Rattle.pim_router.proofs.AsRead.{as_packet, packet_wants}
 use Rattle.pim_router.proofs.router.Router.take_packet.Goals as goal
 
-pub returns-clause-setup : goal.returns-clause-setup
-returns-clause-setup g c =
-    packet_keeps g.F.Family.family (packet_seen g.F.Family.bytes_of c.args.port c.args.src c.args.dst c.args.bytes.now) c.args.self.now c.receive.result c.receive.new.self
-    c.receive.ensures.told
+pub returns-clause-told : goal.returns-clause-told
+returns-clause-told g c =
+    let packet = packet_seen g.F.Family.bytes_of c.args.port c.args.src c.args.dst c.args.bytes.now in
+    as_packet g.F.Family.family packet c.args.self.now (c.packet_is_taken_as_read.ensures g.F.Family.family packet c.args.self.now)
+    (reading_seen g.F.Family.family c.read_message.result) c.read_message.ensures c.take_read.result c.take_read.new.self c.take_read.ensures.told
+
+pub returns-clause-memory : goal.returns-clause-memory
+returns-clause-memory g c =
+    let packet = packet_seen g.F.Family.bytes_of c.args.port c.args.src c.args.dst c.args.bytes.now in
+    packet_wants g.F.Family.family packet c.args.self.now (c.packet_is_taken_as_read.ensures g.F.Family.family packet c.args.self.now)
+    (reading_seen g.F.Family.family c.read_message.result) c.read_message.ensures c.take_read.result c.take_read.ensures.memory
