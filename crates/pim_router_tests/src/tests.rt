@@ -1,8 +1,9 @@
-//! What is wanted, the messages that ask for it, and those that tell how it changes; routers that
-//! hear packets while time passes, and the fresh ones that mirror them.
+//! What is wanted, the messages that ask for it, and those of its changes; routers that hear packets
+//! while time passes, and the fresh ones that mirror them; events as JSON.
 
 mod change;
 mod emit;
+mod events;
 mod form;
 mod mirror;
 mod router;

@@ -1,3 +1,0 @@
-//! Events as JSON.
-
-mod objects;
