@@ -27,9 +27,9 @@ repeated_option name = record (text_option name) { action = Some Append }
 abbrev pub flag : Text → Rule
 flag name = record (new_rule name) { long = Some name; action = Some SetTrue }
 
--- The words that aren't options.
-abbrev pub words_rule : Rule
-words_rule = record (new_rule (codes "words")) { action = Some Append; value_names = 1 }
+-- The words that aren't options, under this name.
+abbrev pub words_rule : Text → Rule
+words_rule name = record (new_rule name) { action = Some Append; value_names = 1 }
 
 -- The end of a run, and what a port may hold: `[--limit N] [--after MS] [--at TIME]`.
 abbrev pub with_ends : App → App
@@ -45,11 +45,11 @@ with_links command =
 -- The options of a run: its end, `[--input KIND]`, the links of ports, and `WORD...`.
 abbrev pub with_run_options : App → App
 with_run_options command =
-    with_rule (with_links (with_rule (with_ends command) (text_option (codes "input")))) words_rule
+    with_rule (with_links (with_rule (with_ends command) (text_option (codes "input")))) (words_rule (codes "words"))
 
 -- The same of a trace, which reads any container.
 abbrev pub with_trace_options : App → App
-with_trace_options command = with_rule (with_links (with_ends command)) words_rule
+with_trace_options command = with_rule (with_links (with_ends command)) (words_rule (codes "words"))
 
 -- The addresses of a command that writes messages: `--rp A --upstream A --own A`.
 abbrev pub with_addresses : App → App

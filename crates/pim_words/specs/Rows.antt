@@ -1,17 +1,12 @@
 -- The command line that tables of options and commands give.
-use Rattle.std.specs.Prelude.{List, [], Some}
+use Rattle.std.specs.Prelude.{List, []}
 use Rattle.std.specs.List.{fold}
-use Rattle.clap.specs.Words.{App, Rule, Shape, Text, new_app, new_rule, with_rule, with_subcommand}
-use Rattle.clap.specs.declared.builder.action.ArgAction.TheVariants.{Append}
+use Rattle.clap.specs.Words.{App, Rule, Shape, Text, new_app, with_rule, with_subcommand}
 use Rattle.pim_words.specs.declared.commands.Form.{Form}
 use Rattle.pim_words.specs.declared.commands.Form.TheVariants as form
 use Rattle.pim_words.specs.declared.commands.Offer.{Offer}
 use Rattle.pim_words.specs.declared.commands.Row.{Row}
-use Rattle.pim_words.specs.CommandLine.{text_option, required_option, number_option, repeated_option, flag, bare}
-
--- The words under this name.
-abbrev pub words_by : Text → Rule
-words_by name = record (new_rule name) { action = Some Append; value_names = 1 }
+use Rattle.pim_words.specs.CommandLine.{text_option, required_option, number_option, repeated_option, flag, words_rule, bare}
 
 -- The option of this form and name.
 abbrev pub rule_named : Form → Text → Rule
@@ -20,7 +15,7 @@ rule_named form.Required name = required_option name
 rule_named (form.Number low high) name = number_option name low high
 rule_named form.Repeated name = repeated_option name
 rule_named form.Flag name = flag name
-rule_named form.Words name = words_by name
+rule_named form.Words name = words_rule name
 
 -- The option, or the words, of a row.
 abbrev pub rule_by : Row → Rule

@@ -7,8 +7,9 @@ ghost use Rattle.std.specs.Prelude.{◌≡◌, IfOk, true, false, []};
 ghost use Rattle.clap.specs.declared.builder.command.Command.TheViews.{out-Command};
 ghost use Rattle.clap.specs.Words.{app_of, shape_of, rule_of, new_app, with_rule};
 ghost use Rattle.clap.specs.Words.{with_subcommand};
-ghost use Rattle.pim_words.specs.CommandLine.{text_option, number_option, flag, bare, pimtree};
-ghost use Rattle.pim_words.specs.Rows.{words_by, rule_by, shape_by, with_rows, program};
+ghost use Rattle.pim_words.specs.CommandLine.{text_option, number_option, flag, words_rule};
+ghost use Rattle.pim_words.specs.CommandLine.{bare, pimtree};
+ghost use Rattle.pim_words.specs.Rows.{rule_by, shape_by, with_rows, program};
 
 use clap::builder::ValueParser;
 use clap::{Arg, ArgAction, Command};
@@ -664,7 +665,7 @@ fn flag<'a>(alloc: Global, row: Row<'a>) -> Arg<'a>
 
 /// The words that aren't options, any number of them.
 fn words<'a>(alloc: Global, row: Row<'a>) -> Arg<'a>
-    ensures rule { rule_of result ≡ words_by row.entry.name.now }
+    ensures rule { rule_of result ≡ words_rule row.entry.name.now }
     ensures local { result.global ≡ false }
 {
     Arg::new(alloc, row.name)
