@@ -2,9 +2,9 @@
 use Rattle.std.proofs.Common.{◌≡◌, refl, List, [], Option, None, Some, option_map, map}
 use Rattle.std.specs.Prelude.{unwrap_or}
 use Rattle.std.specs.Borrow.{Bor}
+use Rattle.std.specs.Option.{UnwrapsOrElse}
 use Rattle.clap.specs.Words.{Row, Text, all_of, first_of}
-use Rattle.pim_words.specs.Given.{option_or}
-use Rattle.pim_words.specs.Shown.{values_of}
+use Rattle.pim_words.specs.Given.{option_or, values_of}
 
 -- the value of an option that was read as text
 pub value_or : (name : Text) (rows : List Row) (read : Option (Bor Text)) (default value : Bor Text)
@@ -13,9 +13,7 @@ value_or name rows None default value first is = rw (← first, is) refl
 value_or name rows (Some text) default value first is = rw (← first, is) refl
 
 -- the values of an option, or the words, that were read
-module _ (name : Text) (rows : List Row) (read : Option (Bor (List (Bor Text)))) (found : option_map (λ s. map (λ v. v.now) s.now) read ≡ all_of name rows) where
-  pub values_are : (values : Bor (List (Bor Text))) → read ≡ Some values → map (λ v. v.now) values.now ≡ values_of name rows
-  values_are values is = rw (← found, is) refl
-
-  pub no_values : read ≡ None → values_of name rows ≡ []
-  no_values is = rw (← found, is) refl
+pub values_are : (name : Text) (rows : List Row) (read : Option (Bor (List (Bor Text)))) (values : Bor (List (Bor Text))) → option_map (λ s. map (λ v. v.now) s.now) read ≡ all_of name rows
+    → UnwrapsOrElse read (λ none. none.now ≡ []) values → map (λ v. v.now) values.now ≡ values_of name rows
+values_are name rows None values found is = rw (← found, is) refl
+values_are name rows (Some given) values found is = rw (← found, is) refl

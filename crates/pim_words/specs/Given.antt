@@ -18,9 +18,13 @@ required name rows = option_or [] name rows
 abbrev pub is_flag : Text → List Row → Bool
 is_flag name rows = bytes_eq (option_or (codes "false") name rows) (codes "true")
 
+-- All values of an option, in order.
+abbrev pub values_of : Text → List Row → List Text
+values_of name rows = unwrap_or (all_of name rows) []
+
 -- The words that aren't options.
 abbrev pub words_of : List Row → List Text
-words_of rows = unwrap_or (all_of (codes "words") rows) []
+words_of rows = values_of (codes "words") rows
 
 -- ---- numbers
 

@@ -17,10 +17,9 @@ use Rattle.pim_words.specs.declared.picks.Pick.{Pick}
 use Rattle.pim_words.specs.declared.picks.Target.{Target}
 use Rattle.pim_words.specs.declared.task.Link.{Link}
 use Rattle.pim_words.specs.declared.task.Port.{Port}
-use Rattle.pim_words.specs.Given.{IsNumber, option_or, words_of}
+use Rattle.pim_words.specs.Given.{IsNumber, option_or, values_of, words_of}
 use Rattle.pim_words.specs.Labels.{LacksEqualSign}
 use Rattle.pim_words.specs.Ports.{port_words}
-use Rattle.pim_words.specs.Shown.{values_of}
 
 -- ---- a VLAN
 

@@ -1,7 +1,7 @@
 -- What a trace shows, by its options `--from`, `--group`, `--source` and `--time`.
-use Rattle.std.specs.Prelude.{◌≡◌, ◌≤◌, ◌⊎◌, ℕ, zero, suc, List, [], ◌∷◌, length, Option, codes, unwrap_or}
+use Rattle.std.specs.Prelude.{◌≡◌, ◌≤◌, ◌⊎◌, ℕ, zero, suc, List, [], ◌∷◌, length, Option, codes}
 use Rattle.std.specs.List.{AllZip}
-use Rattle.clap.specs.Words.{Row, Text, all_of, first_of}
+use Rattle.clap.specs.Words.{Row, Text, first_of}
 use Rattle.pim_lines.specs.declared.either.AnyAddress.{AnyAddress}
 use Rattle.pim_words.specs.declared.fault.Fault.{Fault}
 use Rattle.pim_words.specs.declared.fault.Fault.TheVariants as cause
@@ -11,13 +11,9 @@ use Rattle.pim_words.specs.declared.task.TimeForm.TheVariants.{Ms, Epoch, Utc}
 use Rattle.pim_words.specs.declared.task.Tracing.{Tracing}
 use Rattle.pim_lines.specs.AnyAddress.{Names, IsRead, IsUnread}
 use Rattle.pim_words.specs.Ends.{IsTimed, IsTimely, IsUntimed}
-use Rattle.pim_words.specs.Given.{option_or}
+use Rattle.pim_words.specs.Given.{option_or, values_of}
 
 -- ---- the values of an option that may be given several times
-
--- All its values, in order.
-abbrev pub values_of : Text → List Row → List Text
-values_of name rows = unwrap_or (all_of name rows) []
 
 -- The values are these addresses, at most 64.
 abbrev pub AreShownAddresses : List Text → List AnyAddress → Type 0

@@ -2,9 +2,9 @@
 //!
 //! `clap` accepts only numbers in the range of their option. So reading a number has no fault.
 
-ghost use Rattle.std.specs.Prelude.{◌≡◌, MatchOption, option_map};
+ghost use Rattle.std.specs.Prelude.{◌≡◌, MatchOption, map, option_map};
 ghost use Rattle.clap.specs.Words.{rows_of, found_of, first_of, IsUnsignedIn};
-ghost use Rattle.pim_words.specs.Given.{option_or, is_flag, IsNumber, IsNoNumber};
+ghost use Rattle.pim_words.specs.Given.{option_or, values_of, is_flag, IsNumber, IsNoNumber};
 
 use clap::ArgMatches;
 
@@ -20,6 +20,13 @@ pub(crate) fn option_or<'a>(options: &ArgMatches<'a>, name: &str, default: &'a s
     ensures { result.now ≡ option_or default.entry.now name.now (rows_of (found_of options.now)) }
 {
     option_of(options, name).unwrap_or(default)
+}
+
+/// All values of an option, in order, or all words. None if there are none.
+pub(crate) fn values_of<'o, 'a>(options: &'o ArgMatches<'a>, name: &str) -> &'o [&'a str]
+    ensures { map (λ v. v.now) result.now ≡ values_of name.now (rows_of (found_of options.now)) }
+{
+    options.get_raw(name).unwrap_or_default()
 }
 
 /// Whether a flag is given.

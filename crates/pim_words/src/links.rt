@@ -2,16 +2,15 @@
 
 ghost use Rattle.std.specs.Prelude.{◌≡◌, MatchOption, MatchResult, map, codes, length, []};
 ghost use Rattle.clap.specs.Words.{rows_of, found_of};
-ghost use Rattle.pim_words.specs.Given.{words_of};
+ghost use Rattle.pim_words.specs.Given.{values_of};
 ghost use Rattle.pim_words.specs.Links.{ArePicks, IsFirstWrongPick, AreLinks, IsWrongLinks};
 ghost use Rattle.pim_words.specs.Links.{link_at, word_count, input_name, IsNoInput};
 ghost use Rattle.pim_words.specs.Links.{AreChosenLinks, AreWrongChoices};
 ghost use Rattle.pim_words.specs.Seen.{OrMemory, with_link, with_links};
-ghost use Rattle.pim_words.specs.Shown.{values_of};
 ghost use Rattle.pim_words.specs.declared.fault.Fault.TheVariants.{Memory};
 
 use crate::fault::Fault;
-use crate::given::option_or;
+use crate::given::{option_or, values_of};
 use crate::more::count_ports;
 use crate::picks::{Part, Pick, chosen_for, read_picks};
 use crate::task::{Link, Port};
@@ -30,16 +29,6 @@ pub(crate) struct Links {
     pub interfaces: Vec<Pick>,
 }
 
-/// The number of the words that name ports, where any container is read or not.
-fn word_count(is_any: bool, options: &ArgMatches<'_>) -> usize
-    ensures { result ≡ word_count is_any (rows_of (found_of options.now)) }
-{
-    match options.get_raw("words") {
-        Some(words) => count_ports(is_any, words),
-        None => 0,
-    }
-}
-
 /// The links that the values of this option pick.
 fn read_part<'a>(
     alloc: Global,
@@ -55,11 +44,8 @@ fn read_part<'a>(
         (word_count is_any (rows_of (found_of options.now))) []
         (values_of name.now (rows_of (found_of options.now))))) }
 {
-    let count = word_count(is_any, options);
-    match options.get_raw(name) {
-        Some(values) => read_picks(alloc, part, is_any, count, values),
-        None => Ok(Vec::new(alloc)),
-    }
+    let count = count_ports(is_any, values_of(options, "words"));
+    read_picks(alloc, part, is_any, count, values_of(options, name))
 }
 
 /// The links that the words pick, where any container is read or not.

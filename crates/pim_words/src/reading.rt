@@ -3,16 +3,13 @@
 //! The defaults are set in this module. A required option that is missing counts as the empty text;
 //! `clap` refuses words without it.
 
-ghost use Rattle.std.specs.Prelude.{◌≡◌, MatchResult, IfOk, IfErr, true, false, Some, []};
-ghost use Rattle.std.specs.Prelude.{option_map, codes, map};
-ghost use Rattle.std.specs.List.{AllZip};
+ghost use Rattle.std.specs.Prelude.{◌≡◌, MatchResult, IfOk, IfErr, true, false, Some};
+ghost use Rattle.std.specs.Prelude.{option_map};
 ghost use Rattle.clap.specs.Words.{rows_of, found_of};
 ghost use Rattle.pim_lines.specs.AnyAddress.{Names};
 ghost use Rattle.pim_words.specs.Ends.{are_both_given, time_text, IsTimed, IsEarly, IsUntimed};
 ghost use Rattle.pim_words.specs.declared.fault.Fault.TheVariants.{TwoEnds};
-ghost use Rattle.pim_words.specs.Given.{words_of, required, address_texts, is_sided};
-ghost use Rattle.pim_words.specs.Labels.{AreLabelled, IsFirstWrongLabelled};
-ghost use Rattle.pim_words.specs.Ports.{port_words, IsPort, AreMore, IsFirstWrongOf};
+ghost use Rattle.pim_words.specs.Given.{address_texts, is_sided, required};
 ghost use Rattle.pim_words.specs.Reading.{IsNamed, IsUnreadText, IsUnreadValue, IsFirstUnread};
 ghost use Rattle.pim_words.specs.Reading.{ArePorts, AreWrongPorts, AreNamedPorts};
 ghost use Rattle.pim_words.specs.Reading.{AreWrongNamedPorts, IsRun, AreCaptures};
@@ -21,7 +18,7 @@ ghost use Rattle.pim_words.specs.Reading.{IsWrongTrace};
 ghost use Rattle.pim_words.specs.Seen.{OrMemory, AreEnds, AreWritten, HasNumbers};
 
 use crate::fault::Fault;
-use crate::given::{is_flag, number_of, option_of, option_or};
+use crate::given::{is_flag, number_of, option_of, option_or, values_of};
 use crate::links::{linked, read_chosen_links, read_links};
 use crate::named::{Labelled, read_labelled};
 use crate::port::{Found, read_ports};
@@ -89,27 +86,6 @@ fn judge_end(options: &ArgMatches<'_>) -> Result<(), Fault<'static>>
     Ok(())
 }
 
-/// The ports and further files that the words of a command name, where any container is read or
-/// not.
-fn read_words<'a>(
-    alloc: Global,
-    is_sided: bool,
-    is_any: bool,
-    options: &ArgMatches<'a>,
-) -> Result<Found<'a>, Fault<'a>>
-    ensures { MatchResult result
-        (λ found. AllZip (IsPort is_sided)
-        (port_words is_any (words_of (rows_of (found_of options.now)))) found.ports.items
-        × AreMore is_any (words_of (rows_of (found_of options.now))) found.more.items)
-        (OrMemory (IsFirstWrongOf is_sided is_any 0 0
-        (words_of (rows_of (found_of options.now))))) }
-{
-    match options.get_raw("words") {
-        Some(words) => read_ports(alloc, is_sided, is_any, words),
-        None => Ok(Found::none(alloc)),
-    }
-}
-
 /// The ports that the words of a command name, with their links and further files.
 fn read_linked<'a>(
     alloc: Global,
@@ -122,7 +98,7 @@ fn read_linked<'a>(
         (OrMemory (AreWrongPorts is_sided (rows_of (found_of options.now)))) }
 {
     let links = read_chosen_links(alloc, options)?;
-    let found = read_words(alloc, is_sided, links.is_any, options)?;
+    let found = read_ports(alloc, is_sided, links.is_any, values_of(options, "words"))?;
     let ports = linked(alloc, &links, &found.ports)?;
     Ok(Found {
         ports,
@@ -237,23 +213,6 @@ fn read_replay<'a>(
     Ok(Task::Replay(captures))
 }
 
-/// The ports that the words of a trace name, with their names and further files.
-fn read_labelled_words<'a>(
-    alloc: Global,
-    options: &ArgMatches<'a>,
-) -> Result<Labelled<'a>, Fault<'a>>
-    ensures { MatchResult result
-        (λ labelled. AreLabelled (port_words true (words_of (rows_of (found_of options.now))))
-        labelled.ports.items labelled.names.items
-        × AreMore true (words_of (rows_of (found_of options.now))) labelled.more.items)
-        (OrMemory (IsFirstWrongLabelled [] 0 (words_of (rows_of (found_of options.now))))) }
-{
-    match options.get_raw("words") {
-        Some(words) => read_labelled(alloc, words),
-        None => Ok(Labelled::none(alloc)),
-    }
-}
-
 /// The ports that the words of a trace name, with their names, links and further files.
 fn read_named_ports<'a>(alloc: Global, options: &ArgMatches<'a>) -> Result<Labelled<'a>, Fault<'a>>
     ensures { MatchResult result
@@ -262,7 +221,7 @@ fn read_named_ports<'a>(alloc: Global, options: &ArgMatches<'a>) -> Result<Label
         (OrMemory (AreWrongNamedPorts (rows_of (found_of options.now)))) }
 {
     let links = read_links(alloc, true, options)?;
-    let labelled = read_labelled_words(alloc, options)?;
+    let labelled = read_labelled(alloc, values_of(options, "words"))?;
     let ports = linked(alloc, &links, &labelled.ports)?;
     Ok(Labelled {
         ports,

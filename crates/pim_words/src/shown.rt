@@ -5,12 +5,12 @@ ghost use Rattle.std.specs.List.{AllZip};
 ghost use Rattle.clap.specs.Words.{rows_of, found_of};
 ghost use Rattle.pim_lines.specs.AnyAddress.{Names};
 ghost use Rattle.pim_words.specs.Seen.{OrMemory};
-ghost use Rattle.pim_words.specs.Shown.{values_of, form_name, IsFormless, AreShownAddresses};
-ghost use Rattle.pim_words.specs.Shown.{IsWrongChoice};
+ghost use Rattle.pim_words.specs.Given.{values_of};
+ghost use Rattle.pim_words.specs.Shown.{form_name, IsFormless, AreShownAddresses, IsWrongChoice};
 ghost use Rattle.pim_words.specs.Shown.{IsShown, IsWrongShown};
 
 use crate::fault::Fault;
-use crate::given::{option_of, option_or};
+use crate::given::{option_of, option_or, values_of};
 use crate::reading::{read_at, read_option};
 use crate::task::TimeForm;
 use clap::ArgMatches;
@@ -50,26 +50,8 @@ fn form_named(text: &str) -> Option<TimeForm>
     None
 }
 
-/// The addresses that the values of an option are, or the fault of the first wrong value.
-fn read_texts<'a>(alloc: Global, texts: &[&'a str]) -> Result<Vec<AnyAddress>, Fault<'a>>
-    ensures { MatchResult result
-        (λ addresses. AreShownAddresses (map (λ t. t.now) texts.now) addresses.items)
-        (OrMemory (IsWrongChoice 64 (map (λ t. t.now) texts.now))) }
-{
-    let mut addresses = Vec::new(alloc);
-    for text in texts {
-        if addresses.len() == MOST_SHOWN {
-            return Err(Fault::Word(text));
-        }
-        let address = read_option(text)?;
-        if addresses.push(address).is_err() {
-            return Err(Fault::Memory);
-        }
-    }
-    Ok(addresses)
-}
-
-/// The addresses that the values of this option are. None if it isn't given.
+/// The addresses that the values of this option are, or the fault of the first wrong value. None if
+/// it isn't given.
 fn read_choice<'a>(
     alloc: Global,
     options: &ArgMatches<'a>,
@@ -80,10 +62,18 @@ fn read_choice<'a>(
         addresses.items)
         (OrMemory (IsWrongChoice 64 (values_of name.now (rows_of (found_of options.now))))) }
 {
-    match options.get_raw(name) {
-        Some(texts) => read_texts(alloc, texts),
-        None => Ok(Vec::new(alloc)),
+    let mut addresses = Vec::new(alloc);
+    let texts = values_of(options, name);
+    for text in texts {
+        if addresses.len() == MOST_SHOWN {
+            return Err(Fault::Word(text));
+        }
+        let address = read_option(text)?;
+        if addresses.push(address).is_err() {
+            return Err(Fault::Memory);
+        }
     }
+    Ok(addresses)
 }
 
 /// What a trace shows, or the fault of the first value that is wrong.

@@ -1,19 +1,28 @@
-use Rattle.std.proofs.Common.{◌∙◌, subst, arith, List, MatchResult}
-use Rattle.clap.specs.Words.{Text, found_of, rows_of}
-use Rattle.clap.proofs.WalkLemmas.{raw_values-rows}
-use Rattle.pim_words.specs.Seen.{OrMemory}
-use Rattle.pim_words.specs.Shown.{AreShownAddresses, IsWrongChoice}
-use Rattle.pim_words.proofs.Values.{no_values, values_are}
+use Rattle.std.proofs.Common.{arith, refl, sym, ◌∙◌, ◌+◌, ◌≤◌, length}
+use Rattle.std.proofs.lemmas.Result.{err_from_is_err_and}
+use Rattle.pim_words.proofs.Choosing.{all_read, one_more, one_too_many, unread}
+use Rattle.pim_words.proofs.FirstWrong.{accepted}
 use Rattle.pim_words.proofs.shown.read_choice.Goals as goal
 
-pub returns-in-Some : goal.returns-in-Some
-returns-in-Some c =
-    let rows = rows_of (found_of c.args.options.now) in
-    let found = c.get_raw.ensures ∙ raw_values-rows (found_of c.args.options.now) c.args.name.now in
-    subst (λ (texts : List Text). MatchResult c.read_texts.result (λ addresses. AreShownAddresses texts addresses.items) (OrMemory (IsWrongChoice 64 texts)))
-    (values_are c.args.name.now rows c.get_raw.result found c.in-Some.texts c.in-Some.is) c.read_texts.ensures
+pub returns-then-len-eq-MOST_SHOWN : goal.returns-then-len-eq-MOST_SHOWN
+returns-then-len-eq-MOST_SHOWN c =
+    rw (← c.values_of-texts.ensures) (one_too_many c.values_of-texts.result.now c.loop-text.text-index _ c.loop-text-test.true c.loop-text.addresses.items _ c.loop-text.invariant (omega arith) refl)
 
-pub returns-in-None : goal.returns-in-None
-returns-in-None c =
-    let found = c.get_raw.ensures ∙ raw_values-rows (found_of c.args.options.now) c.args.name.now in
-    rw (no_values c.args.name.now (rows_of (found_of c.args.options.now)) c.get_raw.result found c.in-None.is, c.new.ensures.items) (tt, omega arith)
+pub returns-in_err-address : goal.returns-in_err-address
+returns-in_err-address c =
+    let few = c.loop-text.invariant.few in
+    let room : length c.loop-text.addresses.items + 1 ≤ 64 = omega arith in
+    let p = err_from_is_err_and c.from_residual.result c.from_residual.ensures.1 in
+    rw (p.1, p.2, ← c.values_of-texts.ensures)
+    (unread c.values_of-texts.result.now c.loop-text.text-index _ c.loop-text-test.true c.loop-text.addresses.items _ c.loop-text.invariant room c.in_err-address.ensures)
+
+pub loop-text-preserved : goal.loop-text-preserved
+loop-text-preserved c =
+    let few = c.loop-text.invariant.few in
+    let room : length c.loop-text.addresses.items + 1 ≤ 64 = omega arith in
+    one_more c.values_of-texts.result.now c.loop-text.text-index _ c.loop-text-test.true c.loop-text.addresses.items c.push.new.self.items c.in_ok-address.address c.loop-text.invariant room
+    c.in_ok-address.ensures (accepted c.push.result _ _ _ c.push.ensures.items (sym c.is_err.ensures.value ∙ c.if-is_err.false))
+
+pub returns : goal.returns
+returns c =
+    rw (← c.values_of-texts.ensures) (all_read c.values_of-texts.result.now c.loop-text.text-index c.loop-text.addresses.items c.loop-text-test.false c.loop-text.invariant)
