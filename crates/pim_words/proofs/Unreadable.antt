@@ -1,5 +1,5 @@
 -- Words that aren't read, behind options that are.
-use Rattle.std.proofs.Common.{◌≡◌, sym, subst, inr, false, List, codes, Option, None, Some, Result, Ok, Err, IfOk, IfErr, MatchResult}
+use Rattle.std.proofs.Common.{◌≡◌, sym, subst, inr, true, false, List, codes, Option, None, Some, Result, Ok, Err, IfOk, IfErr, MatchResult}
 use Rattle.std.specs.Prelude.{IfSome}
 use Rattle.clap.specs.Words.{Row, Text, first_of}
 use Rattle.pim_lines.specs.declared.either.AnyAddress.{AnyAddress}
@@ -12,7 +12,7 @@ use Rattle.pim_words.specs.declared.task.Task.{Task}
 use Rattle.pim_words.specs.declared.task.Task.TheVariants as task
 use Rattle.pim_lines.specs.AnyAddress.{IsRead}
 use Rattle.pim_words.specs.Ends.{are_both_given, has_two_ends}
-use Rattle.pim_words.specs.Given.{address_texts, is_sided}
+use Rattle.pim_words.specs.Given.{address_texts, has_writer, is_sided}
 use Rattle.pim_words.specs.Reading.{AreRead, IsNamed, IsTask, IsTraced, IsUnreadable, IsWrongRun, IsWrongRunOf, IsWrongTrace}
 use Rattle.pim_words.specs.Seen.{AreWritten, OrMemory}
 
@@ -25,17 +25,12 @@ module _ (rows : List Row) (addresses : Addresses) (fault : Fault) (one : are_bo
   read : AreRead (address_texts Same rows)
   read = ((addresses.rp, written.rp), ((addresses.upstream, written.upstream), ((addresses.own, written.own), tt)))
 
-  pub of_same : OrMemory (IsWrongRun (is_sided Same) rows) fault → IsUnreadable Same rows fault
-  of_same is = wrong_run Same rows fault one read is
-
-  pub of_mirror : OrMemory (IsWrongRun (is_sided Mirror) rows) fault → IsUnreadable Mirror rows fault
-  of_mirror is = wrong_run Mirror rows fault one read is
-
-  pub of_emit : OrMemory (IsWrongRun (is_sided Emit) rows) fault → IsUnreadable Emit rows fault
-  of_emit is = wrong_run Emit rows fault one read is
-
-  pub of_change : OrMemory (IsWrongRun (is_sided Change) rows) fault → IsUnreadable Change rows fault
-  of_change is = wrong_run Change rows fault one read is
+  pub of_written : (kind : Kind) → has_writer kind ≡ true → OrMemory (IsWrongRun (is_sided kind) rows) fault → IsUnreadable kind rows fault
+  of_written Same writes is = wrong_run Same rows fault one read is
+  of_written Mirror writes is = wrong_run Mirror rows fault one read is
+  of_written Emit writes is = wrong_run Emit rows fault one read is
+  of_written Change writes is = wrong_run Change rows fault one read is
+  of_written other writes is = absurd cc
 
 -- ---- commands whose RP may lack
 

@@ -71,6 +71,14 @@ is_sided Same = true
 is_sided Change = true
 is_sided other = false
 
+-- Whether the command has a writer of messages.
+abbrev pub has_writer : Kind → Bool
+has_writer Check = false
+has_writer Build = false
+has_writer Replay = false
+has_writer Trace = false
+has_writer other = true
+
 -- The text of the RP, if one is given.
 abbrev pub rp_text : Kind → List Row → Option Text
 rp_text Check rows = None

@@ -9,7 +9,7 @@ ghost use Rattle.clap.specs.Words.{rows_of, found_of};
 ghost use Rattle.pim_lines.specs.AnyAddress.{Names};
 ghost use Rattle.pim_words.specs.Ends.{are_both_given, time_text, IsTimed, IsEarly, IsUntimed};
 ghost use Rattle.pim_words.specs.declared.fault.Fault.TheVariants.{TwoEnds};
-ghost use Rattle.pim_words.specs.Given.{address_texts, is_sided, required};
+ghost use Rattle.pim_words.specs.Given.{address_texts, has_writer, is_sided, required};
 ghost use Rattle.pim_words.specs.Reading.{IsNamed, IsUnreadText, IsUnreadValue, IsFirstUnread};
 ghost use Rattle.pim_words.specs.Reading.{ArePorts, AreWrongPorts, AreNamedPorts};
 ghost use Rattle.pim_words.specs.Reading.{AreWrongNamedPorts, IsRun, AreCaptures};
@@ -174,30 +174,6 @@ fn read_ends<'a>(options: &ArgMatches<'a>) -> Result<Ends, Fault<'a>>
     Ok(Ends { src, dst })
 }
 
-/// The task of `check`.
-fn read_check<'a>(options: &ArgMatches<'a>) -> Result<Task<'a, AnyAddress>, Fault<'a>>
-    ensures { MatchResult result (IsTask Kind.Check (rows_of (found_of options.now)))
-        (IsUnreadable Kind.Check (rows_of (found_of options.now))) }
-{
-    let ends = read_ends(options)?;
-    Ok(Task::Check {
-        src: ends.src,
-        dst: ends.dst,
-    })
-}
-
-/// The task of `build`.
-fn read_build<'a>(options: &ArgMatches<'a>) -> Result<Task<'a, AnyAddress>, Fault<'a>>
-    ensures { MatchResult result (IsTask Kind.Build (rows_of (found_of options.now)))
-        (IsUnreadable Kind.Build (rows_of (found_of options.now))) }
-{
-    let ends = read_ends(options)?;
-    Ok(Task::Build {
-        src: ends.src,
-        dst: ends.dst,
-    })
-}
-
 /// The task of `replay`.
 fn read_replay<'a>(
     alloc: Global,
@@ -309,62 +285,35 @@ fn read_writing(addresses: Addresses, options: &ArgMatches<'_>) -> Writing<AnyAd
     }
 }
 
-/// The task of `same`.
-fn read_same<'a>(alloc: Global, options: &ArgMatches<'a>) -> Result<Task<'a, AnyAddress>, Fault<'a>>
-    requires { HasNumbers (rows_of (found_of options.now)) }
-    ensures { MatchResult result (IsTask Kind.Same (rows_of (found_of options.now)))
-        (IsUnreadable Kind.Same (rows_of (found_of options.now))) }
+/// Whether the command has two routers.
+fn is_sided(kind: Kind) -> bool
+    ensures { result ≡ is_sided kind }
 {
-    judge_end(options)?;
-    let addresses = read_addresses(options)?;
-    let captures = read_captures(alloc, true, Some(addresses.rp), options)?;
-    let writing = read_writing(addresses, options);
-    Ok(Task::Same(captures, writing))
+    matches!(kind, Kind::Same | Kind::Change)
 }
 
-/// The task of `mirror`.
-fn read_mirror<'a>(
+/// The task of a command that has a writer.
+fn read_written<'a>(
     alloc: Global,
+    kind: Kind,
     options: &ArgMatches<'a>,
 ) -> Result<Task<'a, AnyAddress>, Fault<'a>>
-    requires { HasNumbers (rows_of (found_of options.now)) }
-    ensures { MatchResult result (IsTask Kind.Mirror (rows_of (found_of options.now)))
-        (IsUnreadable Kind.Mirror (rows_of (found_of options.now))) }
+    requires writer { has_writer kind ≡ true }
+    requires numbers { HasNumbers (rows_of (found_of options.now)) }
+    ensures { MatchResult result (IsTask kind (rows_of (found_of options.now)))
+        (IsUnreadable kind (rows_of (found_of options.now))) }
 {
     judge_end(options)?;
     let addresses = read_addresses(options)?;
-    let captures = read_captures(alloc, false, Some(addresses.rp), options)?;
+    let captures = read_captures(alloc, is_sided(kind), Some(addresses.rp), options)?;
     let writing = read_writing(addresses, options);
-    Ok(Task::Mirror(captures, writing))
-}
-
-/// The task of `emit`.
-fn read_emit<'a>(alloc: Global, options: &ArgMatches<'a>) -> Result<Task<'a, AnyAddress>, Fault<'a>>
-    requires { HasNumbers (rows_of (found_of options.now)) }
-    ensures { MatchResult result (IsTask Kind.Emit (rows_of (found_of options.now)))
-        (IsUnreadable Kind.Emit (rows_of (found_of options.now))) }
-{
-    judge_end(options)?;
-    let addresses = read_addresses(options)?;
-    let captures = read_captures(alloc, false, Some(addresses.rp), options)?;
-    let writing = read_writing(addresses, options);
-    Ok(Task::Emit(captures, writing))
-}
-
-/// The task of `change`.
-fn read_change<'a>(
-    alloc: Global,
-    options: &ArgMatches<'a>,
-) -> Result<Task<'a, AnyAddress>, Fault<'a>>
-    requires { HasNumbers (rows_of (found_of options.now)) }
-    ensures { MatchResult result (IsTask Kind.Change (rows_of (found_of options.now)))
-        (IsUnreadable Kind.Change (rows_of (found_of options.now))) }
-{
-    judge_end(options)?;
-    let addresses = read_addresses(options)?;
-    let captures = read_captures(alloc, true, Some(addresses.rp), options)?;
-    let writing = read_writing(addresses, options);
-    Ok(Task::Change(captures, writing))
+    match kind {
+        Kind::Same => Ok(Task::Same(captures, writing)),
+        Kind::Mirror => Ok(Task::Mirror(captures, writing)),
+        Kind::Emit => Ok(Task::Emit(captures, writing)),
+        Kind::Change => Ok(Task::Change(captures, writing)),
+        _ => unreachable!(),
+    }
 }
 
 /// The task of a command, or the fault of the first text that can't be read.
@@ -378,13 +327,16 @@ pub(crate) fn read_task<'a>(
         (IsUnreadable kind (rows_of (found_of options.now))) }
 {
     match kind {
-        Kind::Check => read_check(options),
-        Kind::Build => read_build(options),
+        Kind::Check => {
+            let Ends { src, dst } = read_ends(options)?;
+            Ok(Task::Check { src, dst })
+        }
+        Kind::Build => {
+            let Ends { src, dst } = read_ends(options)?;
+            Ok(Task::Build { src, dst })
+        }
         Kind::Replay => read_replay(alloc, options),
         Kind::Trace => read_trace(alloc, options),
-        Kind::Same => read_same(alloc, options),
-        Kind::Mirror => read_mirror(alloc, options),
-        Kind::Emit => read_emit(alloc, options),
-        Kind::Change => read_change(alloc, options),
+        Kind::Same | Kind::Mirror | Kind::Emit | Kind::Change => read_written(alloc, kind, options),
     }
 }

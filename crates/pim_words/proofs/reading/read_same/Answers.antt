@@ -1,9 +1,0 @@
-use Rattle.std.proofs.lemmas.Result.{err_from_is_err_and}
-use Rattle.clap.specs.Words.{found_of, rows_of}
-use Rattle.pim_words.proofs.Unreadable.{of_same}
-use Rattle.pim_words.proofs.reading.read_same.Goals as goal
-
-pub returns-in_err-captures : goal.returns-in_err-captures
-returns-in_err-captures c =
-    let p = err_from_is_err_and c.from_residual-in_err-captures.result c.from_residual-in_err-captures.ensures.1 in
-    rw (p.1, p.2) (of_same (rows_of (found_of c.args.options.now)) c.in_ok-addresses.addresses _ c.in_ok-judge_end.ensures c.in_ok-addresses.ensures c.in_err-captures.ensures.told)
