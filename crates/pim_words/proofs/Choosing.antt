@@ -8,9 +8,8 @@ use Rattle.pim_lines.specs.declared.either.AnyAddress.{AnyAddress}
 use Rattle.pim_words.specs.declared.fault.Fault.{Fault}
 use Rattle.pim_words.specs.declared.fault.Fault.TheVariants as cause
 use Rattle.pim_lines.specs.AnyAddress.{Names}
-use Rattle.pim_words.specs.Reading.{IsUnreadText}
 use Rattle.pim_words.specs.Seen.{OrMemory}
-use Rattle.pim_words.specs.Shown.{AreShownAddresses, IsUnreadChoice, IsWrongChoice}
+use Rattle.pim_words.specs.Shown.{AreShownAddresses, IsUnreadText, IsWrongChoice}
 use Rattle.pim_words.proofs.Further.{texts}
 use Rattle.pim_words.proofs.Orders.{or_memory}
 
@@ -31,10 +30,6 @@ step all left addresses text address is named room = record {
 end : (all : List Text) (addresses : List AnyAddress) → IsLeft all [] addresses → AreShownAddresses all addresses
 end all addresses is = (subst (λ l. AllZip Names all l) (append-nil addresses) (is.goes_on [] tt), is.few)
 
-unread_choice : (text : Text) (fault : Fault) → IsUnreadText text fault → IsUnreadChoice text fault
-unread_choice text (cause.Address told) is = is
-unread_choice text fault is = absurd is
-
 module _ (values : List (Bor Text)) (i : ℕ) (past : Bor Text) (inside : i < length values) where
   abbrev text : Text
   text = (get_or values i past).now
@@ -53,7 +48,7 @@ module _ (values : List (Bor Text)) (i : ℕ) (past : Bor Text) (inside : i < le
       let n : ℕ = 63 - length addresses in
       let count : length addresses + suc n ≡ 64 = omega (arith, room) in
       or_memory (IsWrongChoice 64 (texts values)) fault
-      (is.told (suc n) fault count (subst (λ l. IsWrongChoice (suc n) l fault) (sym next) (inl (unread_choice text fault wrong))))
+      (is.told (suc n) fault count (subst (λ l. IsWrongChoice (suc n) l fault) (sym next) (inl wrong)))
 
   pub one_more : (addresses more : List AnyAddress) (address : AnyAddress) → IsLeft (texts values) (texts (drop i values)) addresses → length addresses + 1 ≤ 64 → Names text address → more ≡ addresses ++ address ∷ []
       → IsLeft (texts values) (texts (drop (i + 1) values)) more

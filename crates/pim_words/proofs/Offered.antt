@@ -122,31 +122,24 @@ writable rows writing is = (is.holdtime.least, is.budget.least, is.budget.most)
 
 task_in_range : (kind : Kind) (rows : List Row) (asked : Task AnyAddress) → IsTask kind rows asked → IsInRange asked
 task_in_range Check rows (task.Check source destination) is = tt
-task_in_range Check rows other is = absurd is
 task_in_range Build rows (task.Build source destination) is = tt
-task_in_range Build rows other is = absurd is
 task_in_range Replay rows (task.Replay captures) is =
     ((is.1.run.after.most, is.1.run.early), (is.1.run.limit.least, is.1.run.limit.most), further_of (is_sided Replay) rows captures is.1.ports)
-task_in_range Replay rows other is = absurd is
 task_in_range Trace rows (task.Trace captures tracing) is = (
   (is.1.run.after.most, is.1.run.early),
   (is.1.run.limit.least, is.1.run.limit.most),
   given_names (port_words true (words_of rows)) captures.ports.items tracing.names.items is.1.ports.labelled,
   further_of_names rows captures tracing.names.items is.1.ports,
 )
-task_in_range Trace rows other is = absurd is
 task_in_range Same rows (task.Same captures writing) is =
     ((is.0.1.run.after.most, is.0.1.run.early), (is.0.1.run.limit.least, is.0.1.run.limit.most), writable rows writing is.1, further_of (is_sided Same) rows captures is.0.1.ports)
-task_in_range Same rows other is = absurd is
 task_in_range Mirror rows (task.Mirror captures writing) is =
     ((is.0.1.run.after.most, is.0.1.run.early), (is.0.1.run.limit.least, is.0.1.run.limit.most), writable rows writing is.1, further_of (is_sided Mirror) rows captures is.0.1.ports)
-task_in_range Mirror rows other is = absurd is
 task_in_range Emit rows (task.Emit captures writing) is =
     ((is.0.1.run.after.most, is.0.1.run.early), (is.0.1.run.limit.least, is.0.1.run.limit.most), writable rows writing is.1, further_of (is_sided Emit) rows captures is.0.1.ports)
-task_in_range Emit rows other is = absurd is
 task_in_range Change rows (task.Change captures writing) is =
     ((is.0.1.run.after.most, is.0.1.run.early), (is.0.1.run.limit.least, is.0.1.run.limit.most), writable rows writing is.1, further_of (is_sided Change) rows captures is.0.1.ports)
-task_in_range Change rows other is = absurd is
+task_in_range kind rows other is = absurd is
 
 module _ {A : Type 0} (family : AddressFamily) (bytes_of : A → List ℕ) where
   same_bounded : (typed : Captures A) (asked : Captures AnyAddress) → IsBounded asked → SameCaptures family bytes_of typed asked → IsBounded typed
@@ -180,22 +173,17 @@ module _ {A : Type 0} (family : AddressFamily) (bytes_of : A → List ℕ) where
   same_in_range (task.Check a b) asked is same = tt
   same_in_range (task.Build a b) asked is same = tt
   same_in_range (task.Replay typed) (task.Replay captures) is same = (same_bounded typed captures is.0 same, same_limited typed captures is.1 same, same_further typed captures is.2 same)
-  same_in_range (task.Replay typed) other is same = absurd same
   same_in_range (task.Trace typed how) (task.Trace captures tracing) is same =
       (same_bounded typed captures is.0 same.0, same_limited typed captures is.1 same.0, same_names typed captures how tracing is.2 same.0 same.1, same_further typed captures is.3 same.0)
-  same_in_range (task.Trace typed how) other is same = absurd same
   same_in_range (task.Same typed how) (task.Same captures writing) is same =
       (same_bounded typed captures is.0 same.0, same_limited typed captures is.1 same.0, same_writable how writing is.2 same.1, same_further typed captures is.3 same.0)
-  same_in_range (task.Same typed how) other is same = absurd same
   same_in_range (task.Mirror typed how) (task.Mirror captures writing) is same =
       (same_bounded typed captures is.0 same.0, same_limited typed captures is.1 same.0, same_writable how writing is.2 same.1, same_further typed captures is.3 same.0)
-  same_in_range (task.Mirror typed how) other is same = absurd same
   same_in_range (task.Emit typed how) (task.Emit captures writing) is same =
       (same_bounded typed captures is.0 same.0, same_limited typed captures is.1 same.0, same_writable how writing is.2 same.1, same_further typed captures is.3 same.0)
-  same_in_range (task.Emit typed how) other is same = absurd same
   same_in_range (task.Change typed how) (task.Change captures writing) is same =
       (same_bounded typed captures is.0 same.0, same_limited typed captures is.1 same.0, same_writable how writing is.2 same.1, same_further typed captures is.3 same.0)
-  same_in_range (task.Change typed how) other is same = absurd same
+  same_in_range typed asked is same = absurd same
 
 plan_in_range : (plan : Plan) (asked : Task AnyAddress) → IsInRange asked → IsPlanFor plan asked → IsPlanInRange plan
 plan_in_range (V4 typed) asked is same = same_in_range Ipv4 (λ address. address) typed asked is same

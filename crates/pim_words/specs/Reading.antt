@@ -18,7 +18,7 @@ use Rattle.pim_words.specs.declared.task.Kind.{Kind}
 use Rattle.pim_words.specs.declared.task.Kind.TheVariants as kind
 use Rattle.pim_words.specs.declared.task.Task.{Task}
 use Rattle.pim_words.specs.declared.task.Task.TheVariants.{Check, Build, Replay, Trace, Same, Mirror, Emit, Change}
-use Rattle.pim_lines.specs.AnyAddress.{Names, IsRead, IsUnread}
+use Rattle.pim_lines.specs.AnyAddress.{Names, IsRead}
 use Rattle.pim_words.specs.Ends.{are_both_given, has_two_ends, time_text, IsTimed, IsEarly, IsUntimed, IsTimely}
 use Rattle.pim_words.specs.Given.{IsNumber, address_texts, is_flag, is_sided, option_or, required, rp_text, words_of}
 use Rattle.pim_words.specs.Given.{source_text, destination_text}
@@ -26,7 +26,7 @@ use Rattle.pim_words.specs.Labels.{AreLabelled, IsFirstWrongLabelled}
 use Rattle.pim_words.specs.Links.{AreLinks, AreLinkable, AreLinkedFrom, IsWrongLinks}
 use Rattle.pim_words.specs.Links.{AreChosenLinks, AreWrongChoices}
 use Rattle.pim_words.specs.Ports.{AreMore, IsPort, IsFirstWrongOf, port_words}
-use Rattle.pim_words.specs.Shown.{IsShown, IsShowable, IsWrongShown, shown_of}
+use Rattle.pim_words.specs.Shown.{IsShown, IsShowable, IsUnreadText, IsWrongShown, shown_of}
 
 -- ---- what is read
 
@@ -109,11 +109,6 @@ IsTask kind.Change rows (Change captures writing) = AreCapturesOf kind.Change ro
 IsTask command rows task = ⊥
 
 -- ---- what can't be read
-
--- The text is the value of an option and names no address; the fault has the text.
-abbrev pub IsUnreadText : Text → Fault → Type 0
-IsUnreadText text (cause.Address told) = (told.now ≡ text) × IsUnread text
-IsUnreadText text other = ⊥
 
 -- The option is given and names no address.
 abbrev pub IsUnreadValue : Option Text → Fault → Type 0

@@ -20,9 +20,9 @@ abbrev pub AreShownAddresses : List Text → List AnyAddress → Type 0
 AreShownAddresses texts addresses = AllZip Names texts addresses × (length addresses ≤ 64)
 
 -- The value names no address; the fault has the value.
-abbrev pub IsUnreadChoice : Text → Fault → Type 0
-IsUnreadChoice text (cause.Address told) = (told.now ≡ text) × IsUnread text
-IsUnreadChoice text fault = ⊥
+abbrev pub IsUnreadText : Text → Fault → Type 0
+IsUnreadText text (cause.Address told) = (told.now ≡ text) × IsUnread text
+IsUnreadText text fault = ⊥
 
 -- The value is one too many.
 abbrev pub IsOneTooMany : Text → Fault → Type 0
@@ -34,7 +34,7 @@ abbrev pub IsWrongChoice : ℕ → List Text → Fault → Type 0
 IsWrongChoice room [] fault = ⊥
 IsWrongChoice zero (text ∷ texts) fault = IsOneTooMany text fault
 IsWrongChoice (suc room) (text ∷ texts) fault =
-    IsUnreadChoice text fault ⊎ (IsRead text × IsWrongChoice room texts fault)
+    IsUnreadText text fault ⊎ (IsRead text × IsWrongChoice room texts fault)
 
 -- Each value names an address, and they are at most 64.
 abbrev pub IsChoosable : List Text → Type 0

@@ -10,12 +10,13 @@ ghost use Rattle.pim_lines.specs.AnyAddress.{Names};
 ghost use Rattle.pim_words.specs.Ends.{are_both_given, time_text, IsTimed, IsEarly, IsUntimed};
 ghost use Rattle.pim_words.specs.declared.fault.Fault.TheVariants.{TwoEnds};
 ghost use Rattle.pim_words.specs.Given.{address_texts, has_writer, is_sided, required};
-ghost use Rattle.pim_words.specs.Reading.{IsNamed, IsUnreadText, IsUnreadValue, IsFirstUnread};
+ghost use Rattle.pim_words.specs.Reading.{IsNamed, IsUnreadValue, IsFirstUnread};
 ghost use Rattle.pim_words.specs.Reading.{ArePorts, AreWrongPorts, AreNamedPorts};
 ghost use Rattle.pim_words.specs.Reading.{AreWrongNamedPorts, IsRun, AreCaptures};
 ghost use Rattle.pim_words.specs.Reading.{IsWriting, IsTraced, IsTask, IsUnreadable, IsWrongRun};
 ghost use Rattle.pim_words.specs.Reading.{IsWrongTrace};
 ghost use Rattle.pim_words.specs.Seen.{OrMemory, AreEnds, AreWritten, HasNumbers};
+ghost use Rattle.pim_words.specs.Shown.{IsUnreadText};
 
 use crate::fault::Fault;
 use crate::given::{is_flag, number_of, option_of, option_or, values_of};
