@@ -48,10 +48,7 @@ fn read_given<'a>(text: Option<&'a str>) -> Result<Option<AnyAddress>, Fault<'a>
     let Some(text) = text else {
         return Ok(None);
     };
-    match read_option(text) {
-        Ok(address) => Ok(Some(address)),
-        Err(fault) => Err(fault),
-    }
+    Ok(Some(read_option(text)?))
 }
 
 /// The time that is the value of an option, if it is given.

@@ -40,10 +40,7 @@ fn rp_in_family<F: Family>(rp: Option<AnyAddress>) -> Result<Option<F::Addr>, Fa
     let Some(rp) = rp else {
         return Ok(None);
     };
-    match in_family::<F>(rp) {
-        Ok(rp) => Ok(Some(rp)),
-        Err(fault) => Err(fault),
-    }
+    Ok(Some(in_family::<F>(rp)?))
 }
 
 /// The port, if its address is of this family.
@@ -56,16 +53,13 @@ fn port_in_family<'a, F: Family>(
         (IsForeign (is_in F.family port.now.address)) }
 {
     let port = *port;
-    match in_family::<F>(port.address) {
-        Ok(address) => Ok(Port {
-            side: port.side,
-            address,
-            file: port.file,
-            word: port.word,
-            link: port.link,
-        }),
-        Err(fault) => Err(fault),
-    }
+    Ok(Port {
+        side: port.side,
+        address: in_family::<F>(port.address)?,
+        file: port.file,
+        word: port.word,
+        link: port.link,
+    })
 }
 
 /// The ports, if all their addresses are of this family.
@@ -186,36 +180,6 @@ fn writing_in_family<F: Family>(
     })
 }
 
-/// The task of `check`, if both its addresses are of this family.
-fn check_in_family<'a, F: Family>(
-    src: AnyAddress,
-    dst: AnyAddress,
-) -> Result<Task<'a, F::Addr>, Fault<'static>>
-    ensures { MatchResult result
-        (λ typed. (are_in F.family (Task.Check src dst) ≡ true)
-        × SameTask F.family F.bytes_of typed (Task.Check src dst))
-        (IsForeign (are_in F.family (Task.Check src dst))) }
-{
-    let src = in_family::<F>(src)?;
-    let dst = in_family::<F>(dst)?;
-    Ok(Task::Check { src, dst })
-}
-
-/// The task of `build`, if both its addresses are of this family.
-fn build_in_family<'a, F: Family>(
-    src: AnyAddress,
-    dst: AnyAddress,
-) -> Result<Task<'a, F::Addr>, Fault<'static>>
-    ensures { MatchResult result
-        (λ typed. (are_in F.family (Task.Build src dst) ≡ true)
-        × SameTask F.family F.bytes_of typed (Task.Build src dst))
-        (IsForeign (are_in F.family (Task.Build src dst))) }
-{
-    let src = in_family::<F>(src)?;
-    let dst = in_family::<F>(dst)?;
-    Ok(Task::Build { src, dst })
-}
-
 /// The task, if all its addresses are of this family.
 pub(crate) fn task_in_family<'a, F: Family>(
     alloc: Global,
@@ -226,36 +190,34 @@ pub(crate) fn task_in_family<'a, F: Family>(
         (IsForeign (are_in F.family task.now)) }
 {
     match task {
-        Task::Check { src, dst } => check_in_family::<F>(*src, *dst),
-        Task::Build { src, dst } => build_in_family::<F>(*src, *dst),
-        Task::Replay(captures) => match captures_in_family::<F>(alloc, captures) {
-            Ok(captures) => Ok(Task::Replay(captures)),
-            Err(fault) => Err(fault),
-        },
+        Task::Check { src, dst } => {
+            let src = in_family::<F>(*src)?;
+            let dst = in_family::<F>(*dst)?;
+            Ok(Task::Check { src, dst })
+        }
+        Task::Build { src, dst } => {
+            let src = in_family::<F>(*src)?;
+            let dst = in_family::<F>(*dst)?;
+            Ok(Task::Build { src, dst })
+        }
+        Task::Replay(captures) => Ok(Task::Replay(captures_in_family::<F>(alloc, captures)?)),
         Task::Trace(captures, tracing) => {
             let captures = captures_in_family::<F>(alloc, captures)?;
             let tracing = tracing_in_family::<F>(alloc, tracing)?;
             Ok(Task::Trace(captures, tracing))
         }
-        Task::Same(captures, writing) => {
+        Task::Same(captures, writing)
+        | Task::Mirror(captures, writing)
+        | Task::Emit(captures, writing)
+        | Task::Change(captures, writing) => {
             let captures = captures_in_family::<F>(alloc, captures)?;
             let writing = writing_in_family::<F>(*writing)?;
-            Ok(Task::Same(captures, writing))
-        }
-        Task::Mirror(captures, writing) => {
-            let captures = captures_in_family::<F>(alloc, captures)?;
-            let writing = writing_in_family::<F>(*writing)?;
-            Ok(Task::Mirror(captures, writing))
-        }
-        Task::Emit(captures, writing) => {
-            let captures = captures_in_family::<F>(alloc, captures)?;
-            let writing = writing_in_family::<F>(*writing)?;
-            Ok(Task::Emit(captures, writing))
-        }
-        Task::Change(captures, writing) => {
-            let captures = captures_in_family::<F>(alloc, captures)?;
-            let writing = writing_in_family::<F>(*writing)?;
-            Ok(Task::Change(captures, writing))
+            match task {
+                Task::Same(..) => Ok(Task::Same(captures, writing)),
+                Task::Mirror(..) => Ok(Task::Mirror(captures, writing)),
+                Task::Emit(..) => Ok(Task::Emit(captures, writing)),
+                _ => Ok(Task::Change(captures, writing)),
+            }
         }
     }
 }
