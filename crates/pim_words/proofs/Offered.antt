@@ -2,12 +2,13 @@
 use Rattle.std.proofs.Common.{◌≡◌, ◌∙◌, ◌≤◌, ◌<◌, inl, inr, ℕ, suc, Bool, true, false, not, cond, List, [], ◌∷◌, ◌++◌, length, Option, None, Some, refl, sym, ap, subst, option_map, Result, Ok, Err, MatchResult, IfOk}
 use Rattle.std.specs.Prelude.{find, IfSome, IsSomeAnd}
 use Rattle.std.specs.Borrow.{Bor}
-use Rattle.std.specs.List.{AllByRecursion, AllZip}
+use Rattle.std.specs.List.{AllByRecursion}
 use Rattle.clap.specs.Words.{App, Row, Text, built, fault_of, subcommand_of}
 use Rattle.clap.specs.Walk.{answers_to, stop_after}
 use Rattle.clap.specs.Simple.{Shape, argument_words, entered, label_of, names_of, rows_at}
 use Rattle.clap.proofs.OnLiterals.{clap_on_literals}
 use Rattle.std.proofs.lemmas.List.{length-map}
+use Rattle.std.proofs.lemmas.Slice.Zip.{AllZip-long}
 use Rattle.clap.proofs.WalkLemmas.{both}
 use Rattle.pim_addr.specs.declared.family.AddressFamily.{AddressFamily}
 use Rattle.pim_addr.specs.declared.family.AddressFamily.TheVariants.{Ipv4, Ipv6}
@@ -28,10 +29,10 @@ use Rattle.pim_words.specs.CommandLine.{pimtree}
 use Rattle.pim_words.specs.Ends.{IsEarly}
 use Rattle.pim_words.specs.Given.{IsKnown, is_sided, words_of}
 use Rattle.pim_lines.specs.PortNames.{is_port_name}
-use Rattle.pim_words.specs.Labels.{AreLabelled, AreLabelledAfter, has_name, is_fresh}
+use Rattle.pim_words.specs.Labels.{AreLabelledAfter, has_name, is_fresh}
 use Rattle.pim_words.specs.Plan.{AreFurther, AreNames, HasCause, IsBounded, IsLimited, IsWritable, IsInRange, IsPlanInRange, IsTaskOf, IsPlanOfTask, IsPlanOf, Plans}
 use Rattle.pim_words.specs.Ports.{IsPort, port_words}
-use Rattle.pim_words.specs.Reading.{AreNamedPorts, ArePorts, IsTask, IsWriting}
+use Rattle.pim_words.specs.Reading.{AreCaptures, AreNamedPorts, ArePorts, IsTask, IsWriting}
 use Rattle.pim_words.specs.Seen.{IsGiven, IsOffered}
 use Rattle.pim_words.specs.Typed.{IsPlanFor, SameCaptures, SameTask, SameTracing, SameWriting, port_seen}
 use Rattle.pim_words.proofs.Further.{below_ports}
@@ -92,16 +93,6 @@ names_after earlier (word ∷ words) (port ∷ ports) (name ∷ names) are =
     (ap suc others.0, (may_have earlier name are.0.fresh, others.1))
 names_after earlier words ports names are = absurd are
 
-given_names : (words : List Text) (ports : List (Port AnyAddress)) (names : List (Option (Bor Text))) → AreLabelled words ports names
-    → (length names ≡ length ports) × AllByRecursion (λ name. IfSome name (λ text. is_port_name text.now ≡ true)) names
-given_names words ports names are = names_after [] words ports names are
-
-all_ports : (is_sided : Bool) (words : List Text) (ports : List (Port AnyAddress)) → AllZip (IsPort is_sided) words ports → length ports ≡ length words
-all_ports is_sided [] [] are = refl
-all_ports is_sided [] (port ∷ ports) are = absurd are
-all_ports is_sided (word ∷ words) [] are = absurd are
-all_ports is_sided (word ∷ words) (port ∷ ports) are = ap suc (all_ports is_sided words ports are.1)
-
 all_labelled : (earlier : List (Option (Bor Text))) (words : List Text) (ports : List (Port AnyAddress)) (names : List (Option (Bor Text))) → AreLabelledAfter earlier words ports names → length ports ≡ length words
 all_labelled earlier [] [] [] are = refl
 all_labelled earlier (word ∷ words) (port ∷ ports) (name ∷ names) are = ap suc (all_labelled (earlier ++ name ∷ []) words ports names are.1)
@@ -110,15 +101,17 @@ all_labelled earlier words ports names are = absurd are
 further_of : (is_sided : Bool) (rows : List Row) (captures : Captures AnyAddress) → ArePorts is_sided rows captures.ports.items captures.more.items → AreFurther captures
 further_of is_sided rows captures are =
     below_ports are.links.is_any (words_of rows) (length captures.ports.items) captures.more.items are.further
-    (all_ports is_sided (port_words are.links.is_any (words_of rows)) captures.ports.items are.named)
+    (AllZip-long (IsPort is_sided) (port_words are.links.is_any (words_of rows)) captures.ports.items are.named)
 
 further_of_names : (rows : List Row) (captures : Captures AnyAddress) (names : List (Option (Bor Text))) → AreNamedPorts rows captures.ports.items captures.more.items names → AreFurther captures
 further_of_names rows captures names are =
     below_ports true (words_of rows) (length captures.ports.items) captures.more.items are.further
     (all_labelled [] (port_words true (words_of rows)) captures.ports.items names are.labelled)
 
-writable : (rows : List Row) (writing : Writing AnyAddress) → IsWriting rows writing → IsWritable writing
-writable rows writing is = (is.holdtime.least, is.budget.least, is.budget.most)
+written_in_range : (is_sided : Bool) (rows : List Row) (captures : Captures AnyAddress) (writing : Writing AnyAddress) → AreCaptures is_sided rows captures × IsWriting rows writing
+    → IsBounded captures × IsLimited captures × IsWritable writing × AreFurther captures
+written_in_range is_sided rows captures writing (are, is) =
+    ((are.run.after.most, are.run.early), (are.run.limit.least, are.run.limit.most), (is.holdtime.least, is.budget.least, is.budget.most), further_of is_sided rows captures are.ports)
 
 task_in_range : (kind : Kind) (rows : List Row) (asked : Task AnyAddress) → IsTask kind rows asked → IsInRange asked
 task_in_range Check rows (task.Check source destination) is = tt
@@ -128,17 +121,13 @@ task_in_range Replay rows (task.Replay captures) is =
 task_in_range Trace rows (task.Trace captures tracing) is = (
   (is.1.run.after.most, is.1.run.early),
   (is.1.run.limit.least, is.1.run.limit.most),
-  given_names (port_words true (words_of rows)) captures.ports.items tracing.names.items is.1.ports.labelled,
+  names_after [] (port_words true (words_of rows)) captures.ports.items tracing.names.items is.1.ports.labelled,
   further_of_names rows captures tracing.names.items is.1.ports,
 )
-task_in_range Same rows (task.Same captures writing) is =
-    ((is.0.1.run.after.most, is.0.1.run.early), (is.0.1.run.limit.least, is.0.1.run.limit.most), writable rows writing is.1, further_of (is_sided Same) rows captures is.0.1.ports)
-task_in_range Mirror rows (task.Mirror captures writing) is =
-    ((is.0.1.run.after.most, is.0.1.run.early), (is.0.1.run.limit.least, is.0.1.run.limit.most), writable rows writing is.1, further_of (is_sided Mirror) rows captures is.0.1.ports)
-task_in_range Emit rows (task.Emit captures writing) is =
-    ((is.0.1.run.after.most, is.0.1.run.early), (is.0.1.run.limit.least, is.0.1.run.limit.most), writable rows writing is.1, further_of (is_sided Emit) rows captures is.0.1.ports)
-task_in_range Change rows (task.Change captures writing) is =
-    ((is.0.1.run.after.most, is.0.1.run.early), (is.0.1.run.limit.least, is.0.1.run.limit.most), writable rows writing is.1, further_of (is_sided Change) rows captures is.0.1.ports)
+task_in_range Same rows (task.Same captures writing) is = written_in_range (is_sided Same) rows captures writing (is.0.1, is.1)
+task_in_range Mirror rows (task.Mirror captures writing) is = written_in_range (is_sided Mirror) rows captures writing (is.0.1, is.1)
+task_in_range Emit rows (task.Emit captures writing) is = written_in_range (is_sided Emit) rows captures writing (is.0.1, is.1)
+task_in_range Change rows (task.Change captures writing) is = written_in_range (is_sided Change) rows captures writing (is.0.1, is.1)
 task_in_range kind rows other is = absurd is
 
 module _ {A : Type 0} (family : AddressFamily) (bytes_of : A → List ℕ) where

@@ -11,9 +11,9 @@ use Rattle.pim_words.specs.declared.fault.Fault.TheVariants as cause
 use Rattle.pim_words.specs.declared.fault.Side.TheVariants.{A}
 use Rattle.pim_words.specs.declared.label.Label.{Label}
 use Rattle.pim_words.specs.declared.task.Port.{Port}
-use Rattle.pim_lines.specs.AnyAddress.{Names, IsUnread}
+use Rattle.pim_lines.specs.AnyAddress.{Names}
 use Rattle.pim_lines.specs.PortNames.{is_port_name}
-use Rattle.pim_words.specs.Ports.{ByKind, IsCut, IsRightMore, IsWrongMore, LacksAtSign, is_more}
+use Rattle.pim_words.specs.Ports.{ByKind, HasBadAddress, IsCut, IsRightMore, IsWrongMore, LacksAtSign, is_more}
 
 -- ---- names
 
@@ -77,10 +77,7 @@ pub record HasUnreadAddress (earlier : List (Option (Bor Text))) (word : Text) :
   pub rest : Text
   pub cut : IsCutLabel word name rest
   pub fresh : is_fresh earlier name ≡ true
-  pub address_text : Text
-  pub file : Text
-  pub parts : IsCut rest address_text file
-  pub unread : IsUnread address_text
+  pub unread : HasBadAddress false rest
 
 -- The fault of a word.
 abbrev pub IsWrongLabelled : List (Option (Bor Text)) → Text → Fault → Type 0
