@@ -1,5 +1,4 @@
 pub mod Choosing
-pub mod FirstWrong
 pub mod Further
 pub mod Labelling
 pub mod Linking

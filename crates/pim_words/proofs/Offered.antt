@@ -8,7 +8,6 @@ use Rattle.clap.specs.Walk.{answers_to, stop_after}
 use Rattle.clap.specs.Simple.{Shape, argument_words, entered, label_of, names_of, rows_at}
 use Rattle.clap.proofs.OnLiterals.{clap_on_literals}
 use Rattle.std.proofs.lemmas.List.{length-map}
-use Rattle.std.proofs.lemmas.Slice.Zip.{AllZip-long}
 use Rattle.clap.proofs.WalkLemmas.{both}
 use Rattle.pim_addr.specs.declared.family.AddressFamily.{AddressFamily}
 use Rattle.pim_addr.specs.declared.family.AddressFamily.TheVariants.{Ipv4, Ipv6}
@@ -27,12 +26,12 @@ use Rattle.pim_words.specs.declared.task.Task.TheVariants as task
 use Rattle.pim_words.specs.declared.task.Writing.{Writing}
 use Rattle.pim_words.specs.CommandLine.{pimtree}
 use Rattle.pim_words.specs.Ends.{IsEarly}
-use Rattle.pim_words.specs.Given.{IsKnown, is_sided, words_of}
+use Rattle.pim_words.specs.Given.{IsKnown, words_of}
 use Rattle.pim_lines.specs.PortNames.{is_port_name}
 use Rattle.pim_words.specs.Labels.{AreLabelledAfter, has_name, is_fresh}
 use Rattle.pim_words.specs.Plan.{AreFurther, AreNames, HasCause, IsBounded, IsLimited, IsWritable, IsInRange, IsPlanInRange, IsTaskOf, IsPlanOfTask, IsPlanOf, Plans}
-use Rattle.pim_words.specs.Ports.{IsPort, port_words}
-use Rattle.pim_words.specs.Reading.{AreCaptures, AreNamedPorts, ArePorts, IsTask, IsWriting}
+use Rattle.pim_words.specs.Ports.{port_words}
+use Rattle.pim_words.specs.Reading.{AreCaptures, ArePorts, IsTask, IsWriting}
 use Rattle.pim_words.specs.Seen.{IsGiven, IsOffered}
 use Rattle.pim_words.specs.Typed.{IsPlanFor, SameCaptures, SameTask, SameTracing, SameWriting, port_seen}
 use Rattle.pim_words.proofs.Further.{below_ports}
@@ -85,49 +84,44 @@ may_have : (earlier : List (Option (Bor Text))) (name : Option (Bor Text)) → i
 may_have earlier None fresh = tt
 may_have earlier (Some text) fresh = (both (is_port_name text.now) (not (has_name earlier text.now)) fresh).0
 
-names_after : (earlier : List (Option (Bor Text))) (words : List Text) (ports : List (Port AnyAddress)) (names : List (Option (Bor Text))) → AreLabelledAfter earlier words ports names
+names_after : (command : Kind) (earlier : List (Option (Bor Text))) (words : List Text) (ports : List (Port AnyAddress)) (names : List (Option (Bor Text))) → AreLabelledAfter command earlier words ports names
     → (length names ≡ length ports) × AllByRecursion (λ name. IfSome name (λ text. is_port_name text.now ≡ true)) names
-names_after earlier [] [] [] are = (refl, tt)
-names_after earlier (word ∷ words) (port ∷ ports) (name ∷ names) are =
-    let others = names_after (earlier ++ name ∷ []) words ports names are.1 in
+names_after command earlier [] [] [] are = (refl, tt)
+names_after command earlier (word ∷ words) (port ∷ ports) (name ∷ names) are =
+    let others = names_after command (earlier ++ name ∷ []) words ports names are.1 in
     (ap suc others.0, (may_have earlier name are.0.fresh, others.1))
-names_after earlier words ports names are = absurd are
+names_after command earlier words ports names are = absurd are
 
-all_labelled : (earlier : List (Option (Bor Text))) (words : List Text) (ports : List (Port AnyAddress)) (names : List (Option (Bor Text))) → AreLabelledAfter earlier words ports names → length ports ≡ length words
-all_labelled earlier [] [] [] are = refl
-all_labelled earlier (word ∷ words) (port ∷ ports) (name ∷ names) are = ap suc (all_labelled (earlier ++ name ∷ []) words ports names are.1)
-all_labelled earlier words ports names are = absurd are
+all_labelled : (command : Kind) (earlier : List (Option (Bor Text))) (words : List Text) (ports : List (Port AnyAddress)) (names : List (Option (Bor Text))) → AreLabelledAfter command earlier words ports names → length ports ≡ length words
+all_labelled command earlier [] [] [] are = refl
+all_labelled command earlier (word ∷ words) (port ∷ ports) (name ∷ names) are = ap suc (all_labelled command (earlier ++ name ∷ []) words ports names are.1)
+all_labelled command earlier words ports names are = absurd are
 
-further_of : (is_sided : Bool) (rows : List Row) (captures : Captures AnyAddress) → ArePorts is_sided rows captures.ports.items captures.more.items → AreFurther captures
-further_of is_sided rows captures are =
+further_of : (command : Kind) (rows : List Row) (captures : Captures AnyAddress) (names : List (Option (Bor Text))) → ArePorts command rows captures.ports.items captures.more.items names → AreFurther captures
+further_of command rows captures names are =
     below_ports are.links.is_any (words_of rows) (length captures.ports.items) captures.more.items are.further
-    (AllZip-long (IsPort is_sided) (port_words are.links.is_any (words_of rows)) captures.ports.items are.named)
+    (all_labelled command [] (port_words are.links.is_any (words_of rows)) captures.ports.items names are.labelled)
 
-further_of_names : (rows : List Row) (captures : Captures AnyAddress) (names : List (Option (Bor Text))) → AreNamedPorts rows captures.ports.items captures.more.items names → AreFurther captures
-further_of_names rows captures names are =
-    below_ports true (words_of rows) (length captures.ports.items) captures.more.items are.further
-    (all_labelled [] (port_words true (words_of rows)) captures.ports.items names are.labelled)
-
-written_in_range : (is_sided : Bool) (rows : List Row) (captures : Captures AnyAddress) (writing : Writing AnyAddress) → AreCaptures is_sided rows captures × IsWriting rows writing
+written_in_range : (command : Kind) (rows : List Row) (captures : Captures AnyAddress) (writing : Writing AnyAddress) → AreCaptures command rows captures × IsWriting rows writing
     → IsBounded captures × IsLimited captures × IsWritable writing × AreFurther captures
-written_in_range is_sided rows captures writing (are, is) =
-    ((are.run.after.most, are.run.early), (are.run.limit.least, are.run.limit.most), (is.holdtime.least, is.budget.least, is.budget.most), further_of is_sided rows captures are.ports)
+written_in_range command rows captures writing (are, is) =
+    ((are.run.after.most, are.run.early), (are.run.limit.least, are.run.limit.most), (is.holdtime.least, is.budget.least, is.budget.most), further_of command rows captures are.names are.ports)
 
 task_in_range : (kind : Kind) (rows : List Row) (asked : Task AnyAddress) → IsTask kind rows asked → IsInRange asked
 task_in_range Check rows (task.Check source destination) is = tt
 task_in_range Build rows (task.Build source destination) is = tt
 task_in_range Replay rows (task.Replay captures) is =
-    ((is.1.run.after.most, is.1.run.early), (is.1.run.limit.least, is.1.run.limit.most), further_of (is_sided Replay) rows captures is.1.ports)
+    ((is.1.run.after.most, is.1.run.early), (is.1.run.limit.least, is.1.run.limit.most), further_of Replay rows captures is.1.names is.1.ports)
 task_in_range Trace rows (task.Trace captures tracing) is = (
   (is.1.run.after.most, is.1.run.early),
   (is.1.run.limit.least, is.1.run.limit.most),
-  names_after [] (port_words true (words_of rows)) captures.ports.items tracing.names.items is.1.ports.labelled,
-  further_of_names rows captures tracing.names.items is.1.ports,
+  names_after Trace [] (port_words is.1.ports.links.is_any (words_of rows)) captures.ports.items tracing.names.items is.1.ports.labelled,
+  further_of Trace rows captures tracing.names.items is.1.ports,
 )
-task_in_range Same rows (task.Same captures writing) is = written_in_range (is_sided Same) rows captures writing (is.0.1, is.1)
-task_in_range Mirror rows (task.Mirror captures writing) is = written_in_range (is_sided Mirror) rows captures writing (is.0.1, is.1)
-task_in_range Emit rows (task.Emit captures writing) is = written_in_range (is_sided Emit) rows captures writing (is.0.1, is.1)
-task_in_range Change rows (task.Change captures writing) is = written_in_range (is_sided Change) rows captures writing (is.0.1, is.1)
+task_in_range Same rows (task.Same captures writing) is = written_in_range Same rows captures writing (is.0.1, is.1)
+task_in_range Mirror rows (task.Mirror captures writing) is = written_in_range Mirror rows captures writing (is.0.1, is.1)
+task_in_range Emit rows (task.Emit captures writing) is = written_in_range Emit rows captures writing (is.0.1, is.1)
+task_in_range Change rows (task.Change captures writing) is = written_in_range Change rows captures writing (is.0.1, is.1)
 task_in_range kind rows other is = absurd is
 
 module _ {A : Type 0} (family : AddressFamily) (bytes_of : A → List ℕ) where

@@ -1,17 +1,19 @@
 -- A fault behind what was read well, or memory.
-use Rattle.std.proofs.Common.{inl, inr, Option, None, Some, List, [], Bool, true}
+use Rattle.std.proofs.Common.{◌≡◌, inl, inr, false, Option, None, Some, List, [], Result, Ok, Err}
+use Rattle.std.specs.Prelude.{is_ok, is_err, if◌then◌else◌}
 use Rattle.clap.specs.Words.{Row, Text}
 use Rattle.pim_time.specs.declared.reading.Time.{Time}
 use Rattle.pim_words.specs.declared.fault.Fault.{Fault}
 use Rattle.pim_words.specs.declared.fault.Fault.TheVariants.{Memory}
 use Rattle.pim_words.specs.declared.shown.Shown.{Shown}
+use Rattle.pim_words.specs.declared.task.Kind.{Kind}
+use Rattle.pim_words.specs.declared.task.Kind.TheVariants.{Trace}
 use Rattle.pim_words.specs.Ends.{time_text, IsTimed, IsTimely}
 use Rattle.pim_words.specs.declared.links.Links.{Links}
 use Rattle.pim_words.specs.Given.{words_of}
-use Rattle.pim_words.specs.Labels.{IsFirstWrongLabelled}
-use Rattle.pim_words.specs.Links.{AreLinks, AreChosenLinks}
-use Rattle.pim_words.specs.Ports.{IsFirstWrongOf}
-use Rattle.pim_words.specs.Reading.{IsWrongTrace, AreWrongNamedPorts, AreWrongPorts, IsWrongRun}
+use Rattle.pim_words.specs.Labels.{IsFirstWrong}
+use Rattle.pim_words.specs.Links.{AreChosenLinks}
+use Rattle.pim_words.specs.Reading.{AreWrongPorts, IsWrongRun, IsWrongTrace}
 use Rattle.pim_words.specs.Seen.{OrMemory}
 use Rattle.pim_words.specs.Shown.{IsShown, IsWrongShown}
 
@@ -29,24 +31,26 @@ timely None time is = tt
 timely (Some text) None is = absurd is
 timely (Some text) (Some time) is = (time, is)
 
+-- a push that wasn't refused
+pub accepted : {E X : Type 0} (r : Result (Unit {0}) E) (new pushed old : X) → new ≡ (if is_ok r then pushed else old) → is_err r ≡ false → new ≡ pushed
+accepted (Ok done) new pushed old same fine = same
+accepted (Err error) new pushed old same fine = absurd cc
+
 -- ---- the words of a run
 
-module _ (is_sided : Bool) (rows : List Row) where
-  pub wrong_words_of : (links : Links) (fault : Fault) → AreChosenLinks rows links → OrMemory (IsFirstWrongOf is_sided links.is_any 0 0 (words_of rows)) fault → OrMemory (AreWrongPorts is_sided rows) fault
-  wrong_words_of links fault are is = or_more (IsFirstWrongOf is_sided links.is_any 0 0 (words_of rows)) (AreWrongPorts is_sided rows) (λ f e. inr (links, are, e)) fault is
+module _ (command : Kind) (rows : List Row) where
+  pub wrong_words_of : (links : Links) (fault : Fault) → AreChosenLinks command rows links → OrMemory (IsFirstWrong command links.is_any [] 0 (words_of rows)) fault → OrMemory (AreWrongPorts command rows) fault
+  wrong_words_of links fault are is = or_more (IsFirstWrong command links.is_any [] 0 (words_of rows)) (AreWrongPorts command rows) (λ f e. inr (links, are, e)) fault is
 
-  pub wrong_ports : (at : Option Time) (fault : Fault) → IsTimed (time_text rows) at → OrMemory (AreWrongPorts is_sided rows) fault → OrMemory (IsWrongRun is_sided rows) fault
-  wrong_ports at fault timed is = or_more (AreWrongPorts is_sided rows) (IsWrongRun is_sided rows) (λ f e. inr (timely (time_text rows) at timed, e)) fault is
+  pub wrong_ports : (at : Option Time) (fault : Fault) → IsTimed (time_text rows) at → OrMemory (AreWrongPorts command rows) fault → OrMemory (IsWrongRun command rows) fault
+  wrong_ports at fault timed is = or_more (AreWrongPorts command rows) (IsWrongRun command rows) (λ f e. inr (timely (time_text rows) at timed, e)) fault is
 
 -- ---- the words of a trace
-
-pub wrong_labelled : (rows : List Row) (links : Links) (fault : Fault) → AreLinks true rows links → OrMemory (IsFirstWrongLabelled [] 0 (words_of rows)) fault → OrMemory (AreWrongNamedPorts rows) fault
-wrong_labelled rows links fault are is = or_more (IsFirstWrongLabelled [] 0 (words_of rows)) (AreWrongNamedPorts rows) (λ f e. inr ((links, are), e)) fault is
 
 module _ (rows : List Row) (at : Option Time) (timed : IsTimed (time_text rows) at) where
   pub wrong_shown : (fault : Fault) → OrMemory (IsWrongShown rows) fault → OrMemory (IsWrongTrace rows) fault
   wrong_shown fault is = or_more (IsWrongShown rows) (IsWrongTrace rows) (λ f e. inr (timely (time_text rows) at timed, inl e)) fault is
 
-  pub wrong_words : (shown : Shown) (fault : Fault) → IsShown rows shown → OrMemory (AreWrongNamedPorts rows) fault → OrMemory (IsWrongTrace rows) fault
+  pub wrong_words : (shown : Shown) (fault : Fault) → IsShown rows shown → OrMemory (AreWrongPorts Trace rows) fault → OrMemory (IsWrongTrace rows) fault
   wrong_words shown fault are is =
-      or_more (AreWrongNamedPorts rows) (IsWrongTrace rows) (λ f e. inr (timely (time_text rows) at timed, inr ((shown, are), e))) fault is
+      or_more (AreWrongPorts Trace rows) (IsWrongTrace rows) (λ f e. inr (timely (time_text rows) at timed, inr ((shown, are), e))) fault is

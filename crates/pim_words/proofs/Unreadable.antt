@@ -12,7 +12,7 @@ use Rattle.pim_words.specs.declared.task.Task.{Task}
 use Rattle.pim_words.specs.declared.task.Task.TheVariants as task
 use Rattle.pim_lines.specs.AnyAddress.{IsRead}
 use Rattle.pim_words.specs.Ends.{are_both_given, has_two_ends}
-use Rattle.pim_words.specs.Given.{address_texts, has_writer, is_sided}
+use Rattle.pim_words.specs.Given.{address_texts, has_writer}
 use Rattle.pim_words.specs.Reading.{AreRead, IsNamed, IsTask, IsTraced, IsUnreadable, IsWrongRun, IsWrongRunOf, IsWrongTrace}
 use Rattle.pim_words.specs.Seen.{AreWritten, OrMemory}
 
@@ -25,7 +25,7 @@ module _ (rows : List Row) (addresses : Addresses) (fault : Fault) (one : are_bo
   read : AreRead (address_texts Same rows)
   read = ((addresses.rp, written.rp), ((addresses.upstream, written.upstream), ((addresses.own, written.own), tt)))
 
-  pub of_written : (kind : Kind) → has_writer kind ≡ true → OrMemory (IsWrongRun (is_sided kind) rows) fault → IsUnreadable kind rows fault
+  pub of_written : (kind : Kind) → has_writer kind ≡ true → OrMemory (IsWrongRun kind rows) fault → IsUnreadable kind rows fault
   of_written Same writes is = wrong_run Same rows fault one read is
   of_written Mirror writes is = wrong_run Mirror rows fault one read is
   of_written Emit writes is = wrong_run Emit rows fault one read is
@@ -40,7 +40,7 @@ named_read (Some text) None is = absurd is
 named_read (Some text) (Some address) is = (address, is)
 
 module _ (rows : List Row) (rp : Option AnyAddress) (one : are_both_given rows ≡ false) (named : IsNamed (first_of (codes "rp") rows) rp) where
-  pub of_replay : (fault : Fault) → OrMemory (IsWrongRun false rows) fault → IsUnreadable Replay rows fault
+  pub of_replay : (fault : Fault) → OrMemory (IsWrongRun Replay rows) fault → IsUnreadable Replay rows fault
   of_replay fault is = wrong_run Replay rows fault one (named_read (first_of (codes "rp") rows) rp named, tt) is
 
   traced : (asked : Task AnyAddress) → IsTraced rows rp asked → IsTask Trace rows asked

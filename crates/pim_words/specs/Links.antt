@@ -15,6 +15,8 @@ use Rattle.pim_words.specs.declared.picks.Part.{Part}
 use Rattle.pim_words.specs.declared.picks.Part.TheVariants as part
 use Rattle.pim_words.specs.declared.picks.Pick.{Pick}
 use Rattle.pim_words.specs.declared.picks.Target.{Target}
+use Rattle.pim_words.specs.declared.task.Kind.{Kind}
+use Rattle.pim_words.specs.declared.task.Kind.TheVariants.{Trace}
 use Rattle.pim_words.specs.declared.task.Link.{Link}
 use Rattle.pim_words.specs.declared.task.Port.{Port}
 use Rattle.pim_words.specs.Given.{IsNumber, option_or, values_of, words_of}
@@ -190,10 +192,6 @@ IsWrongLinks is_any rows fault =
     ⊎ (ArePickable part.Vlan is_any (word_count is_any rows) (values_of (codes "vlan") rows)
     × IsFirstWrongPick part.Interface is_any (word_count is_any rows) [] (values_of (codes "interface") rows) fault)
 
--- Each of these values is right.
-abbrev pub AreLinkable : Bool → List Row → Type 0
-AreLinkable is_any rows = (links : Links) × AreLinks is_any rows links
-
 -- The link of the port of this number, if any container is read.
 abbrev pub link_at : Links → ℕ → Option Link
 link_at links number = cond links.is_any (Some (record {
@@ -227,12 +225,14 @@ abbrev pub IsWrongInput : Text → Fault → Type 0
 IsWrongInput text (cause.Word told) = (told.now ≡ text) × IsNoInput text
 IsWrongInput text fault = ⊥
 
--- The options give these links.
-abbrev pub AreChosenLinks : List Row → Links → Type 0
-AreChosenLinks rows links = (input_text rows ≡ input_name links.is_any) × AreLinks links.is_any rows links
+-- The options give these links. A trace reads any container.
+abbrev pub AreChosenLinks : Kind → List Row → Links → Type 0
+AreChosenLinks Trace rows links = AreLinks true rows links
+AreChosenLinks command rows links = (input_text rows ≡ input_name links.is_any) × AreLinks links.is_any rows links
 
 -- The fault of the first wrong value: of `--input`, otherwise of `--vlan`, otherwise of `--interface`.
-abbrev pub AreWrongChoices : List Row → Fault → Type 0
-AreWrongChoices rows fault =
+abbrev pub AreWrongChoices : Kind → List Row → Fault → Type 0
+AreWrongChoices Trace rows fault = IsWrongLinks true rows fault
+AreWrongChoices command rows fault =
     IsWrongInput (input_text rows) fault
     ⊎ ((is_any : Bool) × (input_text rows ≡ input_name is_any) × IsWrongLinks is_any rows fault)

@@ -1,16 +1,13 @@
--- The words that name ports, and those that name further files of them.
-use Rattle.std.specs.Prelude.{◌≡◌, ◌≢◌, ◌<◌, ◌≤◌, ◌⊎◌, ◌==◌, ◌&&◌, ◌+◌, not, cond, filter, ℕ, Bool, true, false}
+-- The parts of the words that name ports, and the words that name further files of them.
+use Rattle.std.specs.Prelude.{◌≡◌, ◌≢◌, ◌<◌, ◌≤◌, ◌==◌, ◌&&◌, ◌+◌, not, cond, filter, ℕ, Bool, true, false}
 use Rattle.std.specs.Prelude.{List, [], ◌∷◌, ◌++◌, length, get_or, codes}
 use Rattle.std.specs.List.{AllZip}
 use Rattle.clap.specs.Words.{Text}
-use Rattle.pim_lines.specs.declared.either.AnyAddress.{AnyAddress}
 use Rattle.pim_words.specs.declared.fault.Fault.{Fault}
 use Rattle.pim_words.specs.declared.fault.Fault.TheVariants as cause
 use Rattle.pim_words.specs.declared.fault.Side.{Side}
 use Rattle.pim_words.specs.declared.fault.Side.TheVariants.{A, B}
 use Rattle.pim_words.specs.declared.task.More.{More}
-use Rattle.pim_words.specs.declared.task.Port.{Port}
-use Rattle.pim_lines.specs.AnyAddress.{Names, IsUnread}
 
 -- ---- the parts of a word
 
@@ -37,29 +34,6 @@ IsCutWord true word side address file = (text : Text) × (word ≡ mark side ++ 
 abbrev pub IsUncutWord : Bool → Text → Type 0
 IsUncutWord false word = LacksAtSign word
 IsUncutWord true word = (side : Side) (text : Text) → word ≡ mark side ++ text → LacksAtSign text
-
--- ---- the port that a word names
-
--- The word names this port.
-pub record IsPort (is_sided : Bool) (word : Text) (port : Port AnyAddress) : Type 0 where
-  pub address_text : Text
-  pub cut : IsCutWord is_sided word port.side address_text port.file.now
-  pub address : Names address_text port.address
-  pub whole : port.word.now ≡ word
-
--- The word has the right form, but its address can't be read.
-pub record HasBadAddress (is_sided : Bool) (word : Text) : Type 0 where
-  pub side : Side
-  pub address_text : Text
-  pub file : Text
-  pub cut : IsCutWord is_sided word side address_text file
-  pub unread : IsUnread address_text
-
--- The fault of a word: its form is wrong, or its address can't be read.
-abbrev pub IsWrongWord : Bool → Text → Fault → Type 0
-IsWrongWord is_sided word (cause.Word told) = (told.now ≡ word) × IsUncutWord is_sided word
-IsWrongWord is_sided word (cause.Address told) = (told.now ≡ word) × HasBadAddress is_sided word
-IsWrongWord is_sided word other = ⊥
 
 -- ---- the words for further files
 
@@ -106,14 +80,3 @@ IsWrongMore ports count word other = ⊥
 abbrev pub ByKind : Bool → Type 0 → Type 0 → Type 0
 ByKind true first second = first
 ByKind false first second = second
-
--- The fault is that of the first wrong word, after these numbers of ports and further files. All
--- words before it name ports or further files.
-abbrev pub IsFirstWrongOf : Bool → Bool → ℕ → ℕ → List Text → Fault → Type 0
-IsFirstWrongOf is_sided is_any ports count [] fault = ⊥
-IsFirstWrongOf is_sided is_any ports count (word ∷ words) fault = ByKind (is_more is_any word)
-    (IsWrongMore ports count word fault
-    ⊎ (IsRightMore ports count word × IsFirstWrongOf is_sided is_any ports (count + 1) words fault))
-    (IsWrongWord is_sided word fault
-    ⊎ (((port : Port AnyAddress) × IsPort is_sided word port)
-    × IsFirstWrongOf is_sided is_any (ports + 1) count words fault))

@@ -1,9 +1,8 @@
 -- The task that the options and words of a command give, with addresses of either family, or what
 -- can't be read.
-use Rattle.std.specs.Prelude.{◌≡◌, ◌⊎◌, ⊤, Bool, true, false, List, [], ◌∷◌, Option, Some, None, codes, option_map}
+use Rattle.std.specs.Prelude.{◌≡◌, ◌⊎◌, ⊤, true, false, List, [], ◌∷◌, Option, Some, None, codes, option_map}
 use Rattle.std.specs.Prelude.{IfSome, IsSomeAnd}
 use Rattle.std.specs.Borrow.{Bor}
-use Rattle.std.specs.List.{AllZip}
 use Rattle.clap.specs.Words.{Row, Text, first_of}
 use Rattle.pim_lines.specs.declared.either.AnyAddress.{AnyAddress}
 use Rattle.pim_words.specs.declared.fault.Fault.{Fault}
@@ -20,12 +19,11 @@ use Rattle.pim_words.specs.declared.task.Task.{Task}
 use Rattle.pim_words.specs.declared.task.Task.TheVariants.{Check, Build, Replay, Trace, Same, Mirror, Emit, Change}
 use Rattle.pim_lines.specs.AnyAddress.{Names, IsRead}
 use Rattle.pim_words.specs.Ends.{are_both_given, has_two_ends, time_text, IsTimed, IsEarly, IsUntimed, IsTimely}
-use Rattle.pim_words.specs.Given.{IsNumber, address_texts, is_flag, is_sided, option_or, required, rp_text, words_of}
+use Rattle.pim_words.specs.Given.{IsNumber, address_texts, is_flag, option_or, required, rp_text, words_of}
 use Rattle.pim_words.specs.Given.{source_text, destination_text}
-use Rattle.pim_words.specs.Labels.{AreLabelled, IsFirstWrongLabelled}
-use Rattle.pim_words.specs.Links.{AreLinks, AreLinkable, AreLinkedFrom, IsWrongLinks}
-use Rattle.pim_words.specs.Links.{AreChosenLinks, AreWrongChoices}
-use Rattle.pim_words.specs.Ports.{AreMore, IsPort, IsFirstWrongOf, port_words}
+use Rattle.pim_words.specs.Labels.{AreLabelled, IsFirstWrong}
+use Rattle.pim_words.specs.Links.{AreChosenLinks, AreLinkedFrom, AreWrongChoices}
+use Rattle.pim_words.specs.Ports.{AreMore, port_words}
 use Rattle.pim_words.specs.Shown.{IsShown, IsShowable, IsUnreadText, IsWrongShown, shown_of}
 
 -- ---- what is read
@@ -45,28 +43,21 @@ pub record IsRun (rows : List Row) (captures : Captures AnyAddress) : Type 0 whe
   pub early : IsEarly captures.at
   pub one_end : are_both_given rows ≡ false
 
--- The words name these ports, with the links that the options choose, and these further files.
-pub record ArePorts (is_sided : Bool) (rows : List Row) (ports : List (Port AnyAddress)) (more : List More) : Type 0 where
+-- The words name these ports, with these names, the links that the options choose, and these further
+-- files.
+pub record ArePorts (command : Kind) (rows : List Row) (ports : List (Port AnyAddress)) (more : List More)
+    (names : List (Option (Bor Text))) : Type 0 where
   pub links : Links
-  pub chosen : AreChosenLinks rows links
-  pub named : AllZip (IsPort is_sided) (port_words links.is_any (words_of rows)) ports
+  pub chosen : AreChosenLinks command rows links
+  pub labelled : AreLabelled command (port_words links.is_any (words_of rows)) ports names
   pub linked : AreLinkedFrom links 0 ports
   pub further : AreMore links.is_any (words_of rows) more
 
--- The words of a trace name these ports so, with the links that the options choose, and these further
--- files.
-pub record AreNamedPorts (rows : List Row) (ports : List (Port AnyAddress)) (more : List More)
-    (names : List (Option (Bor Text))) : Type 0 where
-  pub links : Links
-  pub chosen : AreLinks true rows links
-  pub labelled : AreLabelled (port_words true (words_of rows)) ports names
-  pub linked : AreLinkedFrom links 0 ports
-  pub further : AreMore true (words_of rows) more
-
 -- The options of a run other than the RP, and the ports and further files that the words name.
-pub record AreCaptures (is_sided : Bool) (rows : List Row) (captures : Captures AnyAddress) : Type 0 where
+pub record AreCaptures (command : Kind) (rows : List Row) (captures : Captures AnyAddress) : Type 0 where
   pub run : IsRun rows captures
-  pub ports : ArePorts is_sided rows captures.ports.items captures.more.items
+  pub names : List (Option (Bor Text))
+  pub ports : ArePorts command rows captures.ports.items captures.more.items names
 
 -- The options of a trace, and the ports with their names and further files.
 pub record AreTraced (rows : List Row) (captures : Captures AnyAddress) (tracing : Tracing AnyAddress) : Type 0 where
@@ -74,7 +65,7 @@ pub record AreTraced (rows : List Row) (captures : Captures AnyAddress) (tracing
   pub shown : IsShown rows (shown_of tracing)
   pub all : tracing.all ≡ is_flag (codes "all") rows
   pub json : tracing.json ≡ is_flag (codes "json") rows
-  pub ports : AreNamedPorts rows captures.ports.items captures.more.items tracing.names.items
+  pub ports : ArePorts kind.Trace rows captures.ports.items captures.more.items tracing.names.items
 
 -- The task of a trace with this RP.
 abbrev pub IsTraced : List Row → Option AnyAddress → Task AnyAddress → Type 0
@@ -91,7 +82,7 @@ pub record IsWriting (rows : List Row) (writing : Writing AnyAddress) : Type 0 w
 -- The options and ports of a command with captures.
 abbrev pub AreCapturesOf : Kind → List Row → Captures AnyAddress → Type 0
 AreCapturesOf command rows captures =
-    IsNamed (rp_text command rows) captures.rp × AreCaptures (is_sided command) rows captures
+    IsNamed (rp_text command rows) captures.rp × AreCaptures command rows captures
 
 -- The command was given this task.
 abbrev pub IsTask : Kind → List Row → Task AnyAddress → Type 0
@@ -125,20 +116,16 @@ AreRead [] = ⊤
 AreRead (value ∷ values) = IfSome value IsRead × AreRead values
 
 -- The fault of ports: of a value that chooses their links, otherwise of a word.
-abbrev pub AreWrongPorts : Bool → List Row → Fault → Type 0
-AreWrongPorts is_sided rows fault =
-    AreWrongChoices rows fault
-    ⊎ ((links : Links) × AreChosenLinks rows links × IsFirstWrongOf is_sided links.is_any 0 0 (words_of rows) fault)
-
--- The same of a trace.
-abbrev pub AreWrongNamedPorts : List Row → Fault → Type 0
-AreWrongNamedPorts rows fault =
-    IsWrongLinks true rows fault ⊎ (AreLinkable true rows × IsFirstWrongLabelled [] 0 (words_of rows) fault)
+abbrev pub AreWrongPorts : Kind → List Row → Fault → Type 0
+AreWrongPorts command rows fault =
+    AreWrongChoices command rows fault
+    ⊎ ((links : Links) × AreChosenLinks command rows links
+    × IsFirstWrong command links.is_any [] 0 (words_of rows) fault)
 
 -- The fault of a run's words: its time can't be read, or else it is a fault of the ports.
-abbrev pub IsWrongRun : Bool → List Row → Fault → Type 0
-IsWrongRun is_sided rows fault =
-    IsUntimed (time_text rows) fault ⊎ (IsTimely (time_text rows) × AreWrongPorts is_sided rows fault)
+abbrev pub IsWrongRun : Kind → List Row → Fault → Type 0
+IsWrongRun command rows fault =
+    IsUntimed (time_text rows) fault ⊎ (IsTimely (time_text rows) × AreWrongPorts command rows fault)
 
 -- The fault of a trace's words: the time of its end can't be read, or else a value of what it shows, or
 -- else it is a fault of the ports.
@@ -146,12 +133,12 @@ abbrev pub IsWrongTrace : List Row → Fault → Type 0
 IsWrongTrace rows fault =
     IsUntimed (time_text rows) fault
     ⊎ (IsTimely (time_text rows) × (IsWrongShown rows fault
-    ⊎ (IsShowable rows × AreWrongNamedPorts rows fault)))
+    ⊎ (IsShowable rows × AreWrongPorts kind.Trace rows fault)))
 
 -- The same, of the run of a command.
 abbrev pub IsWrongRunOf : Kind → List Row → Fault → Type 0
 IsWrongRunOf kind.Trace rows fault = IsWrongTrace rows fault
-IsWrongRunOf command rows fault = IsWrongRun (is_sided command) rows fault
+IsWrongRunOf command rows fault = IsWrongRun command rows fault
 
 -- The fault of texts that can't be read: of the first such address of an option, otherwise of the
 -- time, of what a trace shows, of the links, or of the first such word.

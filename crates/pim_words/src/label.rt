@@ -3,8 +3,9 @@
 ghost use Rattle.std.specs.Prelude.{◌≡◌, true, map};
 ghost use Rattle.std.specs.List.{list_any};
 ghost use Rattle.pim_words.specs.Labels.{is_named, has_name, is_fresh};
-ghost use Rattle.pim_words.specs.Labels.{IsLabelOf};
+ghost use Rattle.pim_words.specs.Labels.{IsCutLabel, IsLabelOf};
 
+use crate::task::Kind;
 use pim_lines::is_port_name;
 
 /// A word that is cut into its name and the rest.
@@ -16,9 +17,9 @@ pub(crate) struct Label<'a> {
     pub text: &'a str,
 }
 
-/// Cuts a word at its first `=`, if that comes before its first `@`.
-pub(crate) fn label_of<'a>(word: &'a str) -> Label<'a>
-    ensures { IsLabelOf word.now result }
+/// Cuts a word of a trace at its first `=`, if that comes before its first `@`.
+fn cut_label<'a>(word: &'a str) -> Label<'a>
+    ensures { IsCutLabel word.now result.name result.text.now }
 {
     match word.split_once('=') {
         Some((name, text)) => {
@@ -35,6 +36,19 @@ pub(crate) fn label_of<'a>(word: &'a str) -> Label<'a>
             }
         }
         None => Label {
+            name: None,
+            text: word,
+        },
+    }
+}
+
+/// Cuts a word into the name that it gives and the rest. Only the words of a trace have names.
+pub(crate) fn label_of<'a>(kind: Kind, word: &'a str) -> Label<'a>
+    ensures { IsLabelOf kind word.now result.name result.text.now }
+{
+    match kind {
+        Kind::Trace => cut_label(word),
+        _ => Label {
             name: None,
             text: word,
         },

@@ -13,7 +13,7 @@ use crate::fault::Fault;
 use crate::given::{option_or, values_of};
 use crate::more::count_ports;
 use crate::picks::{Part, Pick, chosen_for, read_picks};
-use crate::task::{Link, Port};
+use crate::task::{Kind, Link, Port};
 use clap::ArgMatches;
 use pim_lines::AnyAddress;
 use std::alloc::Global;
@@ -49,11 +49,7 @@ fn read_part<'a>(
 }
 
 /// The links that the words pick, where any container is read or not.
-pub(crate) fn read_links<'a>(
-    alloc: Global,
-    is_any: bool,
-    options: &ArgMatches<'a>,
-) -> Result<Links, Fault<'a>>
+fn read_links<'a>(alloc: Global, is_any: bool, options: &ArgMatches<'a>) -> Result<Links, Fault<'a>>
     ensures { MatchResult result (AreLinks is_any (rows_of (found_of options.now)))
         (OrMemory (IsWrongLinks is_any (rows_of (found_of options.now)))) }
 {
@@ -79,14 +75,19 @@ fn input_named(text: &str) -> Option<bool>
     None
 }
 
-/// The links that the words pick, where `--input` says whether any container is read.
+/// The links that the words pick. A trace reads any container; otherwise `--input` says whether a
+/// command does.
 pub(crate) fn read_chosen_links<'a>(
     alloc: Global,
+    kind: Kind,
     options: &ArgMatches<'a>,
 ) -> Result<Links, Fault<'a>>
-    ensures { MatchResult result (AreChosenLinks (rows_of (found_of options.now)))
-        (OrMemory (AreWrongChoices (rows_of (found_of options.now)))) }
+    ensures { MatchResult result (AreChosenLinks kind (rows_of (found_of options.now)))
+        (OrMemory (AreWrongChoices kind (rows_of (found_of options.now)))) }
 {
+    if let Kind::Trace = kind {
+        return read_links(alloc, true, options);
+    }
     let text = option_or(options, "input", "classic");
     let Some(is_any) = input_named(text) else {
         return Err(Fault::Word(text));

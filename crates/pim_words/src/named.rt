@@ -1,18 +1,19 @@
-//! The ports that the words of a trace name, with their names and their further files.
+//! The ports that the words of a command name, with their names and their further files.
 //!
-//! A word is `ADDRESS@FILE`, `NAME=ADDRESS@FILE`, or `+FILE`.
+//! A word is `ADDRESS@FILE`, in a trace also `NAME=ADDRESS@FILE`, and with two routers
+//! `a=ADDRESS@FILE` or `b=ADDRESS@FILE`. Where any container is read, it may be `+FILE`.
 
-ghost use Rattle.std.specs.Prelude.{◌≡◌, MatchResult, [], map, true};
-ghost use Rattle.pim_words.specs.Labels.{IsLabelled, IsWrongLabelled, AreLabelled};
-ghost use Rattle.pim_words.specs.Labels.{IsFirstWrongLabelled};
+ghost use Rattle.std.specs.Prelude.{◌≡◌, MatchResult, [], map};
+ghost use Rattle.pim_words.specs.Labels.{IsLabelled, IsWrongLabelled, AreLabelled, IsFirstWrong};
+ghost use Rattle.pim_words.specs.Given.{is_sided};
 ghost use Rattle.pim_words.specs.Ports.{port_words, AreMore};
 ghost use Rattle.pim_words.specs.Seen.{OrMemory};
 
-use crate::fault::{Fault, Side};
+use crate::fault::Fault;
 use crate::label::{is_fresh, label_of};
 use crate::more::{is_more, read_more};
-use crate::port::cut_text;
-use crate::task::{More, Port};
+use crate::port::cut_word;
+use crate::task::{Kind, More, Port};
 use pim_lines::{AnyAddress, read_any_address};
 use std::alloc::Global;
 
@@ -23,7 +24,7 @@ struct Named<'a> {
     name: Option<&'a str>,
 }
 
-/// The ports of a trace, the name of each if it has one, and their further files.
+/// The ports of a command, the name of each if it has one, and their further files.
 #[derive(Drop)]
 pub(crate) struct Labelled<'a> {
     /// The ports, in the order of the words.
@@ -49,17 +50,28 @@ impl<'a> Labelled<'a> {
     }
 }
 
-/// The port that a word names, after ports with these names. Or the fault of the word.
-fn read_named<'a>(earlier: &[Option<&'a str>], word: &'a str) -> Result<Named<'a>, Fault<'a>>
-    ensures { MatchResult result
-        (λ named. IsLabelled earlier.now word.now named.port named.name)
-        (IsWrongLabelled earlier.now word.now) }
+/// Whether the command has two routers.
+fn is_sided(kind: Kind) -> bool
+    ensures { result ≡ is_sided kind }
 {
-    let label = label_of(word);
+    matches!(kind, Kind::Same | Kind::Change)
+}
+
+/// The port that a word names, after ports with these names. Or the fault of the word.
+fn read_named<'a>(
+    kind: Kind,
+    earlier: &[Option<&'a str>],
+    word: &'a str,
+) -> Result<Named<'a>, Fault<'a>>
+    ensures { MatchResult result
+        (λ named. IsLabelled kind earlier.now word.now named.port named.name)
+        (IsWrongLabelled kind earlier.now word.now) }
+{
+    let label = label_of(kind, word);
     if !is_fresh(earlier, label.name) {
         return Err(Fault::Word(word));
     }
-    let Some(cut) = cut_text(Side::A, label.text) else {
+    let Some(cut) = cut_word(is_sided(kind), label.text) else {
         return Err(Fault::Word(word));
     };
     let Some(address) = read_any_address(cut.address) else {
@@ -78,25 +90,30 @@ fn read_named<'a>(earlier: &[Option<&'a str>], word: &'a str) -> Result<Named<'a
     })
 }
 
-/// The ports that the words name, in order, with their names and further files. Or the fault of the
-/// first wrong word.
-pub(crate) fn read_labelled<'a>(alloc: Global, words: &[&'a str]) -> Result<Labelled<'a>, Fault<'a>>
+/// The ports that the words name, in order, with their names and further files, where any container
+/// is read or not. Or the fault of the first wrong word.
+pub(crate) fn read_labelled<'a>(
+    alloc: Global,
+    kind: Kind,
+    is_any: bool,
+    words: &[&'a str],
+) -> Result<Labelled<'a>, Fault<'a>>
     ensures { MatchResult result
-        (λ labelled. AreLabelled (port_words true (map (λ w. w.now) words.now))
+        (λ labelled. AreLabelled kind (port_words is_any (map (λ w. w.now) words.now))
         labelled.ports.items labelled.names.items
-        × AreMore true (map (λ w. w.now) words.now) labelled.more.items)
-        (OrMemory (IsFirstWrongLabelled [] 0 (map (λ w. w.now) words.now))) }
+        × AreMore is_any (map (λ w. w.now) words.now) labelled.more.items)
+        (OrMemory (IsFirstWrong kind is_any [] 0 (map (λ w. w.now) words.now))) }
 {
     let mut labelled = Labelled::none(alloc);
     for word in words {
-        if is_more(true, word) {
+        if is_more(is_any, word) {
             let more = read_more(labelled.names.len(), labelled.more.len(), word)?;
             if labelled.more.push(more).is_err() {
                 return Err(Fault::Memory);
             }
             continue;
         }
-        let named = read_named(&labelled.names, word)?;
+        let named = read_named(kind, &labelled.names, word)?;
         if labelled.ports.push(named.port).is_err() {
             return Err(Fault::Memory);
         }

@@ -9,10 +9,9 @@ ghost use Rattle.clap.specs.Words.{rows_of, found_of};
 ghost use Rattle.pim_lines.specs.AnyAddress.{Names};
 ghost use Rattle.pim_words.specs.Ends.{are_both_given, time_text, IsTimed, IsEarly, IsUntimed};
 ghost use Rattle.pim_words.specs.declared.fault.Fault.TheVariants.{TwoEnds};
-ghost use Rattle.pim_words.specs.Given.{address_texts, has_writer, is_sided, required};
+ghost use Rattle.pim_words.specs.Given.{address_texts, has_writer, required};
 ghost use Rattle.pim_words.specs.Reading.{IsNamed, IsUnreadValue, IsFirstUnread};
-ghost use Rattle.pim_words.specs.Reading.{ArePorts, AreWrongPorts, AreNamedPorts};
-ghost use Rattle.pim_words.specs.Reading.{AreWrongNamedPorts, IsRun, AreCaptures};
+ghost use Rattle.pim_words.specs.Reading.{ArePorts, AreWrongPorts, IsRun, AreCaptures};
 ghost use Rattle.pim_words.specs.Reading.{IsWriting, IsTraced, IsTask, IsUnreadable, IsWrongRun};
 ghost use Rattle.pim_words.specs.Reading.{IsWrongTrace};
 ghost use Rattle.pim_words.specs.Seen.{OrMemory, AreEnds, AreWritten, HasNumbers};
@@ -20,9 +19,8 @@ ghost use Rattle.pim_words.specs.Shown.{IsUnreadText};
 
 use crate::fault::Fault;
 use crate::given::{is_flag, number_of, option_of, option_or, values_of};
-use crate::links::{linked, read_chosen_links, read_links};
+use crate::links::{linked, read_chosen_links};
 use crate::named::{Labelled, read_labelled};
-use crate::port::{Found, read_ports};
 use crate::shown::read_shown;
 use crate::task::{Captures, Kind, More, Port, Task, Tracing, Writing};
 use clap::ArgMatches;
@@ -84,23 +82,24 @@ fn judge_end(options: &ArgMatches<'_>) -> Result<(), Fault<'static>>
     Ok(())
 }
 
-/// The ports that the words of a command name, with their links and further files.
+/// The ports that the words of a command name, with their names, links and further files.
 fn read_linked<'a>(
     alloc: Global,
-    is_sided: bool,
+    kind: Kind,
     options: &ArgMatches<'a>,
-) -> Result<Found<'a>, Fault<'a>>
+) -> Result<Labelled<'a>, Fault<'a>>
     ensures { MatchResult result
-        (λ found. ArePorts is_sided (rows_of (found_of options.now)) found.ports.items
-        found.more.items)
-        (OrMemory (AreWrongPorts is_sided (rows_of (found_of options.now)))) }
+        (λ labelled. ArePorts kind (rows_of (found_of options.now)) labelled.ports.items
+        labelled.more.items labelled.names.items)
+        (OrMemory (AreWrongPorts kind (rows_of (found_of options.now)))) }
 {
-    let links = read_chosen_links(alloc, options)?;
-    let found = read_ports(alloc, is_sided, links.is_any, values_of(options, "words"))?;
-    let ports = linked(alloc, &links, &found.ports)?;
-    Ok(Found {
+    let links = read_chosen_links(alloc, kind, options)?;
+    let labelled = read_labelled(alloc, kind, links.is_any, values_of(options, "words"))?;
+    let ports = linked(alloc, &links, &labelled.ports)?;
+    Ok(Labelled {
         ports,
-        more: found.more,
+        names: labelled.names,
+        more: labelled.more,
     })
 }
 
@@ -138,19 +137,19 @@ fn captures_of<'a>(
 /// The ports and the options of the run of a command with this RP.
 fn read_captures<'a>(
     alloc: Global,
-    is_sided: bool,
+    kind: Kind,
     rp: Option<AnyAddress>,
     options: &ArgMatches<'a>,
 ) -> Result<Captures<'a, AnyAddress>, Fault<'a>>
     requires numbers { HasNumbers (rows_of (found_of options.now)) }
     requires one_end { are_both_given (rows_of (found_of options.now)) ≡ false }
     ensures rp { IfOk result (λ captures. captures.rp ≡ rp) }
-    ensures captures { IfOk result (AreCaptures is_sided (rows_of (found_of options.now))) }
-    ensures told { IfErr result (OrMemory (IsWrongRun is_sided (rows_of (found_of options.now)))) }
+    ensures captures { IfOk result (AreCaptures kind (rows_of (found_of options.now))) }
+    ensures told { IfErr result (OrMemory (IsWrongRun kind (rows_of (found_of options.now)))) }
 {
     let at = read_at(option_of(options, "at"))?;
-    let found = read_linked(alloc, is_sided, options)?;
-    Ok(captures_of(rp, at, found.ports, found.more, options))
+    let labelled = read_linked(alloc, kind, options)?;
+    Ok(captures_of(rp, at, labelled.ports, labelled.more, options))
 }
 
 /// The addresses of a command on one message.
@@ -183,25 +182,8 @@ fn read_replay<'a>(
 {
     judge_end(options)?;
     let rp = read_given(option_of(options, "rp"))?;
-    let captures = read_captures(alloc, false, rp, options)?;
+    let captures = read_captures(alloc, Kind::Replay, rp, options)?;
     Ok(Task::Replay(captures))
-}
-
-/// The ports that the words of a trace name, with their names, links and further files.
-fn read_named_ports<'a>(alloc: Global, options: &ArgMatches<'a>) -> Result<Labelled<'a>, Fault<'a>>
-    ensures { MatchResult result
-        (λ labelled. AreNamedPorts (rows_of (found_of options.now)) labelled.ports.items
-        labelled.more.items labelled.names.items)
-        (OrMemory (AreWrongNamedPorts (rows_of (found_of options.now)))) }
-{
-    let links = read_links(alloc, true, options)?;
-    let labelled = read_labelled(alloc, values_of(options, "words"))?;
-    let ports = linked(alloc, &links, &labelled.ports)?;
-    Ok(Labelled {
-        ports,
-        names: labelled.names,
-        more: labelled.more,
-    })
 }
 
 /// The captures of a trace with this RP, and what it shows.
@@ -217,7 +199,7 @@ fn read_traced<'a>(
 {
     let end = read_at(option_of(options, "at"))?;
     let shown = read_shown(alloc, options)?;
-    let labelled = read_named_ports(alloc, options)?;
+    let labelled = read_linked(alloc, Kind::Trace, options)?;
     let captures = captures_of(rp, end, labelled.ports, labelled.more, options);
     let tracing = Tracing {
         from: shown.from,
@@ -283,13 +265,6 @@ fn read_writing(addresses: Addresses, options: &ArgMatches<'_>) -> Writing<AnyAd
     }
 }
 
-/// Whether the command has two routers.
-fn is_sided(kind: Kind) -> bool
-    ensures { result ≡ is_sided kind }
-{
-    matches!(kind, Kind::Same | Kind::Change)
-}
-
 /// The task of a command that has a writer.
 fn read_written<'a>(
     alloc: Global,
@@ -303,7 +278,7 @@ fn read_written<'a>(
 {
     judge_end(options)?;
     let addresses = read_addresses(options)?;
-    let captures = read_captures(alloc, is_sided(kind), Some(addresses.rp), options)?;
+    let captures = read_captures(alloc, kind, Some(addresses.rp), options)?;
     let writing = read_writing(addresses, options);
     match kind {
         Kind::Same => Ok(Task::Same(captures, writing)),

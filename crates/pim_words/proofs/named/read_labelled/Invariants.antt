@@ -5,4 +5,4 @@ use Rattle.pim_words.proofs.named.read_labelled.Given as goal
 
 abbrev pub invariant-loop-word : goal.invariant-loop-word
 invariant-loop-word l =
-    IsLeft (texts l.words) (texts (drop l.word-index l.words)) l.labelled.ports.items l.labelled.names.items l.labelled.more.items
+    IsLeft l.kind l.is_any (texts l.words) (texts (drop l.word-index l.words)) l.labelled.ports.items l.labelled.names.items l.labelled.more.items

@@ -1,5 +1,5 @@
 use Rattle.std.proofs.Common.{◌∙◌, sym, refl}
-use Rattle.pim_words.proofs.FirstWrong.{accepted}
+use Rattle.pim_words.proofs.Orders.{accepted}
 use Rattle.pim_words.proofs.Picking.{all_read, none_picked, one_more}
 use Rattle.pim_words.proofs.picks.read_picks.Goals as goal
 

@@ -3,7 +3,7 @@ use Rattle.std.proofs.lemmas.Bool.{false≢true}
 use Rattle.std.proofs.lemmas.Str.Pattern.{contains_char, split_after, split_parts}
 use Rattle.clap.specs.Words.{Text}
 use Rattle.pim_words.specs.Ports.{LacksAtSign}
-use Rattle.pim_words.proofs.label.label_of.Goals as goal
+use Rattle.pim_words.proofs.label.cut_label.Goals as goal
 
 pub returns-then-contains : goal.returns-then-contains
 returns-then-contains c = (
