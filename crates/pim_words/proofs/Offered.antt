@@ -85,22 +85,17 @@ may_have earlier None fresh = tt
 may_have earlier (Some text) fresh = (both (is_port_name text.now) (not (has_name earlier text.now)) fresh).0
 
 names_after : (command : Kind) (earlier : List (Option (Bor Text))) (words : List Text) (ports : List (Port AnyAddress)) (names : List (Option (Bor Text))) → AreLabelledAfter command earlier words ports names
-    → (length names ≡ length ports) × AllByRecursion (λ name. IfSome name (λ text. is_port_name text.now ≡ true)) names
-names_after command earlier [] [] [] are = (refl, tt)
+    → (length ports ≡ length words) × (length names ≡ length ports) × AllByRecursion (λ name. IfSome name (λ text. is_port_name text.now ≡ true)) names
+names_after command earlier [] [] [] are = (refl, refl, tt)
 names_after command earlier (word ∷ words) (port ∷ ports) (name ∷ names) are =
     let others = names_after command (earlier ++ name ∷ []) words ports names are.1 in
-    (ap suc others.0, (may_have earlier name are.0.fresh, others.1))
+    (ap suc others.0, ap suc others.1, (may_have earlier name are.0.fresh, others.2))
 names_after command earlier words ports names are = absurd are
-
-all_labelled : (command : Kind) (earlier : List (Option (Bor Text))) (words : List Text) (ports : List (Port AnyAddress)) (names : List (Option (Bor Text))) → AreLabelledAfter command earlier words ports names → length ports ≡ length words
-all_labelled command earlier [] [] [] are = refl
-all_labelled command earlier (word ∷ words) (port ∷ ports) (name ∷ names) are = ap suc (all_labelled command (earlier ++ name ∷ []) words ports names are.1)
-all_labelled command earlier words ports names are = absurd are
 
 further_of : (command : Kind) (rows : List Row) (captures : Captures AnyAddress) (names : List (Option (Bor Text))) → ArePorts command rows captures.ports.items captures.more.items names → AreFurther captures
 further_of command rows captures names are =
     below_ports are.links.is_any (words_of rows) (length captures.ports.items) captures.more.items are.further
-    (all_labelled command [] (port_words are.links.is_any (words_of rows)) captures.ports.items names are.labelled)
+    (names_after command [] (port_words are.links.is_any (words_of rows)) captures.ports.items names are.labelled).0
 
 written_in_range : (command : Kind) (rows : List Row) (captures : Captures AnyAddress) (writing : Writing AnyAddress) → AreCaptures command rows captures × IsWriting rows writing
     → IsBounded captures × IsLimited captures × IsWritable writing × AreFurther captures
@@ -112,12 +107,13 @@ task_in_range Check rows (task.Check source destination) is = tt
 task_in_range Build rows (task.Build source destination) is = tt
 task_in_range Replay rows (task.Replay captures) is =
     ((is.1.run.after.most, is.1.run.early), (is.1.run.limit.least, is.1.run.limit.most), further_of Replay rows captures is.1.names is.1.ports)
-task_in_range Trace rows (task.Trace captures tracing) is = (
-  (is.1.run.after.most, is.1.run.early),
-  (is.1.run.limit.least, is.1.run.limit.most),
-  names_after Trace [] (port_words is.1.ports.links.is_any (words_of rows)) captures.ports.items tracing.names.items is.1.ports.labelled,
-  further_of Trace rows captures tracing.names.items is.1.ports,
-)
+task_in_range Trace rows (task.Trace captures tracing) is =
+    let names = names_after Trace [] (port_words is.1.ports.links.is_any (words_of rows)) captures.ports.items tracing.names.items is.1.ports.labelled in (
+      (is.1.run.after.most, is.1.run.early),
+      (is.1.run.limit.least, is.1.run.limit.most),
+      (names.1, names.2),
+      further_of Trace rows captures tracing.names.items is.1.ports,
+    )
 task_in_range Same rows (task.Same captures writing) is = written_in_range Same rows captures writing (is.0.1, is.1)
 task_in_range Mirror rows (task.Mirror captures writing) is = written_in_range Mirror rows captures writing (is.0.1, is.1)
 task_in_range Emit rows (task.Emit captures writing) is = written_in_range Emit rows captures writing (is.0.1, is.1)
