@@ -8,12 +8,10 @@ use Rattle.pim_words.specs.declared.fault.Fault.TheVariants.{Memory}
 use Rattle.pim_words.specs.declared.reading.Addresses.{Addresses}
 use Rattle.pim_words.specs.declared.task.Kind.{Kind}
 use Rattle.pim_words.specs.declared.task.Kind.TheVariants.{Replay, Trace, Same, Mirror, Emit, Change}
-use Rattle.pim_words.specs.declared.task.Task.{Task}
-use Rattle.pim_words.specs.declared.task.Task.TheVariants as task
 use Rattle.pim_lines.specs.AnyAddress.{IsRead}
 use Rattle.pim_words.specs.Ends.{are_both_given, has_two_ends}
 use Rattle.pim_words.specs.Given.{address_texts, has_writer}
-use Rattle.pim_words.specs.Reading.{AreRead, IsNamed, IsTask, IsTraced, IsUnreadable, IsWrongRun, IsWrongRunOf, IsWrongTrace}
+use Rattle.pim_words.specs.Reading.{AreRead, IsNamed, IsUnreadable, IsWrongRun, IsWrongRunOf, IsWrongTrace}
 use Rattle.pim_words.specs.Seen.{AreWritten, OrMemory}
 
 wrong_run : (kind : Kind) (rows : List Row) (fault : Fault) → has_two_ends kind rows ≡ false → AreRead (address_texts kind rows) → OrMemory (IsWrongRunOf kind rows) fault
@@ -43,10 +41,5 @@ module _ (rows : List Row) (rp : Option AnyAddress) (one : are_both_given rows �
   pub of_replay : (fault : Fault) → OrMemory (IsWrongRun Replay rows) fault → IsUnreadable Replay rows fault
   of_replay fault is = wrong_run Replay rows fault one (named_read (first_of (codes "rp") rows) rp named, tt) is
 
-  traced : (asked : Task AnyAddress) → IsTraced rows rp asked → IsTask Trace rows asked
-  traced (task.Trace captures tracing) is = (subst (IsNamed (first_of (codes "rp") rows)) (sym is.0) named, is.1)
-  traced other is = absurd is
-
-  pub of_trace : (r : Result (Task AnyAddress) Fault) → IfOk r (IsTraced rows rp) → IfErr r (OrMemory (IsWrongTrace rows)) → MatchResult r (IsTask Trace rows) (IsUnreadable Trace rows)
-  of_trace (Ok asked) is wrong = traced asked is
-  of_trace (Err fault) is wrong = wrong_run Trace rows fault one (named_read (first_of (codes "rp") rows) rp named, tt) wrong
+  pub of_trace : (fault : Fault) → OrMemory (IsWrongTrace rows) fault → IsUnreadable Trace rows fault
+  of_trace fault is = wrong_run Trace rows fault one (named_read (first_of (codes "rp") rows) rp named, tt) is

@@ -67,11 +67,6 @@ pub record AreTraced (rows : List Row) (captures : Captures AnyAddress) (tracing
   pub json : tracing.json ≡ is_flag (codes "json") rows
   pub ports : ArePorts kind.Trace rows captures.ports.items captures.more.items tracing.names.items
 
--- The task of a trace with this RP.
-abbrev pub IsTraced : List Row → Option AnyAddress → Task AnyAddress → Type 0
-IsTraced rows rp (Trace captures tracing) = (captures.rp ≡ rp) × AreTraced rows captures tracing
-IsTraced rows rp other = ⊥
-
 -- The options of the writer.
 pub record IsWriting (rows : List Row) (writing : Writing AnyAddress) : Type 0 where
   pub upstream : Names (required (codes "upstream") rows) writing.upstream

@@ -12,8 +12,7 @@ ghost use Rattle.pim_words.specs.declared.fault.Fault.TheVariants.{TwoEnds};
 ghost use Rattle.pim_words.specs.Given.{address_texts, has_writer, required};
 ghost use Rattle.pim_words.specs.Reading.{IsNamed, IsUnreadValue, IsFirstUnread};
 ghost use Rattle.pim_words.specs.Reading.{ArePorts, AreWrongPorts, IsRun, AreCaptures};
-ghost use Rattle.pim_words.specs.Reading.{IsWriting, IsTraced, IsTask, IsUnreadable, IsWrongRun};
-ghost use Rattle.pim_words.specs.Reading.{IsWrongTrace};
+ghost use Rattle.pim_words.specs.Reading.{IsWriting, IsTask, IsUnreadable, IsWrongRun};
 ghost use Rattle.pim_words.specs.Seen.{OrMemory, AreEnds, AreWritten, HasNumbers};
 ghost use Rattle.pim_words.specs.Shown.{IsUnreadText};
 
@@ -186,17 +185,17 @@ fn read_replay<'a>(
     Ok(Task::Replay(captures))
 }
 
-/// The captures of a trace with this RP, and what it shows.
-fn read_traced<'a>(
+/// The task of `trace`.
+fn read_trace<'a>(
     alloc: Global,
-    rp: Option<AnyAddress>,
     options: &ArgMatches<'a>,
 ) -> Result<Task<'a, AnyAddress>, Fault<'a>>
-    requires numbers { HasNumbers (rows_of (found_of options.now)) }
-    requires one_end { are_both_given (rows_of (found_of options.now)) ≡ false }
-    ensures task { IfOk result (IsTraced (rows_of (found_of options.now)) rp) }
-    ensures told { IfErr result (OrMemory (IsWrongTrace (rows_of (found_of options.now)))) }
+    requires { HasNumbers (rows_of (found_of options.now)) }
+    ensures { MatchResult result (IsTask Kind.Trace (rows_of (found_of options.now)))
+        (IsUnreadable Kind.Trace (rows_of (found_of options.now))) }
 {
+    judge_end(options)?;
+    let rp = read_given(option_of(options, "rp"))?;
     let end = read_at(option_of(options, "at"))?;
     let shown = read_shown(alloc, options)?;
     let labelled = read_linked(alloc, Kind::Trace, options)?;
@@ -211,20 +210,6 @@ fn read_traced<'a>(
         names: labelled.names,
     };
     Ok(Task::Trace(captures, tracing))
-}
-
-/// The task of `trace`.
-fn read_trace<'a>(
-    alloc: Global,
-    options: &ArgMatches<'a>,
-) -> Result<Task<'a, AnyAddress>, Fault<'a>>
-    requires { HasNumbers (rows_of (found_of options.now)) }
-    ensures { MatchResult result (IsTask Kind.Trace (rows_of (found_of options.now)))
-        (IsUnreadable Kind.Trace (rows_of (found_of options.now))) }
-{
-    judge_end(options)?;
-    let rp = read_given(option_of(options, "rp"))?;
-    read_traced(alloc, rp, options)
 }
 
 /// The addresses of a command that writes messages.
