@@ -66,13 +66,11 @@ fn read_links<'a>(alloc: Global, is_any: bool, options: &ArgMatches<'a>) -> Resu
 fn input_named(text: &str) -> Option<bool>
     ensures { MatchOption result (IsNoInput text.now) (λ is_any. text.now ≡ input_name is_any) }
 {
-    if text == "any" {
-        return Some(true);
+    match text {
+        "any" => Some(true),
+        "classic" => Some(false),
+        _ => None,
     }
-    if text == "classic" {
-        return Some(false);
-    }
-    None
 }
 
 /// The links that the words pick. A trace reads any container; otherwise `--input` says whether a

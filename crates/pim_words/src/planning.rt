@@ -55,31 +55,17 @@ fn matches_of<'a, S: AsStr>(whole: Command<'a>, words: &'a [S]) -> Result<ArgMat
 fn kind_named(name: &str) -> Option<Kind>
     ensures { MatchOption result (AsksForTask name.now → ⊥) (λ kind. name.now ≡ kind_name kind) }
 {
-    if name == "check" {
-        return Some(Kind::Check);
+    match name {
+        "check" => Some(Kind::Check),
+        "build" => Some(Kind::Build),
+        "replay" => Some(Kind::Replay),
+        "trace" => Some(Kind::Trace),
+        "same" => Some(Kind::Same),
+        "mirror" => Some(Kind::Mirror),
+        "emit" => Some(Kind::Emit),
+        "change" => Some(Kind::Change),
+        _ => None,
     }
-    if name == "build" {
-        return Some(Kind::Build);
-    }
-    if name == "replay" {
-        return Some(Kind::Replay);
-    }
-    if name == "trace" {
-        return Some(Kind::Trace);
-    }
-    if name == "same" {
-        return Some(Kind::Same);
-    }
-    if name == "mirror" {
-        return Some(Kind::Mirror);
-    }
-    if name == "emit" {
-        return Some(Kind::Emit);
-    }
-    if name == "change" {
-        return Some(Kind::Change);
-    }
-    None
 }
 
 /// The plan of a task whose addresses aren't all IPv4, or its first fault.

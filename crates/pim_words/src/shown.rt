@@ -38,16 +38,12 @@ pub(crate) struct Shown {
 fn form_named(text: &str) -> Option<TimeForm>
     ensures { MatchOption result (IsFormless text.now) (λ form. text.now ≡ form_name form) }
 {
-    if text == "ms" {
-        return Some(TimeForm::Ms);
+    match text {
+        "ms" => Some(TimeForm::Ms),
+        "epoch" => Some(TimeForm::Epoch),
+        "utc" => Some(TimeForm::Utc),
+        _ => None,
     }
-    if text == "epoch" {
-        return Some(TimeForm::Epoch);
-    }
-    if text == "utc" {
-        return Some(TimeForm::Utc);
-    }
-    None
 }
 
 /// The addresses that the values of this option are, or the fault of the first wrong value. None if
