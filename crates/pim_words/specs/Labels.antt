@@ -43,14 +43,10 @@ LacksEqualSign text = (place : ℕ) → place < length text → get_or text plac
 abbrev pub IsNamedBy : Text → Text → Text → Type 0
 IsNamedBy word name rest = (word ≡ name ++ (61 ∷ rest)) × LacksEqualSign name × LacksAtSign name
 
--- The word of a trace has this name, if any, and this rest.
-abbrev pub IsCutLabel : Text → Option (Bor Text) → Text → Type 0
-IsCutLabel word None rest = (rest ≡ word) × ((name more : Text) → IsNamedBy word name more → ⊥)
-IsCutLabel word (Some name) rest = IsNamedBy word name.now rest
-
 -- The word has this name, if any, and this rest. Only the words of a trace have names.
 abbrev pub IsLabelOf : Kind → Text → Option (Bor Text) → Text → Type 0
-IsLabelOf Trace word name rest = IsCutLabel word name rest
+IsLabelOf Trace word None rest = (rest ≡ word) × ((name more : Text) → IsNamedBy word name more → ⊥)
+IsLabelOf Trace word (Some name) rest = IsNamedBy word name.now rest
 IsLabelOf command word name rest = (name ≡ None) × (rest ≡ word)
 
 -- ---- a word, after ports with these names

@@ -22,7 +22,7 @@ pub(crate) fn option_or<'a>(options: &ArgMatches<'a>, name: &str, default: &'a s
     option_of(options, name).unwrap_or(default)
 }
 
-/// All values of an option, in order, or all words. None if there are none.
+/// All values of an option, in order, or all words. The slice is empty if there are none.
 pub(crate) fn values_of<'o, 'a>(options: &'o ArgMatches<'a>, name: &str) -> &'o [&'a str]
     ensures { map (λ v. v.now) result.now ≡ values_of name.now (rows_of (found_of options.now)) }
 {

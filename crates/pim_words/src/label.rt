@@ -3,7 +3,7 @@
 ghost use Rattle.std.specs.Prelude.{◌≡◌, true, map};
 ghost use Rattle.std.specs.List.{list_any};
 ghost use Rattle.pim_words.specs.Labels.{is_named, has_name, is_fresh};
-ghost use Rattle.pim_words.specs.Labels.{IsCutLabel, IsLabelOf};
+ghost use Rattle.pim_words.specs.Labels.{IsLabelOf};
 
 use crate::task::Kind;
 use pim_lines::is_port_name;
@@ -17,41 +17,27 @@ pub(crate) struct Label<'a> {
     pub text: &'a str,
 }
 
-/// Cuts a word of a trace at its first `=`, if that comes before its first `@`.
-fn cut_label<'a>(word: &'a str) -> Label<'a>
-    ensures { IsCutLabel word.now result.name result.text.now }
-{
-    match word.split_once('=') {
-        Some((name, text)) => {
-            if name.contains('@') {
-                Label {
-                    name: None,
-                    text: word,
-                }
-            } else {
-                Label {
-                    name: Some(name),
-                    text,
-                }
-            }
-        }
-        None => Label {
-            name: None,
-            text: word,
-        },
-    }
-}
-
-/// Cuts a word into the name that it gives and the rest. Only the words of a trace have names.
+/// Cuts a word of a trace at its first `=`, if that comes before its first `@`. Other words have no
+/// names.
 pub(crate) fn label_of<'a>(kind: Kind, word: &'a str) -> Label<'a>
     ensures { IsLabelOf kind word.now result.name result.text.now }
 {
-    match kind {
-        Kind::Trace => cut_label(word),
-        _ => Label {
-            name: None,
-            text: word,
-        },
+    let whole = Label {
+        name: None,
+        text: word,
+    };
+    let Kind::Trace = kind else {
+        return whole;
+    };
+    let Some((name, text)) = word.split_once('=') else {
+        return whole;
+    };
+    if name.contains('@') {
+        return whole;
+    }
+    Label {
+        name: Some(name),
+        text,
     }
 }
 

@@ -3,10 +3,14 @@ use Rattle.std.proofs.lemmas.Bool.{false≢true}
 use Rattle.std.proofs.lemmas.Str.Pattern.{contains_char, split_after, split_parts}
 use Rattle.clap.specs.Words.{Text}
 use Rattle.pim_words.specs.Ports.{LacksAtSign}
-use Rattle.pim_words.proofs.label.cut_label.Goals as goal
+use Rattle.pim_words.proofs.label.label_of.Goals as goal
+
+pub returns-in_default-split_once : goal.returns-in_default-split_once
+returns-in_default-split_once c =
+    rw c.in-Trace.is (refl, λ name more named. split_after 61 c.args.word.now name more None c.in_default-split_once.ensures.cases (lit< tt) named.0 named.1)
 
 pub returns-then-contains : goal.returns-then-contains
-returns-then-contains c = (
+returns-then-contains c = rw c.in-Trace.is (
   refl,
   λ name more named.
       let same = split_after 61 c.args.word.now name more (Some (c.in-Some.name, c.in-Some.text)) c.in-Some.ensures.cases (lit< tt) named.0 named.1 in
@@ -14,11 +18,8 @@ returns-then-contains c = (
       subst (λ (text : Text). LacksAtSign text) (sym same.0) named.2 found.0 found.1 found.2,
 )
 
-pub returns-else-contains : goal.returns-else-contains
-returns-else-contains c =
+pub returns : goal.returns
+returns c =
     let parts = split_parts 61 c.args.word.now (Some (c.in-Some.name, c.in-Some.text)) c.in-Some.ensures.cases (lit< tt) in
     let found = (contains_char 64 c.in-Some.name.now c.contains.result c.contains.ensures.cases (lit< tt)).1 in
-    (parts.0, parts.1, λ place inside is. false≢true (sym c.if-contains.false ∙ found place inside is))
-
-pub returns-in-None : goal.returns-in-None
-returns-in-None c = (refl, λ name more named. split_after 61 c.args.word.now name more None c.in-None.ensures.cases (lit< tt) named.0 named.1)
+    rw c.in-Trace.is (parts.0, parts.1, λ place inside is. false≢true (sym c.if-contains.false ∙ found place inside is))
