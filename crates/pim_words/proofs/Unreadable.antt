@@ -1,5 +1,5 @@
 -- Words that aren't read, behind options that are.
-use Rattle.std.proofs.Common.{◌≡◌, sym, subst, inr, true, false, List, codes, Option, None, Some, Result, Ok, Err, IfOk, IfErr, MatchResult}
+use Rattle.std.proofs.Common.{◌≡◌, inr, true, false, List, codes, Option, None, Some}
 use Rattle.std.specs.Prelude.{IfSome}
 use Rattle.clap.specs.Words.{Row, Text, first_of}
 use Rattle.pim_lines.specs.declared.either.AnyAddress.{AnyAddress}
