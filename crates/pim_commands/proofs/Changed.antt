@@ -10,7 +10,7 @@ use Rattle.pim_run.specs.declared.fault.RunFault.TheVariants as of_replay
 use Rattle.pim_replay.specs.ChangeText.{TellsChange}
 use Rattle.pim_router.specs.State.{RouterState, Setup, new_router}
 use Rattle.pim_files.specs.Captures.{PortFiles}
-use Rattle.pim_check.specs.declared.fault.Fault.{Fault}
+use Rattle.pim_faults.specs.declared.fault.Fault.{Fault}
 use Rattle.pim_commands.specs.Changing.{IsChanged, ChangesNew}
 use Rattle.pim_commands.specs.Mirroring.{mirrored, MirrorAnswer}
 use Rattle.pim_commands.proofs.Mirrored.{retold, same_told}

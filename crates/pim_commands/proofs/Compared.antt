@@ -13,12 +13,12 @@ use Rattle.pim_router.specs.declared.config.ConfigFault.{ConfigFault}
 use Rattle.pim_router.specs.Config.{config_faults}
 use Rattle.pim_router.specs.State.{RouterState, Setup, new_router}
 use Rattle.pim_files.specs.Captures.{PortFiles}
-use Rattle.pim_check.specs.declared.fault.Fault.{Fault}
-use Rattle.pim_check.specs.declared.fault.Fault.TheVariants as of_run
+use Rattle.pim_faults.specs.declared.fault.Fault.{Fault}
+use Rattle.pim_faults.specs.declared.fault.Fault.TheVariants as of_run
 use Rattle.pim_commands.specs.Replaying.{config_fault, IsUnmade, IsFirstCause}
 use Rattle.pim_commands.specs.Comparing.{compared, ComparisonAnswer, causes, IsCompared, ComparesNew}
 use Rattle.pim_commands.specs.Writing.{IsWriterOf}
-use Rattle.pim_check.specs.Report.{write_failures_after}
+use Rattle.pim_commands.specs.Report.{write_failures_after}
 use Rattle.pim_commands.proofs.Routers.{capture_is_read}
 
 -- ---- the first cause

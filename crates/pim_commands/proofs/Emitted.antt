@@ -10,9 +10,9 @@ use Rattle.pim_run.specs.declared.fault.RunFault.TheVariants as of_replay
 use Rattle.pim_replay.specs.Emit.{Emits, failures_of_emission}
 use Rattle.pim_router.specs.State.{RouterState, Setup, new_router}
 use Rattle.pim_files.specs.Captures.{PortFiles}
-use Rattle.pim_check.specs.declared.fault.Fault.{Fault}
+use Rattle.pim_faults.specs.declared.fault.Fault.{Fault}
 use Rattle.pim_commands.specs.Emitting.{emitted, EmissionAnswer, IsEmitted, EmitsNew}
-use Rattle.pim_check.specs.Report.{write_failures_after}
+use Rattle.pim_commands.specs.Report.{write_failures_after}
 use Rattle.pim_commands.proofs.Routers.{capture_is_read}
 
 -- ---- the answer

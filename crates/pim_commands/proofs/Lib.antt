@@ -1,3 +1,5 @@
+pub mod Reports
+pub mod Builds
 pub mod Compared
 pub mod Mirrored
 pub mod Emitted

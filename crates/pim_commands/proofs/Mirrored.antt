@@ -12,10 +12,10 @@ use Rattle.pim_replay.specs.MirrorText.{TellsMirror, failures_of_mirror}
 use Rattle.pim_router.specs.Config.{config_faults}
 use Rattle.pim_router.specs.State.{RouterState, Setup, new_router}
 use Rattle.pim_files.specs.Captures.{PortFiles}
-use Rattle.pim_check.specs.declared.fault.Fault.{Fault}
+use Rattle.pim_faults.specs.declared.fault.Fault.{Fault}
 use Rattle.pim_commands.specs.Mirroring.{mirrored, mirror_causes, MirrorAnswer, IsMirrored, MirrorsNew}
 use Rattle.pim_commands.specs.Replaying.{IsUnmade, IsFirstCause}
-use Rattle.pim_check.specs.Report.{write_failures_after}
+use Rattle.pim_commands.specs.Report.{write_failures_after}
 use Rattle.pim_commands.specs.Writing.{IsWriterOf}
 use Rattle.pim_commands.proofs.Compared.{first_cause}
 use Rattle.pim_commands.proofs.Routers.{capture_is_read}

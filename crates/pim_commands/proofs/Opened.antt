@@ -9,10 +9,10 @@ use Rattle.pim_files.specs.Opening.{IsOpen, AreOpen}
 use Rattle.pim_merge.specs.Next.{MergeState}
 use Rattle.pim_routes_file.specs.declared.fault.RoutesFault.TheVariants as routes
 use Rattle.pim_words.specs.declared.task.Captures.{Captures}
-use Rattle.pim_check.specs.declared.fault.Fault.{Fault}
+use Rattle.pim_faults.specs.declared.fault.Fault.{Fault}
 use Rattle.pim_commands.specs.Opening.{OpensNot, Opens, OverOne, OverBoth}
-use Rattle.pim_check.specs.Unopened.{open_fault}
-use Rattle.pim_check.specs.Report.{write_failures_after}
+use Rattle.pim_faults.specs.Unopened.{open_fault}
+use Rattle.pim_commands.specs.Report.{write_failures_after}
 
 -- a fault of opening isn't one of writing
 pub not_written : (before : ℕ) (told : OpenFault) → write_failures_after {A = ℕ} before (Err (open_fault told)) ≡ before

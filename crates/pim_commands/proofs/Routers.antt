@@ -20,11 +20,11 @@ use Rattle.pim_router.specs.Seen.{port_seen, setup_seen}
 use Rattle.pim_router.specs.State.{RouterState, Setup, new_router}
 use Rattle.pim_files.specs.Captures.{PortFiles}
 use Rattle.pim_words.specs.declared.task.Port.{Port}
-use Rattle.pim_check.specs.declared.causes.CaptureCause.{CaptureCause}
-use Rattle.pim_check.specs.declared.fault.Fault.{Fault}
+use Rattle.pim_faults.specs.declared.causes.CaptureCause.{CaptureCause}
+use Rattle.pim_faults.specs.declared.fault.Fault.{Fault}
 use Rattle.pim_commands.specs.Naming.{in_file, file_at, by_cause, cause_of, port_fault}
 use Rattle.pim_commands.specs.Replaying.{config_of, config_fault, answer_of, IsUnmade, ReplaysNew}
-use Rattle.pim_check.specs.Report.{write_failures_after}
+use Rattle.pim_commands.specs.Report.{write_failures_after}
 
 -- a value that was made
 pub made_is : {A : Type 0} (faults : List ConfigFault) (value made : A) → IsMadeUnless faults value (Ok made) → (faults ≡ []) × (made ≡ value)

@@ -13,7 +13,7 @@ use Rattle.pim_router.specs.State.{Setup, RouterState, new_router}
 use Rattle.pim_run.specs.declared.fault.RunFault.{RunFault}
 use Rattle.pim_files.specs.Captures.{PortFiles}
 use Rattle.pim_words.specs.declared.task.Tracing.{Tracing}
-use Rattle.pim_check.specs.declared.fault.Fault.{Fault}
+use Rattle.pim_faults.specs.declared.fault.Fault.{Fault}
 use Rattle.pim_commands.specs.Tracing.{form_of, selection_of, line_of, tracing_answer, TracesBy, TracesNew}
 
 module _ {A : Type 0} (family : AddressFamily) (bytes_of : A → List ℕ) (names : List (List ℕ)) (tracing : Tracing A) (filter : Filter A)

@@ -13,7 +13,7 @@ use Rattle.pim_words.specs.declared.fault.Side.{Side}
 use Rattle.pim_files.specs.Captures.{files_from, with_more}
 use Rattle.pim_words.specs.declared.task.More.{More}
 use Rattle.pim_words.specs.declared.task.Port.{Port}
-use Rattle.pim_check.specs.Telling.{IsTold}
+use Rattle.pim_faults.specs.Telling.{IsTold}
 use Rattle.pim_commands.specs.Naming.{is_in, are_in}
 use Rattle.pim_commands.specs.Warnings.{port_warnings, warnings_from}
 use Rattle.pim_commands.proofs.Named.{left_from, one_port}

@@ -8,7 +8,7 @@ use Rattle.pim_merge.specs.Next.{MergeState}
 use Rattle.pim_replay.specs.ChangeText.{TellsChange}
 use Rattle.pim_router.specs.State.{Setup, RouterState, new_router}
 use Rattle.pim_files.specs.Captures.{PortFiles}
-use Rattle.pim_check.specs.declared.fault.Fault.{Fault}
+use Rattle.pim_faults.specs.declared.fault.Fault.{Fault}
 use Rattle.pim_commands.specs.Comparing.{causes}
 use Rattle.pim_commands.specs.Mirroring.{mirrored, MirrorAnswer}
 use Rattle.pim_commands.specs.Replaying.{IsFirstCause}

@@ -18,8 +18,8 @@ use Rattle.pim_router.specs.State.{Setup, RouterState, new_router}
 use Rattle.pim_words.specs.declared.fault.Side.{Side}
 use Rattle.pim_words.specs.declared.task.Port.{Port}
 use Rattle.pim_lines.specs.AnyAddress.{address_in}
-use Rattle.pim_check.specs.declared.fault.Fault.{Fault}
-use Rattle.pim_check.specs.declared.fault.Fault.TheVariants.{TooBig}
+use Rattle.pim_faults.specs.declared.fault.Fault.{Fault}
+use Rattle.pim_faults.specs.declared.fault.Fault.TheVariants.{TooBig}
 use Rattle.pim_commands.specs.Naming.{port_fault}
 use Rattle.pim_commands.specs.Replaying.{config_of, config_fault, replay_fault, IsFirstCause}
 use Rattle.pim_commands.specs.Writing.{writer_causes}

@@ -11,8 +11,8 @@ use Rattle.pim_replay.specs.Emit.{Emits}
 use Rattle.pim_router.specs.State.{Setup, RouterState, new_router}
 use Rattle.pim_files.specs.Captures.{PortFiles}
 use Rattle.pim_lines.specs.AnyAddress.{address_in}
-use Rattle.pim_check.specs.declared.fault.Fault.{Fault}
-use Rattle.pim_check.specs.declared.fault.Fault.TheVariants.{TooBig}
+use Rattle.pim_faults.specs.declared.fault.Fault.{Fault}
+use Rattle.pim_faults.specs.declared.fault.Fault.TheVariants.{TooBig}
 use Rattle.pim_commands.specs.Mirroring.{mirror_causes}
 use Rattle.pim_commands.specs.Replaying.{replay_fault, IsFirstCause}
 

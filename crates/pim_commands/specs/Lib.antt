@@ -1,4 +1,7 @@
 -- The definitions of `pim_commands`.
+pub mod Report
+pub mod Ends
+pub mod Building
 pub mod Naming
 pub mod Warnings
 pub mod Census

@@ -12,8 +12,8 @@ use Rattle.pim_router.specs.Config.{config_faults}
 use Rattle.pim_router.specs.State.{Setup, RouterState, new_router}
 use Rattle.pim_files.specs.Captures.{PortFiles}
 use Rattle.pim_lines.specs.AnyAddress.{address_in}
-use Rattle.pim_check.specs.declared.fault.Fault.{Fault}
-use Rattle.pim_check.specs.declared.fault.Fault.TheVariants.{TooBig, Full}
+use Rattle.pim_faults.specs.declared.fault.Fault.{Fault}
+use Rattle.pim_faults.specs.declared.fault.Fault.TheVariants.{TooBig, Full}
 use Rattle.pim_commands.specs.Naming.{port_fault}
 use Rattle.pim_commands.specs.Replaying.{config_fault, replay_fault, IsFirstCause}
 use Rattle.pim_commands.specs.Writing.{writer_causes}

@@ -10,10 +10,10 @@ use Rattle.pim_merge.specs.declared.merge.MergeFault.{MergeFault}
 use Rattle.pim_words.specs.declared.fault.Side.{Side}
 use Rattle.pim_words.specs.declared.task.More.{More}
 use Rattle.pim_words.specs.declared.task.Port.{Port}
-use Rattle.pim_check.specs.declared.causes.CaptureCause.{CaptureCause}
-use Rattle.pim_check.specs.declared.causes.CaptureCause.TheVariants as capture
-use Rattle.pim_check.specs.declared.fault.Fault.{Fault}
-use Rattle.pim_check.specs.declared.fault.Fault.TheVariants.{Capture, InFile, Memory}
+use Rattle.pim_faults.specs.declared.causes.CaptureCause.{CaptureCause}
+use Rattle.pim_faults.specs.declared.causes.CaptureCause.TheVariants as capture
+use Rattle.pim_faults.specs.declared.fault.Fault.{Fault}
+use Rattle.pim_faults.specs.declared.fault.Fault.TheVariants.{Capture, InFile, Memory}
 
 -- The number of the tag in which a VLAN differs from another one.
 abbrev pub tag_of : Vlan → Vlan → ℕ

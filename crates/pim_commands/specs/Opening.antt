@@ -21,7 +21,7 @@ use Rattle.pim_words.specs.declared.fault.Side.TheVariants as side
 use Rattle.pim_words.specs.declared.task.Captures.{Captures}
 use Rattle.pim_words.specs.declared.task.Tracing.{Tracing}
 use Rattle.pim_words.specs.declared.task.Writing.{Writing}
-use Rattle.pim_check.specs.declared.fault.Fault.{Fault}
+use Rattle.pim_faults.specs.declared.fault.Fault.{Fault}
 use Rattle.pim_commands.specs.Census.{begun}
 use Rattle.pim_commands.specs.Changing.{ChangesNew}
 use Rattle.pim_commands.specs.Comparing.{side_setup, ComparesNew}
@@ -30,7 +30,7 @@ use Rattle.pim_commands.specs.Mirroring.{MirrorsNew}
 use Rattle.pim_commands.specs.Replaying.{config_of, end_of, ReplaysNew}
 use Rattle.pim_commands.specs.Tracing.{line_of, names_of, TracesNew}
 use Rattle.pim_commands.specs.Warnings.{warnings_text}
-use Rattle.pim_check.specs.Unopened.{open_fault}
+use Rattle.pim_faults.specs.Unopened.{open_fault}
 
 -- ---- what is opened for these captures, with this upstream neighbour; `known` and `known'` say
 -- what is known of the opener before and after

@@ -18,9 +18,9 @@ use Rattle.pim_time.specs.declared.reading.Time.{Time}
 use Rattle.pim_words.specs.declared.fault.ConfigCause.TheVariants as cause
 use Rattle.pim_words.specs.declared.task.Captures.{Captures}
 use Rattle.pim_words.specs.declared.task.Port.{Port}
-use Rattle.pim_check.specs.declared.fault.Fault.{Fault}
-use Rattle.pim_check.specs.declared.fault.Fault.TheVariants.{Output, Memory}
-use Rattle.pim_check.specs.Unopened.{config_told}
+use Rattle.pim_faults.specs.declared.fault.Fault.{Fault}
+use Rattle.pim_faults.specs.declared.fault.Fault.TheVariants.{Output, Memory}
+use Rattle.pim_faults.specs.Unopened.{config_told}
 use Rattle.pim_commands.specs.Naming.{port_fault}
 
 -- The configuration of a port that a word names. Its delays are the defaults of RFC 7761, 4.11, in

@@ -4,10 +4,10 @@ use Rattle.pim_addr.specs.declared.family.AddressFamily.{AddressFamily}
 use Rattle.pim_files.specs.Files.{Known}
 use Rattle.pim_words.specs.declared.task.Task.{Task}
 use Rattle.pim_words.specs.declared.task.Task.TheVariants.{Check, Build, Replay, Trace, Same, Mirror, Emit, Change}
-use Rattle.pim_check.specs.declared.fault.Fault.{Fault}
-use Rattle.pim_check.specs.Building.{Builds}
+use Rattle.pim_faults.specs.declared.fault.Fault.{Fault}
+use Rattle.pim_commands.specs.Building.{Builds}
 use Rattle.pim_commands.specs.Opening.{ReplaysFiles, TracesFiles, ComparesFiles, MirrorsFiles, EmitsFiles, ChangesFiles}
-use Rattle.pim_check.specs.Report.{Reports, input_report}
+use Rattle.pim_commands.specs.Report.{Reports, input_report}
 
 -- The result and the output of a task, by the bytes of standard input, if they are known, and by
 -- what is known of the opener. `Warns` says of a text that it was written to the device for errors.

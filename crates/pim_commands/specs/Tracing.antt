@@ -21,8 +21,8 @@ use Rattle.pim_files.specs.Captures.{PortFiles}
 use Rattle.pim_words.specs.declared.task.TimeForm.{TimeForm}
 use Rattle.pim_words.specs.declared.task.TimeForm.TheVariants.{Ms, Epoch, Utc}
 use Rattle.pim_words.specs.declared.task.Tracing.{Tracing}
-use Rattle.pim_check.specs.declared.fault.Fault.{Fault}
-use Rattle.pim_check.specs.declared.fault.Fault.TheVariants.{Output, Memory}
+use Rattle.pim_faults.specs.declared.fault.Fault.{Fault}
+use Rattle.pim_faults.specs.declared.fault.Fault.TheVariants.{Output, Memory}
 use Rattle.pim_commands.specs.Naming.{port_fault}
 use Rattle.pim_commands.specs.Replaying.{IsUnmade}
 

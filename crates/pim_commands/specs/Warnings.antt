@@ -11,10 +11,10 @@ use Rattle.pim_merge.specs.declared.tally.Tally.{Tally}
 use Rattle.pim_merge.specs.Lane.{tallies_of}
 use Rattle.pim_merge.specs.Next.{MergeState}
 use Rattle.pim_merge.specs.Tally.{tally_at}
-use Rattle.pim_check.specs.declared.warning.Warning.{Warning}
-use Rattle.pim_check.specs.declared.warning.Warning.TheVariants.{CutShort, Fragments, CutFrames, RunsBack, Jumps}
-use Rattle.pim_check.specs.Missing.{missed_text, unserved_text}
-use Rattle.pim_check.specs.Words.{warning_text}
+use Rattle.pim_faults.specs.declared.warning.Warning.{Warning}
+use Rattle.pim_faults.specs.declared.warning.Warning.TheVariants.{CutShort, Fragments, CutFrames, RunsBack, Jumps}
+use Rattle.pim_faults.specs.Missing.{missed_text, unserved_text}
+use Rattle.pim_faults.specs.Words.{warning_text}
 use Rattle.pim_commands.specs.Naming.{name_at}
 
 -- The line of a warning with this number, if there is one.

@@ -3,8 +3,8 @@ use Rattle.std.specs.Prelude.{◌≡◌, Bool, true, false, List, [], ◌∷◌,
 use Rattle.pim_addr.specs.declared.family.AddressFamily.{AddressFamily}
 use Rattle.pim_form.specs.Messages.{Writing}
 use Rattle.pim_form.specs.Writer.{has_bad_address}
-use Rattle.pim_check.specs.declared.fault.Fault.{Fault}
-use Rattle.pim_check.specs.Unopened.{writer_told}
+use Rattle.pim_faults.specs.declared.fault.Fault.{Fault}
+use Rattle.pim_faults.specs.Unopened.{writer_told}
 
 -- The writer, if its two addresses are different valid sources, otherwise the fault
 -- `WriterAddress`.

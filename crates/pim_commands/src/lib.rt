@@ -1,12 +1,16 @@
 //! The commands of `pimtree`, as calls that take their devices from the caller.
 //!
+//! - `check_into` and `check_task` print one message, or return its fault. They read at most 65,537
+//!   bytes.
+//! - `build_into` and `build_task` write the bytes of the message that a text states. What they
+//!   write, `check_into` prints as the text of that message.
 //! - `replay` writes the report of a router's captures (`pim_replay`).
 //! - `trace` prints each change of a router's machines, in time, with its cause (`pim_trace`).
 //! - `same` says whether two routers want the same of an upstream neighbour.
 //! - `mirror` writes the messages that make a fresh router want what this one wants.
 //! - `emit` writes these messages as bytes, and `change` those of the change between two routers.
-//! - `run_task` does what a task asks for. `check` and `build`, and the faults of all commands, are
-//!   those of `pim_check`, which this crate passes on.
+//! - `run_task` does what a task asks for. The faults of all commands are those of `pim_faults`,
+//!   which this crate passes on.
 //! - `trace_ends_as_replay` is a law: `trace` ends with the router whose state `replay` prints.
 //!
 //! The calls open the files by an opener that the caller gives (`pim_files`). Then they return the
@@ -24,8 +28,10 @@
 //! This library is apart from the program, so that tests can call it.
 #![tactic(auto)]
 
+mod build;
 mod census;
 mod changing;
+mod check;
 mod comparing;
 mod emitting;
 mod laws;
@@ -38,15 +44,14 @@ mod tracing;
 mod warnings;
 mod writing;
 
+pub use build::{build_into, build_task};
 pub use changing::change;
+pub use check::{check_into, check_task};
 pub use comparing::same;
 pub use emitting::emit;
 pub use laws::trace_ends_as_replay;
 pub use mirroring::mirror;
-pub use pim_check::{
-    CaptureCause, FAULTY, Fault, Warning, build_into, build_task, check_into, check_task,
-    fault_line, tell_into, warning_line,
-};
+pub use pim_faults::{CaptureCause, FAULTY, Fault, Warning, fault_line, tell_into, warning_line};
 pub use replaying::replay;
 pub use running::run_task;
 pub use tracing::trace;

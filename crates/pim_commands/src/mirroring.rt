@@ -12,8 +12,8 @@ ghost use Rattle.pim_commands.specs.Mirroring.{mirror_fault, mirrored, mirror_ca
 ghost use Rattle.pim_commands.specs.Naming.{ports_of};
 ghost use Rattle.pim_commands.specs.Opened.{IsUnwritten};
 ghost use Rattle.pim_commands.specs.Opening.{MirrorsFiles};
-ghost use Rattle.pim_check.specs.Report.{write_failures_after};
-ghost use Rattle.pim_check.specs.Telling.{IsTold};
+ghost use Rattle.pim_commands.specs.Report.{write_failures_after};
+ghost use Rattle.pim_faults.specs.Telling.{IsTold};
 
 use crate::census::begin_census;
 use crate::naming::port_fault;
@@ -22,7 +22,7 @@ use crate::replaying::{configs, end_of, replay_fault, router_of};
 use crate::warnings::warn_of_one;
 use crate::writing::writer_of;
 use pim_addr::{Drain, Family, Feed, Routes};
-use pim_check::Fault;
+use pim_faults::Fault;
 use pim_files::Opener;
 use pim_form::Writer;
 use pim_lines::any_address;

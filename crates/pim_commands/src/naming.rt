@@ -8,7 +8,7 @@ ghost use Rattle.pim_commands.specs.Naming.{tag_of, cause_of, name_at, file_of, 
 ghost use Rattle.pim_commands.specs.Naming.{port_fault, ports_of, is_in, are_in};
 
 use pim_capture::{CaptureFault, Vlan};
-use pim_check::{CaptureCause, Fault};
+use pim_faults::{CaptureCause, Fault};
 use pim_files::is_further;
 use pim_merge::MergeFault;
 use pim_words::{Captures, More, Port, Side, is_of};

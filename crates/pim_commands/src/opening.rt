@@ -5,7 +5,7 @@ ghost use Rattle.pim_files.specs.Opening.{IsOpen, AreOpen};
 ghost use Rattle.pim_commands.specs.Opening.{OpensNot};
 
 use pim_addr::Family;
-use pim_check::Fault;
+use pim_faults::Fault;
 use pim_files::{OpenOne, OpenTwo, Opener};
 use pim_words::Captures;
 use std::alloc::Global;

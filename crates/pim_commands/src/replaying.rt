@@ -14,15 +14,15 @@ ghost use Rattle.pim_commands.specs.Replaying.{end_of, config_of, config_fault};
 ghost use Rattle.pim_commands.specs.Replaying.{replay_fault, answer_of};
 ghost use Rattle.pim_commands.specs.Replaying.{IsUnmade, ReplaysNew};
 ghost use Rattle.pim_commands.specs.Opening.{ReplaysFiles};
-ghost use Rattle.pim_check.specs.Report.{write_failures_after};
-ghost use Rattle.pim_check.specs.Telling.{IsTold};
+ghost use Rattle.pim_commands.specs.Report.{write_failures_after};
+ghost use Rattle.pim_faults.specs.Telling.{IsTold};
 
 use crate::census::begin_census;
 use crate::naming::port_fault;
 use crate::opening::open_one;
 use crate::warnings::warn_of_one;
 use pim_addr::{Drain, Family, Feed, Routes};
-use pim_check::Fault;
+use pim_faults::Fault;
 use pim_files::Opener;
 use pim_merge::{End, Merge};
 use pim_replay::replay_into;

@@ -2,18 +2,20 @@
 
 ghost use Rattle.std.specs.Prelude.{◌≡◌};
 ghost use Rattle.pim_words.specs.Plan.{IsInRange};
-ghost use Rattle.pim_check.specs.Report.{write_failures_after};
-ghost use Rattle.pim_check.specs.Telling.{IsTold};
+ghost use Rattle.pim_commands.specs.Report.{write_failures_after};
+ghost use Rattle.pim_faults.specs.Telling.{IsTold};
 ghost use Rattle.pim_commands.specs.Running.{DoesTask};
 
+use crate::build::build_task;
 use crate::changing::change;
+use crate::check::check_task;
 use crate::comparing::same;
 use crate::emitting::emit;
 use crate::mirroring::mirror;
 use crate::replaying::replay;
 use crate::tracing::trace;
 use pim_addr::{Drain, Family, Feed};
-use pim_check::{Fault, build_task, check_task};
+use pim_faults::Fault;
 use pim_files::Opener;
 use pim_words::Task;
 use std::alloc::Global;

@@ -6,7 +6,7 @@ ghost use Rattle.pim_words.specs.Plan.{IsWritable};
 ghost use Rattle.pim_commands.specs.Writing.{IsWriterOf};
 
 use pim_addr::Family;
-use pim_check::Fault;
+use pim_faults::Fault;
 use pim_form::{Writer, WriterFault};
 use pim_words::Writing;
 

@@ -4,10 +4,10 @@ use Rattle.std.specs.Prelude.{◌≡◌, ◌≢◌, ◌+◌, ℕ, List, [], Opti
 use Rattle.std.specs.Io.KnownBytes.{Keeps}
 use Rattle.pim_addr.specs.declared.family.AddressFamily.{AddressFamily}
 use Rattle.pim_device.specs.Device.{AppendsFront, top_count}
-use Rattle.pim_check.specs.Report.{write_failures_after}
-use Rattle.pim_check.specs.Telling.{IsTold, TookAll}
-use Rattle.pim_check.specs.declared.fault.Fault.{Fault}
-use Rattle.pim_check.specs.declared.fault.Fault.TheVariants.{Output, Memory}
+use Rattle.pim_commands.specs.Report.{write_failures_after}
+use Rattle.pim_faults.specs.Telling.{IsTold, TookAll}
+use Rattle.pim_faults.specs.declared.fault.Fault.{Fault}
+use Rattle.pim_faults.specs.declared.fault.Fault.TheVariants.{Output, Memory}
 use Rattle.pim_commands.specs.Running.{DoesTask}
 use Rattle.pim_files.specs.Files.{Known}
 use Rattle.pim_words.specs.declared.task.Task.{Task}

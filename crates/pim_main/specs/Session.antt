@@ -5,8 +5,8 @@ use Rattle.pim_device.specs.Device.{AppendsFront}
 use Rattle.pim_items.specs.Items.{items_of}
 use Rattle.pim_session.specs.Dialog.{AnswersAll, AnswersFirst, Wrote}
 use Rattle.pim_session.specs.State.{new_session}
-use Rattle.pim_check.specs.declared.fault.Fault.{Fault}
-use Rattle.pim_check.specs.declared.fault.Fault.TheVariants.{InputRead, Output, Memory}
+use Rattle.pim_faults.specs.declared.fault.Fault.{Fault}
+use Rattle.pim_faults.specs.declared.fault.Fault.TheVariants.{InputRead, Output, Memory}
 
 -- The answers to all items of an input were written, from `old` to `new` of their device.
 abbrev pub IsAnswered : List ℕ → Option (List ℕ) → Option (List ℕ) → Type 0

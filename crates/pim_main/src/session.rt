@@ -1,7 +1,7 @@
 //! A session, as the program and its tests run it.
 
 ghost use Rattle.std.specs.Prelude.{◌≡◌, IfSome, IfOk};
-ghost use Rattle.pim_check.specs.Report.{write_failures_after};
+ghost use Rattle.pim_commands.specs.Report.{write_failures_after};
 ghost use Rattle.pim_main.specs.Session.{EndsSession};
 
 use pim_addr::Feed;

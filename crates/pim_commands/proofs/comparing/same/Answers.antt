@@ -7,7 +7,7 @@ use Rattle.pim_words.specs.declared.fault.Side.TheVariants.{A, B}
 use Rattle.pim_commands.specs.Census.{begun}
 use Rattle.pim_commands.specs.Comparing.{side_setup, ComparesNew}
 use Rattle.pim_commands.specs.Replaying.{end_of}
-use Rattle.pim_check.specs.Telling.{IsTold}
+use Rattle.pim_faults.specs.Telling.{IsTold}
 use Rattle.pim_commands.proofs.Warned.{nothing_told}
 use Rattle.pim_commands.proofs.Opened.{over_both, not_failed, answered}
 use Rattle.pim_commands.proofs.comparing.same.Goals as goal

@@ -6,7 +6,7 @@ use Rattle.pim_merge.specs.Next.{MergeState}
 use Rattle.pim_router.specs.Seen.{setup_seen}
 use Rattle.pim_commands.specs.Emitting.{EmitsNew}
 use Rattle.pim_commands.specs.Replaying.{config_of, end_of}
-use Rattle.pim_check.specs.Telling.{IsTold}
+use Rattle.pim_faults.specs.Telling.{IsTold}
 use Rattle.pim_commands.proofs.Warned.{nothing_told}
 use Rattle.pim_commands.proofs.Opened.{over_open, not_failed, answered}
 use Rattle.pim_commands.proofs.emitting.emit.Goals as goal

@@ -4,7 +4,7 @@ use Rattle.pim_files.specs.Opening.{port_files}
 use Rattle.pim_merge.specs.Next.{MergeState}
 use Rattle.pim_router.specs.Seen.{setup_seen}
 use Rattle.pim_commands.specs.Replaying.{config_of, end_of, ReplaysNew}
-use Rattle.pim_check.specs.Telling.{IsTold}
+use Rattle.pim_faults.specs.Telling.{IsTold}
 use Rattle.pim_commands.proofs.Warned.{nothing_told}
 use Rattle.pim_commands.proofs.Opened.{over_open, not_failed, answered}
 use Rattle.pim_commands.proofs.replaying.replay.Goals as goal

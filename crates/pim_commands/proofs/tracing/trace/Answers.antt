@@ -1,5 +1,5 @@
 use Rattle.std.proofs.Common.{inl, refl, None}
-use Rattle.pim_check.specs.Telling.{IsTold}
+use Rattle.pim_faults.specs.Telling.{IsTold}
 use Rattle.pim_commands.proofs.Warned.{nothing_told}
 use Rattle.pim_commands.proofs.Opened.{over_open, not_failed, answered}
 use Rattle.pim_commands.proofs.tracing.trace.Goals as goal

@@ -1,5 +1,5 @@
 use Rattle.std.proofs.Common.{◌≡◌, ◌∙◌, ap, subst, ℕ, List, [], Some}
-use Rattle.pim_check.specs.Telling.{IsTold}
+use Rattle.pim_faults.specs.Telling.{IsTold}
 use Rattle.pim_commands.specs.Running.{DoesTask}
 use Rattle.pim_main.proofs.running.run_on_devices.Goals as goal
 

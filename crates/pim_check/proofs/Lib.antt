@@ -1,3 +1,0 @@
-pub mod Reports
-pub mod Builds
-pub mod Writes

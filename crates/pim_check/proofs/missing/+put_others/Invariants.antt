@@ -1,5 +1,0 @@
-use Rattle.std.proofs.Common.{length}
-use Rattle.pim_check.proofs.missing.+put_others.Given as goal
-
-abbrev pub decreases-put_others : goal.decreases-put_others
-decreases-put_others g l = length l.slots.now

@@ -1,7 +1,0 @@
-use Rattle.pim_check.proofs.warning.write_warning.Goals as goal
-
-pub returns-in-Fragments-clause-bytes : goal.returns-in-Fragments-clause-bytes
-returns-in-Fragments-clause-bytes g c = rw c.in-Fragments.is c.write_count.ensures.bytes
-
-pub returns-in-RunsBack-clause-bytes : goal.returns-in-RunsBack-clause-bytes
-returns-in-RunsBack-clause-bytes g c = rw c.in-RunsBack.is c.write_about-in-RunsBack.ensures.bytes

@@ -1,0 +1,24 @@
+//! The faults and warnings of `pimtree`'s commands, and their lines.
+//!
+//! - `Fault` is why a command wasn't done. It is made of the faults of the crates below. `fault_line`
+//!   writes its line, and `tell_into` writes it on one of two devices and returns the status.
+//! - `Warning` is what is said of a capture beside a result. `warning_line` writes its line.
+//!   `missed_line` and `unserved_line` write those on whom the messages of a capture name.
+//!
+//! A device's count of failures rises exactly where its failure is the result.
+//!
+//! The crate is apart from `pim_commands`, so that it is checked before the engines of captures.
+#![tactic(auto)]
+
+mod causes;
+mod fault;
+mod missing;
+mod telling;
+mod unopened;
+mod warning;
+
+pub use causes::CaptureCause;
+pub use fault::{Fault, fault_line};
+pub use missing::{missed_line, unserved_line};
+pub use telling::{FAULTY, tell_into};
+pub use warning::{Warning, warning_line};
