@@ -1,11 +1,11 @@
 -- The warnings on the captures of a router after its run, by what was taken of each.
 use Rattle.std.specs.Prelude.{ℕ, suc, Bool, nat_lt, cond, is_some, List, [], ◌∷◌, ◌++◌, Option, None, Some}
+use Rattle.std.specs.List.{flat_map}
 use Rattle.pim_addr.specs.declared.family.AddressFamily.{AddressFamily}
 use Rattle.pim_addr.specs.Routes.{RouteTable}
 use Rattle.pim_census.specs.declared.census.Census.{Census}
 use Rattle.pim_census.specs.Missing.{misses, without_rp}
 use Rattle.pim_files.specs.Captures.{PortFiles}
-use Rattle.std.specs.Borrow.{Bor}
 use Rattle.pim_merge.specs.declared.tally.Place.{Place}
 use Rattle.pim_merge.specs.declared.tally.Tally.{Tally}
 use Rattle.pim_merge.specs.Lane.{tallies_of}
@@ -17,36 +17,29 @@ use Rattle.pim_faults.specs.Missing.{missed_text, unserved_text}
 use Rattle.pim_faults.specs.Words.{warning_text}
 use Rattle.pim_commands.specs.Naming.{name_at}
 
--- The line of a warning with this number, if there is one.
-unfoldable pub warned : Warning → List ℕ → Option ℕ → List ℕ
-warned warning file None = []
-warned warning file (Some number) = warning_text warning file number
+-- A count that isn't 0, as the place that its warning names: the port's own file. Counts are of all
+-- files of a port.
+abbrev pub counted : ℕ → Option Place
+counted count = cond (nat_lt 0 count) (Some (record { file = 0; «record» = count })) None
 
--- The number, if this holds.
-abbrev pub number_if : Bool → ℕ → Option ℕ
-number_if holds number = cond holds (Some number) None
+-- The warnings on records, in order, each with what it names, if it is there: a file of the port and
+-- a number.
+abbrev pub rows_of : Tally → List (Warning × Option Place)
+rows_of tally = (CutShort, tally.cut_short)
+    ∷ (Fragments, counted tally.fragments)
+    ∷ (CutFrames, counted tally.cut_frames)
+    ∷ (RunsBack, tally.ran_back)
+    ∷ (Jumps, tally.jumped)
+    ∷ []
 
--- The number of the record at this place in its file, if there is one.
-abbrev pub record_of : Option Place → Option ℕ
-record_of None = None
-record_of (Some place) = Some place.«record»
+-- The line of a warning on a port's capture, if it is there.
+abbrev pub warned : {A : Type 0} → PortFiles A → Warning → Option Place → List ℕ
+warned it warning None = []
+warned it warning (Some place) = warning_text warning (name_at it place.file).now place.«record»
 
--- The name of the file of a port that has this place; that of the port's own file if there is none.
-abbrev pub place_file : {A : Type 0} → PortFiles A → Option Place → Bor (List ℕ)
-place_file it None = it.port.file
-place_file it (Some place) = name_at it place.file
-
--- The warnings on counts: inside which record a file ends, and how many packets are fragments or cut.
--- The counts are of all files of the port, and go under the name of its own file.
-unfoldable pub count_warnings : {A : Type 0} → PortFiles A → Tally → List ℕ
-count_warnings it tally = warned CutShort (place_file it tally.cut_short).now (record_of tally.cut_short)
-    ++ warned Fragments it.port.file.now (number_if (nat_lt 0 tally.fragments) tally.fragments)
-    ++ warned CutFrames it.port.file.now (number_if (nat_lt 0 tally.cut_frames) tally.cut_frames)
-
--- The warnings on times: where one runs back, and where one jumps.
-unfoldable pub time_warnings : {A : Type 0} → PortFiles A → Tally → List ℕ
-time_warnings it tally = warned RunsBack (place_file it tally.ran_back).now (record_of tally.ran_back)
-    ++ warned Jumps (place_file it tally.jumped).now (record_of tally.jumped)
+-- The lines of these warnings.
+unfoldable pub record_warnings : {A : Type 0} → PortFiles A → List (Warning × Option Place) → List ℕ
+record_warnings it rows = flat_map (λ (row : Warning × Option Place). warned it row.0 row.1) rows
 
 -- The warning that no message of a capture is for the router with this address, if messages are for
 -- others.
@@ -75,7 +68,7 @@ module _ {A : Type 0} (family : AddressFamily) (bytes_of : A → List ℕ) (tabl
   -- The warnings on the capture of a port. There are none on that of a port without a link. The port's
   -- own file names those on messages.
   abbrev pub port_warnings : PortFiles A → Tally → List ℕ
-  port_warnings it tally = cond (is_some it.port.link) (count_warnings it tally ++ time_warnings it tally
+  port_warnings it tally = cond (is_some it.port.link) (record_warnings it (rows_of tally)
       ++ census_warnings family table it.port.file.now (bytes_of it.port.address) tally.census) []
 
   -- Those on the captures of these ports, of which the first has this number.

@@ -6,7 +6,7 @@ use Rattle.pim_commands.specs.Naming.{are_in}
 use Rattle.pim_commands.specs.Warnings.{warnings_from}
 use Rattle.pim_commands.proofs.Named.{left_from}
 use Rattle.pim_commands.proofs.Warned.{IsLeft}
-use Rattle.pim_commands.proofs.warnings.warn_of_ports.Given as goal
+use Rattle.pim_commands.proofs.warnings.write_ports.Given as goal
 
 -- the warnings on the ports that are left are still to be written
 abbrev pub invariant-loop-port : goal.invariant-loop-port

@@ -7,18 +7,18 @@ use Rattle.pim_merge.specs.Lane.{tallies_of}
 use Rattle.pim_commands.specs.Naming.{are_in}
 use Rattle.pim_commands.specs.Warnings.{port_warnings, warnings_from}
 use Rattle.pim_commands.proofs.Warned.{left_all, stopped, port_passed, port_stopped, port_warned}
-use Rattle.pim_commands.proofs.warnings.warn_of_ports.Goals as goal
-use Rattle.pim_commands.proofs.warnings.warn_of_ports.Goals.{then-is_in+in_ok-warn_of_port, else-is_in}
+use Rattle.pim_commands.proofs.warnings.write_ports.Goals as goal
+use Rattle.pim_commands.proofs.warnings.write_ports.Goals.{then-is_in+in_ok-write_port, else-is_in}
 
-pub returns-in_err-warn_of_port-clause-bytes : goal.returns-in_err-warn_of_port-clause-bytes
-returns-in_err-warn_of_port-clause-bytes g c =
+pub returns-in_err-write_port-clause-bytes : goal.returns-in_err-write_port-clause-bytes
+returns-in_err-write_port-clause-bytes g c =
     let all = warnings_from g.F.Family.family g.F.Family.bytes_of c.args.routes.now 0 (filter (are_in c.args.side) (files_from 0 c.args.further.now c.args.ports.now)) (tallies_of c.args.merge.now.lanes) in
-    stopped (g.W.Drain.contents c.args.writer.now) (g.W.Drain.contents c.warn_of_port.new.writer) c.from_residual.result all c.from_residual.ensures.0
+    stopped (g.W.Drain.contents c.args.writer.now) (g.W.Drain.contents c.write_port.new.writer) c.from_residual.result all c.from_residual.ensures.0
     (port_stopped g.F.Family.family g.F.Family.bytes_of c.args.routes.now c.args.side (tallies_of c.args.merge.now.lanes) c.args.further.now c.args.ports.now c.loop-port.at (c.loop-port.at + 1) c.loop-port.port-index c.loop-port.number c.port-item.result
     (omega arith) c.loop-port-test.true c.port-item.is
-    (g.W.Drain.contents c.args.writer.now) (g.W.Drain.contents c.loop-port.writer) (g.W.Drain.contents c.warn_of_port.new.writer) all (sym c.is_in.ensures ∙ c.if-is_in.true) c.loop-port.invariant.left
-    (subst (λ tally. AppendsFront (g.W.Drain.contents c.loop-port.writer) (g.W.Drain.contents c.warn_of_port.new.writer) (port_warnings g.F.Family.family g.F.Family.bytes_of c.args.routes.now (with_more c.loop-port.at c.args.further.now c.port-item.result) tally))
-    c.tally_of.ensures c.in_err-warn_of_port.ensures.bytes))
+    (g.W.Drain.contents c.args.writer.now) (g.W.Drain.contents c.loop-port.writer) (g.W.Drain.contents c.write_port.new.writer) all (sym c.is_in.ensures ∙ c.if-is_in.true) c.loop-port.invariant.left
+    (subst (λ tally. AppendsFront (g.W.Drain.contents c.loop-port.writer) (g.W.Drain.contents c.write_port.new.writer) (port_warnings g.F.Family.family g.F.Family.bytes_of c.args.routes.now (with_more c.loop-port.at c.args.further.now c.port-item.result) tally))
+    c.tally_of.ensures c.in_err-write_port.ensures.bytes))
 
 pub loop-port-init : goal.loop-port-init
 loop-port-init g c = record {
@@ -32,16 +32,16 @@ pub loop-port-preserved : goal.loop-port-preserved
 loop-port-preserved g c =
     let all = warnings_from g.F.Family.family g.F.Family.bytes_of c.args.routes.now 0 (filter (are_in c.args.side) (files_from 0 c.args.further.now c.args.ports.now)) (tallies_of c.args.merge.now.lanes) in
     elim c.if-is_in.branch [
-      | then-is_in+in_ok-warn_of_port w ↦ rw (w.writer-is, w.number-is) (record {
+      | then-is_in+in_ok-write_port w ↦ rw (w.writer-is, w.number-is) (record {
         below = omega (arith, c.loop-port.invariant.below);
         few = omega (arith, c.loop-port.invariant.few);
         left = port_warned g.F.Family.family g.F.Family.bytes_of c.args.routes.now c.args.side (tallies_of c.args.merge.now.lanes) c.args.further.now c.args.ports.now c.loop-port.at (c.loop-port.at + 1) c.loop-port.port-index c.loop-port.number
             c.port-item.result (omega arith) c.loop-port-test.true c.port-item.is
-            (g.W.Drain.contents c.args.writer.now) (g.W.Drain.contents c.loop-port.writer) (g.W.Drain.contents w.warn_of_port.new.writer) all (c.loop-port.number + 1) (omega arith)
+            (g.W.Drain.contents c.args.writer.now) (g.W.Drain.contents c.loop-port.writer) (g.W.Drain.contents w.write_port.new.writer) all (c.loop-port.number + 1) (omega arith)
             (sym c.is_in.ensures ∙ w.if-is_in.true) c.loop-port.invariant.left
-            (subst (λ tally. Appends (g.W.Drain.contents c.loop-port.writer) (g.W.Drain.contents w.warn_of_port.new.writer) (port_warnings g.F.Family.family g.F.Family.bytes_of c.args.routes.now (with_more c.loop-port.at c.args.further.now c.port-item.result) tally))
-            w.tally_of.ensures w.in_ok-warn_of_port.ensures.bytes);
-        count = w.in_ok-warn_of_port.ensures.count ∙ c.loop-port.invariant.count;
+            (subst (λ tally. Appends (g.W.Drain.contents c.loop-port.writer) (g.W.Drain.contents w.write_port.new.writer) (port_warnings g.F.Family.family g.F.Family.bytes_of c.args.routes.now (with_more c.loop-port.at c.args.further.now c.port-item.result) tally))
+            w.tally_of.ensures w.in_ok-write_port.ensures.bytes);
+        count = w.in_ok-write_port.ensures.count ∙ c.loop-port.invariant.count;
       })
       | else-is_in w ↦ rw (w.writer-is, w.number-is) (record {
         below = omega (arith, c.loop-port.invariant.below);
