@@ -1,5 +1,5 @@
 -- Routers that are made, and what is told of their replays.
-use Rattle.std.proofs.Common.{◌≡◌, ◌≤◌, inl, inr, refl, sym, ap, subst, ◌∙◌, ℕ, Bool, List, [], ◌∷◌, length, map, Option, None, Some, Result, Ok, Err, arith}
+use Rattle.std.proofs.Common.{◌≡◌, ◌≤◌, inl, inr, refl, sym, ap, subst, ◌∙◌, ℕ, Bool, true, false, cond, List, [], ◌∷◌, length, map, Option, None, Some, Result, Ok, Err, arith}
 use Rattle.std.specs.Borrow.{Bor}
 use Rattle.std.proofs.lemmas.List.{length-map}
 use Rattle.pim_addr.specs.declared.family.AddressFamily.{AddressFamily}
@@ -20,9 +20,10 @@ use Rattle.pim_router.specs.Seen.{port_seen, setup_seen}
 use Rattle.pim_router.specs.State.{RouterState, Setup, new_router}
 use Rattle.pim_files.specs.Captures.{PortFiles}
 use Rattle.pim_words.specs.declared.task.Port.{Port}
-use Rattle.pim_faults.specs.declared.causes.CaptureCause.{CaptureCause}
+use Rattle.pim_capture.specs.declared.fault.CaptureFault.{CaptureFault}
 use Rattle.pim_faults.specs.declared.fault.Fault.{Fault}
-use Rattle.pim_commands.specs.Naming.{in_file, file_at, by_cause, cause_of, port_fault}
+use Rattle.pim_faults.specs.declared.fault.Fault.TheVariants.{Memory}
+use Rattle.pim_commands.specs.Naming.{in_file, file_at, is_memory, port_fault}
 use Rattle.pim_commands.specs.Replaying.{config_of, config_fault, answer_of, IsUnmade, ReplaysNew}
 use Rattle.pim_commands.specs.Report.{write_failures_after}
 
@@ -69,16 +70,13 @@ replayed ports family via end merge merge' setup wanted router after old new (Er
     }))
 
 -- a fault of a capture isn't one of writing
-cause_is_read : (before : ℕ) (file : Option (Bor (List ℕ))) (number : ℕ) (cause : CaptureCause) → write_failures_after {A = ℕ} before (Err (in_file file number cause)) ≡ before
-cause_is_read before None number cause = refl
-cause_is_read before (Some file) number cause = refl
-
-told_is_read : (before : ℕ) (file : Option (Bor (List ℕ))) (number : ℕ) (cause : Option CaptureCause) → write_failures_after {A = ℕ} before (Err (by_cause (in_file file number) cause)) ≡ before
-told_is_read before file number None = refl
-told_is_read before file number (Some cause) = cause_is_read before file number cause
+is_read : (before : ℕ) (memory : Bool) (file : Option (Bor (List ℕ))) (number : ℕ) (cause : CaptureFault) → write_failures_after {A = ℕ} before (Err (cond memory Memory (in_file file number cause))) ≡ before
+is_read before true file number cause = refl
+is_read before false None number cause = refl
+is_read before false (Some file) number cause = refl
 
 pub capture_is_read : {A : Type 0} (before : ℕ) (ports : List (PortFiles A)) (told : MergeFault) → write_failures_after {A = ℕ} before (Err (port_fault ports told)) ≡ before
-capture_is_read before ports told = told_is_read before (file_at ports told.capture told.file) told.«record» (cause_of told.fault)
+capture_is_read before ports told = is_read before (is_memory told.fault) (file_at ports told.capture told.file) told.«record» told.fault
 
 -- the device's failures are those that are told
 pub failures_are_told : {A : Type 0} (before : ℕ) (ports : List (PortFiles A)) (told : Result ℕ RunFault) → failures_of_device before told ≡ write_failures_after before (answer_of ports told)

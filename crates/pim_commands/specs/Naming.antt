@@ -1,7 +1,6 @@
 -- The program's fault for a fault of a capture: it names the file of a port with a link.
-use Rattle.std.specs.Prelude.{◌==◌, ℕ, zero, suc, Bool, true, List, [], ◌∷◌, filter, cond, is_some, if◌then◌else◌, Option, None, Some}
+use Rattle.std.specs.Prelude.{ℕ, zero, suc, Bool, true, false, List, [], ◌∷◌, filter, cond, is_some, Option, None, Some}
 use Rattle.std.specs.Borrow.{Bor}
-use Rattle.pim_capture.specs.declared.vlan.Vlan.{Vlan}
 use Rattle.pim_capture.specs.declared.fault.CaptureFault.{CaptureFault}
 use Rattle.pim_capture.specs.declared.fault.CaptureFault.TheVariants as of_capture
 use Rattle.pim_files.specs.Captures.{PortFiles, of_router}
@@ -10,29 +9,13 @@ use Rattle.pim_merge.specs.declared.merge.MergeFault.{MergeFault}
 use Rattle.pim_words.specs.declared.fault.Side.{Side}
 use Rattle.pim_words.specs.declared.task.More.{More}
 use Rattle.pim_words.specs.declared.task.Port.{Port}
-use Rattle.pim_faults.specs.declared.causes.CaptureCause.{CaptureCause}
-use Rattle.pim_faults.specs.declared.causes.CaptureCause.TheVariants as capture
 use Rattle.pim_faults.specs.declared.fault.Fault.{Fault}
 use Rattle.pim_faults.specs.declared.fault.Fault.TheVariants.{Capture, InFile, Memory}
 
--- The number of the tag in which a VLAN differs from another one.
-abbrev pub tag_of : Vlan → Vlan → ℕ
-tag_of vlan other = if vlan.outer == other.outer then vlan.inner else vlan.outer
-
--- The cause of a capture's fault. Where memory is refused, the capture has none.
-abbrev pub cause_of : CaptureFault → Option CaptureCause
-cause_of of_capture.Magic = Some capture.Magic
-cause_of of_capture.LinkType = Some capture.LinkType
-cause_of (of_capture.LinkNumber number) = Some (capture.LinkNumber number)
-cause_of of_capture.Truncated = Some capture.Truncated
-cause_of of_capture.TooLong = Some capture.TooLong
-cause_of of_capture.Block = Some capture.Block
-cause_of of_capture.Time = Some capture.Time
-cause_of (of_capture.Vlans first other) = Some (capture.Vlans (tag_of first other) (tag_of other first))
-cause_of (of_capture.Interfaces first other) = Some (capture.Interfaces first other)
-cause_of (of_capture.InterfaceNames first other) = Some (capture.InterfaceNames first other)
-cause_of of_capture.Memory = None
-cause_of other = Some capture.Read
+-- Whether the fault of a capture is that memory was refused.
+abbrev pub is_memory : CaptureFault → Bool
+is_memory of_capture.Memory = true
+is_memory other = false
 
 -- ---- the names of a port's files
 
@@ -59,21 +42,16 @@ file_at (it ∷ ports) (suc number) file = file_at ports number file
 
 -- ---- the fault
 
--- The fault for this cause at a record of this number in a file, if it is named.
-abbrev pub in_file : Option (Bor (List ℕ)) → ℕ → CaptureCause → Fault
+-- The fault at a record of this number in a file, if it is named.
+abbrev pub in_file : Option (Bor (List ℕ)) → ℕ → CaptureFault → Fault
 in_file None number cause = Capture cause
 in_file (Some file) number cause = InFile cause file number
-
--- The fault for a cause, or `Memory` if there is none.
-abbrev pub by_cause : (CaptureCause → Fault) → Option CaptureCause → Fault
-by_cause tell None = Memory
-by_cause tell (Some cause) = tell cause
 
 -- The program's fault for a fault of a capture of a router with these ports. The captures are
 -- numbered as the ports. It names the file of the capture in which the fault is.
 abbrev pub port_fault : {A : Type 0} → List (PortFiles A) → MergeFault → Fault
-port_fault ports told =
-    by_cause (in_file (file_at ports told.capture told.file) told.«record») (cause_of told.fault)
+port_fault ports told = cond (is_memory told.fault) Memory
+    (in_file (file_at ports told.capture told.file) told.«record» told.fault)
 
 -- The ports of a router: of one of two routers, or all.
 abbrev pub ports_of : {A : Type 0} → Option Side → List (PortFiles A) → List (PortFiles A)

@@ -51,7 +51,7 @@ pub use comparing::same;
 pub use emitting::emit;
 pub use laws::trace_ends_as_replay;
 pub use mirroring::mirror;
-pub use pim_faults::{CaptureCause, FAULTY, Fault, Warning, fault_line, tell_into, warning_line};
+pub use pim_faults::{FAULTY, Fault, Warning, fault_line, tell_into, warning_line};
 pub use replaying::replay;
 pub use running::run_task;
 pub use tracing::trace;

@@ -4,51 +4,20 @@ ghost use Rattle.std.specs.Prelude.{◌≡◌, filter};
 ghost use Rattle.pim_files.specs.Captures.{files_from, with_more};
 ghost use Rattle.pim_words.specs.Faults.{is_of};
 ghost use Rattle.pim_files.specs.Opening.{port_files};
-ghost use Rattle.pim_commands.specs.Naming.{tag_of, cause_of, name_at, file_of, file_at, in_file};
+ghost use Rattle.pim_commands.specs.Naming.{is_memory, name_at, file_of, file_at, in_file};
 ghost use Rattle.pim_commands.specs.Naming.{port_fault, ports_of, is_in, are_in};
 
-use pim_capture::{CaptureFault, Vlan};
-use pim_faults::{CaptureCause, Fault};
+use pim_capture::CaptureFault;
+use pim_faults::Fault;
 use pim_files::is_further;
 use pim_merge::MergeFault;
 use pim_words::{Captures, More, Port, Side, is_of};
 
-/// The number of the tag in which a VLAN differs from another one.
-fn tag_of(vlan: Vlan, other: Vlan) -> u16
-    ensures { result ≡ tag_of vlan other }
+/// Whether the fault of a capture is that memory was refused.
+fn is_memory(fault: CaptureFault) -> bool
+    ensures { result ≡ is_memory fault }
 {
-    if vlan.outer == other.outer {
-        vlan.inner
-    } else {
-        vlan.outer
-    }
-}
-
-/// The cause of a capture's fault. Where memory is refused, the capture has none.
-fn cause_of(fault: CaptureFault) -> Option<CaptureCause>
-    ensures { result ≡ cause_of fault }
-{
-    match fault {
-        CaptureFault::Magic => Some(CaptureCause::Magic),
-        CaptureFault::LinkType => Some(CaptureCause::LinkType),
-        CaptureFault::LinkNumber(number) => Some(CaptureCause::LinkNumber(number)),
-        CaptureFault::Truncated => Some(CaptureCause::Truncated),
-        CaptureFault::TooLong => Some(CaptureCause::TooLong),
-        CaptureFault::Read | CaptureFault::Failed => Some(CaptureCause::Read),
-        CaptureFault::Memory => None,
-        CaptureFault::Block => Some(CaptureCause::Block),
-        CaptureFault::Time => Some(CaptureCause::Time),
-        CaptureFault::Vlans { first, other } => Some(CaptureCause::Vlans {
-            first: tag_of(first, other),
-            other: tag_of(other, first),
-        }),
-        CaptureFault::Interfaces { first, other } => {
-            Some(CaptureCause::Interfaces { first, other })
-        }
-        CaptureFault::InterfaceNames { first, other } => {
-            Some(CaptureCause::InterfaceNames { first, other })
-        }
-    }
+    matches!(fault, CaptureFault::Memory)
 }
 
 /// Whether the port is one of the router: of one of two, or of the one of all ports.
@@ -126,8 +95,8 @@ fn file_at<'a, A: Copy>(
     None
 }
 
-/// The fault for this cause at a record of this number in a file, if it is named.
-fn in_file<'a>(file: Option<&'a str>, number: u64, cause: CaptureCause) -> Fault<'a>
+/// The fault at a record of this number in a file, if it is named.
+fn in_file<'a>(file: Option<&'a str>, number: u64, cause: CaptureFault) -> Fault<'a>
     ensures { result ≡ in_file file.entry number cause }
 {
     match file {
@@ -148,9 +117,9 @@ pub(crate) fn port_fault<'a, A: Copy>(
 ) -> Fault<'a>
     ensures { result ≡ port_fault (ports_of side (port_files captures.now)) told }
 {
-    let Some(cause) = cause_of(told.fault) else {
+    if is_memory(told.fault) {
         return Fault::Memory;
-    };
+    }
     in_file(
         file_at(
             &captures.ports,
@@ -160,6 +129,6 @@ pub(crate) fn port_fault<'a, A: Copy>(
             told.file,
         ),
         told.record,
-        cause,
+        told.fault,
     )
 }

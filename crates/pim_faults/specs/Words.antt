@@ -1,5 +1,5 @@
 -- The line of a fault.
-use Rattle.std.specs.Prelude.{ℕ, Bool, true, false, List, ◌++◌, codes, decimal, unwrap_or}
+use Rattle.std.specs.Prelude.{◌==◌, ℕ, Bool, true, false, if◌then◌else◌, List, ◌++◌, codes, decimal, unwrap_or}
 use Rattle.clap.specs.declared.error.kind.ErrorKind.{ErrorKind}
 use Rattle.clap.specs.Values.{kind_text}
 use Rattle.pim_report.specs.Malformed.{frame_words, hello_words, join_prune_words}
@@ -8,6 +8,9 @@ use Rattle.pim_addr.specs.Text.{address_text}
 use Rattle.pim_build.specs.declared.fault.BuildFault.{BuildFault}
 use Rattle.pim_build.specs.declared.fault.BuildFault.TheVariants as of_build
 use Rattle.pim_capture.specs.Names.{text_of}
+use Rattle.pim_capture.specs.declared.fault.CaptureFault.{CaptureFault}
+use Rattle.pim_capture.specs.declared.fault.CaptureFault.TheVariants as capture
+use Rattle.pim_capture.specs.declared.vlan.Vlan.{Vlan}
 use Rattle.pim_files.specs.declared.opener.FileCause.{FileCause}
 use Rattle.pim_files.specs.declared.opener.FileCause.TheVariants as opening
 use Rattle.pim_routes_file.specs.declared.fault.RoutesFault.{RoutesFault}
@@ -20,8 +23,6 @@ use Rattle.pim_words.specs.declared.fault.ConfigCause.{ConfigCause}
 use Rattle.pim_words.specs.declared.fault.ConfigCause.TheVariants as config
 use Rattle.pim_words.specs.declared.fault.Fault.{Fault as WordsFault}
 use Rattle.pim_words.specs.declared.fault.Fault.TheVariants as words
-use Rattle.pim_faults.specs.declared.causes.CaptureCause.{CaptureCause}
-use Rattle.pim_faults.specs.declared.causes.CaptureCause.TheVariants as capture
 use Rattle.pim_faults.specs.declared.fault.Fault.{Fault}
 use Rattle.pim_faults.specs.declared.fault.Fault.TheVariants.{Words, File, Unopened, RoutesTooLong, RoutesRead, RoutesLine, Capture, InFile}
 use Rattle.pim_faults.specs.declared.fault.Fault.TheVariants.{Frame, Hello, JoinPrune, TooBig, Full, InputTooLong}
@@ -45,24 +46,34 @@ config_words config.Ports = codes "config ports"
 config_words config.Address = codes "config address"
 config_words config.Rp = codes "config rp"
 
+-- The number of the tag in which a VLAN differs from another one.
+abbrev pub tag_of : Vlan → Vlan → ℕ
+tag_of vlan other = if vlan.outer == other.outer then vlan.inner else vlan.outer
+
+-- The words of two VLANs in one capture.
+abbrev pub vlans_words : Vlan → Vlan → List ℕ
+vlans_words first other = codes "capture vlans " ++ decimal (tag_of first other) ++ codes "," ++ decimal (tag_of other first)
+
 -- The words of a fault of a capture.
-abbrev pub capture_words : CaptureCause → List ℕ
+abbrev pub capture_words : CaptureFault → List ℕ
 capture_words capture.Magic = codes "capture magic"
 capture_words capture.LinkType = codes "capture link-type"
 capture_words (capture.LinkNumber number) = codes "capture link-type " ++ decimal number
 capture_words capture.Truncated = codes "capture truncated"
 capture_words capture.TooLong = codes "capture too-long"
 capture_words capture.Read = codes "capture read"
+capture_words capture.Failed = codes "capture read"
+capture_words capture.Memory = codes "memory"
 capture_words capture.Block = codes "capture block"
 capture_words capture.Time = codes "capture time"
-capture_words (capture.Vlans first other) = codes "capture vlans " ++ decimal first ++ codes "," ++ decimal other
+capture_words (capture.Vlans first other) = vlans_words first other
 capture_words (capture.Interfaces first other) =
     codes "capture interfaces " ++ decimal first ++ codes "," ++ decimal other
 capture_words (capture.InterfaceNames first other) =
     codes "capture interfaces " ++ text_of first ++ codes "," ++ text_of other
 
--- Whether a fault of this cause is one of a single record.
-abbrev pub is_of_record : CaptureCause → Bool
+-- Whether a fault of a capture is one of a single record.
+abbrev pub is_of_record : CaptureFault → Bool
 is_of_record capture.TooLong = true
 is_of_record capture.Block = true
 is_of_record capture.Time = true

@@ -1,52 +1,22 @@
-//! The causes of a fault of a capture, and the words of causes.
+//! The words of causes.
 
 ghost use Rattle.std.specs.Prelude.{◌≡◌};
 ghost use Rattle.pim_faults.specs.Words.{config_words, file_words, is_of_record, no_port_words};
+ghost use Rattle.pim_faults.specs.Words.{tag_of};
 
-use pim_capture::InterfaceName;
+use pim_capture::{CaptureFault, Vlan};
 use pim_files::FileCause;
 use pim_words::{ConfigCause, Side};
 
-/// Why a capture isn't read to its end.
-#[derive(Clone, Copy, Debug, PartialEq, Eq)]
-pub enum CaptureCause {
-    /// It doesn't begin as a capture that is read.
-    Magic,
-    /// Its link type is neither Ethernet nor raw IP.
-    LinkType,
-    /// The link of this number isn't read.
-    LinkNumber(u16),
-    /// It ends inside its header or a record.
-    Truncated,
-    /// A record's captured length is above 262,144 bytes, or a block has too many bytes.
-    TooLong,
-    /// It can't be read, or it has more than 4,294,967,295 records.
-    Read,
-    /// A block of it contradicts itself.
-    Block,
-    /// A time of it is out of range.
-    Time,
-    /// Its packets have these VLANs, by the tag in which they differ.
-    Vlans {
-        /// That of the first packet.
-        first: u16,
-        /// Another one.
-        other: u16,
-    },
-    /// Its packets are of the interfaces with these numbers.
-    Interfaces {
-        /// That of the first packet.
-        first: u32,
-        /// Another one.
-        other: u32,
-    },
-    /// Its packets are of the interfaces with these names.
-    InterfaceNames {
-        /// That of the first packet.
-        first: InterfaceName,
-        /// Another one.
-        other: InterfaceName,
-    },
+/// The number of the tag in which a VLAN differs from another one.
+pub fn tag_of(vlan: Vlan, other: Vlan) -> u16
+    ensures { result ≡ tag_of vlan other }
+{
+    if vlan.outer == other.outer {
+        vlan.inner
+    } else {
+        vlan.outer
+    }
 }
 
 /// The words of a router of two without a port.
@@ -59,13 +29,13 @@ pub fn no_port_words(side: Side) -> &'static [u8]
     }
 }
 
-/// Whether a fault of this cause is one of a single record.
-pub fn is_of_record(cause: CaptureCause) -> bool
+/// Whether a fault of a capture is one of a single record.
+pub fn is_of_record(cause: CaptureFault) -> bool
     ensures { result ≡ is_of_record cause }
 {
     matches!(
         cause,
-        CaptureCause::TooLong | CaptureCause::Block | CaptureCause::Time
+        CaptureFault::TooLong | CaptureFault::Block | CaptureFault::Time
     )
 }
 

@@ -8,14 +8,14 @@ ghost use Rattle.pim_report.specs.Malformed.{malformed_words};
 ghost use Rattle.pim_faults.specs.declared.fault.Fault.TheVariants.{Words};
 ghost use Rattle.pim_faults.specs.Words.{refusal_words, address_words, plan_words, fault_words};
 ghost use Rattle.pim_faults.specs.Words.{fault_text, routes_fault, capture_words, place_words};
-ghost use Rattle.pim_faults.specs.Words.{file_words, is_of_record, build_fault};
+ghost use Rattle.pim_faults.specs.Words.{file_words, is_of_record, build_fault, vlans_words};
 
-use crate::causes::{CaptureCause, config_words, file_words, is_of_record, no_port_words};
+use crate::causes::{config_words, file_words, is_of_record, no_port_words, tag_of};
 use clap::error::ErrorKind;
 use itoa::Buffer;
 use pim_addr::{Drain, Failed, V4, V6, write_all, write_text};
 use pim_build::BuildFault;
-use pim_capture::InterfaceName;
+use pim_capture::{CaptureFault, InterfaceName, Vlan};
 use pim_files::FileCause;
 use pim_frame::FrameFault;
 use pim_hello::HelloFault;
@@ -46,12 +46,12 @@ pub enum Fault<'a> {
     RoutesRead,
     /// This line of the file of routes, counted from 1, has another form, or its row is refused.
     RoutesLine(usize),
-    /// The capture of a port without a link has a fault.
-    Capture(CaptureCause),
-    /// The capture of a port with a link has a fault.
+    /// The capture of a port without a link has a fault. It isn't `CaptureFault::Memory`.
+    Capture(CaptureFault),
+    /// The capture of a port with a link has a fault. It isn't `CaptureFault::Memory`.
     InFile {
         /// The fault.
-        cause: CaptureCause,
+        cause: CaptureFault,
         /// The name of the file.
         file: &'a str,
         /// The number of the record that has the fault, counted from 1.
@@ -163,6 +163,17 @@ fn put_two<W: Drain>(writer: &mut W, words: &[u8], first: u32, other: u32) -> Re
     put_number(writer, b",", u64::from(other))
 }
 
+/// Writes the words of two VLANs.
+fn put_vlans<W: Drain>(writer: &mut W, first: Vlan, other: Vlan) -> Result<(), Failed>
+    ensures bytes { AppendsAll (W.contents writer.old) (W.contents writer.new) result
+        (vlans_words first other) }
+    ensures count { W.failures writer.new ≡ failures_after (W.failures writer.old) result }
+{
+    let first_tag = u32::from(tag_of(first, other));
+    let other_tag = u32::from(tag_of(other, first));
+    put_two(writer, b"capture vlans ", first_tag, other_tag)
+}
+
 /// Writes the words and a name.
 fn put_name<W: Drain>(writer: &mut W, words: &[u8], name: &InterfaceName) -> Result<(), Failed>
     ensures bytes { AppendsAll (W.contents writer.old) (W.contents writer.new) result
@@ -189,41 +200,35 @@ fn put_names<W: Drain>(
 }
 
 /// Writes the words of a capture's fault.
-fn put_capture<W: Drain>(writer: &mut W, cause: CaptureCause) -> Result<(), Failed>
+fn put_capture<W: Drain>(writer: &mut W, cause: CaptureFault) -> Result<(), Failed>
     ensures bytes { AppendsAll (W.contents writer.old) (W.contents writer.new) result
         (capture_words cause) }
     ensures count { W.failures writer.new ≡ failures_after (W.failures writer.old) result }
 {
     match cause {
-        CaptureCause::Magic => write_all(writer, b"capture magic"),
-        CaptureCause::LinkType => write_all(writer, b"capture link-type"),
-        CaptureCause::LinkNumber(number) => {
+        CaptureFault::Magic => write_all(writer, b"capture magic"),
+        CaptureFault::LinkType => write_all(writer, b"capture link-type"),
+        CaptureFault::LinkNumber(number) => {
             put_number(writer, b"capture link-type ", u64::from(number))
         }
-        CaptureCause::Truncated => write_all(writer, b"capture truncated"),
-        CaptureCause::TooLong => write_all(writer, b"capture too-long"),
-        CaptureCause::Read => write_all(writer, b"capture read"),
-        CaptureCause::Block => write_all(writer, b"capture block"),
-        CaptureCause::Time => write_all(writer, b"capture time"),
-        CaptureCause::Vlans { first, other } => {
-            put_two(
-                writer,
-                b"capture vlans ",
-                u32::from(first),
-                u32::from(other),
-            )
-        }
-        CaptureCause::Interfaces { first, other } => {
+        CaptureFault::Truncated => write_all(writer, b"capture truncated"),
+        CaptureFault::TooLong => write_all(writer, b"capture too-long"),
+        CaptureFault::Read | CaptureFault::Failed => write_all(writer, b"capture read"),
+        CaptureFault::Memory => write_all(writer, b"memory"),
+        CaptureFault::Block => write_all(writer, b"capture block"),
+        CaptureFault::Time => write_all(writer, b"capture time"),
+        CaptureFault::Vlans { first, other } => put_vlans(writer, first, other),
+        CaptureFault::Interfaces { first, other } => {
             put_two(writer, b"capture interfaces ", first, other)
         }
-        CaptureCause::InterfaceNames { first, other } => {
+        CaptureFault::InterfaceNames { first, other } => {
             put_names(writer, b"capture interfaces ", &first, &other)
         }
     }
 }
 
 /// Writes the words of a capture's fault, and ends the line.
-fn write_capture<W: Drain>(writer: &mut W, cause: CaptureCause) -> Result<(), Failed>
+fn write_capture<W: Drain>(writer: &mut W, cause: CaptureFault) -> Result<(), Failed>
     ensures bytes { AppendsAll (W.contents writer.old) (W.contents writer.new) result
         (line (capture_words cause)) }
     ensures count { W.failures writer.new ≡ failures_after (W.failures writer.old) result }
@@ -286,7 +291,7 @@ fn write_place<W: Drain>(
 /// Writes the words of a capture's fault and its place, and ends the line.
 fn write_in_file<W: Drain>(
     writer: &mut W,
-    cause: CaptureCause,
+    cause: CaptureFault,
     file: &str,
     number: u64,
 ) -> Result<(), Failed>

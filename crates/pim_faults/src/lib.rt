@@ -17,7 +17,6 @@ mod telling;
 mod unopened;
 mod warning;
 
-pub use causes::CaptureCause;
 pub use fault::{Fault, fault_line};
 pub use missing::{missed_line, unserved_line};
 pub use telling::{FAULTY, tell_into};

@@ -7,7 +7,8 @@ use super::running::{
     all_files, answer, file_of, run,
 };
 use pim_addr::ScriptedDrain;
-use pim_commands::{CaptureCause, Fault};
+use pim_capture::CaptureFault;
+use pim_commands::Fault;
 use pim_files::HeldFile;
 use pim_words::{Plan, plan};
 use std::alloc::Global;
@@ -159,7 +160,7 @@ fn ends(
     spoilt: &Spoilt,
     file: HeldFile<'_>,
     text: &str,
-    cause: Option<CaptureCause>,
+    cause: Option<CaptureFault>,
 ) -> bool {
     let files = [file];
     let mut output = ScriptedDrain::new(alloc, 7, NEVER);
@@ -178,7 +179,7 @@ fn is_cut(alloc: Global, spoilt: &Spoilt, length: usize) -> bool {
     let cause = if is_whole {
         None
     } else {
-        Some(CaptureCause::Truncated)
+        Some(CaptureFault::Truncated)
     };
     ends(alloc, spoilt, file_of(spoilt.name, front), text, cause)
 }
@@ -190,7 +191,7 @@ fn is_unread(alloc: Global, spoilt: &Spoilt, fails_from: usize) -> bool {
         ..file_of(spoilt.name, spoilt.bytes)
     };
     let text = of_failure(spoilt, fails_from);
-    ends(alloc, spoilt, file, text, Some(CaptureCause::Read))
+    ends(alloc, spoilt, file, text, Some(CaptureFault::Read))
 }
 
 #[test]

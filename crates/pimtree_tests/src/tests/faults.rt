@@ -2,7 +2,8 @@
 
 use clap::error::ErrorKind;
 use pim_addr::ScriptedDrain;
-use pim_commands::{CaptureCause, Fault, tell_into};
+use pim_capture::{CaptureFault, Vlan};
+use pim_commands::{Fault, tell_into};
 use pim_files::FileCause;
 use pim_lines::AnyAddress;
 use pim_words::{ConfigCause, Fault as Unplanned, Refusal, Side};
@@ -93,12 +94,17 @@ fn lines_of_faults_stop_at_a_failure(rt: HostRuntime) {
 }
 
 /// A fault of this cause at the third record of a file.
-fn in_file(cause: CaptureCause) -> Fault<'static> {
+fn in_file(cause: CaptureFault) -> Fault<'static> {
     Fault::InFile {
         cause,
         file: "a.pcap",
         record: 3,
     }
+}
+
+/// The VLAN of one tag.
+fn vlan(outer: u16) -> Vlan {
+    Vlan { outer, inner: 0 }
 }
 
 /// A file that can't be opened for this cause.
@@ -111,8 +117,11 @@ fn unopened(cause: FileCause) -> Fault<'static> {
 
 #[test]
 fn lines_with_names_of_files_stop_at_a_failure(rt: HostRuntime) {
-    let vlans = CaptureCause::Vlans { first: 5, other: 7 };
-    let interfaces = CaptureCause::Interfaces { first: 0, other: 1 };
+    let vlans = CaptureFault::Vlans {
+        first: vlan(5),
+        other: vlan(7),
+    };
+    let interfaces = CaptureFault::Interfaces { first: 0, other: 1 };
     let rows = [
         (
             unopened(FileCause::Missing),
@@ -128,11 +137,11 @@ fn lines_with_names_of_files_stop_at_a_failure(rt: HostRuntime) {
         ),
         (unopened(FileCause::Other), "pimtree: file a.pcap\n"),
         (
-            in_file(CaptureCause::LinkNumber(147)),
+            in_file(CaptureFault::LinkNumber(147)),
             "pimtree: capture link-type 147 in a.pcap\n",
         ),
         (
-            in_file(CaptureCause::TooLong),
+            in_file(CaptureFault::TooLong),
             "pimtree: capture too-long in a.pcap at record 3\n",
         ),
         (in_file(vlans), "pimtree: capture vlans 5,7 in a.pcap\n"),
