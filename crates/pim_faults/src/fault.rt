@@ -429,6 +429,16 @@ fn write_words<W: Drain>(fault: &Fault<'_>, writer: &mut W) -> Result<(), Failed
     }
 }
 
+/// Writes words and those of a fault, and ends the line.
+fn write_after<W: Drain>(writer: &mut W, words: &[u8], fault: &Fault<'_>) -> Result<(), Failed>
+    ensures bytes { AppendsAll (W.contents writer.old) (W.contents writer.new) result
+        (line (words.now ++ fault_words fault.now)) }
+    ensures count { W.failures writer.new ≡ failures_after (W.failures writer.old) result }
+{
+    write_all(writer, words)?;
+    write_words(fault, writer)
+}
+
 /// Writes the line of a fault: `pimtree: `, its words and a line feed.
 ///
 /// # Errors
@@ -438,6 +448,5 @@ pub fn fault_line<W: Drain>(fault: &Fault<'_>, writer: &mut W) -> Result<(), Fai
         (fault_text fault.now) }
     ensures count { W.failures writer.new ≡ failures_after (W.failures writer.old) result }
 {
-    write_all(writer, b"pimtree: ")?;
-    write_words(fault, writer)
+    write_after(writer, b"pimtree: ", fault)
 }
