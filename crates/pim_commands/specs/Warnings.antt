@@ -43,7 +43,7 @@ record_warnings it rows = flat_map (λ (row : Warning × Option Place). warned i
 
 -- The warning that no message of a capture is for the router with this address, if messages are for
 -- others.
-abbrev pub missed_warning : AddressFamily → List ℕ → List ℕ → Census → List ℕ
+unfoldable pub missed_warning : AddressFamily → List ℕ → List ℕ → Census → List ℕ
 missed_warning family file own census =
     cond (misses own census.upstreams) (missed_text family file own census.upstreams) []
 
@@ -54,7 +54,7 @@ unserved_group family file (Some group) = unserved_text family file group
 
 -- The warning that a Join(*,G) for the router with this address is of a group without an RP in the
 -- table.
-abbrev pub unserved_warning : AddressFamily → RouteTable → List ℕ → List ℕ → Census → List ℕ
+unfoldable pub unserved_warning : AddressFamily → RouteTable → List ℕ → List ℕ → Census → List ℕ
 unserved_warning family table file own census =
     unserved_group family file (without_rp family table own census.stars)
 

@@ -93,6 +93,7 @@ fn write_rows<W: Drain, A: Copy>(
 
 /// Writes the warning that no message of a capture is for the router with this address, if messages
 /// are for others.
+#[tactic(auto, unfolding(crate::specs::Warnings::missed_warning))]
 fn write_missed<F: Family, W: Drain>(
     writer: &mut W,
     file: &str,
@@ -111,6 +112,7 @@ fn write_missed<F: Family, W: Drain>(
 
 /// Writes the warning that a Join(\*,G) for the router with this address is of a group without an
 /// RP, if there is such a group.
+#[tactic(auto, unfolding(crate::specs::Warnings::unserved_warning))]
 fn write_unserved<F: Family, W: Drain>(
     writer: &mut W,
     file: &str,
@@ -180,33 +182,6 @@ fn tally_of<R: Feed + Drop>(merge: &Merge<R>, number: usize) -> Tally
     Tally::new()
 }
 
-/// Writes the warnings on the captures of the router's ports among these.
-fn write_ports<F: Family, W: Drain, R: Feed + Drop>(
-    writer: &mut W,
-    ports: &[Port<'_, F::Addr>],
-    further: &[More<'_>],
-    side: Option<Side>,
-    routes: &Routes<F>,
-    merge: &Merge<R>,
-) -> Result<(), Failed>
-    ensures bytes { AppendsAll (W.contents writer.old) (W.contents writer.new) result
-        (warnings_from F.family F.bytes_of routes.now 0
-        (filter (are_in side) (files_from 0 further.now ports.now))
-        (tallies_of merge.now.lanes)) }
-    ensures count { W.failures writer.new ≡ failures_after (W.failures writer.old) result }
-{
-    let mut number = 0;
-    let mut at = 0;
-    for port in ports {
-        if is_in(side, port) {
-            write_port::<F, W>(writer, at, port, further, routes, tally_of(merge, number))?;
-            number += 1;
-        }
-        at += 1;
-    }
-    Ok(())
-}
-
 /// Writes the warnings on the captures of a router: of one of two, or of the one of all ports.
 fn write_router<F: Family, W: Drain, R: Feed + Drop>(
     writer: &mut W,
@@ -220,7 +195,18 @@ fn write_router<F: Family, W: Drain, R: Feed + Drop>(
         merge.now) }
     ensures count { W.failures writer.new ≡ failures_after (W.failures writer.old) result }
 {
-    write_ports::<F, W, R>(writer, &captures.ports, &captures.more, side, routes, merge)
+    let ports: &[Port<'_, F::Addr>] = &captures.ports;
+    let further: &[More<'_>] = &captures.more;
+    let mut number = 0;
+    let mut at = 0;
+    for port in ports {
+        if is_in(side, port) {
+            write_port::<F, W>(writer, at, port, further, routes, tally_of(merge, number))?;
+            number += 1;
+        }
+        at += 1;
+    }
+    Ok(())
 }
 
 /// Writes the warnings on the captures of the routers a and b.
