@@ -11,10 +11,10 @@ ghost use Rattle.pim_text.specs.HelloText.{hello_text};
 ghost use Rattle.pim_text.specs.Read.{States};
 ghost use Rattle.pim_text.specs.Value.{hello_in};
 ghost use Rattle.pim_commands.specs.Ends.{IsCheckTask, task_source, task_destination};
-ghost use Rattle.pim_commands.specs.Report.{body_report, hello_report, message_report, input_report};
-ghost use Rattle.pim_commands.specs.Report.{read_failures_after};
-ghost use Rattle.pim_commands.specs.Report.{write_failures_after};
-ghost use Rattle.pim_commands.specs.Report.{IsStated, Reports, GivesReport, GivesInput, IsReadFault};
+ghost use Rattle.pim_commands.specs.Report.{body_report, hello_report, message_report};
+ghost use Rattle.pim_commands.specs.Report.{input_report, IsStated, Reports, GivesReport};
+ghost use Rattle.pim_commands.specs.Report.{GivesInput, IsReadFault};
+ghost use Rattle.pim_commands.specs.Report.{read_failures_after, write_failures_after};
 
 use pim_addr::{Drain, Failed, Family, Feed, read_up_to, write_all};
 use pim_faults::Fault;

@@ -1,7 +1,7 @@
 //! The faults and warnings of `pimtree`'s commands, and their lines.
 //!
-//! - `Fault` is why a command wasn't done. It is made of the faults of the crates below. `fault_line`
-//!   writes its line, and `tell_into` writes it on one of two devices and returns the status.
+//! - `Fault` is why a command wasn't done. It holds faults of the crates below. `fault_line` writes
+//!   its line, and `tell_into` writes it on one of two devices and returns the status.
 //! - `Warning` is what is said of a capture beside a result. `warning_line` writes its line.
 //!   `missed_line` and `unserved_line` write those on whom the messages of a capture name.
 //!
