@@ -2,8 +2,8 @@
 //!
 //! - `Fault` is why a command wasn't done. It holds faults of the crates below. `fault_line` writes
 //!   its line, and `tell_into` writes it on one of two devices and returns the status.
-//! - `Warning` is what is said of a capture beside a result. `warning_line` writes its line.
-//!   `missed_line` and `unserved_line` write those on whom the messages of a capture name.
+//! - `Warning` is what a command says of a capture beside its result. `warning_line` writes its
+//!   line. `missed_line` and `unserved_line` write those on whom the messages of a capture name.
 //!
 //! A device's count of failures rises exactly where its failure is the result.
 //!
