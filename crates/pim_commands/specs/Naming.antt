@@ -1,5 +1,5 @@
 -- The program's fault for a fault of a capture: it names the file of a port with a link.
-use Rattle.std.specs.Prelude.{ℕ, zero, suc, Bool, true, false, List, [], ◌∷◌, filter, cond, is_some, Option, None, Some}
+use Rattle.std.specs.Prelude.{ℕ, zero, suc, Bool, true, false, List, [], ◌∷◌, cond, is_some, Option, None, Some}
 use Rattle.std.specs.Borrow.{Bor}
 use Rattle.pim_capture.specs.declared.fault.CaptureFault.{CaptureFault}
 use Rattle.pim_capture.specs.declared.fault.CaptureFault.TheVariants as of_capture

@@ -1,5 +1,5 @@
 -- The warnings on the captures of a router after its run, by what was taken of each.
-use Rattle.std.specs.Prelude.{ℕ, suc, Bool, nat_lt, cond, is_some, List, [], ◌∷◌, ◌++◌, Option, None, Some}
+use Rattle.std.specs.Prelude.{ℕ, suc, nat_lt, cond, is_some, List, [], ◌∷◌, ◌++◌, Option, None, Some}
 use Rattle.std.specs.List.{flat_map}
 use Rattle.pim_addr.specs.declared.family.AddressFamily.{AddressFamily}
 use Rattle.pim_addr.specs.Routes.{RouteTable}

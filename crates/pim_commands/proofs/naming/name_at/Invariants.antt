@@ -1,4 +1,4 @@
-use Rattle.std.proofs.Common.{◌≡◌, ◌+◌, drop}
+use Rattle.std.proofs.Common.{◌≡◌, drop}
 use Rattle.std.specs.Prelude.{filter}
 use Rattle.pim_files.specs.Captures.{is_further, with_more}
 use Rattle.pim_commands.specs.Naming.{further_name, name_at}
