@@ -1,10 +1,7 @@
 pub mod Reports
 pub mod Builds
-pub mod Compared
-pub mod Mirrored
-pub mod Emitted
-pub mod Changed
-pub mod Routers
+pub mod NewRouters
+pub mod Ran
 pub mod Named
 pub mod Warned
 pub mod Opened

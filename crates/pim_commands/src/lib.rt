@@ -28,30 +28,24 @@
 //! This library is apart from the program, so that tests can call it.
 #![tactic(auto)]
 
+mod answers;
 mod build;
 mod census;
-mod changing;
 mod check;
-mod comparing;
-mod emitting;
 mod laws;
-mod mirroring;
 mod naming;
+mod one_router;
 mod opening;
-mod replaying;
+mod routers;
 mod running;
 mod tracing;
+mod two_routers;
 mod warnings;
-mod writing;
 
 pub use build::{build_into, build_task};
-pub use changing::change;
 pub use check::{check_into, check_task};
-pub use comparing::same;
-pub use emitting::emit;
 pub use laws::trace_ends_as_replay;
-pub use mirroring::mirror;
+pub use one_router::{emit, mirror, replay, trace};
 pub use pim_faults::{FAULTY, Fault, Warning, fault_line, tell_into, warning_line};
-pub use replaying::replay;
 pub use running::run_task;
-pub use tracing::trace;
+pub use two_routers::{change, same};

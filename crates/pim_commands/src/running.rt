@@ -7,13 +7,9 @@ ghost use Rattle.pim_faults.specs.Telling.{IsTold};
 ghost use Rattle.pim_commands.specs.Running.{DoesTask};
 
 use crate::build::build_task;
-use crate::changing::change;
 use crate::check::check_task;
-use crate::comparing::same;
-use crate::emitting::emit;
-use crate::mirroring::mirror;
-use crate::replaying::replay;
-use crate::tracing::trace;
+use crate::one_router::{emit, mirror, replay, trace};
+use crate::two_routers::{change, same};
 use pim_addr::{Drain, Family, Feed};
 use pim_faults::Fault;
 use pim_files::Opener;

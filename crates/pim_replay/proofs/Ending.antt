@@ -7,8 +7,6 @@ use Rattle.pim_device.specs.Device.{AppendsFront}
 use Rattle.pim_merge.specs.declared.end.End.{End}
 use Rattle.pim_merge.specs.Next.{MergeState}
 use Rattle.pim_merge.specs.Run.{IsTallied}
-use Rattle.pim_merge.specs.Ends.{Takes}
-use Rattle.pim_merge.specs.Tally.{tallies_after}
 use Rattle.pim_router.specs.State.{RouterState}
 use Rattle.pim_run.specs.declared.fault.RunFault.{RunFault}
 use Rattle.pim_run.specs.declared.fault.RunFault.TheVariants.{Capture, Output, Memory}
@@ -23,15 +21,6 @@ use Rattle.pim_replay.specs.Report.{of_text, event_line, lines_of, Reports, Repl
 use Rattle.pim_replay.specs.Quiet.{RunsQuietly}
 use Rattle.pim_replay.proofs.Told.{nothing_last, none_is_front, begun_more}
 use Rattle.pim_replay.proofs.Written.{front-more}
-
--- no turn was taken
-pub untaken : (end : End) (start : MergeState) → IsTallied end start start
-unfolding Takes tallies_after
-untaken end start = record {
-  taken = [];
-  first = λ captures coming. record { clock_then = start.clock; rest = captures; takes_them = (refl, refl); is_rest = tt };
-  tallies = refl;
-}
 
 -- ---- the run of a replay that writes nothing
 

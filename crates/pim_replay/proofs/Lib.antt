@@ -1,4 +1,3 @@
-pub mod Sames
 pub mod Ending
 pub mod OneReport
 pub mod OnTheWay
@@ -6,6 +5,3 @@ pub mod Taken
 pub mod AllTurns
 pub mod Written
 pub mod Told
-pub mod FreshHearings
-pub mod Moves
-pub mod Changes

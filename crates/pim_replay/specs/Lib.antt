@@ -4,11 +4,5 @@ pub mod Passing
 pub mod Turn
 pub mod Replay
 pub mod Report
-pub mod Same
 pub mod Laws
-pub mod FreshHearing
 pub mod Quiet
-pub mod MirrorText
-pub mod Emit
-pub mod ChangeHearing
-pub mod ChangeText

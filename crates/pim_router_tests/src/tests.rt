@@ -1,5 +1,5 @@
-//! What is wanted, the messages that ask for it, and those of its changes; routers that hear packets
-//! while time passes, and the fresh ones that mirror them; events as JSON.
+//! What is wanted, the messages that ask for it, and those of its changes. Routers that hear
+//! packets while time passes, and the fresh ones that mirror them. Events as JSON.
 
 mod change;
 mod emit;

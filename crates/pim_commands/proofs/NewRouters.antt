@@ -1,0 +1,85 @@
+-- Routers that are made, and the program's result for that of an engine.
+use Rattle.std.proofs.Common.{◌≡◌, refl, sym, ap, ◌∙◌, ℕ, Bool, true, false, cond, List, [], ◌∷◌, ◌++◌, length, map, Option, None, Some, Ok, Err, Result}
+use Rattle.std.specs.Borrow.{Bor}
+use Rattle.std.specs.Prelude.{filter}
+use Rattle.std.proofs.lemmas.List.{length-map}
+use Rattle.pim_addr.specs.declared.family.AddressFamily.{AddressFamily}
+use Rattle.pim_addr.specs.Routes.{RouteTable}
+use Rattle.pim_merge.specs.declared.merge.MergeFault.{MergeFault}
+use Rattle.pim_run.specs.declared.fault.RunFault.TheVariants as of_replay
+use Rattle.pim_exchange.specs.declared.fault.ExchangeFault.{ExchangeFault}
+use Rattle.pim_exchange.specs.declared.fault.ExchangeFault.TheVariants as of_exchange
+use Rattle.pim_exchange.specs.Fault.{failures_of_exchange}
+use Rattle.pim_router.specs.declared.config.ConfigFault.{ConfigFault}
+use Rattle.pim_router.specs.declared.config.ConfigFault.TheVariants as of_config
+use Rattle.pim_router.specs.declared.config.PortConfig.{PortConfig}
+use Rattle.pim_router.specs.Config.{IsMadeUnless}
+use Rattle.pim_router.specs.Seen.{port_seen, setup_seen}
+use Rattle.pim_router.specs.State.{RouterState, new_router}
+use Rattle.pim_files.specs.Captures.{PortFiles}
+use Rattle.pim_words.specs.declared.task.Port.{Port}
+use Rattle.pim_capture.specs.declared.fault.CaptureFault.{CaptureFault}
+use Rattle.pim_faults.specs.declared.fault.Fault.{Fault}
+use Rattle.pim_faults.specs.declared.fault.Fault.TheVariants as of_run
+use Rattle.pim_commands.specs.Report.{write_failures_after}
+use Rattle.pim_commands.specs.Answers.{answer_of}
+use Rattle.pim_commands.specs.Naming.{in_file, file_at, is_memory, port_fault, is_in}
+use Rattle.pim_commands.specs.Routers.{config_of, config_fault, IsFirstCause}
+
+-- a value that was made
+pub made_is : {A : Type 0} (faults : List ConfigFault) (value made : A) → IsMadeUnless faults value (Ok made) → (faults ≡ []) × (made ≡ value)
+made_is [] value made is = (refl, is)
+made_is (first ∷ others) value made is = absurd cc
+
+-- the first cause is told, or want of memory
+told_first : (first : ConfigFault) (others : List Fault) → IsFirstCause (config_fault first ∷ others) (config_fault first)
+told_first of_config.Ports others = refl
+told_first (of_config.Address port) others = refl
+told_first (of_config.Delay port) others = refl
+told_first of_config.Limit others = refl
+told_first of_config.Memory others = tt
+
+pub unmade_is : {A : Type 0} (faults : List ConfigFault) (value : A) (told : ConfigFault) → IsMadeUnless faults value (Err told) → IsFirstCause (map config_fault faults) (config_fault told)
+unmade_is [] value told is = rw (is) tt
+unmade_is (first ∷ others) value told is = let same : told ≡ first = cc in rw (same) (told_first first (map config_fault others))
+
+pub in_front : (these others : List Fault) (fault : Fault) → IsFirstCause these fault → IsFirstCause (these ++ others) fault
+in_front these others of_run.Memory is = tt
+in_front [] others fault is = absurd is
+in_front (first ∷ these) others fault is = is
+
+-- ---- the program's result
+
+-- a fault of a capture isn't one of writing
+is_read : (before : ℕ) (memory : Bool) (file : Option (Bor (List ℕ))) (number : ℕ) (cause : CaptureFault) → write_failures_after {A = ℕ} before (Err (cond memory of_run.Memory (in_file file number cause))) ≡ before
+is_read before true file number cause = refl
+is_read before false None number cause = refl
+is_read before false (Some file) number cause = refl
+
+pub capture_is_read : {A : Type 0} (before : ℕ) (ports : List (PortFiles A)) (told : MergeFault) → write_failures_after {A = ℕ} before (Err (port_fault ports told)) ≡ before
+capture_is_read before ports told = is_read before (is_memory told.fault) (file_at ports told.capture told.file) told.«record» told.fault
+
+-- the device's failures are those that are told
+pub failures_answered : {A P : Type 0} (ports others : List (PortFiles P)) (family : AddressFamily) (bytes_of : A → List ℕ) (before : ℕ) (told : Result ℕ (ExchangeFault A))
+    → failures_of_exchange before told ≡ write_failures_after before (answer_of ports others family bytes_of told)
+failures_answered ports others family bytes_of before (Ok status) = refl
+failures_answered ports others family bytes_of before (Err (of_exchange.TooBig group)) = refl
+failures_answered ports others family bytes_of before (Err (of_exchange.Full needed)) = refl
+failures_answered ports others family bytes_of before (Err (of_exchange.Second told)) = sym (capture_is_read before others told)
+failures_answered ports others family bytes_of before (Err (of_exchange.Replay (of_replay.Capture told))) = sym (capture_is_read before ports told)
+failures_answered ports others family bytes_of before (Err (of_exchange.Replay of_replay.Output)) = refl
+failures_answered ports others family bytes_of before (Err (of_exchange.Replay of_replay.Memory)) = refl
+
+-- ---- the conditions of a replay
+
+-- all ports are those of the one router
+pub all_in : {A : Type 0} (ports : List (Port A)) → filter (is_in None) ports ≡ ports
+all_in [] = refl
+all_in (port ∷ ports) = ap (λ l. port ∷ l) (all_in ports)
+
+-- as many ports as words
+pub as_many : {A : Type 0} (bytes_of : A → List ℕ) (ports : List (Port A)) (configs : List (PortConfig A)) (routes : RouteTable) (limit : ℕ) (router : RouterState)
+    → configs ≡ map config_of ports → router ≡ new_router (setup_seen bytes_of configs routes limit) → length router.ports ≡ length ports
+as_many {A} bytes_of ports configs routes limit router same made =
+    ap (λ (s : RouterState). length s.ports) made ∙ ap (λ (l : List (PortConfig A)). length (map (port_seen bytes_of) l)) same
+    ∙ length-map (map config_of ports) (port_seen bytes_of) ∙ length-map ports config_of

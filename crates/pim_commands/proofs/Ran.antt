@@ -1,0 +1,44 @@
+-- Engines that ran, and what is returned of them.
+use Rattle.std.proofs.Common.{◌≡◌, inr, refl, subst, ℕ, List, Result, Ok, Err}
+use Rattle.pim_addr.specs.declared.family.AddressFamily.{AddressFamily}
+use Rattle.pim_exchange.specs.declared.fault.ExchangeFault.{ExchangeFault}
+use Rattle.pim_exchange.specs.Fault.{failures_of_exchange}
+use Rattle.pim_files.specs.Captures.{PortFiles}
+use Rattle.pim_form.specs.Messages.{Writing}
+use Rattle.pim_form.specs.Writer.{has_bad_address}
+use Rattle.pim_run.specs.declared.fault.RunFault.{RunFault}
+use Rattle.pim_run.specs.Faults.{failures_of_device}
+use Rattle.pim_router.specs.State.{RouterState}
+use Rattle.pim_faults.specs.declared.fault.Fault.{Fault}
+use Rattle.pim_commands.specs.Answers.{answer_of}
+use Rattle.pim_commands.specs.Engines.{Runs, of_replayed, of_traced}
+use Rattle.pim_commands.specs.Routers.{writer_causes, IsFirstCause, IsWriterOf}
+
+-- an engine ran
+pub ran : {A S P : Type 0} (causes : List Fault) (Unmade : Type 0) (Ran : S → Result ℕ (ExchangeFault A) → Type 0) (ports others : List (PortFiles P)) (family : AddressFamily) (bytes_of : A → List ℕ)
+    (after : S) (told : Result ℕ (ExchangeFault A)) (result : Result ℕ Fault) → Ran after told → result ≡ answer_of ports others family bytes_of told
+    → Runs causes Unmade Ran (answer_of ports others family bytes_of) result
+ran causes Unmade Ran ports others family bytes_of after (Ok status) result is answer =
+    rw (answer) (record { after = after; told = Ok status; ran = is; answered = refl })
+ran causes Unmade Ran ports others family bytes_of after (Err fault) result is answer =
+    rw (answer) (inr (record { after = after; told = Err fault; ran = is; answered = refl }))
+
+-- there is no writer
+pub not_written : (family : AddressFamily) (writing : Writing) (fault : Fault) → IsWriterOf family writing (Err fault) → IsFirstCause (writer_causes (has_bad_address family writing)) fault
+not_written family writing fault is = rw (is.0, is.1) refl
+
+-- ---- the device's failures
+
+pub failures_replayed : (A : Type 0) (before : ℕ) (told : Result ℕ RunFault) → failures_of_device before told ≡ failures_of_exchange before (of_replayed {A = A} told)
+failures_replayed A before (Ok status) = refl
+failures_replayed A before (Err fault) = refl
+
+pub failures_traced : (A : Type 0) (before : ℕ) (told : Result (Unit {0}) RunFault) → failures_of_device before told ≡ failures_of_exchange before (of_traced {A = A} told)
+failures_traced A before (Ok done) = refl
+failures_traced A before (Err fault) = refl
+
+-- ---- what was made, in place of what was asked for
+
+pub as_made : (Is : Writing → RouterState → RouterState → Type 0) (by writing : Writing) (a new_a b new_b : RouterState) → by ≡ writing → a ≡ new_a → b ≡ new_b → Is by a b → Is writing new_a new_b
+as_made Is by writing a new_a b new_b same same_a same_b is =
+    subst (λ (w : Writing). Is w new_a new_b) same (subst (λ (s : RouterState). Is by s new_b) same_a (subst (λ (s : RouterState). Is by a s) same_b is))

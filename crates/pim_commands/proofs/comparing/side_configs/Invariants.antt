@@ -1,9 +1,0 @@
-use Rattle.std.proofs.Common.{◌≡◌, ◌++◌, drop, map}
-use Rattle.std.specs.List.{filter}
-use Rattle.pim_commands.specs.Replaying.{config_of}
-use Rattle.pim_words.specs.Faults.{is_of}
-use Rattle.pim_commands.proofs.comparing.side_configs.Given as goal
-
--- what is there, with what the ports that are left give, is all
-abbrev pub invariant-loop-port : goal.invariant-loop-port
-invariant-loop-port g l = l.configs.items ++ map config_of (filter (is_of l.side) (drop l.port-index l.ports)) ≡ map config_of (filter (is_of l.side) l.ports)

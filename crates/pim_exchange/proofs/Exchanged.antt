@@ -1,0 +1,36 @@
+-- What is written of messages that a fresh router hears.
+use Rattle.std.proofs.Common.{◌≡◌, ℕ, List, Option, Err, inr, sym, subst}
+use Rattle.std.specs.Io.KnownBytes.{Appends}
+use Rattle.std.proofs.KnownBytes.{Appends-trans}
+use Rattle.pim_addr.specs.declared.family.AddressFamily.{AddressFamily}
+use Rattle.pim_addr.specs.Routes.{RouteTable}
+use Rattle.pim_device.specs.Device.{AppendsFront}
+use Rattle.pim_form.specs.Messages.{Writing}
+use Rattle.pim_mirror.specs.declared.mirroring.MirrorFault.{MirrorFault}
+use Rattle.pim_mirror.specs.declared.mirroring.MirrorFault.TheVariants as mirror
+use Rattle.pim_report.specs.MessageText.{messages_text}
+use Rattle.pim_router.specs.Canonical.{IsAskedBy}
+use Rattle.pim_router.specs.State.{RouterState}
+use Rattle.pim_exchange.specs.Fault.{of_mirror}
+use Rattle.pim_exchange.specs.FreshHearing.{HeardAgain, IsFull}
+use Rattle.pim_exchange.specs.MirrorText.{Judges, Exchanges, agrees_line, agreed_text}
+use Rattle.pim_exchange.proofs.Written.{front-more}
+
+-- ---- the messages, and that those of the fresh router are these
+
+module _ (messages wanted again : List (List ℕ)) (line : List ℕ) (same : again ≡ wanted) (judged : Judges wanted again line) (old middle new : Option (List ℕ)) (text : Appends old middle (messages_text messages)) where
+  pub front_agreed : AppendsFront middle new line → AppendsFront old new (agreed_text messages)
+  front_agreed front = front-more old middle new (messages_text messages) agrees_line text (subst (λ l. AppendsFront middle new l) (judged.same (sym same)) front)
+
+  pub all_agreed : Appends middle new line → Appends old new (agreed_text messages)
+  all_agreed rest = Appends-trans old middle new (messages_text messages) agrees_line text (subst (λ l. Appends middle new l) (judged.same (sym same)) rest)
+
+-- ---- the canonical messages of a router
+
+module _ {A : Type 0} (bytes_of : A → List ℕ) (family : AddressFamily) (table : RouteTable) (writing : Writing) (limit : ℕ) (router : RouterState) (messages : List (List ℕ)) (same : table ≡ router.routes)
+    (asked : IsAskedBy family writing router messages) (old : Option (List ℕ)) where
+  pub not_heard : (why : MirrorFault) (new : Option (List ℕ)) → HeardAgain family table writing limit messages (Err why) → Appends old new (messages_text messages)
+      → Exchanges family writing limit router bytes_of old new (Err (of_mirror why))
+  not_heard (mirror.Full needed) new full text =
+      record { messages = messages; asked = asked; written = (subst (λ t. IsFull family t writing limit messages needed) same full, text) }
+  not_heard mirror.Memory new full text = inr (record { messages = messages; asked = asked; written = text })

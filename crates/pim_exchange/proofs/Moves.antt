@@ -1,0 +1,244 @@
+-- The fresh router that heard canonical messages, and hears then those of a change.
+use Rattle.std.proofs.Common.{◌≡◌, ◌≤◌, ◌<◌, ◌^◌, ◌+◌, ◌-◌, ℕ, zero, suc, Bool, true, false, ◌&&◌, List, [], ◌∷◌, ◌++◌, length, None, Result, Ok, Err, inr, refl, sym, ap, subst, ◌∙◌, arith, append_assoc, append-nil}
+use Rattle.std.specs.List.{AllByRecursion, flat_map}
+use Rattle.std.proofs.lemmas.Bool.{false≢true}
+use Rattle.pim_addr.specs.declared.family.AddressFamily.{AddressFamily}
+use Rattle.pim_addr.specs.Routes.{RouteTable, IsRouteTable, rp_of}
+use Rattle.pim_change.specs.Laws.{ChangeMessagesAreShort}
+use Rattle.pim_down.specs.Sound.{IsSound}
+use Rattle.pim_down.specs.Time.{Downstream}
+use Rattle.pim_form.specs.Messages.{Writing, IsWriting, AreCanonical}
+use Rattle.pim_form.specs.NormalForm.{GroupForm, IsFormOf}
+use Rattle.pim_form.specs.Settled.{IsSettledAt}
+use Rattle.pim_form.specs.Toward.{via_in, upstream_of, is_neighbour}
+use Rattle.pim_form.specs.TowardLaws.{asked_of, SameMessagesSameAsked, TestTellsWhoIsAsked}
+use Rattle.pim_form.specs.Wants.{wants}
+use Rattle.pim_fresh.specs.Deliveries.{Delivery, IsShorter, AreAlive}
+use Rattle.pim_mirror.specs.CanonicalCourse.{AreOf, inputs_of}
+use Rattle.pim_mirror.specs.Config.{Fresh, newest_first, end_of}
+use Rattle.pim_mirror.specs.Fits.{expiry_of}
+use Rattle.pim_mirror.specs.Headline.{TellsOfForm}
+use Rattle.pim_mirror.specs.Hellos.{timing_of}
+use Rattle.pim_mirror.specs.Laws.{AskedStarsHaveRps}
+use Rattle.pim_mirror.specs.Mirror.{Passes, delivery_inputs}
+use Rattle.pim_mirror.specs.declared.mirroring.MirrorFault.{MirrorFault}
+use Rattle.pim_mirror.specs.declared.mirroring.MirrorFault.TheVariants as fault
+use Rattle.pim_moving.specs.Changing.{AreBetween, IsFormToward, StandsAt, KnowsUntil, NoneEndsOnTheWay, IsGiven, HasMoved}
+use Rattle.pim_moving.specs.Laws.{ChangeMovesARouter, LongTimersLast, MirrorIsSettled}
+use Rattle.pim_router.specs.Canonical.{IsAskedBy, IsTooBig}
+use Rattle.pim_router.specs.Course.{Input, runs_to, IsCourse}
+use Rattle.pim_router.specs.Laws.{EveryListHasACourse}
+use Rattle.pim_router.specs.State.{RouterState}
+use Rattle.pim_settling.specs.Hearing.{NoneExpires}
+use Rattle.pim_exchange.specs.ChangeHearing.{fresh_interval, change_inputs, AreTold, HearsBoth, MovedAgain}
+use Rattle.pim_exchange.specs.FreshHearing.{delivered_at, each_at, fresh_of, Asks}
+use Rattle.pim_exchange.proofs.FreshHearings.{newest_at, newest_of, end_early, all_early, all_short, came, ends_by, alive, lasts, shorter}
+
+-- ---- each message once, at a moment
+
+all_of : (moment most count : ℕ) → count ≤ most → AreOf most (newest_at moment count)
+unfolding newest_at
+all_of moment most zero within = tt
+all_of moment most (suc count) within = (omega (arith, within), all_of moment most count (omega (arith, within)))
+
+all_between : (moment last count : ℕ) → moment ≤ last → AreBetween moment (newest_at moment count) last
+unfolding newest_at AreBetween
+all_between moment last zero later = later
+all_between moment last (suc count) later = (later, all_between moment moment count (omega arith))
+
+module _ (family : AddressFamily) (writing : Writing) (messages : List (List ℕ)) (moment : ℕ) where
+  abbrev each : Delivery → List Input
+  each = delivery_inputs family messages writing.own
+
+  two_parts : (front back : List Delivery) → flat_map each (front ++ back) ≡ flat_map each front ++ flat_map each back
+  two_parts [] back = refl
+  two_parts (delivery ∷ front) back = ap (λ l. each delivery ++ l) (two_parts front back) ∙ sym (append_assoc (each delivery) (flat_map each front) (flat_map each back))
+
+  inputs_are : (count : ℕ) → flat_map each (each_at moment count) ≡ inputs_of family writing 0 messages (newest_at moment count)
+  unfolding each_at newest_at inputs_of
+  inputs_are zero = refl
+  inputs_are (suc count) =
+      two_parts (each_at moment count) (delivered_at moment count ∷ [])
+      ∙ (ap (λ l. flat_map each (each_at moment count) ++ l) (append-nil (each (delivered_at moment count)))
+      ∙ ap (λ l. l ++ each (delivered_at moment count)) (inputs_are count))
+
+early_too_by : (moment count : ℕ) → moment ≤ 3000 → AllByRecursion (λ (delivery : Delivery). delivery.moment ≤ 10 ^ 14) (each_at moment count)
+early_too_by moment count early = all_early moment count (omega (arith, early))
+
+pub early_too : (moment count : ℕ) (deliveries : List Delivery) → moment ≤ 3000 → deliveries ≡ each_at moment count → AllByRecursion (λ (delivery : Delivery). delivery.moment ≤ 10 ^ 14) deliveries
+early_too moment count deliveries early same = subst (λ l. AllByRecursion (λ (delivery : Delivery). delivery.moment ≤ 10 ^ 14) l) (sym same) (early_too_by moment count early)
+
+-- where memory is refused before anything comes, something could have come
+pub wants_memory : EveryListHasACourse → (family : AddressFamily) (inputs : List Input) (router : RouterState) → Passes family inputs router (Err fault.Memory) router
+wants_memory has family inputs router =
+    let some = has family inputs router in
+    record { told = some.told; after = some.after; course = some.course; passed = tt }
+
+-- the change's messages are short enough to be heard
+pub change_short : ChangeMessagesAreShort → AskedStarsHaveRps → (family : AddressFamily) (table : RouteTable) (writing : Writing) (before change wanted : List (List ℕ)) → IsRouteTable family table → IsWriting family writing
+    → AreTold family table writing before change wanted → AllByRecursion (λ (message : List ℕ). length message < 2 ^ 32) change
+change_short short stars family table writing before change wanted sound is_writing told =
+    all_short writing.budget is_writing.most change
+    (short family writing (rp_of family table) told.was.asked.form told.is.asked.form change is_writing told.was.asked.is.normal told.is.asked.is.normal
+    (stars family table writing.upstream told.was.state told.was.asked.form sound told.was.asked.is) (stars family table writing.upstream told.is.state told.is.asked.form sound told.is.asked.is) told.told)
+
+-- from the writer
+pub from_own : (family : AddressFamily) (messages : List (List ℕ)) (sender own : List ℕ) (moment : ℕ) (router after : RouterState) (result : Result (Unit {0}) MirrorFault) → sender ≡ own
+    → Passes family (change_inputs family messages sender moment) router result after → Passes family (change_inputs family messages own moment) router result after
+from_own family messages sender own moment router after result same passes = subst (λ s. Passes family (change_inputs family messages s moment) router result after) same passes
+
+-- ---- what is asked of a neighbour
+
+second_true : (a b : Bool) → (a && b) ≡ true → b ≡ true
+second_true true b e = e
+second_true false b e = absurd (false≢true e)
+
+-- its form is toward this neighbour
+asked_is_toward : TestTellsWhoIsAsked → (family : AddressFamily) (table : RouteTable) (neighbour : List ℕ) (state : Downstream) (form : List GroupForm) → IsFormOf family (asked_of family table neighbour state) form
+    → IsFormToward family table neighbour form
+asked_is_toward tests family table neighbour state form is =
+    let rps = rp_of family table in
+    let via = via_in family table in
+    record {
+      normal = is.normal;
+      toward = (tests family rps via neighbour form is.normal).1 (λ source group tree valid of_group meant.
+          second_true (wants state source group tree) (is_neighbour neighbour (upstream_of rps via source group tree)) (is.wants source group tree valid of_group ∙ meant));
+    }
+
+-- ---- the mirror, and what is told then
+
+-- the laws on which it rests
+pub record Laws : Type 0 where
+  pub moves : ChangeMovesARouter
+  pub long : LongTimersLast
+  pub mirrors : MirrorIsSettled
+  pub same : SameMessagesSameAsked
+  pub tests : TestTellsWhoIsAsked
+
+module _ (laws : Laws) (family : AddressFamily) (table : RouteTable) (writing : Writing) (limit : ℕ) (before change wanted : List (List ℕ))
+    (sound : IsRouteTable family table) (is_writing : IsWriting family writing) (told : AreTold family table writing before change wanted) (router : RouterState)
+    (tells : TellsOfForm family table writing told.was.asked.form before (fresh_of table writing limit before) (Ok router)) where
+  abbrev its : Fresh
+  its = fresh_of table writing limit before
+
+  abbrev last : ℕ
+  last = router.machines.moment + fresh_interval
+
+  moment_is : router.machines.moment ≡ end_of its
+  moment_is = tells.answers.at_first.moment_is
+
+  pub is_early : router.machines.moment ≤ 3000
+  is_early = omega (arith, moment_is, end_early family table writing limit before)
+
+  later : end_of its ≤ last
+  later = omega (arith, moment_is)
+
+  no_expiry : IsShorter last (expiry_of writing.holdtime)
+  no_expiry = lasts writing.holdtime is_writing.long last (omega (arith, is_early))
+
+  pub one_port : router.machines.ports ≡ 1
+  one_port = (tells.answers.knows last later tt).one_port
+
+  all_alive : AreAlive (expiry_of writing.holdtime) last (newest_first its)
+  all_alive = subst (λ (deliveries : List Delivery). AreAlive (expiry_of writing.holdtime) last deliveries) (sym (newest_of family table writing limit before)) (alive (expiry_of writing.holdtime) last (length before) no_expiry)
+
+  settled : IsSettledAt 0 told.was.asked.form router.machines.records × NoneExpires last router.machines
+  settled = laws.mirrors family table writing told.was.asked.form before its (end_of its) last [] router told.was.asked.is.normal (omega arith) later all_alive tells.answers.at_first
+
+  module _ (machines : IsSound family router.machines) where
+    stands : StandsAt family told.was.asked.form router
+    stands = record { one_port = one_port; sound = machines; settled = settled.0 }
+
+    routes : router.routes ≡ table
+    routes = tells.answers.at_first.routes
+
+    knows_until : KnowsUntil family table writing (timing_of its) last router
+    knows_until =
+        let knows = tells.answers.knows last later tt in
+        record { hears = knows.hears; same_rps = λ group is. ap (λ (t : RouteTable). rp_of family t group) routes; neighbours = knows.lasts }
+
+    toward_was : IsFormToward family table writing.upstream told.was.asked.form
+    toward_was = asked_is_toward laws.tests family table writing.upstream told.was.state told.was.asked.form told.was.asked.is
+
+    toward_is : IsFormToward family table writing.upstream told.is.asked.form
+    toward_is = asked_is_toward laws.tests family table writing.upstream told.is.state told.is.asked.form told.is.asked.is
+
+    abbrev deliveries : List Delivery
+    deliveries = newest_at router.machines.moment (length change)
+
+    of_these : AreOf (length change) deliveries
+    of_these = all_of router.machines.moment (length change) (length change) (omega arith)
+
+    between : AreBetween router.machines.moment deliveries last
+    between = all_between router.machines.moment last (length change) (omega arith)
+
+    timers : NoneEndsOnTheWay family writing change router deliveries last
+    timers =
+        laws.long family table writing (timing_of its) told.was.asked.form told.is.asked.form change deliveries last router sound is_writing toward_was toward_is told.told machines knows_until of_these between settled.1
+        (shorter last (expiry_of writing.holdtime) no_expiry (last - router.machines.moment) (omega arith))
+
+    -- the change came
+    module _ (after : RouterState) (passes : Passes family (change_inputs family change writing.own router.machines.moment) router (Ok tt) after) where
+      given : IsGiven family writing (timing_of its) change deliveries last router after
+      given = record {
+        of_these = of_these;
+        each_came = λ number within. came router.machines.moment number (length change) within;
+        between = between;
+        final = ends_by 3000 router.machines.moment (length change);
+        told = passes.told;
+        course = subst (λ (end : RouterState). IsCourse family (inputs_of family writing 0 change deliveries ++ runs_to last ∷ []) passes.told router end) (sym passes.passed.1)
+            (subst (λ (inputs : List Input). IsCourse family (inputs ++ runs_to last ∷ []) passes.told router passes.after) (inputs_are family writing change router.machines.moment (length change)) passes.course);
+        room = passes.passed.0;
+        timers = timers;
+      }
+
+      moved : HasMoved family table writing told.is.asked.form last router after
+      moved = laws.moves family table writing (timing_of its) told.was.asked.form told.is.asked.form change deliveries last router after sound is_writing toward_was toward_is told.told stands knows_until given
+
+      asks : IsFormOf family (asked_of family table writing.upstream after.machines) told.is.asked.form
+      asks = moved.asks
+
+      routes_then : after.routes ≡ table
+      routes_then = moved.routes ∙ routes
+
+      pub fits_then : IsTooBig family writing after None
+      fits_then = record {
+        form = told.is.asked.form;
+        is = subst (λ (t : RouteTable). IsFormOf family (asked_of family t writing.upstream after.machines) told.is.asked.form) (sym routes_then) asks;
+        least = told.is.fitting;
+      }
+
+      same_then : (others : List (List ℕ)) → IsAskedBy family writing after others → others ≡ wanted
+      same_then others asked =
+          (laws.same family table writing after.machines told.is.state asked.form told.is.asked.form others wanted sound is_writing
+          (subst (λ (t : RouteTable). IsFormOf family (asked_of family t writing.upstream after.machines) asked.form) routes_then asked.is) told.is.asked.is
+          (subst (λ (t : RouteTable). AreCanonical family writing (rp_of family t) asked.form others) routes_then asked.told) told.is.asked.told).1
+          (λ source group tree valid of_group. asks.wants source group tree valid of_group ∙ sym (told.is.asked.is.wants source group tree valid of_group))
+
+      hears_both : HearsBoth family table writing limit before change None
+      hears_both = record {
+        mirror = router;
+        heard = tells.course;
+        told = passes.told;
+        after = passes.after;
+        course = passes.course;
+        needed_is = passes.passed.0;
+      }
+
+      pub moved_again : (result : Result (List (List ℕ)) MirrorFault) → Asks family writing after result → MovedAgain family table writing limit before change wanted result
+      moved_again (Ok others) asked = (hears_both, same_then others asked)
+      moved_again (Err (fault.Full needed)) asked = absurd asked
+      moved_again (Err fault.Memory) asked = tt
+
+  -- it did not, or not all
+  pub not_moved : (why : MirrorFault) (after : RouterState) → Passes family (change_inputs family change writing.own router.machines.moment) router (Err why) after
+      → MovedAgain family table writing limit before change wanted (Err why)
+  not_moved (fault.Full needed) after passes = inr (record {
+    mirror = router;
+    heard = tells.course;
+    told = passes.told;
+    after = passes.after;
+    course = passes.course;
+    needed_is = passes.passed;
+  })
+  not_moved fault.Memory after passes = tt

@@ -1,0 +1,30 @@
+use Rattle.std.proofs.Common.{sym, subst}
+use Rattle.pim_addr.specs.Routes.{rp_of}
+use Rattle.pim_mirror.specs.Config.{Fresh, fresh_seen}
+use Rattle.pim_mirror.specs.Fits.{Fits}
+use Rattle.pim_exchange.proofs.FreshHearings.{fitting, all_short, mirrored, tells_once}
+use Rattle.pim_exchange.proofs.fresh_hearing.mirror_once.Goals as goal
+
+pub mirror-requires-clause-fits : goal.mirror-requires-clause-fits
+mirror-requires-clause-fits g c =
+    subst (λ (f : Fresh). Fits c.args.messages.now c.args.by.now c.args.fresh.now.routes.now f) (sym c.requires.once)
+    (fitting g.F.Family.family c.args.fresh.now.routes.now c.args.by.now c.args.fresh.now.limit c.args.messages.now c.is_writing.ensures.long c.requires.least c.requires.most)
+
+pub mirror-requires-clause-short : goal.mirror-requires-clause-short
+mirror-requires-clause-short g c =
+    let family = g.F.Family.family in
+    let table = c.args.fresh.now.routes.now in
+    let asked = c.requires.sent.asked in
+    all_short c.args.by.now.budget c.is_writing.ensures.most c.args.messages.now
+    (c.canonical_messages_are_short.ensures family c.args.by.now (rp_of family table) asked.form c.args.messages.now c.is_writing.ensures asked.is.normal
+    (c.asked_stars_have_rps.ensures family table c.args.by.now.upstream c.requires.sent.state asked.form c.is_sound.ensures asked.is) asked.told)
+
+pub returns-clause-mirrored : goal.returns-clause-mirrored
+returns-clause-mirrored g c =
+    mirrored g.F.Family.family c.args.fresh.now.routes.now c.args.by.now c.args.fresh.now.limit c.args.messages.now c.mirror_answers_for_the_form.ensures c.is_sound.ensures c.is_writing.ensures
+    c.requires.least c.requires.most c.requires.sent (fresh_seen g.F.Family.bytes_of c.args.fresh.now) c.mirror.result c.requires.once c.mirror.ensures.course
+
+pub returns-clause-tells : goal.returns-clause-tells
+returns-clause-tells g c = λ sent.
+    tells_once g.F.Family.family c.args.fresh.now.routes.now c.args.by.now c.args.fresh.now.limit c.args.messages.now c.mirror_answers_for_the_form.ensures c.is_sound.ensures c.is_writing.ensures
+    c.requires.least c.requires.most sent (fresh_seen g.F.Family.bytes_of c.args.fresh.now) c.mirror.result c.requires.once c.mirror.ensures.course
