@@ -10,11 +10,11 @@ use Rattle.pim_hello.specs.Faults.{faults as hello_option_faults}
 use Rattle.pim_jp.specs.Faults.{faults}
 use Rattle.pim_text.specs.HelloText.{hello_text}
 use Rattle.pim_text.specs.JoinPruneText.{message_text}
-use Rattle.pim_build.specs.Building as of_bytes
-use Rattle.pim_build.specs.Building.{Value, a_hello, a_message, IsBuilt, IsReadAs, IsRefused, text_of}
-use Rattle.pim_build.specs.Reading.{IsReadFaultOf}
-use Rattle.pim_build.specs.declared.fault.BuildFault.{BuildFault}
-use Rattle.pim_build.specs.declared.fault.BuildFault.TheVariants as of_build
+use Rattle.pim_text.specs.Building as of_bytes
+use Rattle.pim_text.specs.Building.{Value, a_hello, a_message, IsBuilt, IsReadAs, IsRefused, text_of}
+use Rattle.pim_text.specs.ReadingText.{IsReadFaultOf}
+use Rattle.pim_text.specs.declared.build.fault.BuildFault.{BuildFault}
+use Rattle.pim_text.specs.declared.build.fault.BuildFault.TheVariants as of_build
 use Rattle.pim_faults.specs.declared.fault.Fault.{Fault}
 use Rattle.pim_faults.specs.declared.fault.Fault.TheVariants.{Frame, Hello, JoinPrune, Output}
 use Rattle.pim_faults.specs.Words.{build_fault}

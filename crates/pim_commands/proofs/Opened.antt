@@ -7,7 +7,7 @@ use Rattle.pim_files.specs.declared.fault.OpenFault.TheVariants as opening
 use Rattle.pim_files.specs.Files.{Known}
 use Rattle.pim_files.specs.Opening.{IsOpen, AreOpen}
 use Rattle.pim_merge.specs.Next.{MergeState}
-use Rattle.pim_routes_file.specs.declared.fault.RoutesFault.TheVariants as routes
+use Rattle.pim_files.specs.declared.routes.fault.RoutesFault.TheVariants as routes
 use Rattle.pim_words.specs.declared.task.Captures.{Captures}
 use Rattle.pim_faults.specs.declared.fault.Fault.{Fault}
 use Rattle.pim_commands.specs.Opening.{OpensNot, Opens, OverOne, OverBoth}

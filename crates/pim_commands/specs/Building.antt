@@ -2,8 +2,8 @@
 use Rattle.std.specs.Prelude.{◌≡◌, ◌≤◌, ◌<◌, ◌⊎◌, ⊤, ℕ, List, [], length, Option, Result, Ok, Err}
 use Rattle.std.specs.Io.KnownBytes.{Appends, Keeps}
 use Rattle.pim_addr.specs.declared.family.AddressFamily.{AddressFamily}
-use Rattle.pim_build.specs.Building.{Value, IsInBytes, stated, text_of}
-use Rattle.pim_build.specs.Reading.{text_limit}
+use Rattle.pim_text.specs.Building.{Value, IsInBytes, stated, text_of}
+use Rattle.pim_text.specs.ReadingText.{text_limit}
 use Rattle.pim_device.specs.Device.{AppendsFront}
 use Rattle.pim_text.specs.Read.{States, IsWrongLine}
 use Rattle.pim_text.specs.Spell.{IsTextFault, IsLong}

@@ -9,8 +9,8 @@ ghost use Rattle.pim_commands.specs.Building.{Builds, IsBuildTask, built_source,
 ghost use Rattle.pim_commands.specs.Report.{read_failures_after, write_failures_after};
 
 use pim_addr::{Drain, Failed, Family, Feed, write_all};
-use pim_build::{build_message, read_text};
 use pim_faults::Fault;
+use pim_text::{build_message, read_text};
 use pim_words::Task;
 use std::alloc::Global;
 

@@ -5,16 +5,16 @@ use Rattle.clap.specs.Values.{kind_text}
 use Rattle.pim_report.specs.Malformed.{frame_words, hello_words, join_prune_words}
 use Rattle.pim_addr.specs.declared.family.AddressFamily.TheVariants.{Ipv4, Ipv6}
 use Rattle.pim_addr.specs.Text.{address_text}
-use Rattle.pim_build.specs.declared.fault.BuildFault.{BuildFault}
-use Rattle.pim_build.specs.declared.fault.BuildFault.TheVariants as of_build
+use Rattle.pim_text.specs.declared.build.fault.BuildFault.{BuildFault}
+use Rattle.pim_text.specs.declared.build.fault.BuildFault.TheVariants as of_build
 use Rattle.pim_capture.specs.Names.{text_of}
 use Rattle.pim_capture.specs.declared.fault.CaptureFault.{CaptureFault}
 use Rattle.pim_capture.specs.declared.fault.CaptureFault.TheVariants as capture
 use Rattle.pim_capture.specs.declared.vlan.Vlan.{Vlan}
 use Rattle.pim_files.specs.declared.opener.FileCause.{FileCause}
 use Rattle.pim_files.specs.declared.opener.FileCause.TheVariants as opening
-use Rattle.pim_routes_file.specs.declared.fault.RoutesFault.{RoutesFault}
-use Rattle.pim_routes_file.specs.declared.fault.RoutesFault.TheVariants as routes
+use Rattle.pim_files.specs.declared.routes.fault.RoutesFault.{RoutesFault}
+use Rattle.pim_files.specs.declared.routes.fault.RoutesFault.TheVariants as routes
 use Rattle.pim_lines.specs.declared.either.AnyAddress.{AnyAddress}
 use Rattle.pim_lines.specs.declared.either.AnyAddress.TheVariants as either
 use Rattle.pim_words.specs.declared.fault.Side.{Side}

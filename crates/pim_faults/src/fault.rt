@@ -14,16 +14,15 @@ use crate::causes::{config_words, file_words, is_of_record, no_port_words, tag_o
 use clap::error::ErrorKind;
 use itoa::Buffer;
 use pim_addr::{Drain, Failed, V4, V6, write_all, write_text};
-use pim_build::BuildFault;
 use pim_capture::{CaptureFault, InterfaceName, Vlan};
-use pim_files::FileCause;
+use pim_files::{FileCause, RoutesFault};
 use pim_frame::FrameFault;
 use pim_hello::HelloFault;
 use pim_jp::JpFault;
 use pim_lines::AnyAddress;
 use pim_report::write_malformed_words;
 use pim_router::Malformed;
-use pim_routes_file::RoutesFault;
+use pim_text::BuildFault;
 
 /// Why a run ended early.
 #[derive(Debug, Drop)]

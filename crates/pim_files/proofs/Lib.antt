@@ -1,3 +1,8 @@
+pub mod Cut
+pub mod Words
+pub mod Led
+pub mod Spelled
+pub mod Added
 pub mod Asked
 pub mod Several
 pub mod Further

@@ -7,8 +7,8 @@ use Rattle.pim_addr.specs.declared.family.AddressFamily.{AddressFamily}
 use Rattle.pim_addr.specs.Address.{is_source}
 use Rattle.pim_addr.specs.Faults.{fault_if}
 use Rattle.pim_addr.specs.Routes.{RouteTable}
-use Rattle.pim_routes_file.specs.declared.fault.RoutesFault.{RoutesFault}
-use Rattle.pim_routes_file.specs.RoutesFile.{Reads, failures_after_reading}
+use Rattle.pim_files.specs.declared.routes.fault.RoutesFault.{RoutesFault}
+use Rattle.pim_files.specs.RoutesFile.{Reads, failures_after_reading}
 use Rattle.pim_words.specs.declared.task.Captures.{Captures}
 use Rattle.pim_words.specs.Table.{given_table}
 use Rattle.pim_files.specs.declared.fault.OpenFault.{OpenFault}

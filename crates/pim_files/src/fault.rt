@@ -1,7 +1,7 @@
 //! Why the files of a command aren't open.
 
 use crate::opener::FileCause;
-use pim_routes_file::RoutesFault;
+use crate::routes::RoutesFault;
 
 /// Why there is no route table, or a file isn't open.
 #[derive(Debug, PartialEq, Eq)]

@@ -3,7 +3,8 @@
 //!
 //! - `Opener` opens files by name. It tells what they hold, and which names it was asked for, only
 //!   where it can: files in memory do, files of the system do not.
-//! - `table` makes the route table. It reads the file of routes, if one is named.
+//! - `read_routes` adds the rows of a file of routes to a table. `table` makes the route table, with
+//!   those of the file that is named.
 //! - `open_one` makes the table and opens the captures of one router, `open_two` those of two, in
 //!   the order of the words. A port's link says whether its capture is a classic one or any
 //!   container, and which of its packets are taken. The further files of a port come after its own,
@@ -27,6 +28,7 @@ mod opening;
 mod pair;
 mod port;
 mod route_table;
+mod routes;
 
 pub use fault::OpenFault;
 pub use held::{HeldFile, HeldFiles};
@@ -35,3 +37,4 @@ pub use opening::{OpenOne, OpenTwo, open_one, open_two};
 pub use pair::Pair;
 pub use port::is_further;
 pub use route_table::{first_rows, table};
+pub use routes::{RoutesFault, read_routes};

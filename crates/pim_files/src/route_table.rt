@@ -9,8 +9,8 @@ ghost use Rattle.pim_files.specs.Table.{IsTable, IsTableFault, table_names};
 
 use crate::fault::OpenFault;
 use crate::opener::{Opener, Unopened};
+use crate::routes::read_routes;
 use pim_addr::{Family, Feed, Routes};
-use pim_routes_file::read_routes;
 use pim_words::{Captures, given_table};
 use std::alloc::Global;
 

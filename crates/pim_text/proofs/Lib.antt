@@ -18,3 +18,7 @@ pub mod TextStates
 pub mod Told
 pub mod OneLine
 pub mod OneReading
+mod BuiltPieces
+mod ReadBack
+mod Sizes
+mod Built

@@ -13,3 +13,5 @@ pub mod Fields
 pub mod Spell
 pub mod Laws
 pub mod OneReading
+pub mod ReadingText
+pub mod Building

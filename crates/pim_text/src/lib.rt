@@ -12,6 +12,9 @@
 //!   the message is legal or not. It returns the wrong line, that an address is not of the family,
 //!   or that the body is too long, each exactly where its cause is there. It may lack memory only
 //!   where the text states a message of the family.
+//! - `build_message` returns the bytes of the message that a text states: its body, sealed
+//!   (`pim_frame::seal`). It refuses what a receiver refuses. `read_text` reads a text of at most
+//!   8 MiB from any `Feed`.
 //! - Laws: the text that is written of a message states that message (`message_text_states`,
 //!   `hello_text_states`; of a Hello that was read, `hello_text_states_it`), and a text whose
 //!   addresses are all of one family states a message of that family (`stated_in_its_family`).
@@ -23,6 +26,7 @@
 //! reading takes no memory. Writing bytes reads the text again, when its families are known.
 #![tactic(auto)]
 
+mod build;
 mod fields;
 mod hello_law;
 mod hello_lines;
@@ -40,6 +44,7 @@ mod spelling_hello;
 mod spelling_lines;
 mod steps;
 
+pub use build::{BuildFault, build_message, read_text};
 pub use fields::{read_address, read_decimal};
 pub use hello_law::hello_text_states_it;
 pub use hello_lines::hello_text;

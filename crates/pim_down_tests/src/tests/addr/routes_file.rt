@@ -1,7 +1,7 @@
 //! Files of routes whose reader fails at any byte, and the words of their faults.
 
 use pim_addr::{Routes, ScriptedFeed, V4};
-use pim_routes_file::{RoutesFault, read_routes};
+use pim_files::{RoutesFault, read_routes};
 use std::alloc::Global;
 
 /// A row of a neighbour, and a line that is no row.

@@ -1,4 +1,0 @@
-mod Pieces
-mod ReadBack
-mod Sizes
-mod Built

@@ -1,3 +1,0 @@
--- The definitions of `pim_build`.
-pub mod Reading
-pub mod Building

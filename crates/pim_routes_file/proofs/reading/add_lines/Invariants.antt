@@ -1,7 +1,0 @@
-use Rattle.pim_routes_file.specs.RoutesFile.{lines_of}
-use Rattle.pim_routes_file.proofs.Added.{Went}
-use Rattle.pim_routes_file.proofs.reading.add_lines.Given as goal
-
--- the rows of the lines before those that are left were added
-abbrev pub invariant-loop-line : goal.invariant-loop-line
-invariant-loop-line g l = Went g.F.Family.family (lines_of l.file) l.line-iterator l.fn.routes l.routes l.number

@@ -1,3 +1,0 @@
--- The definitions of files of routes.
-pub mod RoutesFile
-pub mod Seen
