@@ -1,9 +1,9 @@
 pub mod Written
 pub mod NeighbourTexts
-pub mod Told
+pub mod Wrote
 pub mod Taken
 pub mod Runs
 pub mod Stores
-pub mod Tellings
+pub mod Reporting
 pub mod Makings
 pub mod OneAnswer

@@ -11,12 +11,12 @@ use Rattle.pim_form.specs.Toward.{via_in, is_toward}
 use Rattle.pim_form.specs.declared.fault.FormFault.{FormFault}
 use Rattle.pim_form.specs.declared.fault.FormFault.TheVariants.{TooBig, Memory, Tables}
 use Rattle.pim_request.specs.declared.command.Writing.{Writing}
-use Rattle.pim_request.specs.declared.command.Named.{Named}
+use Rattle.pim_request.specs.declared.command.Comparison.{Comparison}
 use Rattle.pim_router.specs.Canonical.{IsAskedBy, IsTooBig}
 use Rattle.pim_router.specs.State.{RouterState}
 use Rattle.pim_report.specs.MessageText.{messages_text}
-use Rattle.pim_answers.specs.Answered.{Told}
-use Rattle.pim_answers.specs.Asking.{UnlessIf, UnlessAny, TellsMade, TellsSame, AreCompared, AnswersMessages, AnswersFound, TellsOf, IfUsable, has_other_family, writer_words, writer_of, name_words}
+use Rattle.pim_answers.specs.Answered.{Wrote}
+use Rattle.pim_answers.specs.Asking.{UnlessIf, UnlessAny, SaysMade, SaysSame, AreCompared, AnswersMessages, AnswersFound, SaysOf, IfUsable, has_other_family, writer_words, writer_of, name_words}
 use Rattle.pim_answers.specs.declared.fault.Fault.{Fault}
 use Rattle.pim_answers.specs.declared.kept.Found.{Found}
 use Rattle.pim_answers.specs.declared.kept.Found.TheVariants.{Unknown, Other, Form}
@@ -32,7 +32,7 @@ use Rattle.pim_answers.specs.Lines.{ok_line, fault_line}
 
 -- messages that were made, or why they weren't
 pub made_told : {F A N : Type 0} (family : AddressFamily) (bytes_of : A → List ℕ) (AreMade : List (List ℕ) → Type 0) (IsBig : Option (List ℕ) → Type 0) (made : Result (List (List ℕ)) (FormFault F A N))
-    → IfOk made AreMade → IsBig (option_map bytes_of (told_too_big made)) → (made ≡ Err Tables → ⊥) → TellsMade family AreMade IsBig (made_text family bytes_of made)
+    → IfOk made AreMade → IsBig (option_map bytes_of (told_too_big made)) → (made ≡ Err Tables → ⊥) → SaysMade family AreMade IsBig (made_text family bytes_of made)
 made_told family bytes_of AreMade IsBig (Ok messages) are big never = inl (inl (messages, are, refl), big)
 made_told family bytes_of AreMade IsBig (Err (TooBig group)) are big never = inr (bytes_of group, big, refl)
 made_told family bytes_of AreMade IsBig (Err Memory) are big never = inl (inr refl, big)
@@ -40,7 +40,7 @@ made_told family bytes_of AreMade IsBig (Err Tables) are big never = absurd (nev
 
 -- messages that were compared, or why they weren't
 pub compared_told : {F A N : Type 0} (family : AddressFamily) (bytes_of : A → List ℕ) (writer : Writer) (router : RouterState) (kept : Kept) (compared : Result Bool (FormFault F A N))
-    → IfOk compared (AreCompared family writer kept.form router) → SaysBig family bytes_of writer kept.form router compared → (compared ≡ Err Tables → ⊥) → TellsSame family writer router kept (same_text family bytes_of compared)
+    → IfOk compared (AreCompared family writer kept.form router) → SaysBig family bytes_of writer kept.form router compared → (compared ≡ Err Tables → ⊥) → SaysSame family writer router kept (same_text family bytes_of compared)
 compared_told family bytes_of writer router kept (Ok same) are big never = inl (inl (same, are, refl), big)
 compared_told family bytes_of writer router kept (Err (TooBig group)) are big never = inr (bytes_of group, big, refl)
 compared_told family bytes_of writer router kept (Err Memory) are big never = inl (inr refl, big)
@@ -62,14 +62,14 @@ module _ {A E : Type 0} (family : AddressFamily) (router : RouterState) (upstrea
   usable_here : (b : Bool) → is_usable family routes neighbour kept ≡ b → not (is_usable family router.routes upstream kept) ≡ not b
   usable_here b is = ap not (subst (λ (t : RouteTable). is_usable family t upstream kept ≡ b) table (subst (λ (n : List ℕ). is_usable family routes n kept ≡ b) same is))
 
-  pub tables_told : (words : List ℕ) → is_usable family routes neighbour kept ≡ false → words ≡ codes "tables" → AppendsAll old new r (fault_line words) → Told (IfUsable family router upstream Says kept) old new r
+  pub tables_told : (words : List ℕ) → is_usable family routes neighbour kept ≡ false → words ≡ codes "tables" → AppendsAll old new r (fault_line words) → Wrote (IfUsable family router upstream Says kept) old new r
   tables_told words is tables written = record {
     text = fault_line words;
     says = refused_by (not (is_usable family router.routes upstream kept)) (codes "tables") (Says kept) (fault_line words) (usable_here false is) (ap fault_line tables);
     written = written;
   }
 
-  pub usable_told : (text : List ℕ) → is_usable family routes neighbour kept ≡ true → Says kept text → AppendsAll old new r text → Told (IfUsable family router upstream Says kept) old new r
+  pub usable_told : (text : List ℕ) → is_usable family routes neighbour kept ≡ true → Says kept text → AppendsAll old new r text → Wrote (IfUsable family router upstream Says kept) old new r
   usable_told text is says written = record {
     text = text;
     says = unless_if (not (is_usable family router.routes upstream kept)) (codes "tables") (Says kept) text (usable_here true is) says;
@@ -85,13 +85,13 @@ toward_here family form routes table neighbour upstream r n is =
 
 -- `messages` by a writer without a fault
 pub messages_told : {A E : Type 0} (family : AddressFamily) (writing : Writing) (writer : Writer) (router : RouterState) (old new : Option (List ℕ)) (r : Result A E) → has_other_family family writing ≡ false
-    → writer_words family writing ≡ [] → writer ≡ writer_of writing → (text : List ℕ) → TellsMade family (IsAskedBy family writer router) (IsTooBig family writer router) text → AppendsAll old new r text
-    → Told (AnswersMessages family writing router) old new r
+    → writer_words family writing ≡ [] → writer ≡ writer_of writing → (text : List ℕ) → SaysMade family (IsAskedBy family writer router) (IsTooBig family writer router) text → AppendsAll old new r text
+    → Wrote (AnswersMessages family writing router) old new r
 messages_told family writing writer router old new r same none is text tells written = record {
   text = text;
   says = unless_if (has_other_family family writing) family_words _ text same
-      (unless_any (writer_words family writing) (TellsMade family (IsAskedBy family (writer_of writing) router) (IsTooBig family (writer_of writing) router)) text none
-      (subst (λ (w : Writer). TellsMade family (IsAskedBy family w router) (IsTooBig family w router) text) is tells));
+      (unless_any (writer_words family writing) (SaysMade family (IsAskedBy family (writer_of writing) router) (IsTooBig family (writer_of writing) router)) text none
+      (subst (λ (w : Writer). SaysMade family (IsAskedBy family w router) (IsTooBig family w router) text) is tells));
   written = written;
 }
 
@@ -110,7 +110,7 @@ usable_is family bytes_of routes upstream name kept b is = rw (same_family famil
 -- a form of the other family can't
 pub found_other : {F A N X E : Type 0} (family : AddressFamily) (bytes_of : A → List ℕ) (name : List ℕ) (found : Found F A N) (known : Kept) (router : RouterState) (upstream : List ℕ) (Says : Kept → List ℕ → Type 0)
     (old new : Option (List ℕ)) (r : Result X E) → ((form : Bor (KeptForm F A N)) → found ≡ Form form → ⊥) → IsFound family bytes_of name found (Some known) → AppendsAll old new r (fault_line (codes "tables"))
-    → Told (IfUsable family router upstream Says known) old new r
+    → Wrote (IfUsable family router upstream Says known) old new r
 found_other family bytes_of name Unknown known router upstream Says old new r never is written = absurd cc
 found_other family bytes_of name Other known router upstream Says old new r never (one, same, differs) written =
     let here : known ≡ one = cc in
@@ -143,50 +143,50 @@ known_some family bytes_of name (Form form) kept never is = sym (ap is_some is)
 
 -- ---- `change` and `same`
 
-module _ {A E : Type 0} (family : AddressFamily) (named : Named) (router : RouterState) (Says : Writer → Kept → List ℕ → Type 0) (old new : Option (List ℕ)) (r : Result A E) (kept : Option Kept) where
-  pub named_other : (words : List ℕ) → has_other_family family named.writing ≡ true → words ≡ family_words → AppendsAll old new r (fault_line words) → Told (AnswersFound family named router (Says (writer_of named.writing)) kept) old new r
+module _ {A E : Type 0} (family : AddressFamily) (comparison : Comparison) (router : RouterState) (Says : Writer → Kept → List ℕ → Type 0) (old new : Option (List ℕ)) (r : Result A E) (kept : Option Kept) where
+  pub named_other : (words : List ℕ) → has_other_family family comparison.writing ≡ true → words ≡ family_words → AppendsAll old new r (fault_line words) → Wrote (AnswersFound family comparison router (Says (writer_of comparison.writing)) kept) old new r
   named_other words other is written = record {
     text = fault_line words;
-    says = refused_by (has_other_family family named.writing) family_words (TellsOf family named router (Says (writer_of named.writing)) kept) (fault_line words) other (ap fault_line is);
+    says = refused_by (has_other_family family comparison.writing) family_words (SaysOf family comparison router (Says (writer_of comparison.writing)) kept) (fault_line words) other (ap fault_line is);
     written = written;
   }
 
-  module _ (same : has_other_family family named.writing ≡ false) where
-    of_family : (text : List ℕ) → TellsOf family named router (Says (writer_of named.writing)) kept text → AppendsAll old new r text → Told (AnswersFound family named router (Says (writer_of named.writing)) kept) old new r
+  module _ (same : has_other_family family comparison.writing ≡ false) where
+    of_family : (text : List ℕ) → SaysOf family comparison router (Says (writer_of comparison.writing)) kept text → AppendsAll old new r text → Wrote (AnswersFound family comparison router (Says (writer_of comparison.writing)) kept) old new r
     of_family text says written = record {
       text = text;
-      says = unless_if (has_other_family family named.writing) family_words (TellsOf family named router (Says (writer_of named.writing)) kept) text same says;
+      says = unless_if (has_other_family family comparison.writing) family_words (SaysOf family comparison router (Says (writer_of comparison.writing)) kept) text same says;
       written = written;
     }
 
-    pub named_unknown : (words : List ℕ) → false ≡ is_some kept → words ≡ name_words named.name.now → AppendsAll old new r (fault_line words) → Told (AnswersFound family named router (Says (writer_of named.writing)) kept) old new r
+    pub named_unknown : (words : List ℕ) → false ≡ is_some kept → words ≡ name_words comparison.name.now → AppendsAll old new r (fault_line words) → Wrote (AnswersFound family comparison router (Says (writer_of comparison.writing)) kept) old new r
     named_unknown words none is written = of_family (fault_line words) (unknown kept none) written
       where
-        unknown : (k : Option Kept) → false ≡ is_some k → TellsOf family named router (Says (writer_of named.writing)) k (fault_line words)
+        unknown : (k : Option Kept) → false ≡ is_some k → SaysOf family comparison router (Says (writer_of comparison.writing)) k (fault_line words)
         unknown None e = ap fault_line is
         unknown (Some known) e = absurd cc
 
-    pub named_badly : (fault : Fault) → true ≡ is_some kept → IsFirst (writer_words family named.writing) fault → AppendsAll old new r (fault_line (fault_words fault))
-        → Told (AnswersFound family named router (Says (writer_of named.writing)) kept) old new r
+    pub named_badly : (fault : Fault) → true ≡ is_some kept → IsFirst (writer_words family comparison.writing) fault → AppendsAll old new r (fault_line (fault_words fault))
+        → Wrote (AnswersFound family comparison router (Says (writer_of comparison.writing)) kept) old new r
     named_badly fault some first written = of_family (fault_line (fault_words fault)) (badly kept some) written
       where
         refused : (faults : List (List ℕ)) (Tells : List ℕ → Type 0) → IsFirst faults fault → UnlessAny faults Tells (fault_line (fault_words fault))
         refused [] Tells is = absurd is
         refused (one ∷ others) Tells is = ap fault_line is
 
-        badly : (k : Option Kept) → true ≡ is_some k → TellsOf family named router (Says (writer_of named.writing)) k (fault_line (fault_words fault))
+        badly : (k : Option Kept) → true ≡ is_some k → SaysOf family comparison router (Says (writer_of comparison.writing)) k (fault_line (fault_words fault))
         badly None e = absurd cc
-        badly (Some known) e = refused (writer_words family named.writing) (IfUsable family router (address_bytes named.writing.upstream) (Says (writer_of named.writing)) known) first
+        badly (Some known) e = refused (writer_words family comparison.writing) (IfUsable family router (address_bytes comparison.writing.upstream) (Says (writer_of comparison.writing)) known) first
 
-  pub named_told : (writer : Writer) → has_other_family family named.writing ≡ false → true ≡ is_some kept → writer_words family named.writing ≡ [] → writer ≡ writer_of named.writing
-      → ((known : Kept) → kept ≡ Some known → Told (IfUsable family router writer.upstream (Says writer) known) old new r) → Told (AnswersFound family named router (Says (writer_of named.writing)) kept) old new r
+  pub named_told : (writer : Writer) → has_other_family family comparison.writing ≡ false → true ≡ is_some kept → writer_words family comparison.writing ≡ [] → writer ≡ writer_of comparison.writing
+      → ((known : Kept) → kept ≡ Some known → Wrote (IfUsable family router writer.upstream (Says writer) known) old new r) → Wrote (AnswersFound family comparison router (Says (writer_of comparison.writing)) kept) old new r
   named_told writer same some none is tells = by kept refl some
     where
-      by : (k : Option Kept) → kept ≡ k → true ≡ is_some k → Told (AnswersFound family named router (Says (writer_of named.writing)) kept) old new r
+      by : (k : Option Kept) → kept ≡ k → true ≡ is_some k → Wrote (AnswersFound family comparison router (Says (writer_of comparison.writing)) kept) old new r
       by None here e = absurd cc
       by (Some known) here e =
           let told = tells known here in
           of_family same told.text
-          (subst (λ (k : Option Kept). TellsOf family named router (Says (writer_of named.writing)) k told.text) (sym here)
-          (unless_any (writer_words family named.writing) _ told.text none
+          (subst (λ (k : Option Kept). SaysOf family comparison router (Says (writer_of comparison.writing)) k told.text) (sym here)
+          (unless_any (writer_words family comparison.writing) _ told.text none
           (subst (λ (w : Writer). IfUsable family router w.upstream (Says w) known told.text) is told.says))) told.written

@@ -13,7 +13,7 @@ use Rattle.pim_report.specs.DemandText.{demand_text}
 use Rattle.pim_report.specs.EchoLine.{echo_line}
 use Rattle.pim_report.specs.MessageText.{messages_text}
 use Rattle.pim_report.specs.RefreshLine.{refresh_line}
-use Rattle.pim_request.specs.declared.command.Named.{Named}
+use Rattle.pim_request.specs.declared.command.Comparison.{Comparison}
 use Rattle.pim_router.specs.declared.step.Step.TheVariants.{Echo, Refresh, Reached}
 use Rattle.pim_router.specs.Course.{Telling, echo, refresh, verdict}
 use Rattle.pim_router.specs.Canonical.{IsTooBig}
@@ -26,7 +26,7 @@ use Rattle.pim_text.specs.Spell.{IsLong, stated_in}
 use Rattle.pim_lines.specs.AnyAddress.{address_bytes}
 use Rattle.pim_answers.specs.declared.packets.FromText.{FromText}
 use Rattle.pim_answers.specs.Answered.{Refused, RefusedIf, RefusedBy, OrMemory, OrMemoryIf, Done}
-use Rattle.pim_answers.specs.Asking.{UnlessIf, UnlessAny, TellsMade, too_big_words, KeepsAsked, kept_now, TellsOf, IfUsable, AnswersFound, TellsChange, has_other_family, name_words, IsFirstBig, AreCompared, TellsSame, writer_of, writer_words}
+use Rattle.pim_answers.specs.Asking.{UnlessIf, UnlessAny, SaysMade, too_big_words, KeepsForm, kept_now, SaysOf, IfUsable, AnswersFound, SaysChange, has_other_family, name_words, IsFirstBig, AreCompared, SaysSame, writer_of, writer_words}
 use Rattle.pim_report.specs.SameLine.{same_line}
 use Rattle.pim_answers.specs.Families.{differ_from, family_words}
 use Rattle.pim_answers.specs.Kept.{Kept, with_kept, lacks_place, is_usable}
@@ -34,7 +34,7 @@ use Rattle.pim_answers.specs.Lines.{ok_line, fault_line, memory_line}
 use Rattle.pim_answers.specs.OneAnswer.{OneAnswer, OneText, OneRun, OnePacket, OneFrom, OneKeep, OneNext, OneWants, OneMessages, OneChange, OneSame}
 use Rattle.pim_answers.specs.Packets.{lacks_port, port_words, addresses_of, Takes, NeedsMemory, packet_of, packet_from, destination_of, type_of, IsMessageOf, TakesText, TakesShort}
 use Rattle.pim_answers.specs.Running.{Passes}
-use Rattle.pim_answers.specs.Telling.{moment_line}
+use Rattle.pim_answers.specs.Reports.{moment_line}
 
 -- ---- refusals
 
@@ -171,9 +171,9 @@ one_form normal family demand one other is too =
 pub one_keep : OneNormalForm → OneKeep
 one_keep normal family keeping router kept =
     one_if (differ_from family (keeping.upstream ∷ [])) family_words kept _
-    (one_if (lacks_place keeping.name.now kept) (name_words keeping.name.now) kept _ (one_or_memory kept (KeepsAsked family keeping router kept) keeps))
+    (one_if (lacks_place keeping.name.now kept) (name_words keeping.name.now) kept _ (one_or_memory kept (KeepsForm family keeping router kept) keeps))
   where
-    keeps : OneAnswer (KeepsAsked family keeping router kept)
+    keeps : OneAnswer (KeepsForm family keeping router kept)
     keeps text other after end (form, is, done) (f, so, too) room more =
         let same = one_form normal family _ form f is so in
         (done.0 ∙ sym too.0, done.1 ∙ (ap (λ (g : List GroupForm). with_kept (kept_now family keeping.name.now g router) kept) same ∙ sym too.1))
@@ -212,7 +212,7 @@ module _ (family : AddressFamily) (AreMade : List (List ℕ) → Type 0) (IsBig 
   made_big : (group : List ℕ) → IsBig None → IsBig (Some group) → ⊥
   made_big group none some = let never : None ≡ Some group = big None (Some group) none some in absurd cc
 
-  one_made : OneText (TellsMade family AreMade IsBig)
+  one_made : OneText (SaysMade family AreMade IsBig)
   one_made text other (inl (inl (messages, made, is), none)) (inl (inl (m, too, so), nor)) room more =
       is ∙ (ap (λ (l : List (List ℕ)). messages_text l ++ ok_line) (list messages m made too) ∙ sym so)
   one_made text other (inl (inl made, none)) (inl (inr memory, nor)) room more = absurd (more memory)
@@ -228,20 +228,20 @@ pub one_messages : OneListIsAsked → OneIsTooBig → OneMessages
 one_messages list big family writing router =
     text_if (has_other_family family writing) family_words _ (text_any (writer_words family writing) _ (one_made family _ _ (list family (writer_of writing) router) (big family (writer_of writing) router)))
 
-module _ (family : AddressFamily) (named : Named) (router : RouterState) (Says : Kept → List ℕ → Type 0) (one : (kept : Kept) → OneText (Says kept)) where
-  one_of : (found : Option Kept) → OneText (TellsOf family named router Says found)
+module _ (family : AddressFamily) (comparison : Comparison) (router : RouterState) (Says : Kept → List ℕ → Type 0) (one : (kept : Kept) → OneText (Says kept)) where
+  one_of : (found : Option Kept) → OneText (SaysOf family comparison router Says found)
   one_of None text other is too room more = is ∙ sym too
   one_of (Some kept) text other is too room more =
-      text_any (writer_words family named.writing) (IfUsable family router (address_bytes named.writing.upstream) Says kept)
-      (text_if (not (is_usable family router.routes (address_bytes named.writing.upstream) kept)) (codes "tables") (Says kept) (one kept)) text other is too room more
+      text_any (writer_words family comparison.writing) (IfUsable family router (address_bytes comparison.writing.upstream) Says kept)
+      (text_if (not (is_usable family router.routes (address_bytes comparison.writing.upstream) kept)) (codes "tables") (Says kept) (one kept)) text other is too room more
 
-  one_found : (found : Option Kept) → OneText (AnswersFound family named router Says found)
-  one_found found = text_if (has_other_family family named.writing) family_words (TellsOf family named router Says found) (one_of found)
+  one_found : (found : Option Kept) → OneText (AnswersFound family comparison router Says found)
+  one_found found = text_if (has_other_family family comparison.writing) family_words (SaysOf family comparison router Says found) (one_of found)
 
 pub one_change : OneListIsTold → OneIsTooBigToTell → OneChange
-one_change list big family named router kept =
-    one_found family named router (TellsChange family (writer_of named.writing) router)
-    (λ found. one_made family _ _ (list family (writer_of named.writing) found.form router) (big family (writer_of named.writing) found.form router)) _
+one_change list big family comparison router kept =
+    one_found family comparison router (SaysChange family (writer_of comparison.writing) router)
+    (λ found. one_made family _ _ (list family (writer_of comparison.writing) found.form router) (big family (writer_of comparison.writing) found.form router)) _
 
 -- ---- `same`
 
@@ -270,7 +270,7 @@ module _ (canonical : OneListOfMessages) (list : OneListIsAsked) (big : OneIsToo
   none_big group none (inl is) = let never : None ≡ Some group = sym none.0 ∙ is in absurd cc
   none_big group none (inr is) = let never : None ≡ Some group = big family writer router None (Some group) none.1 is.1 in absurd cc
 
-  one_same_text : OneText (TellsSame family writer router kept)
+  one_same_text : OneText (SaysSame family writer router kept)
   one_same_text text other (inl (inl (same, compared, is), none)) (inl (inl (s, too, so), nor)) room more =
       is ∙ (ap (λ (b : Bool). same_line b ++ ok_line) (one_compared same s compared too) ∙ sym so)
   one_same_text text other (inl (inl compared, none)) (inl (inr memory, nor)) room more = absurd (more memory)
@@ -281,6 +281,6 @@ module _ (canonical : OneListOfMessages) (list : OneListIsAsked) (big : OneIsToo
       is ∙ (ap (λ (x : List ℕ). fault_line (too_big_words family x)) (first_big group g some any) ∙ sym so)
 
 pub one_same : OneListOfMessages → OneListIsAsked → OneIsTooBig → OneSame
-one_same canonical list big family named router kept =
-    one_found family named router (TellsSame family (writer_of named.writing) router)
-    (λ found. one_same_text canonical list big family (writer_of named.writing) router found) _
+one_same canonical list big family comparison router kept =
+    one_found family comparison router (SaysSame family (writer_of comparison.writing) router)
+    (λ found. one_same_text canonical list big family (writer_of comparison.writing) router found) _

@@ -18,7 +18,7 @@ use Rattle.pim_answers.specs.Answered.{Answered}
 use Rattle.pim_answers.specs.Lines.{ok_line}
 use Rattle.pim_answers.specs.Running.{Passes, AnswersRun}
 use Rattle.pim_answers.specs.RunningSeen.{step_line}
-use Rattle.pim_answers.proofs.Told.{answered_text}
+use Rattle.pim_answers.proofs.Wrote.{answered_text}
 use Rattle.pim_answers.proofs.Written.{front-longer, front-more, both}
 
 -- Some way on from a state.

@@ -17,7 +17,7 @@ use Rattle.pim_answers.specs.Families.{differ_from, family_words}
 use Rattle.pim_answers.specs.Lines.{ok_line, fault_line}
 use Rattle.pim_answers.specs.Packets.{Takes, NeedsMemory, TakesText, TakesShort, IsMessageOf, AnswersPacket, AnswersFrom, lacks_port, port_words, packet_of, packet_from, destination_of}
 use Rattle.pim_answers.specs.PacketsSeen.{has_other_family}
-use Rattle.pim_answers.proofs.Told.{answered_text, answered_more, refused_if, passed_if}
+use Rattle.pim_answers.proofs.Wrote.{answered_text, answered_more, refused_if, passed_if}
 
 -- the verdict is told, and the router is as after the packet
 pub taken : (family : AddressFamily) (packet : Packet) (router after : RouterState) (told : Verdict) → (told, after) ≡ received family packet router → Takes family packet router (verdict_line told ++ ok_line) after

@@ -56,7 +56,7 @@ module _ {S : Type 0} where
 
 -- The answer of a command that changes nothing: a text for which `Says` holds. At Ok it was
 -- written, at Err a front of it.
-pub record Told {A E : Type 0} (Says : List ℕ → Type 0) (old new : Option (List ℕ)) (result : Result A E) : Type 0 where
+pub record Wrote {A E : Type 0} (Says : List ℕ → Type 0) (old new : Option (List ℕ)) (result : Result A E) : Type 0 where
   pub text : List ℕ
   pub says : Says text
   pub written : AppendsAll old new result text

@@ -9,7 +9,7 @@ use Rattle.pim_form.specs.TooBig.{too_big}
 use Rattle.pim_form.specs.Writer.{writer_faults}
 use Rattle.pim_request.specs.declared.command.Writing.{Writing}
 use Rattle.pim_request.specs.declared.command.Kept.{Kept as Keeping}
-use Rattle.pim_request.specs.declared.command.Named.{Named}
+use Rattle.pim_request.specs.declared.command.Comparison.{Comparison}
 use Rattle.pim_router.specs.Canonical.{asked, IsAskedBy, IsTooBig}
 use Rattle.pim_router.specs.Change.{IsToldOf, IsTooBigToTell}
 use Rattle.pim_router.specs.State.{RouterState}
@@ -62,8 +62,8 @@ too_big_words family group = codes "too big " ++ address_text family group
 
 -- The lines of the messages that `AreMade` holds for, or memory is refused: both only where no star is
 -- too big. Or the first group whose star is.
-abbrev pub TellsMade : AddressFamily → (List (List ℕ) → Type 0) → (Option (List ℕ) → Type 0) → List ℕ → Type 0
-TellsMade family AreMade IsBig text =
+abbrev pub SaysMade : AddressFamily → (List (List ℕ) → Type 0) → (Option (List ℕ) → Type 0) → List ℕ → Type 0
+SaysMade family AreMade IsBig text =
     ((((messages : List (List ℕ)) × AreMade messages × (text ≡ messages_text messages ++ ok_line))
     ⊎ (text ≡ memory_line)) × IsBig None)
     ⊎ ((group : List ℕ) × IsBig (Some group) × (text ≡ fault_line (too_big_words family group)))
@@ -73,7 +73,7 @@ abbrev pub AnswersMessages : AddressFamily → Writing → RouterState → List 
 AnswersMessages family writing router =
     UnlessIf (has_other_family family writing) family_words
     (UnlessAny (writer_words family writing)
-    (TellsMade family (IsAskedBy family (writer_of writing) router) (IsTooBig family (writer_of writing) router)))
+    (SaysMade family (IsAskedBy family (writer_of writing) router) (IsTooBig family (writer_of writing) router)))
 
 -- ---- what is kept
 
@@ -87,8 +87,8 @@ kept_now family name form router =
     record { name = name; family = family; form = form; stars = stars_of family router.routes form }
 
 -- The form of what is asked of the neighbour now is kept under the name, over what the name held.
-abbrev pub KeepsAsked : AddressFamily → Keeping → RouterState → List Kept → List ℕ → List Kept → Type 0
-KeepsAsked family keeping router kept text after = (form : List GroupForm)
+abbrev pub KeepsForm : AddressFamily → Keeping → RouterState → List Kept → List ℕ → List Kept → Type 0
+KeepsForm family keeping router kept text after = (form : List GroupForm)
     × IsFormOf family (asked family (address_bytes keeping.upstream) router) form
     × Done (with_kept (kept_now family keeping.name.now form router) kept) text after
 
@@ -97,7 +97,7 @@ abbrev pub AnswersKeep : AddressFamily → Keeping → RouterState → List Kept
 AnswersKeep family keeping router kept =
     RefusedIf (differ_from family (keeping.upstream ∷ [])) family_words kept
     (RefusedIf (lacks_place keeping.name.now kept) (name_words keeping.name.now) kept
-    (OrMemory kept (KeepsAsked family keeping router kept)))
+    (OrMemory kept (KeepsForm family keeping router kept)))
 
 -- What is told of this, which is kept: the command is refused by the tables where it can't be compared.
 abbrev pub IfUsable : AddressFamily → RouterState → List ℕ → (Kept → List ℕ → Type 0) → Kept → List ℕ → Type 0
@@ -106,25 +106,25 @@ IfUsable family router upstream Says kept =
 
 -- A command with what is kept under a name: it is refused where nothing is, or by the writer, or by
 -- the tables. Else it tells this.
-abbrev pub TellsOf : AddressFamily → Named → RouterState → (Kept → List ℕ → Type 0) → Option Kept → List ℕ → Type 0
-TellsOf family named router Says None text = text ≡ fault_line (name_words named.name.now)
-TellsOf family named router Says (Some kept) text = UnlessAny (writer_words family named.writing)
-    (IfUsable family router (address_bytes named.writing.upstream) Says kept) text
+abbrev pub SaysOf : AddressFamily → Comparison → RouterState → (Kept → List ℕ → Type 0) → Option Kept → List ℕ → Type 0
+SaysOf family comparison router Says None text = text ≡ fault_line (name_words comparison.name.now)
+SaysOf family comparison router Says (Some kept) text = UnlessAny (writer_words family comparison.writing)
+    (IfUsable family router (address_bytes comparison.writing.upstream) Says kept) text
 
 -- `change` and `same`: what they tell of this, which is kept under their name, if anything is.
-abbrev pub AnswersFound : AddressFamily → Named → RouterState → (Kept → List ℕ → Type 0) → Option Kept → List ℕ → Type 0
-AnswersFound family named router Says found =
-    UnlessIf (has_other_family family named.writing) family_words (TellsOf family named router Says found)
+abbrev pub AnswersFound : AddressFamily → Comparison → RouterState → (Kept → List ℕ → Type 0) → Option Kept → List ℕ → Type 0
+AnswersFound family comparison router Says found =
+    UnlessIf (has_other_family family comparison.writing) family_words (SaysOf family comparison router Says found)
 
 -- The messages of the change from what was kept to what is asked now.
-abbrev pub TellsChange : AddressFamily → Writer → RouterState → Kept → List ℕ → Type 0
-TellsChange family writer router kept =
-    TellsMade family (IsToldOf family writer kept.form router) (IsTooBigToTell family writer kept.form router)
+abbrev pub SaysChange : AddressFamily → Writer → RouterState → Kept → List ℕ → Type 0
+SaysChange family writer router kept =
+    SaysMade family (IsToldOf family writer kept.form router) (IsTooBigToTell family writer kept.form router)
 
 -- `change`
-abbrev pub AnswersChange : AddressFamily → Named → RouterState → List Kept → List ℕ → Type 0
-AnswersChange family named router kept =
-    AnswersFound family named router (TellsChange family (writer_of named.writing) router) (kept_as named.name.now kept)
+abbrev pub AnswersChange : AddressFamily → Comparison → RouterState → List Kept → List ℕ → Type 0
+AnswersChange family comparison router kept =
+    AnswersFound family comparison router (SaysChange family (writer_of comparison.writing) router) (kept_as comparison.name.now kept)
 
 -- The first group whose star is too big: of what was kept, else of what is asked now.
 abbrev pub IsFirstBig : AddressFamily → Writer → List GroupForm → RouterState → List ℕ → Type 0
@@ -149,14 +149,14 @@ pub record AreCompared (family : AddressFamily) (writer : Writer) (form : List G
 
 -- Whether the canonical messages of what was kept are those of what is asked now, or memory is
 -- refused: both only where no star is too big. Or the first group whose star is.
-abbrev pub TellsSame : AddressFamily → Writer → RouterState → Kept → List ℕ → Type 0
-TellsSame family writer router kept text =
+abbrev pub SaysSame : AddressFamily → Writer → RouterState → Kept → List ℕ → Type 0
+SaysSame family writer router kept text =
     ((((same : Bool) × AreCompared family writer kept.form router same × (text ≡ same_line same ++ ok_line))
     ⊎ (text ≡ memory_line)) × IsNoneBig family writer kept.form router)
     ⊎ ((group : List ℕ) × IsFirstBig family writer kept.form router group
     × (text ≡ fault_line (too_big_words family group)))
 
 -- `same`
-abbrev pub AnswersSame : AddressFamily → Named → RouterState → List Kept → List ℕ → Type 0
-AnswersSame family named router kept =
-    AnswersFound family named router (TellsSame family (writer_of named.writing) router) (kept_as named.name.now kept)
+abbrev pub AnswersSame : AddressFamily → Comparison → RouterState → List Kept → List ℕ → Type 0
+AnswersSame family comparison router kept =
+    AnswersFound family comparison router (SaysSame family (writer_of comparison.writing) router) (kept_as comparison.name.now kept)

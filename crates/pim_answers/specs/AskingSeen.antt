@@ -64,19 +64,19 @@ SaysBig family bytes_of writer form router (Err Tables) = Unit {0}
 SaysBig family bytes_of writer form router result = IsNoneBig family writer form router
 
 -- What is asked of a neighbour now, with the RPs of its stars.
-pub record IsAskedNow {F A N : Type 0} (family : AddressFamily) (bytes_of : A → List ℕ) (upstream : List ℕ)
+pub record IsDemandNow {F A N : Type 0} (family : AddressFamily) (bytes_of : A → List ℕ) (upstream : List ℕ)
     (router : RouterState) (kept : KeptForm F A N) : Type 0 where
   pub is : IsFormOf family (asked family upstream router) kept.form
   pub seen : (name : List ℕ) → form_seen family bytes_of name kept ≡ kept_now family name kept.form router
 
 -- What `keep` makes: the form of what is asked of the neighbour now, where the command has no fault;
 -- else its first fault, or memory is refused.
-abbrev pub IsAskedFor : {F A N : Type 0} → AddressFamily → (A → List ℕ) → Keeping → RouterState → List Kept →
+abbrev pub IsKeptForm : {F A N : Type 0} → AddressFamily → (A → List ℕ) → Keeping → RouterState → List Kept →
     Result (KeptForm F A N) Fault → Type 0
-IsAskedFor family bytes_of keeping router kept (Ok form) =
+IsKeptForm family bytes_of keeping router kept (Ok form) =
     (differ_from family (keeping.upstream ∷ []) ≡ false) × (lacks_place keeping.name.now kept ≡ false)
-    × IsAskedNow family bytes_of (address_bytes keeping.upstream) router form
-IsAskedFor family bytes_of keeping router kept (Err fault) =
+    × IsDemandNow family bytes_of (address_bytes keeping.upstream) router form
+IsKeptForm family bytes_of keeping router kept (Err fault) =
     (differ_from family (keeping.upstream ∷ []) ≡ true) × (fault_words fault ≡ family_words)
     ⊎ (differ_from family (keeping.upstream ∷ []) ≡ false) × (lacks_place keeping.name.now kept ≡ true)
     × (fault_words fault ≡ name_words keeping.name.now)

@@ -6,7 +6,7 @@ use Rattle.pim_answers.specs.Lines.{ok_line, fault_line}
 
 -- The words of a fault, with the bytes or the number that they name.
 abbrev pub fault_words : Fault → List ℕ
-fault_words fault = fault.words.now ++ (fault.named.now ++ number_or [] fault.number)
+fault_words fault = fault.words.now ++ (fault.name.now ++ number_or [] fault.number)
 
 -- The line of a command that was done, or refused by this fault.
 abbrev pub done_text : {A : Type 0} → Result A Fault → List ℕ

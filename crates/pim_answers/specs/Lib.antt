@@ -7,7 +7,7 @@ pub mod Packets
 pub mod PacketsSeen
 pub mod Running
 pub mod RunningSeen
-pub mod Telling
+pub mod Reports
 pub mod Kept
 pub mod StoreSeen
 pub mod Asking

@@ -5,7 +5,7 @@ use Rattle.pim_addr.specs.declared.family.AddressFamily.{AddressFamily}
 use Rattle.pim_request.specs.declared.command.Packet.{Packet}
 use Rattle.pim_request.specs.declared.command.Writing.{Writing}
 use Rattle.pim_request.specs.declared.command.Kept.{Kept as Keeping}
-use Rattle.pim_request.specs.declared.command.Named.{Named}
+use Rattle.pim_request.specs.declared.command.Comparison.{Comparison}
 use Rattle.pim_router.specs.State.{RouterState}
 use Rattle.pim_answers.specs.declared.packets.FromText.{FromText}
 use Rattle.pim_answers.specs.Asking.{AnswersMessages, AnswersKeep, AnswersChange, AnswersSame}
@@ -13,7 +13,7 @@ use Rattle.pim_answers.specs.Kept.{Kept}
 use Rattle.pim_answers.specs.Lines.{memory_line}
 use Rattle.pim_answers.specs.Packets.{AnswersPacket, AnswersFrom}
 use Rattle.pim_answers.specs.Running.{AnswersRun}
-use Rattle.pim_answers.specs.Telling.{TellsNext, TellsWants}
+use Rattle.pim_answers.specs.Reports.{AnswersNext, AnswersWants}
 
 -- Two answers of this command, neither of them `memory`, are the same, and lead to the same state.
 abbrev pub OneAnswer : {S : Type 0} → (List ℕ → S → Type 0) → Type 0
@@ -45,11 +45,11 @@ OneKeep = (family : AddressFamily) (keeping : Keeping) (router : RouterState) (k
 
 -- `next`
 abbrev pub OneNext : Type 0
-OneNext = (router : RouterState) → OneText (TellsNext router)
+OneNext = (router : RouterState) → OneText (AnswersNext router)
 
 -- `wants`
 abbrev pub OneWants : Type 0
-OneWants = (family : AddressFamily) (router : RouterState) → OneText (TellsWants family router)
+OneWants = (family : AddressFamily) (router : RouterState) → OneText (AnswersWants family router)
 
 -- `messages`
 abbrev pub OneMessages : Type 0
@@ -57,10 +57,10 @@ OneMessages = (family : AddressFamily) (writing : Writing) (router : RouterState
 
 -- `change`
 abbrev pub OneChange : Type 0
-OneChange = (family : AddressFamily) (named : Named) (router : RouterState) (kept : List Kept) →
-    OneText (AnswersChange family named router kept)
+OneChange = (family : AddressFamily) (comparison : Comparison) (router : RouterState) (kept : List Kept) →
+    OneText (AnswersChange family comparison router kept)
 
 -- `same`
 abbrev pub OneSame : Type 0
-OneSame = (family : AddressFamily) (named : Named) (router : RouterState) (kept : List Kept) →
-    OneText (AnswersSame family named router kept)
+OneSame = (family : AddressFamily) (comparison : Comparison) (router : RouterState) (kept : List Kept) →
+    OneText (AnswersSame family comparison router kept)

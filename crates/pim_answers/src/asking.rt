@@ -7,14 +7,14 @@ ghost use Rattle.pim_device.specs.Device.{AppendsAll, failures_after};
 ghost use Rattle.pim_addr.specs.Routes.{rp_of};
 ghost use Rattle.pim_form.specs.Toward.{via_in, is_toward};
 ghost use Rattle.pim_report.specs.MessageText.{messages_text};
-ghost use Rattle.pim_answers.specs.Answered.{Told};
+ghost use Rattle.pim_answers.specs.Answered.{Wrote};
 ghost use Rattle.pim_answers.specs.Asking.{has_other_family, writer_of, AnswersMessages};
 ghost use Rattle.pim_report.specs.SameLine.{same_line};
 ghost use Rattle.pim_answers.specs.Asking.{AnswersFound};
-ghost use Rattle.pim_answers.specs.Asking.{TellsChange, TellsSame, IfUsable, AreCompared};
+ghost use Rattle.pim_answers.specs.Asking.{SaysChange, SaysSame, IfUsable, AreCompared};
 ghost use Rattle.pim_answers.specs.AskingSeen.{AreEnds, MakesWriter, form_fault_line, made_text};
 ghost use Rattle.pim_answers.specs.AskingSeen.{same_text, SaysBig};
-ghost use Rattle.pim_answers.specs.AskingSeen.{IsAskedNow, IsAskedFor, IsUsed, has_same_tables};
+ghost use Rattle.pim_answers.specs.AskingSeen.{IsDemandNow, IsKeptForm, IsUsed, has_same_tables};
 ghost use Rattle.pim_answers.specs.Kept.{Kept as KeptSeen};
 ghost use Rattle.pim_answers.specs.Lines.{ok_line, fault_line};
 ghost use Rattle.pim_answers.specs.StoreSeen.{form_seen, store_seen, IsFound};
@@ -25,7 +25,7 @@ use pim_addr::{Drain, Failed, Family, Routes, write_all};
 use pim_form::{FormFault, Messages, NormalForm, Writer, is_toward, pack};
 use pim_lines::{Shown, of_family};
 use pim_report::{same_line, write_messages};
-use pim_request::{Kept, Named, Writing};
+use pim_request::{Comparison, Kept, Writing};
 use pim_router::Router;
 use std::alloc::{AllocError, Global};
 
@@ -71,7 +71,7 @@ fn write_form_fault<F: Family, W: Drain>(answers: &mut W, fault: FormFault<F>) -
     match fault {
         FormFault::TooBig(group) => {
             let group = Shown::address::<F>(group);
-            write_fault(answers, &Fault::named(b"too big ", group.text()))
+            write_fault(answers, &Fault::with_name(b"too big ", group.text()))
         }
         FormFault::Memory => write_fault(answers, &Fault::memory()),
         FormFault::Tables => write_fault(answers, &Fault::plain(b"tables")),
@@ -113,7 +113,7 @@ pub fn answer_messages<F: Family, W: Drain>(
     writing: &Writing,
     answers: &mut W,
 ) -> Result<(), Failed>
-    ensures told { Told (AnswersMessages F.family writing.now router.now)
+    ensures told { Wrote (AnswersMessages F.family writing.now router.now)
         (W.contents answers.old) (W.contents answers.new) result }
     ensures count { W.failures answers.new ≡ failures_after (W.failures answers.old) result }
 {
@@ -127,12 +127,12 @@ pub fn answer_messages<F: Family, W: Drain>(
 }
 
 /// What is asked of a neighbour now, with the RPs of its stars.
-fn asked_now<F: Family>(
+fn demand_now<F: Family>(
     alloc: Global,
     router: &Router<'_, F>,
     upstream: F::Addr,
 ) -> Result<KeptForm<F>, AllocError>
-    ensures { IfOk result (IsAskedNow F.family F.bytes_of (F.bytes_of upstream) router.now) }
+    ensures { IfOk result (IsDemandNow F.family F.bytes_of (F.bytes_of upstream) router.now) }
 {
     let form = NormalForm::toward(alloc, router.ports(), router.routes(), upstream)?;
     let stars = stars_of::<F>(alloc, &form, router.routes())?;
@@ -144,21 +144,21 @@ fn asked_now<F: Family>(
 /// # Errors
 /// The first of these faults: the neighbour is of another family, the name lacks a place, or memory
 /// is refused.
-pub fn asked_for<'c, F: Family>(
+pub fn form_to_keep<'c, F: Family>(
     alloc: Global,
     router: &Router<'_, F>,
     store: &Store,
     command: &Kept<'c>,
 ) -> Result<KeptForm<F>, Fault<'c>>
-    ensures { IsAskedFor F.family F.bytes_of command.now router.now (store_seen store.now) result }
+    ensures { IsKeptForm F.family F.bytes_of command.now router.now (store_seen store.now) result }
 {
     let Some(upstream) = of_family::<F>(command.upstream) else {
         return Err(Fault::family());
     };
     if store.lacks_place(command.name) {
-        return Err(Fault::named(b"name ", command.name));
+        return Err(Fault::with_name(b"name ", command.name));
     }
-    match asked_now::<F>(alloc, router, upstream) {
+    match demand_now::<F>(alloc, router, upstream) {
         Ok(form) => Ok(form),
         Err(_) => Err(Fault::memory()),
     }
@@ -203,9 +203,9 @@ fn write_change<F: Family, W: Drain>(
     writer: &Writer<F>,
     answers: &mut W,
 ) -> Result<(), Failed>
-    ensures told { (name : List ℕ) → Told
+    ensures told { (name : List ℕ) → Wrote
         (IfUsable F.family router.now writer.now.upstream
-        (TellsChange F.family writer.now router.now)
+        (SaysChange F.family writer.now router.now)
         (form_seen F.family F.bytes_of name kept.now)) (W.contents answers.old)
         (W.contents answers.new) result }
     ensures count { W.failures answers.new ≡ failures_after (W.failures answers.old) result }
@@ -225,9 +225,9 @@ fn change_found<F: Family, W: Drain>(
     answers: &mut W,
 ) -> Result<(), Failed>
     ensures told { (name : List ℕ) (known : KeptSeen) →
-        IsFound F.family F.bytes_of name found.now (Some known) → Told
+        IsFound F.family F.bytes_of name found.now (Some known) → Wrote
         (IfUsable F.family router.now writer.now.upstream
-        (TellsChange F.family writer.now router.now) known)
+        (SaysChange F.family writer.now router.now) known)
         (W.contents answers.old) (W.contents answers.new) result }
     ensures count { W.failures answers.new ≡ failures_after (W.failures answers.old) result }
 {
@@ -257,13 +257,13 @@ pub fn answer_change<F: Family, W: Drain>(
     alloc: Global,
     router: &Router<'_, F>,
     found: &Found<'_, F>,
-    command: &Named<'_>,
+    command: &Comparison<'_>,
     answers: &mut W,
 ) -> Result<(), Failed>
     ensures told { (kept : Option KeptSeen) →
-        IsFound F.family F.bytes_of command.now.name.now found.now kept → Told
+        IsFound F.family F.bytes_of command.now.name.now found.now kept → Wrote
         (AnswersFound F.family command.now router.now
-        (TellsChange F.family (writer_of command.now.writing) router.now) kept)
+        (SaysChange F.family (writer_of command.now.writing) router.now) kept)
         (W.contents answers.old) (W.contents answers.new) result }
     ensures count { W.failures answers.new ≡ failures_after (W.failures answers.old) result }
 {
@@ -271,7 +271,7 @@ pub fn answer_change<F: Family, W: Drain>(
         return write_fault(answers, &Fault::family());
     };
     if !is_known::<F>(found) {
-        return write_fault(answers, &Fault::named(b"name ", command.name));
+        return write_fault(answers, &Fault::with_name(b"name ", command.name));
     }
     match writer_of::<F>(ends, &command.writing) {
         Ok(writer) => change_found::<F, W>(alloc, router, found, &writer, answers),
@@ -302,7 +302,7 @@ fn is_same<F: Family>(
 }
 
 /// Writes `same` or `different`, and `ok`.
-fn tell_same<W: Drain>(answers: &mut W, same: bool) -> Result<(), Failed>
+fn write_comparison<W: Drain>(answers: &mut W, same: bool) -> Result<(), Failed>
     ensures bytes { AppendsAll (W.contents answers.old) (W.contents answers.new) result
         (same_line same ++ ok_line) }
     ensures count { W.failures answers.new ≡ failures_after (W.failures answers.old) result }
@@ -321,7 +321,7 @@ fn write_compared<F: Family, W: Drain>(
     ensures count { W.failures answers.new ≡ failures_after (W.failures answers.old) result }
 {
     match compared {
-        Ok(same) => tell_same(answers, same),
+        Ok(same) => write_comparison(answers, same),
         Err(fault) => write_form_fault::<F, W>(answers, fault),
     }
 }
@@ -334,8 +334,8 @@ fn write_same<F: Family, W: Drain>(
     writer: &Writer<F>,
     answers: &mut W,
 ) -> Result<(), Failed>
-    ensures told { (name : List ℕ) → Told
-        (IfUsable F.family router.now writer.now.upstream (TellsSame F.family writer.now router.now)
+    ensures told { (name : List ℕ) → Wrote
+        (IfUsable F.family router.now writer.now.upstream (SaysSame F.family writer.now router.now)
         (form_seen F.family F.bytes_of name kept.now)) (W.contents answers.old)
         (W.contents answers.new) result }
     ensures count { W.failures answers.new ≡ failures_after (W.failures answers.old) result }
@@ -355,8 +355,8 @@ fn same_found<F: Family, W: Drain>(
     answers: &mut W,
 ) -> Result<(), Failed>
     ensures told { (name : List ℕ) (known : KeptSeen) →
-        IsFound F.family F.bytes_of name found.now (Some known) → Told
-        (IfUsable F.family router.now writer.now.upstream (TellsSame F.family writer.now router.now)
+        IsFound F.family F.bytes_of name found.now (Some known) → Wrote
+        (IfUsable F.family router.now writer.now.upstream (SaysSame F.family writer.now router.now)
         known)
         (W.contents answers.old) (W.contents answers.new) result }
     ensures count { W.failures answers.new ≡ failures_after (W.failures answers.old) result }
@@ -375,13 +375,13 @@ pub fn answer_same<F: Family, W: Drain>(
     alloc: Global,
     router: &Router<'_, F>,
     found: &Found<'_, F>,
-    command: &Named<'_>,
+    command: &Comparison<'_>,
     answers: &mut W,
 ) -> Result<(), Failed>
     ensures told { (kept : Option KeptSeen) →
-        IsFound F.family F.bytes_of command.now.name.now found.now kept → Told
+        IsFound F.family F.bytes_of command.now.name.now found.now kept → Wrote
         (AnswersFound F.family command.now router.now
-        (TellsSame F.family (writer_of command.now.writing) router.now) kept)
+        (SaysSame F.family (writer_of command.now.writing) router.now) kept)
         (W.contents answers.old) (W.contents answers.new) result }
     ensures count { W.failures answers.new ≡ failures_after (W.failures answers.old) result }
 {
@@ -389,7 +389,7 @@ pub fn answer_same<F: Family, W: Drain>(
         return write_fault(answers, &Fault::family());
     };
     if !is_known::<F>(found) {
-        return write_fault(answers, &Fault::named(b"name ", command.name));
+        return write_fault(answers, &Fault::with_name(b"name ", command.name));
     }
     match writer_of::<F>(ends, &command.writing) {
         Ok(writer) => same_found::<F, W>(alloc, router, found, &writer, answers),

@@ -15,7 +15,7 @@ use pim_lines::{number_or, write_pieces};
 #[derive(Clone, Copy, Debug)]
 pub struct Fault<'a> {
     words: &'static [u8],
-    named: &'a [u8],
+    name: &'a [u8],
     number: Option<u64>,
 }
 
@@ -26,18 +26,18 @@ impl<'a> Fault<'a> {
     {
         Fault {
             words,
-            named: b"",
+            name: b"",
             number: None,
         }
     }
 
     /// A fault of words that end with a space, and these bytes.
-    pub fn named(words: &'static [u8], named: &'a [u8]) -> Self
-        ensures { fault_words result ≡ words.now ++ named.now }
+    pub fn with_name(words: &'static [u8], name: &'a [u8]) -> Self
+        ensures { fault_words result ≡ words.now ++ name.now }
     {
         Fault {
             words,
-            named,
+            name,
             number: None,
         }
     }
@@ -48,7 +48,7 @@ impl<'a> Fault<'a> {
     {
         Fault {
             words,
-            named: b"",
+            name: b"",
             number: Some(number),
         }
     }
@@ -61,10 +61,10 @@ impl<'a> Fault<'a> {
     }
 
     /// The bytes that they name.
-    fn named_bytes(&self) -> &[u8]
-        ensures { result.now ≡ self.now.named.now }
+    fn name_bytes(&self) -> &[u8]
+        ensures { result.now ≡ self.now.name.now }
     {
-        self.named
+        self.name
     }
 
     /// The number that they name, in decimal, if there is one.
@@ -99,7 +99,7 @@ pub fn write_fault<W: Drain>(answers: &mut W, fault: &Fault<'_>) -> Result<(), F
     let pieces = [
         b"fault ",
         fault.words(),
-        fault.named_bytes(),
+        fault.name_bytes(),
         fault.digits(&mut digits),
         b"\n",
     ];

@@ -11,7 +11,7 @@
 //! - `answer_now`, `answer_next`, `answer_state`, `answer_wants` and `answer_neighbours` tell of
 //!   the router and leave it unchanged.
 //! - `answer_messages` writes the canonical messages to an upstream neighbour.
-//! - `asked_for` makes the form that `keep` keeps in a `Store`: what is asked of a neighbour.
+//! - `form_to_keep` makes the form that `keep` keeps in a `Store`: the demand on a neighbour.
 //!   `answer_change` writes the messages of the change from it to what is asked now, `answer_same`
 //!   whether both have the same canonical messages. Both are refused where the kept form isn't
 //!   asked of that neighbour alone by the table of now, or a star's RP is another.
@@ -31,17 +31,17 @@ mod kept;
 mod neighbours;
 mod one_answer;
 mod packets;
+mod reports;
 mod room;
 mod running;
-mod telling;
 
-pub use asking::{answer_change, answer_messages, answer_same, asked_for};
+pub use asking::{answer_change, answer_messages, answer_same, form_to_keep};
 pub use fault::{Fault, write_done, write_fault, write_ok};
 pub use kept::{AnyForm, Found, KeptForm, StarRp, Store};
 pub use one_answer::{
     demand_has_one_answer, messages_have_one_answer, packet_has_one_answer, run_has_one_answer,
 };
 pub use packets::{FromText, answer_from, answer_packet};
+pub use reports::{answer_neighbours, answer_next, answer_now, answer_state, answer_wants};
 pub use room::Room;
 pub use running::answer_run;
-pub use telling::{answer_neighbours, answer_next, answer_now, answer_state, answer_wants};

@@ -68,7 +68,7 @@ fn port_of(port: u64, count: usize) -> Result<usize, Fault<'static>>
 }
 
 /// Writes the line of a verdict, and `ok`.
-fn tell_verdict<W: Drain>(answers: &mut W, verdict: Verdict) -> Result<(), Failed>
+fn answer_verdict<W: Drain>(answers: &mut W, verdict: Verdict) -> Result<(), Failed>
     ensures bytes { AppendsAll (W.contents answers.old) (W.contents answers.new) result
         (verdict_line verdict ++ ok_line) }
     ensures count { W.failures answers.new ≡ failures_after (W.failures answers.old) result }
@@ -97,7 +97,7 @@ fn take<F: Family, W: Drain>(
     ensures count { W.failures answers.new ≡ failures_after (W.failures answers.old) result }
 {
     match router.take_packet(port, ends.source, ends.destination, message) {
-        Ok(verdict) => tell_verdict(answers, verdict),
+        Ok(verdict) => answer_verdict(answers, verdict),
         Err(_) => write_fault(answers, &Fault::memory()),
     }
 }

@@ -82,8 +82,8 @@ refused (Some all) written family source destination input message result fault 
 pub told_fault : (family : AddressFamily) (body : List ℕ) (fault : JpFault) → judged (faults family body) (message_of family body) ≡ Err fault → body_report family body ≡ Err (JoinPrune fault)
 told_fault family body fault = first_told JoinPrune (faults family body) (message_of family body) (message_text family (message_of family body)) fault
 
-pub told_text : (family : AddressFamily) (body : List ℕ) (message : Message) → judged (faults family body) (message_of family body) ≡ Ok message → body_report family body ≡ Ok (message_text family message)
-told_text family body message = none_told JoinPrune (message_text family) (faults family body) (message_of family body) message
+pub written_text : (family : AddressFamily) (body : List ℕ) (message : Message) → judged (faults family body) (message_of family body) ≡ Ok message → body_report family body ≡ Ok (message_text family message)
+written_text family body message = none_told JoinPrune (message_text family) (faults family body) (message_of family body) message
 
 pub told_hello_fault : (family : AddressFamily) (body : List ℕ) (fault : HelloFault) → judged (hello_option_faults body) (hello_of family body) ≡ Err fault → hello_report family body ≡ Err (Hello fault)
 told_hello_fault family body fault = first_told Hello (hello_option_faults body) (hello_of family body) (hello_text family (hello_of family body)) fault

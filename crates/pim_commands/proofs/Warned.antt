@@ -13,17 +13,17 @@ use Rattle.pim_words.specs.declared.fault.Side.{Side}
 use Rattle.pim_files.specs.Captures.{files_from, with_more}
 use Rattle.pim_words.specs.declared.task.More.{More}
 use Rattle.pim_words.specs.declared.task.Port.{Port}
-use Rattle.pim_faults.specs.Telling.{IsTold}
+use Rattle.pim_faults.specs.Ending.{IsReported}
 use Rattle.pim_commands.specs.Naming.{is_in, are_in}
 use Rattle.pim_commands.specs.Warnings.{port_warnings, warnings_from}
 use Rattle.pim_commands.proofs.Named.{left_from, one_port}
 
 -- nothing was written
-pub nothing_told : (old : Option (List ℕ)) (failures : ℕ) → IsTold [] old old failures failures
+pub nothing_told : (old : Option (List ℕ)) (failures : ℕ) → IsReported [] old old failures failures
 nothing_told old failures = inl (Appends-nil old, refl)
 
 -- all was written, or a front
-pub is_told : {A E : Type 0} (old new : Option (List ℕ)) (before after : ℕ) (r : Result A E) (text : List ℕ) → AppendsAll old new r text → after ≡ failures_after before r → IsTold text old new before after
+pub is_told : {A E : Type 0} (old new : Option (List ℕ)) (before after : ℕ) (r : Result A E) (text : List ℕ) → AppendsAll old new r text → after ≡ failures_after before r → IsReported text old new before after
 is_told old new before after (Ok done) text wrote count = inl (wrote, count)
 is_told old new before after (Err failed) text wrote count = inr (wrote, count)
 

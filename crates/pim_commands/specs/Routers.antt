@@ -23,7 +23,7 @@ use Rattle.pim_words.specs.declared.task.Writing.{Writing}
 use Rattle.pim_words.specs.Faults.{is_of}
 use Rattle.pim_faults.specs.declared.fault.Fault.{Fault}
 use Rattle.pim_faults.specs.declared.fault.Fault.TheVariants.{Memory}
-use Rattle.pim_faults.specs.Unopened.{config_told, writer_told}
+use Rattle.pim_faults.specs.Unopened.{config_refused, writer_refused}
 
 -- ---- the end of the run
 
@@ -63,20 +63,20 @@ writing_of bytes_of writing = writing_seen bytes_of writing.upstream writing.own
 -- `WriterAddress`.
 abbrev pub IsWriterOf : AddressFamily → MessageWriting → Result MessageWriting Fault → Type 0
 IsWriterOf family writing (Ok writer) = (writer ≡ writing) × (has_bad_address family writing ≡ false)
-IsWriterOf family writing (Err fault) = (fault ≡ writer_told) × (has_bad_address family writing ≡ true)
+IsWriterOf family writing (Err fault) = (fault ≡ writer_refused) × (has_bad_address family writing ≡ true)
 
 -- ---- faults of the program
 
 -- The fault of a writer whose addresses aren't so.
 abbrev pub writer_causes : Bool → List Fault
-writer_causes true = writer_told ∷ []
+writer_causes true = writer_refused ∷ []
 writer_causes false = []
 
 -- The program's fault for a fault of a router's configuration.
 abbrev pub config_fault : ConfigFault → Fault
-config_fault (of_config.Address port) = config_told cause.Address
+config_fault (of_config.Address port) = config_refused cause.Address
 config_fault of_config.Memory = Memory
-config_fault other = config_told cause.Ports
+config_fault other = config_refused cause.Ports
 
 -- The faults of a set-up.
 abbrev pub config_causes : AddressFamily → Setup → List Fault

@@ -56,7 +56,7 @@ fn read_input<R: Feed>(alloc: Global, reader: &mut R) -> Result<Vec<u8>, Fault<'
 }
 
 /// The text of the body of a Join/Prune message, or its first fault.
-#[tactic(auto, using(crate::proofs::Reports::told_fault, crate::proofs::Reports::told_text))]
+#[tactic(auto, using(crate::proofs::Reports::told_fault, crate::proofs::Reports::written_text))]
 fn report_join_prune<F: Family>(alloc: Global, body: &[u8]) -> Result<Vec<u8>, Fault<'static>>
     ensures report { GivesReport (λ v. v.items) (body_report F.family body.now) result }
     ensures states { IfOk result (λ text. IsStated F.family (join_prune body.now)) }

@@ -46,6 +46,6 @@ pub use build::{build_into, build_task};
 pub use check::{check_into, check_task};
 pub use laws::trace_ends_as_replay;
 pub use one_router::{emit, mirror, replay, trace};
-pub use pim_faults::{FAULTY, Fault, Warning, fault_line, tell_into, warning_line};
+pub use pim_faults::{FAULTY, Fault, Warning, fault_line, report_fault, warning_line};
 pub use running::run_task;
 pub use two_routers::{change, same};

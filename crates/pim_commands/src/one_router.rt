@@ -5,7 +5,7 @@
 ghost use Rattle.std.specs.Prelude.{◌≡◌, ◌≤◌, [], length};
 ghost use Rattle.pim_capture.specs.Next.{latest_moment};
 ghost use Rattle.pim_commands.specs.Report.{write_failures_after};
-ghost use Rattle.pim_faults.specs.Telling.{IsTold};
+ghost use Rattle.pim_faults.specs.Ending.{IsReported};
 ghost use Rattle.pim_exchange.specs.Fault.{failures_of_exchange};
 ghost use Rattle.pim_words.specs.Plan.{AreNames, IsBounded, IsLimited, IsWritable};
 ghost use Rattle.pim_commands.specs.Commands.{engine_of, engine_seen, upstream_of, Fits};
@@ -251,7 +251,7 @@ fn run_one<'a, F: Family, O: Opener, W: Drain, E: Drain>(
     ensures runs { OneRuns F.family F.bytes_of O.Reader.remaining O.Reader.failures
         (O.known opener.old) (O.known opener.new) captures.now
         (upstream_of command.entry) (engine_of F.family F.bytes_of command.entry)
-        (λ text. IsTold text (E.contents errors.old) (E.contents errors.new)
+        (λ text. IsReported text (E.contents errors.old) (E.contents errors.new)
         (E.failures errors.old) (E.failures errors.new))
         (W.contents writer.old) (W.contents writer.new) result }
     ensures count { W.failures writer.new ≡ write_failures_after (W.failures writer.old) result }
@@ -285,7 +285,7 @@ pub fn replay<'a, F: Family, O: Opener, W: Drain, E: Drain>(
     requires limit { IsLimited captures.now }
     ensures report { ReplaysFiles F.family F.bytes_of O.Reader.remaining O.Reader.failures
         (O.known opener.old) (O.known opener.new) captures.now
-        (λ text. IsTold text (E.contents errors.old) (E.contents errors.new)
+        (λ text. IsReported text (E.contents errors.old) (E.contents errors.new)
         (E.failures errors.old) (E.failures errors.new))
         (W.contents writer.old) (W.contents writer.new) result }
     ensures count { W.failures writer.new ≡ write_failures_after (W.failures writer.old) result }
@@ -313,7 +313,7 @@ pub fn trace<'a, F: Family, O: Opener, W: Drain, E: Drain>(
     requires names { AreNames captures.now tracing.now }
     ensures events { TracesFiles F.family F.bytes_of O.Reader.remaining O.Reader.failures
         (O.known opener.old) (O.known opener.new) captures.now tracing.now
-        (λ text. IsTold text (E.contents errors.old) (E.contents errors.new)
+        (λ text. IsReported text (E.contents errors.old) (E.contents errors.new)
         (E.failures errors.old) (E.failures errors.new))
         (W.contents writer.old) (W.contents writer.new) result }
     ensures count { W.failures writer.new ≡ write_failures_after (W.failures writer.old) result }
@@ -343,7 +343,7 @@ pub fn mirror<'a, F: Family, O: Opener, W: Drain, E: Drain>(
     requires writing { IsWritable writing.now }
     ensures text { MirrorsFiles F.family F.bytes_of O.Reader.remaining O.Reader.failures
         (O.known opener.old) (O.known opener.new) captures.now writing.now
-        (λ text. IsTold text (E.contents errors.old) (E.contents errors.new)
+        (λ text. IsReported text (E.contents errors.old) (E.contents errors.new)
         (E.failures errors.old) (E.failures errors.new))
         (W.contents writer.old) (W.contents writer.new) result }
     ensures count { W.failures writer.new ≡ write_failures_after (W.failures writer.old) result }
@@ -371,7 +371,7 @@ pub fn emit<'a, F: Family, O: Opener, W: Drain, E: Drain>(
     requires writing { IsWritable writing.now }
     ensures bytes { EmitsFiles F.family F.bytes_of O.Reader.remaining O.Reader.failures
         (O.known opener.old) (O.known opener.new) captures.now writing.now
-        (λ text. IsTold text (E.contents errors.old) (E.contents errors.new)
+        (λ text. IsReported text (E.contents errors.old) (E.contents errors.new)
         (E.failures errors.old) (E.failures errors.new))
         (W.contents writer.old) (W.contents writer.new) result }
     ensures count { W.failures writer.new ≡ write_failures_after (W.failures writer.old) result }

@@ -3,7 +3,7 @@
 ghost use Rattle.std.specs.Prelude.{◌≡◌};
 ghost use Rattle.pim_words.specs.Plan.{IsInRange};
 ghost use Rattle.pim_commands.specs.Report.{write_failures_after};
-ghost use Rattle.pim_faults.specs.Telling.{IsTold};
+ghost use Rattle.pim_faults.specs.Ending.{IsReported};
 ghost use Rattle.pim_commands.specs.Running.{DoesTask};
 
 use crate::build::build_task;
@@ -32,7 +32,7 @@ pub fn run_task<'a, F: Family, O: Opener, R: Feed, W: Drain, E: Drain>(
     requires { IsInRange task.now }
     ensures done { DoesTask F.family F.bytes_of O.Reader.remaining O.Reader.failures
         (O.known opener.old) (O.known opener.new) (R.remaining input.old)
-        (λ text. IsTold text (E.contents errors.old) (E.contents errors.new)
+        (λ text. IsReported text (E.contents errors.old) (E.contents errors.new)
         (E.failures errors.old) (E.failures errors.new))
         (W.contents output.old) (W.contents output.new) result task.now }
     ensures output { W.failures output.new ≡ write_failures_after (W.failures output.old) result }

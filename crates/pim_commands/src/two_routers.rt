@@ -2,7 +2,7 @@
 
 ghost use Rattle.std.specs.Prelude.{◌≡◌, length, filter};
 ghost use Rattle.pim_commands.specs.Report.{write_failures_after};
-ghost use Rattle.pim_faults.specs.Telling.{IsTold};
+ghost use Rattle.pim_faults.specs.Ending.{IsReported};
 ghost use Rattle.pim_words.specs.Faults.{is_of};
 ghost use Rattle.pim_words.specs.Plan.{IsBounded, IsLimited, IsWritable};
 ghost use Rattle.pim_commands.specs.Engines.{RunsBoth};
@@ -109,7 +109,7 @@ fn run_two<'a, F: Family, O: Opener, W: Drain, E: Drain>(
     requires writing { IsWritable asked.1.now }
     ensures runs { BothRun F.family F.bytes_of O.Reader.remaining O.Reader.failures
         (O.known opener.old) (O.known opener.new) captures.now asked.entry.0 asked.entry.1.now
-        (λ text. IsTold text (E.contents errors.old) (E.contents errors.new)
+        (λ text. IsReported text (E.contents errors.old) (E.contents errors.new)
         (E.failures errors.old) (E.failures errors.new))
         (W.contents writer.old) (W.contents writer.new) result }
     ensures count { W.failures writer.new ≡ write_failures_after (W.failures writer.old) result }
@@ -145,7 +145,7 @@ pub fn same<'a, F: Family, O: Opener, W: Drain, E: Drain>(
     requires writing { IsWritable writing.now }
     ensures report { ComparesFiles F.family F.bytes_of O.Reader.remaining O.Reader.failures
         (O.known opener.old) (O.known opener.new) captures.now writing.now
-        (λ text. IsTold text (E.contents errors.old) (E.contents errors.new)
+        (λ text. IsReported text (E.contents errors.old) (E.contents errors.new)
         (E.failures errors.old) (E.failures errors.new))
         (W.contents writer.old) (W.contents writer.new) result }
     ensures count { W.failures writer.new ≡ write_failures_after (W.failures writer.old) result }
@@ -175,7 +175,7 @@ pub fn change<'a, F: Family, O: Opener, W: Drain, E: Drain>(
     requires writing { IsWritable writing.now }
     ensures text { ChangesFiles F.family F.bytes_of O.Reader.remaining O.Reader.failures
         (O.known opener.old) (O.known opener.new) captures.now writing.now
-        (λ text. IsTold text (E.contents errors.old) (E.contents errors.new)
+        (λ text. IsReported text (E.contents errors.old) (E.contents errors.new)
         (E.failures errors.old) (E.failures errors.new))
         (W.contents writer.old) (W.contents writer.new) result }
     ensures count { W.failures writer.new ≡ write_failures_after (W.failures writer.old) result }

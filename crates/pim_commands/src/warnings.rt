@@ -6,7 +6,7 @@ ghost use Rattle.pim_merge.specs.Lane.{tallies_of};
 ghost use Rattle.pim_merge.specs.Tally.{tally_at};
 ghost use Rattle.pim_files.specs.Captures.{files_from, of_router, with_more};
 ghost use Rattle.pim_files.specs.Opening.{port_files};
-ghost use Rattle.pim_faults.specs.Telling.{IsTold};
+ghost use Rattle.pim_faults.specs.Ending.{IsReported};
 ghost use Rattle.pim_commands.specs.Naming.{are_in, ports_of};
 ghost use Rattle.pim_commands.specs.Warnings.{counted, rows_of, warned, record_warnings};
 ghost use Rattle.pim_commands.specs.Warnings.{missed_warning, unserved_warning, census_warnings};
@@ -235,7 +235,7 @@ pub(crate) fn warn_of_one<F: Family, E: Drain, R: Feed + Drop>(
     routes: &Routes<F>,
     merge: &Merge<R>,
 )
-    ensures { IsTold (warnings_text F.family F.bytes_of routes.now (port_files captures.now)
+    ensures { IsReported (warnings_text F.family F.bytes_of routes.now (port_files captures.now)
         merge.now)
         (E.contents errors.old) (E.contents errors.new) (E.failures errors.old)
         (E.failures errors.new) }
@@ -251,7 +251,7 @@ pub(crate) fn warn_of_both<F: Family, E: Drain, R: Feed + Drop>(
     routes: &Routes<F>,
     pair: &Pair<R>,
 )
-    ensures { IsTold (warnings_text F.family F.bytes_of routes.now
+    ensures { IsReported (warnings_text F.family F.bytes_of routes.now
         (of_router Side.A (port_files captures.now)) pair.now.a
         ++ warnings_text F.family F.bytes_of routes.now
         (of_router Side.B (port_files captures.now)) pair.now.b)

@@ -1,5 +1,5 @@
 -- The definitions of `pim_faults`.
 pub mod Words
-pub mod Telling
+pub mod Ending
 pub mod Unopened
 pub mod Missing

@@ -9,17 +9,17 @@ use Rattle.pim_faults.specs.declared.fault.Fault.TheVariants.{Words, File, Unope
 use Rattle.pim_faults.specs.Words.{routes_fault}
 
 -- The program's fault for this fault of the words.
-abbrev pub config_told : ConfigCause → Fault
-config_told cause = Words (of_words.Config cause)
+abbrev pub config_refused : ConfigCause → Fault
+config_refused cause = Words (of_words.Config cause)
 
 -- The program's fault for a writer whose addresses aren't two different valid sources.
-abbrev pub writer_told : Fault
-writer_told = Words of_words.WriterAddress
+abbrev pub writer_refused : Fault
+writer_refused = Words of_words.WriterAddress
 
 -- The program's fault for a fault of opening.
 abbrev pub open_fault : OpenFault → Fault
-open_fault opening.Upstream = writer_told
-open_fault opening.Rp = config_told cause.Rp
+open_fault opening.Upstream = writer_refused
+open_fault opening.Rp = config_refused cause.Rp
 open_fault (opening.File word) = File word
 open_fault (opening.Port file cause) = Unopened file cause
 open_fault (opening.Routes fault) = routes_fault fault

@@ -363,7 +363,7 @@ fn write_address<W: Drain>(writer: &mut W, words: &[u8], address: AnyAddress) ->
 }
 
 /// The short text that `clap` has for a kind of error. The program prints the full text instead, by
-/// `tell_into`.
+/// `report_fault`.
 fn refusal_words(kind: ErrorKind) -> &'static str
     ensures { result.now ≡ refusal_words kind }
 {

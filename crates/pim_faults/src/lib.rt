@@ -1,7 +1,7 @@
 //! The faults and warnings of `pimtree`'s commands, and their lines.
 //!
 //! - `Fault` is why a command wasn't done. It holds faults of the crates below. `fault_line` writes
-//!   its line, and `tell_into` writes it on one of two devices and returns the status.
+//!   its line, and `report_fault` writes it on one of two devices and returns the status.
 //! - `Warning` is what a command says of a capture beside its result. `warning_line` writes its
 //!   line. `missed_line` and `unserved_line` write those on whom the messages of a capture name.
 //!
@@ -11,13 +11,13 @@
 #![tactic(auto)]
 
 mod causes;
+mod ending;
 mod fault;
 mod missing;
-mod telling;
 mod unopened;
 mod warning;
 
+pub use ending::{FAULTY, report_fault};
 pub use fault::{Fault, fault_line};
 pub use missing::{missed_line, unserved_line};
-pub use telling::{FAULTY, tell_into};
 pub use warning::{Warning, warning_line};

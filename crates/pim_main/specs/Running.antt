@@ -5,7 +5,7 @@ use Rattle.std.specs.Io.KnownBytes.{Keeps}
 use Rattle.pim_addr.specs.declared.family.AddressFamily.{AddressFamily}
 use Rattle.pim_device.specs.Device.{AppendsFront, top_count}
 use Rattle.pim_commands.specs.Report.{write_failures_after}
-use Rattle.pim_faults.specs.Telling.{IsTold, TookAll}
+use Rattle.pim_faults.specs.Ending.{IsReported, TookAll}
 use Rattle.pim_faults.specs.declared.fault.Fault.{Fault}
 use Rattle.pim_faults.specs.declared.fault.Fault.TheVariants.{Output, Memory}
 use Rattle.pim_commands.specs.Running.{DoesTask}
@@ -60,4 +60,4 @@ module _ {A R : Type 0} (family : AddressFamily) (bytes_of : A → List ℕ) (re
     pub whole : IfOk passed (λ _. refused ≡ 0)
     pub warned : Writes passed warnings
     pub does : DoesTask family bytes_of remaining failures known known' input
-        (λ text. IsTold text (Some []) (Some warnings) 0 refused) old written answer task
+        (λ text. IsReported text (Some []) (Some warnings) 0 refused) old written answer task

@@ -28,7 +28,7 @@ use crate::progress::{Clearing, Line};
 pub use inputs::WithInput;
 pub use output::{Output, task_reads_any};
 use pim_addr::{Counted, Family, V4, V6};
-use pim_commands::{FAULTY, Fault, tell_into};
+use pim_commands::{FAULTY, Fault, report_fault};
 use pim_words::{Plan, Task, plan};
 pub use running::run_on_devices;
 pub use session::run_session;
@@ -91,29 +91,29 @@ fn run<'a>(rt: &'a HostRuntime, words: &'a [String]) -> Result<u8, Fault<'a>> {
 }
 
 /// Writes a fault to standard output or error, and returns the status.
-fn tell(rt: &HostRuntime, fault: &Fault<'_>) -> u8 {
+fn report(rt: &HostRuntime, fault: &Fault<'_>) -> u8 {
     let mut output = Counted::new(io::writer(rt));
     let mut errors = Counted::new(rt.stderr());
-    tell_into(fault, &mut output, &mut errors)
+    report_fault(fault, &mut output, &mut errors)
 }
 
 /// Writes why the words can't be read, and returns the status.
-fn tell_unread(rt: &HostRuntime, error: &io::Error) -> u8 {
+fn report_unread(rt: &HostRuntime, error: &io::Error) -> u8 {
     if error.kind() == io::ErrorKind::InvalidData {
         let _ = eprintln!(rt; "pimtree: a word of the command line isn't valid UTF-8");
         return FAULTY;
     }
-    tell(rt, &Fault::Memory)
+    report(rt, &Fault::Memory)
 }
 
 /// Does what the words of the process's command line ask for, and returns its status.
 pub fn run_program(rt: &HostRuntime) -> ExitCode {
     let words = match words_given(rt) {
         Ok(words) => words,
-        Err(error) => return ExitCode::from(tell_unread(rt, &error)),
+        Err(error) => return ExitCode::from(report_unread(rt, &error)),
     };
     match run(rt, words.as_slice()) {
         Ok(status) => ExitCode::from(status),
-        Err(fault) => ExitCode::from(tell(rt, &fault)),
+        Err(fault) => ExitCode::from(report(rt, &fault)),
     }
 }

@@ -12,13 +12,13 @@ use Rattle.pim_request.specs.declared.command.Packet.{Packet}
 use Rattle.pim_request.specs.declared.command.Sender.{Sender}
 use Rattle.pim_request.specs.declared.command.Writing.{Writing}
 use Rattle.pim_request.specs.declared.command.Kept.{Kept}
-use Rattle.pim_request.specs.declared.command.Named.{Named}
+use Rattle.pim_request.specs.declared.command.Comparison.{Comparison}
 use Rattle.pim_request.specs.declared.command.Command.{Command}
 use Rattle.pim_request.specs.declared.command.Command.TheVariants.{Port, Rp, Via, Limit, Start, Run, Now, Next, State, Wants, Neighbours, Messages, Keep, Change, Same, Reset}
 use Rattle.pim_request.specs.declared.command.Command.TheVariants.{Packet as Arrival}
 use Rattle.pim_request.specs.Forms.{most, words_of, pieces_of}
-use Rattle.pim_request.specs.Commands.{Usage, usages, IsOption, AreDelays, IsDestination, AreOptions, IsPort, IsRow, IsPacket, IsSender, IsWriting, IsKept, IsNamed, IsNumber, HasCommand, AreCommand}
-use Rattle.pim_request.specs.OneRequest.{SamePacket, SameKept, SameNamed, SameCommand, OneCommand, OneSender}
+use Rattle.pim_request.specs.Commands.{Usage, usages, IsOption, AreDelays, IsDestination, AreOptions, IsPort, IsRow, IsPacket, IsSender, IsWriting, IsKept, IsComparison, IsNumber, HasCommand, AreCommand}
+use Rattle.pim_request.specs.OneRequest.{SamePacket, SameKept, SameComparison, SameCommand, OneCommand, OneSender}
 
 -- ---- numbers
 
@@ -175,7 +175,7 @@ module _ (one_name : OneName) where
       let second : upstream ≡ u = cc in
       record { name = first; upstream = name upstream u one.upstream other.upstream second up ups }
 
-  one_named : (one other : Named) (words : List (List ℕ)) → IsNamed one words → IsNamed other words → SameNamed one other
+  one_named : (one other : Comparison) (words : List (List ℕ)) → IsComparison one words → IsComparison other words → SameComparison one other
   one_named one other words (rest, cut, some, writing) (left, so, any, written) =
       let both : one.name.now ∷ rest ≡ other.name.now ∷ left = sym cut ∙ so in
       let first : one.name.now ≡ other.name.now = cc in
@@ -225,8 +225,8 @@ first_is words Wants is = ap first_or is
 first_is words Neighbours is = ap first_or is
 first_is words (Messages writing) is = with_first (codes "messages") (IsWriting writing) words is
 first_is words (Keep kept) is = with_first (codes "keep") (IsKept kept) words is
-first_is words (Change named) is = with_first (codes "change") (IsNamed named) words is
-first_is words (Same named) is = with_first (codes "same") (IsNamed named) words is
+first_is words (Change named) is = with_first (codes "change") (IsComparison named) words is
+first_is words (Same named) is = with_first (codes "same") (IsComparison named) words is
 first_is words Reset is = ap first_or is
 
 -- The place of a command among the usages.
@@ -267,8 +267,8 @@ module _ (one_name : OneName) (words : List (List ℕ)) where
   one_command Neighbours Neighbours is too = tt
   one_command (Messages one) (Messages other) is too = inside (codes "messages") (IsWriting one) (IsWriting other) (one ≡ other) (one_writing one_name one other) is too
   one_command (Keep one) (Keep other) is too = inside (codes "keep") (IsKept one) (IsKept other) (SameKept one other) (one_kept one_name one other) is too
-  one_command (Change one) (Change other) is too = inside (codes "change") (IsNamed one) (IsNamed other) (SameNamed one other) (one_named one_name one other) is too
-  one_command (Same one) (Same other) is too = inside (codes "same") (IsNamed one) (IsNamed other) (SameNamed one other) (one_named one_name one other) is too
+  one_command (Change one) (Change other) is too = inside (codes "change") (IsComparison one) (IsComparison other) (SameComparison one other) (one_named one_name one other) is too
+  one_command (Same one) (Same other) is too = inside (codes "same") (IsComparison one) (IsComparison other) (SameComparison one other) (one_named one_name one other) is too
   one_command Reset Reset is too = tt
   one_command one other is too = absurd (differ (place one) (place other) refl (one_place one other is too))
 

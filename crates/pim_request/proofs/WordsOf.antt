@@ -7,14 +7,14 @@ use Rattle.pim_request.specs.declared.command.Packet.{Packet}
 use Rattle.pim_request.specs.declared.command.Sender.{Sender}
 use Rattle.pim_request.specs.declared.command.Writing.{Writing}
 use Rattle.pim_request.specs.declared.command.Kept.{Kept}
-use Rattle.pim_request.specs.declared.command.Named.{Named}
+use Rattle.pim_request.specs.declared.command.Comparison.{Comparison}
 use Rattle.pim_request.specs.declared.command.Command.{Command}
 use Rattle.pim_request.specs.declared.command.Command.TheVariants.{Port, Rp, Via, Limit, Start, Run, Now, Next, State, Wants, Neighbours, Messages, Keep, Change, Same, Reset}
 use Rattle.pim_request.specs.declared.command.Command.TheVariants.{Packet as Arrival}
 use Rattle.pim_request.specs.declared.command.WordsFault.{WordsFault}
 use Rattle.pim_request.specs.Forms.{Slot, address, number, name, most, words_of, Fits, AreOf, OneOf}
-use Rattle.pim_request.specs.Commands.{usage, usages, delays_forms, destination_forms, option_forms, port_forms, row_forms, packet_forms, sender_forms, writing_forms, kept_forms, named_forms, number_forms, no_words, IsFaultAmong}
-use Rattle.pim_request.specs.Commands.{IsOption, AreDelays, IsDestination, AreOptions, IsPort, IsRow, IsPacket, IsSender, IsWriting, IsKept, IsNamed, IsNumber, HasCommand, AreCommand}
+use Rattle.pim_request.specs.Commands.{usage, usages, delays_forms, destination_forms, option_forms, port_forms, row_forms, packet_forms, sender_forms, writing_forms, kept_forms, comparison_forms, number_forms, no_words, IsFaultAmong}
+use Rattle.pim_request.specs.Commands.{IsOption, AreDelays, IsDestination, AreOptions, IsPort, IsRow, IsPacket, IsSender, IsWriting, IsKept, IsComparison, IsNumber, HasCommand, AreCommand}
 use Rattle.pim_request.specs.OneRequest.{NoFaultIfStated, NoSenderFaultIfStated}
 use Rattle.pim_request.proofs.OneFault.{no_fault_among}
 
@@ -97,9 +97,9 @@ of_kept : (kept : Kept) (words : List (List ℕ)) → IsKept kept words → AreO
 of_kept kept words (upstream, same, some, up) =
     again kept_forms words (kept.name.now ∷ upstream ∷ []) same (inl (some, ((kept.upstream, up), refl)))
 
-of_named : (named : Named) (words : List (List ℕ)) → IsNamed named words → AreOfOne named_forms words
+of_named : (named : Comparison) (words : List (List ℕ)) → IsComparison named words → AreOfOne comparison_forms words
 of_named named words (others, same, some, writing) =
-    again named_forms words (named.name.now ∷ others) same
+    again comparison_forms words (named.name.now ∷ others) same
     (onto name named.name.now some others writing_forms (of_writing named.writing others writing))
 
 -- ---- so they have no fault
@@ -127,8 +127,8 @@ module _ (line : List ℕ) (fault : WordsFault) where
   no_fault_if_stated Neighbours is has = none_alone (codes "neighbours") is has (λ words same are. no_fault_among usages line (codes "neighbours") words fault same are has)
   no_fault_if_stated (Messages writing) is has = none_with (codes "messages") writing_forms (IsWriting writing) (of_writing writing) (λ words same are. no_fault_among usages line (codes "messages") words fault same are has) is
   no_fault_if_stated (Keep kept) is has = none_with (codes "keep") kept_forms (IsKept kept) (of_kept kept) (λ words same are. no_fault_among usages line (codes "keep") words fault same are has) is
-  no_fault_if_stated (Change named) is has = none_with (codes "change") named_forms (IsNamed named) (of_named named) (λ words same are. no_fault_among usages line (codes "change") words fault same are has) is
-  no_fault_if_stated (Same named) is has = none_with (codes "same") named_forms (IsNamed named) (of_named named) (λ words same are. no_fault_among usages line (codes "same") words fault same are has) is
+  no_fault_if_stated (Change named) is has = none_with (codes "change") comparison_forms (IsComparison named) (of_named named) (λ words same are. no_fault_among usages line (codes "change") words fault same are has) is
+  no_fault_if_stated (Same named) is has = none_with (codes "same") comparison_forms (IsComparison named) (of_named named) (λ words same are. no_fault_among usages line (codes "same") words fault same are has) is
   no_fault_if_stated Reset is has = none_alone (codes "reset") is has (λ words same are. no_fault_among usages line (codes "reset") words fault same are has)
 
   pub no_sender_fault : (sender : Sender) → HasCommand (codes "from") (IsSender sender) (words_of line) → IsFaultAmong (usage (codes "from") sender_forms ∷ []) line fault → ⊥

@@ -9,7 +9,7 @@ use Rattle.pim_request.specs.declared.command.Packet.{Packet}
 use Rattle.pim_request.specs.declared.command.Sender.{Sender}
 use Rattle.pim_request.specs.declared.command.Writing.{Writing}
 use Rattle.pim_request.specs.declared.command.Kept.{Kept}
-use Rattle.pim_request.specs.declared.command.Named.{Named}
+use Rattle.pim_request.specs.declared.command.Comparison.{Comparison}
 use Rattle.pim_request.specs.declared.command.Command.{Command}
 use Rattle.pim_request.specs.declared.command.Command.TheVariants.{Port, Rp, Via, Limit, Start, Run, Now, Next, State, Wants, Neighbours, Messages, Keep, Change, Same, Reset}
 use Rattle.pim_request.specs.declared.command.Command.TheVariants.{Packet as Arrival}
@@ -63,8 +63,8 @@ abbrev pub kept_forms : List (List Slot)
 kept_forms = (name ∷ address ∷ []) ∷ []
 
 -- `NAME UPSTREAM OWN [holdtime S] [budget N]`
-abbrev pub named_forms : List (List Slot)
-named_forms = after (name ∷ []) writing_forms
+abbrev pub comparison_forms : List (List Slot)
+comparison_forms = after (name ∷ []) writing_forms
 
 -- A number of this range, alone.
 abbrev pub number_forms : ℕ → ℕ → List (List Slot)
@@ -104,8 +104,8 @@ usages =
     ∷ usage (codes "neighbours") no_words
     ∷ usage (codes "messages") writing_forms
     ∷ usage (codes "keep") kept_forms
-    ∷ usage (codes "change") named_forms
-    ∷ usage (codes "same") named_forms
+    ∷ usage (codes "change") comparison_forms
+    ∷ usage (codes "same") comparison_forms
     ∷ usage (codes "reset") no_words
     ∷ []
 
@@ -204,8 +204,8 @@ IsKept kept words =
     × Names upstream kept.upstream
 
 -- The words state this name, and how messages are written.
-abbrev pub IsNamed : Named → List (List ℕ) → Type 0
-IsNamed named words =
+abbrev pub IsComparison : Comparison → List (List ℕ) → Type 0
+IsComparison named words =
     (others : List (List ℕ)) × (words ≡ named.name.now ∷ others) × (named.name.now ≡ [] → ⊥)
     × IsWriting named.writing others
 
@@ -234,8 +234,8 @@ AreCommand words Wants = words ≡ codes "wants" ∷ []
 AreCommand words Neighbours = words ≡ codes "neighbours" ∷ []
 AreCommand words (Messages writing) = HasCommand (codes "messages") (IsWriting writing) words
 AreCommand words (Keep kept) = HasCommand (codes "keep") (IsKept kept) words
-AreCommand words (Change named) = HasCommand (codes "change") (IsNamed named) words
-AreCommand words (Same named) = HasCommand (codes "same") (IsNamed named) words
+AreCommand words (Change named) = HasCommand (codes "change") (IsComparison named) words
+AreCommand words (Same named) = HasCommand (codes "same") (IsComparison named) words
 AreCommand words Reset = words ≡ codes "reset" ∷ []
 
 -- The line states this command.

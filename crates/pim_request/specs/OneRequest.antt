@@ -3,7 +3,7 @@ use Rattle.std.specs.Prelude.{◌≡◌, ⊤, ℕ, List}
 use Rattle.pim_request.specs.declared.command.Packet.{Packet}
 use Rattle.pim_request.specs.declared.command.Sender.{Sender}
 use Rattle.pim_request.specs.declared.command.Kept.{Kept}
-use Rattle.pim_request.specs.declared.command.Named.{Named}
+use Rattle.pim_request.specs.declared.command.Comparison.{Comparison}
 use Rattle.pim_request.specs.declared.command.Command.{Command}
 use Rattle.pim_request.specs.declared.command.Command.TheVariants.{Port, Rp, Via, Limit, Start, Run, Now, Next, State, Wants, Neighbours, Messages, Keep, Change, Same, Reset}
 use Rattle.pim_request.specs.declared.command.Command.TheVariants.{Packet as Arrival}
@@ -26,7 +26,7 @@ pub record SameKept (one other : Kept) : Type 0 where
   pub upstream : one.upstream ≡ other.upstream
 
 -- Both have the same name, and messages are written in the same way.
-pub record SameNamed (one other : Named) : Type 0 where
+pub record SameComparison (one other : Comparison) : Type 0 where
   pub name : one.name.now ≡ other.name.now
   pub writing : one.writing ≡ other.writing
 
@@ -46,8 +46,8 @@ SameCommand Wants Wants = ⊤
 SameCommand Neighbours Neighbours = ⊤
 SameCommand (Messages one) (Messages other) = one ≡ other
 SameCommand (Keep one) (Keep other) = SameKept one other
-SameCommand (Change one) (Change other) = SameNamed one other
-SameCommand (Same one) (Same other) = SameNamed one other
+SameCommand (Change one) (Change other) = SameComparison one other
+SameCommand (Same one) (Same other) = SameComparison one other
 SameCommand Reset Reset = ⊤
 SameCommand one other = ⊥
 

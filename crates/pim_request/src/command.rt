@@ -72,7 +72,7 @@ pub struct Kept<'a> {
 
 /// What was kept under a name, and how messages are written.
 #[derive(Clone, Copy, Debug, PartialEq, Eq)]
-pub struct Named<'a> {
+pub struct Comparison<'a> {
     /// The name, not empty.
     pub name: &'a [u8],
     /// How messages are written.
@@ -111,9 +111,9 @@ pub enum Command<'a> {
     /// `keep NAME UPSTREAM`
     Keep(Kept<'a>),
     /// `change NAME UPSTREAM OWN [holdtime S] [budget N]`
-    Change(Named<'a>),
+    Change(Comparison<'a>),
     /// `same NAME UPSTREAM OWN [holdtime S] [budget N]`
-    Same(Named<'a>),
+    Same(Comparison<'a>),
     /// `reset`
     Reset,
 }

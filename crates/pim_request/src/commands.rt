@@ -3,11 +3,12 @@
 ghost use Rattle.std.specs.Prelude.{◌∷◌, codes, IfOk, IfErr};
 ghost use Rattle.pim_request.specs.Forms.{IsFault, most};
 ghost use Rattle.pim_request.specs.Commands.{port_forms, row_forms, packet_forms, sender_forms};
-ghost use Rattle.pim_request.specs.Commands.{kept_forms, named_forms, writing_forms, number_forms};
-ghost use Rattle.pim_request.specs.Commands.{IsRow, IsNamed, IsSender, AreCommand};
+ghost use Rattle.pim_request.specs.Commands.{kept_forms, comparison_forms, writing_forms};
+ghost use Rattle.pim_request.specs.Commands.{number_forms};
+ghost use Rattle.pim_request.specs.Commands.{IsRow, IsComparison, IsSender, AreCommand};
 ghost use Rattle.pim_request.specs.Steps.{words_left};
 
-use crate::command::{Command, Kept, Named, Packet, PortRow, Row, Sender, WordsFault};
+use crate::command::{Command, Comparison, Kept, Packet, PortRow, Row, Sender, WordsFault};
 use crate::slots::{
     MOST, line_end, next_address, next_digits, next_name, next_number, next_prefix,
 };
@@ -163,13 +164,16 @@ pub(crate) fn read_keep<'a>(
 }
 
 /// Reads `NAME UPSTREAM OWN [holdtime S] [budget N]`.
-fn read_named<'a>(command: &'a [u8], left: Option<&'a [u8]>) -> Result<Named<'a>, WordsFault<'a>>
-    ensures read { IfOk result (λ named. IsNamed named (words_left left.entry)) }
-    ensures fault { IfErr result (IsFault named_forms command.now (words_left left.entry)) }
+fn read_comparison<'a>(
+    command: &'a [u8],
+    left: Option<&'a [u8]>,
+) -> Result<Comparison<'a>, WordsFault<'a>>
+    ensures read { IfOk result (λ named. IsComparison named (words_left left.entry)) }
+    ensures fault { IfErr result (IsFault comparison_forms command.now (words_left left.entry)) }
 {
     let cut = next_name(command, left)?;
     let writing = last_writing(command, cut.left)?;
-    Ok(Named {
+    Ok(Comparison {
         name: cut.word,
         writing,
     })
@@ -181,9 +185,9 @@ pub(crate) fn read_change<'a>(
     left: Option<&'a [u8]>,
 ) -> Result<Command<'a>, WordsFault<'a>>
     ensures read { IfOk result (AreCommand (codes "change" ∷ words_left left.entry)) }
-    ensures fault { IfErr result (IsFault named_forms command.now (words_left left.entry)) }
+    ensures fault { IfErr result (IsFault comparison_forms command.now (words_left left.entry)) }
 {
-    let named = read_named(command, left)?;
+    let named = read_comparison(command, left)?;
     Ok(Command::Change(named))
 }
 
@@ -193,8 +197,8 @@ pub(crate) fn read_same<'a>(
     left: Option<&'a [u8]>,
 ) -> Result<Command<'a>, WordsFault<'a>>
     ensures read { IfOk result (AreCommand (codes "same" ∷ words_left left.entry)) }
-    ensures fault { IfErr result (IsFault named_forms command.now (words_left left.entry)) }
+    ensures fault { IfErr result (IsFault comparison_forms command.now (words_left left.entry)) }
 {
-    let named = read_named(command, left)?;
+    let named = read_comparison(command, left)?;
     Ok(Command::Same(named))
 }

@@ -28,7 +28,7 @@ mod slots;
 mod tails;
 mod words;
 
-pub use command::{Command, Kept, Named, Packet, PortRow, Row, Sender, WordsFault, Writing};
+pub use command::{Command, Comparison, Kept, Packet, PortRow, Row, Sender, WordsFault, Writing};
 pub use hex::decode_hex;
 pub use one_request::{
     line_has_one_fault, line_states_one_command, line_states_one_sender, sender_has_one_fault,

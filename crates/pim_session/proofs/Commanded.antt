@@ -9,7 +9,7 @@ use Rattle.pim_request.specs.declared.command.Packet.{Packet as PacketOf}
 use Rattle.pim_request.specs.declared.command.Kept.{Kept as Keeping}
 use Rattle.pim_router.specs.State.{RouterState}
 use Rattle.pim_answers.specs.declared.packets.FromText.{FromText}
-use Rattle.pim_answers.specs.Answered.{Answered, Told}
+use Rattle.pim_answers.specs.Answered.{Answered, Wrote}
 use Rattle.pim_answers.specs.Asking.{AnswersKeep}
 use Rattle.pim_answers.specs.Kept.{Kept}
 use Rattle.pim_answers.specs.Lines.{ok_line, fault_line}
@@ -22,7 +22,7 @@ use Rattle.pim_session.specs.declared.setup.AnyRow.TheVariants as kind
 use Rattle.pim_session.specs.declared.setup.AnyRows.{AnyRows}
 use Rattle.pim_session.specs.declared.setup.AnyRows.TheVariants.{Free, Ipv4, Ipv6}
 use Rattle.pim_session.specs.Gathering.{with_limit}
-use Rattle.pim_session.specs.Answers.{Answers, AnswersBefore, AnswersAfter, Gathers, Serves, Tells, session_in}
+use Rattle.pim_session.specs.Answers.{Answers, AnswersBefore, AnswersAfter, Gathers, Serves, Reports, session_in}
 use Rattle.pim_session.specs.SetupSeen.{Adds, any_seen, row_in}
 use Rattle.pim_session.specs.State.{Gathered, gathering, serving, Session, nothing_gathered}
 use Rattle.pim_session.specs.Underway.{Configured, session_after}
@@ -39,7 +39,7 @@ answered_text Does old new (Ok x) after text does written = record { text = text
 answered_text Does old new (Err e) after text does written = record { text = text; after = after; does = does; written = written }
 
 -- an answer of a command that changes nothing
-pub told_as : {S A E : Type 0} {Says : List ℕ → Type 0} (Does : List ℕ → S → Type 0) (old new : Option (List ℕ)) (r : Result A E) (state : S) → ((text : List ℕ) → Says text → Does text state) → Told Says old new r
+pub told_as : {S A E : Type 0} {Says : List ℕ → Type 0} (Does : List ℕ → S → Type 0) (old new : Option (List ℕ)) (r : Result A E) (state : S) → ((text : List ℕ) → Says text → Does text state) → Wrote Says old new r
     → Answered Does old new r (λ _. state)
 told_as Does old new r state more it = answered_text Does old new r state it.text (more it.text it.says) it.written
 
@@ -60,8 +60,8 @@ added_row Wants row begin end text is it = absurd cc
 added_row Neighbours row begin end text is it = absurd cc
 added_row (Messages writing) row begin end text is it = absurd cc
 added_row (Keep keeping) row begin end text is it = absurd cc
-added_row (Change named) row begin end text is it = absurd cc
-added_row (Same named) row begin end text is it = absurd cc
+added_row (Change comparison) row begin end text is it = absurd cc
+added_row (Same comparison) row begin end text is it = absurd cc
 added_row Reset row begin end text is it = absurd cc
 
 pub not_started : (command : AnyCommand) (gathered : Gathered) (words : List ℕ) → row_in command ≡ None → ((n : ℕ) → command ≡ Limit n → ⊥) → (command ≡ Reset → ⊥) → words ≡ codes "not started" → Gathers command gathered (fault_line words) gathered
@@ -79,8 +79,8 @@ not_started Wants gathered words none limit reset is = (ap fault_line is, refl)
 not_started Neighbours gathered words none limit reset is = (ap fault_line is, refl)
 not_started (Messages writing) gathered words none limit reset is = (ap fault_line is, refl)
 not_started (Keep keeping) gathered words none limit reset is = (ap fault_line is, refl)
-not_started (Change named) gathered words none limit reset is = (ap fault_line is, refl)
-not_started (Same named) gathered words none limit reset is = (ap fault_line is, refl)
+not_started (Change comparison) gathered words none limit reset is = (ap fault_line is, refl)
+not_started (Same comparison) gathered words none limit reset is = (ap fault_line is, refl)
 not_started Reset gathered words none limit reset is = absurd (reset refl)
 
 pub gathers_before : (command : AnyCommand) (begin end : Gathered) (kept : List Kept) (text : List ℕ) → (command ≡ Start → ⊥) → Gathers command begin text end → AnswersBefore (Command command) begin kept text (session_in (gathering end) kept)
@@ -98,8 +98,8 @@ gathers_before Wants begin end kept text never it = (end, it, refl)
 gathers_before Neighbours begin end kept text never it = (end, it, refl)
 gathers_before (Messages writing) begin end kept text never it = (end, it, refl)
 gathers_before (Keep keeping) begin end kept text never it = (end, it, refl)
-gathers_before (Change named) begin end kept text never it = (end, it, refl)
-gathers_before (Same named) begin end kept text never it = (end, it, refl)
+gathers_before (Change comparison) begin end kept text never it = (end, it, refl)
+gathers_before (Same comparison) begin end kept text never it = (end, it, refl)
 gathers_before Reset begin end kept text never it = (end, it, refl)
 
 -- ---- after `start`
@@ -115,7 +115,7 @@ module _ (family : AddressFamily) (router after : RouterState) (kept kept' : Lis
   serves_keep command keeping is it = subst (λ (c : AnyCommand). Serves family c (router, kept) text (router, kept')) (sym is) (it, refl)
 
   pub serves_told : (command : AnyCommand) → ((moment : ℕ) → command ≡ Run moment → ⊥) → ((packet : PacketOf) → command ≡ Packet packet → ⊥) → ((keeping : Keeping) → command ≡ Keep keeping → ⊥)
-      → Tells family command router kept text → Serves family command (router, kept) text (router, kept)
+      → Reports family command router kept text → Serves family command (router, kept) text (router, kept)
   serves_told (Port row) run taken keeps it = (it, refl)
   serves_told (Rp row) run taken keeps it = (it, refl)
   serves_told (Via row) run taken keeps it = (it, refl)
@@ -130,8 +130,8 @@ module _ (family : AddressFamily) (router after : RouterState) (kept kept' : Lis
   serves_told Neighbours run taken keeps it = (it, refl)
   serves_told (Messages writing) run taken keeps it = (it, refl)
   serves_told (Keep keeping) run taken keeps it = absurd (keeps keeping refl)
-  serves_told (Change named) run taken keeps it = (it, refl)
-  serves_told (Same named) run taken keeps it = (it, refl)
+  serves_told (Change comparison) run taken keeps it = (it, refl)
+  serves_told (Same comparison) run taken keeps it = (it, refl)
   serves_told Reset run taken keeps it = (it, refl)
 
   pub serves_after : (command : AnyCommand) → (command ≡ Reset → ⊥) → Serves family command (router, kept) text (after, kept') → AnswersAfter family (Command command) (router, kept) text (session_in (serving family after) kept')
@@ -149,8 +149,8 @@ module _ (family : AddressFamily) (router after : RouterState) (kept kept' : Lis
   serves_after Neighbours never it = ((after, kept'), it, refl)
   serves_after (Messages writing) never it = ((after, kept'), it, refl)
   serves_after (Keep keeping) never it = ((after, kept'), it, refl)
-  serves_after (Change named) never it = ((after, kept'), it, refl)
-  serves_after (Same named) never it = ((after, kept'), it, refl)
+  serves_after (Change comparison) never it = ((after, kept'), it, refl)
+  serves_after (Same comparison) never it = ((after, kept'), it, refl)
   serves_after Reset never it = absurd (never refl)
 
   pub takes_after : (from : FromText) → AnswersFrom family from router text after → AnswersAfter family (From from) (router, kept) text (session_in (serving family after) kept)

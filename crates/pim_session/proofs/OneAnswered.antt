@@ -24,7 +24,7 @@ use Rattle.pim_answers.specs.OneAnswer.{OneAnswer, OneText, OneRun, OnePacket, O
 use Rattle.pim_answers.specs.Packets.{AnswersFrom}
 use Rattle.pim_session.specs.declared.request.Request.{Request}
 use Rattle.pim_session.specs.declared.request.Request.TheVariants.{Command, From}
-use Rattle.pim_session.specs.Answers.{session_in, NotStarted, Gathers, Gathering, Starting, Tells, Serves, Serving, AnswersIn, Answers}
+use Rattle.pim_session.specs.Answers.{session_in, NotStarted, Gathers, Gathering, Starting, Reports, Serves, Serving, AnswersIn, Answers}
 use Rattle.pim_session.specs.Gathering.{family_with, with_port, with_routes, prefix_of, route_words, AddsRow, Starts, with_limit, config_words, setup_of}
 use Rattle.pim_session.specs.State.{Gathered, Phase, gathering, serving, Session, nothing_gathered}
 use Rattle.pim_session.proofs.OneAsked.{SameFrom, SameRequest, SameAsked}
@@ -113,19 +113,19 @@ equal : (text other words : List ℕ) → text ≡ words → other ≡ words →
 equal text other words is too = is ∙ sym too
 
 module _ (laws : Laws) (family : AddressFamily) where
-  tells : (command : AnyCommand) (router : RouterState) (kept : List Kept) → OneText (Tells family command router kept)
+  tells : (command : AnyCommand) (router : RouterState) (kept : List Kept) → OneText (Reports family command router kept)
   tells Now router kept text other is too room more = is ∙ sym too
   tells Next router kept text other is too room more = laws.next router text other is too room more
   tells State router kept text other is too room more = is ∙ sym too
   tells Wants router kept text other is too room more = laws.wants family router text other is too room more
   tells Neighbours router kept text other is too room more = is ∙ sym too
   tells (Messages writing) router kept text other is too room more = laws.messages family writing router text other is too room more
-  tells (Change named) router kept text other is too room more = laws.change family named router kept text other is too room more
-  tells (Same named) router kept text other is too room more = laws.same family named router kept text other is too room more
+  tells (Change comparison) router kept text other is too room more = laws.change family comparison router kept text other is too room more
+  tells (Same comparison) router kept text other is too room more = laws.same family comparison router kept text other is too room more
   tells command router kept text other is too room more = is ∙ sym too
 
   told : (command : AnyCommand) (state : RouterState × List Kept) (text other : List ℕ) (after end : RouterState × List Kept)
-      → Tells family command state.0 state.1 text × (after ≡ state) → Tells family command state.0 state.1 other × (end ≡ state) → text ≢ memory_line → other ≢ memory_line → (text ≡ other) × (after ≡ end)
+      → Reports family command state.0 state.1 text × (after ≡ state) → Reports family command state.0 state.1 other × (end ≡ state) → text ≢ memory_line → other ≢ memory_line → (text ≡ other) × (after ≡ end)
   told command state text other after end is too room more = (tells command state.0 state.1 text other is.0 too.0 room more, is.1 ∙ sym too.1)
 
   pairs : (a b : RouterState) (c d : List Kept) → a ≡ b → c ≡ d → Path (RouterState × List Kept) (a, c) (b, d)

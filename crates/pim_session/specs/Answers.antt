@@ -18,7 +18,7 @@ use Rattle.pim_answers.specs.Packets.{AnswersPacket, AnswersFrom}
 use Rattle.pim_answers.specs.Running.{AnswersRun}
 use Rattle.pim_session.specs.State.{Gathered, Phase, gathering, serving, Session, nothing_gathered}
 use Rattle.pim_answers.specs.Kept.{Kept}
-use Rattle.pim_answers.specs.Telling.{TellsNow, TellsNext, TellsState, TellsWants, TellsNeighbours}
+use Rattle.pim_answers.specs.Reports.{AnswersNow, AnswersNext, AnswersState, AnswersWants, AnswersNeighbours}
 
 -- The session in this phase, where this is kept.
 abbrev pub session_in : Phase → List Kept → Session
@@ -59,16 +59,16 @@ AnswersBefore (Command command) gathered kept = Gathering (Gathers command) gath
 -- ---- after `start`
 
 -- A command that tells of the router, and changes nothing. One that gathers is refused.
-abbrev pub Tells : AddressFamily → AnyCommand → RouterState → List Kept → List ℕ → Type 0
-Tells family Now router kept = TellsNow router
-Tells family Next router kept = TellsNext router
-Tells family State router kept = TellsState family router
-Tells family Wants router kept = TellsWants family router
-Tells family Neighbours router kept = TellsNeighbours family router
-Tells family (Messages writing) router kept = AnswersMessages family writing router
-Tells family (Change named) router kept = AnswersChange family named router kept
-Tells family (Same named) router kept = AnswersSame family named router kept
-Tells family other router kept = λ (text : List ℕ). text ≡ fault_line (codes "started")
+abbrev pub Reports : AddressFamily → AnyCommand → RouterState → List Kept → List ℕ → Type 0
+Reports family Now router kept = AnswersNow router
+Reports family Next router kept = AnswersNext router
+Reports family State router kept = AnswersState family router
+Reports family Wants router kept = AnswersWants family router
+Reports family Neighbours router kept = AnswersNeighbours family router
+Reports family (Messages writing) router kept = AnswersMessages family writing router
+Reports family (Change comparison) router kept = AnswersChange family comparison router kept
+Reports family (Same comparison) router kept = AnswersSame family comparison router kept
+Reports family other router kept = λ (text : List ℕ). text ≡ fault_line (codes "started")
 
 -- A command other than `reset`: the router and what is kept after it.
 abbrev pub Serves : AddressFamily → AnyCommand → RouterState × List Kept → List ℕ →
@@ -80,7 +80,7 @@ Serves family (Packet packet) (router, kept) text (router', kept') =
 Serves family (Keep keeping) (router, kept) text (router', kept') =
     AnswersKeep family keeping router kept text kept' × (router' ≡ router)
 Serves family other (router, kept) text after =
-    Tells family other router kept text × (after ≡ (router, kept))
+    Reports family other router kept text × (after ≡ (router, kept))
 
 -- A request that leaves the router in the session.
 abbrev pub Serving : AddressFamily → (RouterState × List Kept → List ℕ → RouterState × List Kept →

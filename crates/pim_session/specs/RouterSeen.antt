@@ -34,8 +34,8 @@ state_in (Ipv6 router) = router
 
 -- The name of a command with what is kept; no name where there is none.
 abbrev pub name_in : Command → List ℕ
-name_in (Change named) = named.name.now
-name_in (Same named) = named.name.now
+name_in (Change comparison) = comparison.name.now
+name_in (Same comparison) = comparison.name.now
 name_in other = []
 
 -- The router that `start` makes, or why there is none.

@@ -13,9 +13,9 @@ use Rattle.pim_answers.specs.Fault.{fault_words}
 use Rattle.pim_session.specs.Request.{SaysWrong}
 
 -- What is asked for, or the words of its fault.
-abbrev pub asked_seen : Result Request Fault → Result Request (List ℕ)
-asked_seen (Ok request) = Ok request
-asked_seen (Err fault) = Err (fault_words fault)
+abbrev pub request_seen : Result Request Fault → Result Request (List ℕ)
+request_seen (Ok request) = Ok request
+request_seen (Err fault) = Err (fault_words fault)
 
 -- The command has what the calls of a router require.
 abbrev pub IsFitCommand : AnyCommand → Type 0

@@ -8,7 +8,7 @@ ghost use Rattle.pim_items.specs.Items.{line_limit, text_limit};
 ghost use Rattle.pim_items.specs.Reading.{IsItem, IsText};
 ghost use Rattle.pim_answers.specs.Fault.{fault_words};
 ghost use Rattle.pim_session.specs.Request.{wrong_words, IsWrongIn, AsksLine, AsksText, Asks};
-ghost use Rattle.pim_session.specs.Seen.{asked_seen, IsFitIfAny, AsksFrom};
+ghost use Rattle.pim_session.specs.Seen.{request_seen, IsFitIfAny, AsksFrom};
 
 use pim_addr::Feed;
 use pim_answers::{Fault, FromText};
@@ -30,8 +30,8 @@ fn words_fault<'a>(fault: WordsFault<'a>) -> Fault<'a>
     ensures { fault_words result ≡ wrong_words fault.entry }
 {
     match fault {
-        WordsFault::Word(word) => Fault::named(b"word ", word),
-        WordsFault::Address(word) => Fault::named(b"address ", word),
+        WordsFault::Word(word) => Fault::with_name(b"word ", word),
+        WordsFault::Address(word) => Fault::with_name(b"address ", word),
         WordsFault::Hex => Fault::plain(b"hex"),
     }
 }
@@ -66,7 +66,7 @@ fn request_of_held<'a>(
     is_sent: bool,
 ) -> Result<Request<'a>, Fault<'a>>
     requires { length text.now ≤ text_limit }
-    ensures asks { AsksFrom sender text.now is_sent (asked_seen result) }
+    ensures asks { AsksFrom sender text.now is_sent (request_seen result) }
     ensures fit { IsFitIfAny result }
 {
     match stated_by(text, is_sent) {
@@ -85,7 +85,7 @@ fn request_of_text<'a, R: Feed>(
     item: TextItem,
 ) -> Result<Request<'a>, Fault<'a>>
     ensures asks { (text : SomeText) → IsText text item items.now → has_long_line text ≡ false →
-        AsksText text (asked_seen result) }
+        AsksText text (request_seen result) }
     ensures fit { IsFitIfAny result }
 {
     let sender = match read_sender(items.from_line()) {
@@ -101,7 +101,7 @@ fn request_of_text<'a, R: Feed>(
 /// The command that a line states, or the fault of its words.
 fn request_of_line<'a>(line: &'a [u8]) -> Result<Request<'a>, Fault<'a>>
     requires { length line.now ≤ line_limit }
-    ensures asks { AsksLine line.now (asked_seen result) }
+    ensures asks { AsksLine line.now (request_seen result) }
     ensures fit { IsFitIfAny result }
 {
     match read_command(line) {
@@ -116,7 +116,8 @@ pub(crate) fn request_of<'a, R: Feed>(
     items: &'a Items<R>,
     item: Item,
 ) -> Result<Request<'a>, Fault<'a>>
-    ensures asks { (some : SomeItem) → IsItem some item items.now → Asks some (asked_seen result) }
+    ensures asks { (some : SomeItem) → IsItem some item items.now →
+        Asks some (request_seen result) }
     ensures fit { IsFitIfAny result }
 {
     match item {

@@ -3,14 +3,14 @@
 ghost use Rattle.std.specs.Prelude.{◌≡◌, ◌≤◌, ◌<◌, ◌*◌, ◌^◌, List, length, Some};
 ghost use Rattle.pim_device.specs.Device.{failures_after};
 ghost use Rattle.pim_request.specs.Forms.{IsHex};
-ghost use Rattle.pim_answers.specs.Answered.{Answered, Told};
+ghost use Rattle.pim_answers.specs.Answered.{Answered, Wrote};
 ghost use Rattle.pim_answers.specs.Asking.{AnswersKeep};
 ghost use Rattle.pim_answers.specs.Fault.{fault_words};
 ghost use Rattle.pim_answers.specs.Kept.{Kept as KeptSeen, kept_as};
 ghost use Rattle.pim_answers.specs.Packets.{AnswersPacket, AnswersFrom, room_limit};
 ghost use Rattle.pim_answers.specs.Running.{AnswersRun};
 ghost use Rattle.pim_answers.specs.StoreSeen.{store_seen, IsFound};
-ghost use Rattle.pim_session.specs.Answers.{Tells};
+ghost use Rattle.pim_session.specs.Answers.{Reports};
 ghost use Rattle.pim_session.specs.Gathering.{config_words};
 ghost use Rattle.pim_session.specs.RouterSeen.{family_in, state_in, name_in, StartsSo, IsKeptFor};
 ghost use Rattle.pim_session.specs.SetupSeen.{rows_seen, gathered_seen, StartsRows};
@@ -20,7 +20,7 @@ use pim_addr::{Drain, Failed, Family, V4, V6};
 use pim_answers::{
     AnyForm, Fault, Found, FromText, Room, Store, answer_change, answer_from, answer_messages,
     answer_neighbours, answer_next, answer_now, answer_packet, answer_run, answer_same,
-    answer_state, answer_wants, asked_for, write_fault, write_ok,
+    answer_state, answer_wants, form_to_keep, write_fault, write_ok,
 };
 use pim_request::{Command, Kept, Packet};
 use pim_router::{Config, ConfigFault, Router};
@@ -155,11 +155,11 @@ fn form_for<'c>(
         (store_seen store.now) result }
 {
     match router {
-        AnyRouter::Ipv4(router) => match asked_for::<V4>(alloc, router, store, command) {
+        AnyRouter::Ipv4(router) => match form_to_keep::<V4>(alloc, router, store, command) {
             Ok(form) => Ok(AnyForm::Ipv4(form)),
             Err(fault) => Err(fault),
         },
-        AnyRouter::Ipv6(router) => match asked_for::<V6>(alloc, router, store, command) {
+        AnyRouter::Ipv6(router) => match form_to_keep::<V6>(alloc, router, store, command) {
             Ok(form) => Ok(AnyForm::Ipv6(form)),
             Err(fault) => Err(fault),
         },
@@ -195,14 +195,14 @@ fn name_of<'c>(command: &Command<'c>) -> &'c [u8]
     ensures { result.now ≡ name_in command.now }
 {
     match command {
-        Command::Change(named) | Command::Same(named) => named.name,
+        Command::Change(comparison) | Command::Same(comparison) => comparison.name,
         _ => b"",
     }
 }
 
 /// Answers a command that tells of the router and changes nothing, with what was found under its
 /// name. Refuses one that gathers.
-fn tell<F: Family, W: Drain>(
+fn report<F: Family, W: Drain>(
     alloc: Global,
     router: &Router<'_, F>,
     found: &Found<'_, F>,
@@ -211,7 +211,7 @@ fn tell<F: Family, W: Drain>(
 ) -> Result<(), Failed>
     ensures told { (kept : List KeptSeen) → IsFound F.family F.bytes_of (name_in command.now)
         found.now
-        (kept_as (name_in command.now) kept) → Told (Tells F.family command.now router.now kept)
+        (kept_as (name_in command.now) kept) → Wrote (Reports F.family command.now router.now kept)
         (W.contents answers.old) (W.contents answers.new) result }
     ensures count { W.failures answers.new ≡ failures_after (W.failures answers.old) result }
 {
@@ -222,22 +222,24 @@ fn tell<F: Family, W: Drain>(
         Command::Wants => answer_wants::<F, W>(alloc, router, answers),
         Command::Neighbours => answer_neighbours::<F, W>(router, answers),
         Command::Messages(writing) => answer_messages::<F, W>(alloc, router, writing, answers),
-        Command::Change(named) => answer_change::<F, W>(alloc, router, found, named, answers),
-        Command::Same(named) => answer_same::<F, W>(alloc, router, found, named, answers),
+        Command::Change(comparison) => {
+            answer_change::<F, W>(alloc, router, found, comparison, answers)
+        }
+        Command::Same(comparison) => answer_same::<F, W>(alloc, router, found, comparison, answers),
         _ => write_fault(answers, &Fault::plain(b"started")),
     }
 }
 
 /// Answers a command that tells of the router and changes nothing, or refuses one that gathers.
-pub(crate) fn tell_any<W: Drain>(
+pub(crate) fn report_any<W: Drain>(
     alloc: Global,
     router: &AnyRouter<'_>,
     store: &Store,
     command: &Command<'_>,
     answers: &mut W,
 ) -> Result<(), Failed>
-    ensures told { Told
-        (Tells (family_in router.now) command.now (state_in router.now) (store_seen store.now))
+    ensures told { Wrote
+        (Reports (family_in router.now) command.now (state_in router.now) (store_seen store.now))
         (W.contents answers.old) (W.contents answers.new) result }
     ensures count { W.failures answers.new ≡ failures_after (W.failures answers.old) result }
 {
@@ -245,11 +247,11 @@ pub(crate) fn tell_any<W: Drain>(
     match router {
         AnyRouter::Ipv4(router) => {
             let found = store.find_ipv4(name);
-            tell::<V4, W>(alloc, router, &found, command, answers)
+            report::<V4, W>(alloc, router, &found, command, answers)
         }
         AnyRouter::Ipv6(router) => {
             let found = store.find_ipv6(name);
-            tell::<V6, W>(alloc, router, &found, command, answers)
+            report::<V6, W>(alloc, router, &found, command, answers)
         }
     }
 }

@@ -9,14 +9,14 @@ ghost use Rattle.pim_answers.specs.Fault.{fault_words};
 ghost use Rattle.pim_answers.specs.StoreSeen.{store_seen};
 ghost use Rattle.pim_session.specs.Answers.{Answers, AnswersAfter, Serves, session_in};
 ghost use Rattle.pim_session.specs.RouterSeen.{family_in, state_in};
-ghost use Rattle.pim_session.specs.Seen.{asked_seen, IsFit, IsFitCommand, IsFitIfAny};
+ghost use Rattle.pim_session.specs.Seen.{request_seen, IsFit, IsFitCommand, IsFitIfAny};
 ghost use Rattle.pim_session.specs.SetupSeen.{gathered_seen};
 ghost use Rattle.pim_session.specs.State.{Session, gathering, serving};
 ghost use Rattle.pim_session.specs.Underway.{session_after, IsRefused, Ended, Begins};
 ghost use Rattle.pim_session.specs.Underway.{BeginsServing};
 
 use crate::request::{Request, request_of};
-use crate::routers::{AnyRouter, from_any, keep_any, make_router, packet_any, run_any, tell_any};
+use crate::routers::{AnyRouter, from_any, keep_any, make_router, packet_any, report_any, run_any};
 use crate::setup::Setup;
 use pim_addr::{Drain, Failed, Feed};
 use pim_answers::{Fault, Room, Store, write_fault, write_ok};
@@ -56,7 +56,7 @@ fn answer_command<W: Drain>(
         Command::Run(moment) => run_any(router, *moment, answers),
         Command::Packet(packet) => packet_any(router, packet, room, answers),
         Command::Keep(kept) => keep_any(alloc, router, store, kept, answers),
-        _ => tell_any(alloc, router, store, command, answers),
+        _ => report_any(alloc, router, store, command, answers),
     }
 }
 
@@ -109,7 +109,7 @@ fn answer_request<W: Drain>(
 }
 
 /// Answers what an item asks for, or its fault. Returns whether the router is still there.
-fn answer_asked<W: Drain>(
+fn answer_or_refuse<W: Drain>(
     alloc: Global,
     router: &mut AnyRouter<'_>,
     store: &mut Store,
@@ -121,7 +121,7 @@ fn answer_asked<W: Drain>(
     ensures answered { Answered
         (Answers (session_in (serving (family_in router.old) (state_in router.old))
         (store_seen store.old))
-        (asked_seen asked.entry))
+        (request_seen asked.entry))
         (W.contents answers.old) (W.contents answers.new) result
         (λ serves. session_after serves (family_in router.new) (state_in router.new)
         (store_seen store.new)) }
@@ -156,7 +156,7 @@ fn serve<R: Feed, W: Answers>(
             return Ok(Ending::Input);
         };
         let asked = request_of(items, item);
-        match answer_asked(alloc, router, store, room, asked, answers) {
+        match answer_or_refuse(alloc, router, store, room, asked, answers) {
             Ok(true) => {}
             Ok(false) => return Ok(Ending::Reset),
             Err(_) => return Err(Stopped::Output),

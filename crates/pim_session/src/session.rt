@@ -6,7 +6,7 @@ ghost use Rattle.pim_items.specs.Reading.{CountsReads, flush_failures_after};
 ghost use Rattle.pim_answers.specs.Answered.{Answered};
 ghost use Rattle.pim_session.specs.Answers.{Gathers, session_in};
 ghost use Rattle.pim_session.specs.Dialog.{Converses};
-ghost use Rattle.pim_session.specs.Seen.{asked_seen};
+ghost use Rattle.pim_session.specs.Seen.{request_seen};
 ghost use Rattle.pim_session.specs.SetupSeen.{gathered_seen, row_in};
 ghost use Rattle.pim_session.specs.State.{gathering, new_session};
 ghost use Rattle.pim_answers.specs.Kept.{Kept};
@@ -121,7 +121,7 @@ fn configure_by<W: Drain>(
     answers: &mut W,
 ) -> Result<bool, Failed>
     ensures configured { (kept : List Kept) → Configured
-        (session_in (gathering (gathered_seen setup.old)) kept) (asked_seen asked.entry)
+        (session_in (gathering (gathered_seen setup.old)) kept) (request_seen asked.entry)
         (W.contents answers.old) (W.contents answers.new) result
         (session_in (gathering (gathered_seen setup.new)) kept) }
     ensures count { W.failures answers.new ≡ failures_after (W.failures answers.old) result }

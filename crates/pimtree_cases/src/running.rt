@@ -4,7 +4,7 @@ ghost use Rattle.pim_words.specs.Plan.{IsInRange};
 
 use pim_addr::{Family, ScriptedDrain, ScriptedFeed, V4, V6};
 use pim_cases::{Case, MOST_READ, Runner, files_of};
-use pim_commands::{Fault, tell_into};
+use pim_commands::{Fault, report_fault};
 use pim_files::{HeldFile, HeldFiles};
 use pim_main::{WithInput, run_on_devices, run_session, task_reads_any};
 use pim_words::{Plan, STANDARD_INPUT, Task, plan};
@@ -67,7 +67,7 @@ impl Runner for Commands {
     ) -> u8 {
         match answer(alloc, case, output, errors) {
             Ok(status) => status,
-            Err(fault) => tell_into(&fault, output, errors),
+            Err(fault) => report_fault(&fault, output, errors),
         }
     }
 }

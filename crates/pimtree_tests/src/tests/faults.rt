@@ -3,7 +3,7 @@
 use clap::error::ErrorKind;
 use pim_addr::ScriptedDrain;
 use pim_capture::{CaptureFault, Vlan};
-use pim_commands::{Fault, tell_into};
+use pim_commands::{Fault, report_fault};
 use pim_files::FileCause;
 use pim_lines::AnyAddress;
 use pim_words::{ConfigCause, Fault as Unplanned, Refusal, Side};
@@ -22,14 +22,14 @@ fn refusal(alloc: Global, kind: ErrorKind) -> Result<Fault<'static>, AllocError>
 /// Writes a fault, on a device that has its text and on another one. Returns the status.
 fn tell(
     fault: &Fault<'_>,
-    is_asked_for: bool,
+    is_help: bool,
     device: &mut ScriptedDrain,
     other: &mut ScriptedDrain,
 ) -> u8 {
-    if is_asked_for {
-        tell_into(fault, device, other)
+    if is_help {
+        report_fault(fault, device, other)
     } else {
-        tell_into(fault, other, device)
+        report_fault(fault, other, device)
     }
 }
 
@@ -39,28 +39,22 @@ const UNWRITTEN: &str = "pimtree: output\n";
 /// Whether a fault, written to a device that fails from this byte on, leaves the text up to there
 /// and one failure. The other device has the line of the failure where the words asked for the
 /// text.
-fn leaves(
-    alloc: Global,
-    fault: &Fault<'_>,
-    is_asked_for: bool,
-    text: &str,
-    fails_from: usize,
-) -> bool {
+fn leaves(alloc: Global, fault: &Fault<'_>, is_help: bool, text: &str, fails_from: usize) -> bool {
     let mut device = ScriptedDrain::new(alloc, 3, fails_from);
     let mut other = ScriptedDrain::new(alloc, 3, usize::MAX);
-    let status = tell(fault, is_asked_for, &mut device, &mut other);
+    let status = tell(fault, is_help, &mut device, &mut other);
     let fails = fails_from < text.len();
-    let reported = if is_asked_for && fails { UNWRITTEN } else { "" };
-    status == if is_asked_for && !fails { 0 } else { 2 }
+    let reported = if is_help && fails { UNWRITTEN } else { "" };
+    status == if is_help && !fails { 0 } else { 2 }
         && Some(device.written()) == text.as_bytes().get(..fails_from.min(text.len()))
         && device.failures() == u64::from(fails)
         && other.written() == reported.as_bytes()
 }
 
 /// Whether a device takes the whole text, or a front of it where it fails.
-fn is_told(alloc: Global, fault: &Fault<'_>, is_asked_for: bool, text: &str) -> bool {
-    leaves(alloc, fault, is_asked_for, text, usize::MAX)
-        && (0..text.len()).all(|from| leaves(alloc, fault, is_asked_for, text, from))
+fn is_told(alloc: Global, fault: &Fault<'_>, is_help: bool, text: &str) -> bool {
+    leaves(alloc, fault, is_help, text, usize::MAX)
+        && (0..text.len()).all(|from| leaves(alloc, fault, is_help, text, from))
 }
 
 #[test]
@@ -161,7 +155,7 @@ fn help_that_no_device_takes_has_status_2(rt: HostRuntime) -> Result<(), Fail> {
     let fault = refusal(alloc, ErrorKind::DisplayHelp)?;
     let mut output = ScriptedDrain::new(alloc, 3, 4);
     let mut errors = ScriptedDrain::new(alloc, 3, 9);
-    assert_eq!(rt; tell_into(&fault, &mut output, &mut errors), 2);
+    assert_eq!(rt; report_fault(&fault, &mut output, &mut errors), 2);
     assert!(rt; output.written() == "two ".as_bytes());
     assert!(rt; errors.written() == "pimtree: ".as_bytes());
     assert_eq!(rt; errors.failures(), 1);
@@ -171,7 +165,7 @@ fn help_that_no_device_takes_has_status_2(rt: HostRuntime) -> Result<(), Fail> {
 #[test]
 fn texts_of_clap_stop_at_a_failure(rt: HostRuntime) -> Result<(), Fail> {
     let alloc = rt.alloc();
-    for (kind, is_asked_for) in [
+    for (kind, is_help) in [
         (ErrorKind::DisplayHelp, true),
         (ErrorKind::DisplayVersion, true),
         (ErrorKind::DisplayHelpOnMissingArgumentOrSubcommand, false),
@@ -179,7 +173,7 @@ fn texts_of_clap_stop_at_a_failure(rt: HostRuntime) -> Result<(), Fail> {
         (ErrorKind::MissingSubcommand, false),
     ] {
         let fault = refusal(alloc, kind)?;
-        assert!(rt; is_told(alloc, &fault, is_asked_for, TEXT));
+        assert!(rt; is_told(alloc, &fault, is_help, TEXT));
     }
     Ok(())
 }

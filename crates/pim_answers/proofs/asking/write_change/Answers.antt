@@ -2,7 +2,7 @@ use Rattle.std.proofs.Common.{true, false, List, codes, IfOk, option_map, refl, 
 use Rattle.pim_form.specs.NormalForm.{GroupForm}
 use Rattle.pim_form.specs.Refused.{told_too_big}
 use Rattle.pim_router.specs.Change.{IsToldOf, IsTooBigToTell}
-use Rattle.pim_answers.specs.Asking.{TellsChange}
+use Rattle.pim_answers.specs.Asking.{SaysChange}
 use Rattle.pim_answers.specs.AskingSeen.{made_text}
 use Rattle.pim_answers.specs.StoreSeen.{form_seen}
 use Rattle.pim_answers.proofs.Makings.{made_told, tables_told, usable_told, usable_is}
@@ -10,7 +10,7 @@ use Rattle.pim_answers.proofs.asking.write_change.Goals as goal
 
 pub returns-in_default-clause-told : goal.returns-in_default-clause-told
 returns-in_default-clause-told g c name =
-    tables_told g.F.Family.family c.args.router.now c.args.writer.now.upstream (TellsChange g.F.Family.family c.args.writer.now c.args.router.now) (form_seen g.F.Family.family g.F.Family.bytes_of name c.args.kept.now)
+    tables_told g.F.Family.family c.args.router.now c.args.writer.now.upstream (SaysChange g.F.Family.family c.args.writer.now c.args.router.now) (form_seen g.F.Family.family g.F.Family.bytes_of name c.args.kept.now)
     (g.W.Drain.contents c.args.answers.now) (g.W.Drain.contents c.write_tables.new.answers) c.write_tables.result
     c.routes.result.now (g.F.Family.bytes_of c.upstream.result) c.routes.ensures c.upstream.ensures (codes "tables")
     (usable_is g.F.Family.family g.F.Family.bytes_of c.routes.result.now (g.F.Family.bytes_of c.upstream.result) name c.args.kept.now false c.in_default.ensures.none) refl c.write_tables.ensures.bytes
@@ -22,7 +22,7 @@ returns-clause-told g c name =
     let writer = c.args.writer.now in
     let kept = form_seen g.F.Family.family g.F.Family.bytes_of name c.args.kept.now in
     let used = c.in-Some.ensures.some in
-    usable_told family router writer.upstream (TellsChange family writer router) kept
+    usable_told family router writer.upstream (SaysChange family writer router) kept
     (g.W.Drain.contents c.args.answers.now) (g.W.Drain.contents c.write_made.new.answers) c.write_made.result
     c.routes.result.now (g.F.Family.bytes_of c.upstream.result) c.routes.ensures c.upstream.ensures (made_text family g.F.Family.bytes_of c.triggered.result)
     (usable_is family g.F.Family.bytes_of c.routes.result.now (g.F.Family.bytes_of c.upstream.result) name c.args.kept.now true used.0)

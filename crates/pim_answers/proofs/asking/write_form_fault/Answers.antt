@@ -10,4 +10,4 @@ returns-in-TooBig-clause-bytes g c =
     let new = g.W.Drain.contents c.write_fault.new.answers in
     subst (λ fault. AppendsAll old new c.write_fault.result (form_fault_line g.F.Family.family g.F.Family.bytes_of fault)) (sym c.in-TooBig.is)
     (subst (λ (words : List ℕ). AppendsAll old new c.write_fault.result (fault_line words))
-    (c.named.ensures ∙ ap (λ (t : List ℕ). codes "too big " ++ t) (c.text.ensures ∙ c.address-group.ensures)) c.write_fault.ensures.bytes)
+    (c.with_name.ensures ∙ ap (λ (t : List ℕ). codes "too big " ++ t) (c.text.ensures ∙ c.address-group.ensures)) c.write_fault.ensures.bytes)

@@ -1,6 +1,6 @@
 use Rattle.std.proofs.Common.{true, false, List, codes, IfOk, refl, subst}
 use Rattle.pim_form.specs.NormalForm.{GroupForm}
-use Rattle.pim_answers.specs.Asking.{TellsSame, AreCompared}
+use Rattle.pim_answers.specs.Asking.{SaysSame, AreCompared}
 use Rattle.pim_answers.specs.AskingSeen.{same_text, SaysBig}
 use Rattle.pim_answers.specs.StoreSeen.{form_seen}
 use Rattle.pim_answers.proofs.Makings.{compared_told, tables_told, usable_told, usable_is, toward_here}
@@ -8,7 +8,7 @@ use Rattle.pim_answers.proofs.asking.write_same.Goals as goal
 
 pub returns-in_default-clause-told : goal.returns-in_default-clause-told
 returns-in_default-clause-told g c name =
-    tables_told g.F.Family.family c.args.router.now c.args.writer.now.upstream (TellsSame g.F.Family.family c.args.writer.now c.args.router.now) (form_seen g.F.Family.family g.F.Family.bytes_of name c.args.kept.now)
+    tables_told g.F.Family.family c.args.router.now c.args.writer.now.upstream (SaysSame g.F.Family.family c.args.writer.now c.args.router.now) (form_seen g.F.Family.family g.F.Family.bytes_of name c.args.kept.now)
     (g.W.Drain.contents c.args.answers.now) (g.W.Drain.contents c.write_tables.new.answers) c.write_tables.result
     c.routes.result.now (g.F.Family.bytes_of c.upstream.result) c.routes.ensures c.upstream.ensures (codes "tables")
     (usable_is g.F.Family.family g.F.Family.bytes_of c.routes.result.now (g.F.Family.bytes_of c.upstream.result) name c.args.kept.now false c.in_default.ensures.none) refl c.write_tables.ensures.bytes
@@ -25,7 +25,7 @@ returns-clause-told g c name =
     let writer = c.args.writer.now in
     let kept = form_seen g.F.Family.family g.F.Family.bytes_of name c.args.kept.now in
     let used = c.in-Some.ensures.some in
-    usable_told family router writer.upstream (TellsSame family writer router) kept
+    usable_told family router writer.upstream (SaysSame family writer router) kept
     (g.W.Drain.contents c.args.answers.now) (g.W.Drain.contents c.write_compared.new.answers) c.write_compared.result
     c.routes.result.now (g.F.Family.bytes_of c.upstream.result) c.routes.ensures c.upstream.ensures (same_text family g.F.Family.bytes_of c.is_same.result)
     (usable_is family g.F.Family.bytes_of c.routes.result.now (g.F.Family.bytes_of c.upstream.result) name c.args.kept.now true used.0)

@@ -5,15 +5,15 @@ use Rattle.pim_answers.specs.Fault.{fault_words}
 use Rattle.pim_answers.specs.Lines.{ok_line}
 use Rattle.pim_answers.specs.Packets.{Takes, NeedsMemory}
 use Rattle.pim_answers.proofs.Taken.{taken}
-use Rattle.pim_answers.proofs.Told.{memory_given, memory_refused}
+use Rattle.pim_answers.proofs.Wrote.{memory_given, memory_refused}
 use Rattle.pim_answers.proofs.packets.take.Goals as goal
 
 pub returns-in-Ok-clause-answered : goal.returns-in-Ok-clause-answered
 returns-in-Ok-clause-answered g c =
     let packet = packet_seen g.F.Family.bytes_of c.args.port c.args.ends.source c.args.ends.destination c.args.message.now in
-    memory_given (NeedsMemory g.F.Family.family packet c.args.router.now) c.args.router.now (Takes g.F.Family.family packet c.args.router.now) (g.W.Drain.contents c.args.answers.now) (g.W.Drain.contents c.tell_verdict.new.answers) c.tell_verdict.result
+    memory_given (NeedsMemory g.F.Family.family packet c.args.router.now) c.args.router.now (Takes g.F.Family.family packet c.args.router.now) (g.W.Drain.contents c.args.answers.now) (g.W.Drain.contents c.answer_verdict.new.answers) c.answer_verdict.result
     c.take_packet.new.self (verdict_line c.in-Ok.verdict ++ ok_line)
-    (taken g.F.Family.family packet c.args.router.now c.take_packet.new.self c.in-Ok.verdict c.in-Ok.ensures.told) c.tell_verdict.ensures.bytes
+    (taken g.F.Family.family packet c.args.router.now c.take_packet.new.self c.in-Ok.verdict c.in-Ok.ensures.told) c.answer_verdict.ensures.bytes
 
 pub returns-in-Err-clause-answered : goal.returns-in-Err-clause-answered
 returns-in-Err-clause-answered g c =

@@ -1,6 +1,6 @@
 use Rattle.std.proofs.Common.{subst, inl, refl}
 use Rattle.pim_merge.specs.Next.{MergeState}
-use Rattle.pim_faults.specs.Telling.{IsTold}
+use Rattle.pim_faults.specs.Ending.{IsReported}
 use Rattle.pim_commands.specs.Commands.{engine_of}
 use Rattle.pim_commands.specs.Engines.{RunsOne}
 use Rattle.pim_commands.proofs.Warned.{nothing_told}
@@ -20,7 +20,7 @@ pub returns-clause-runs : goal.returns-clause-runs
 returns-clause-runs g c = rw (← c.upstream_of.ensures)
     (answered g.F.Family.family g.F.Family.bytes_of g.O.Reader.Feed.remaining g.O.Reader.Feed.failures (g.O.Opener.known c.args.opener.now) (g.O.Opener.known c.open_one.new.opener)
     c.args.captures.now c.upstream_of.result
-    (λ text. IsTold text (g.E.Drain.contents c.args.errors.now) (g.E.Drain.contents c.warn_of_one.new.errors) (g.E.Drain.failures c.args.errors.now) (g.E.Drain.failures c.warn_of_one.new.errors))
+    (λ text. IsReported text (g.E.Drain.contents c.args.errors.now) (g.E.Drain.contents c.warn_of_one.new.errors) (g.E.Drain.failures c.args.errors.now) (g.E.Drain.failures c.warn_of_one.new.errors))
     (g.W.Drain.contents c.args.writer.now) (g.W.Drain.contents c.run_command-answer.new.writer) c.run_command-answer.result _
     (over_open g.F.Family.family g.F.Family.bytes_of g.O.Reader.Feed.remaining g.O.Reader.Feed.failures (g.O.Opener.known c.args.opener.now) (g.O.Opener.known c.open_one.new.opener)
     c.args.captures.now c.upstream_of.result _ c.in-Ok.files.routes c.in-Ok.files.merge c.run_command-answer.new.merge c.in-Ok.ensures.opened (

@@ -1,6 +1,6 @@
 use Rattle.std.proofs.Common.{subst, inl, refl, Some}
 use Rattle.pim_merge.specs.Next.{MergeState}
-use Rattle.pim_faults.specs.Telling.{IsTold}
+use Rattle.pim_faults.specs.Ending.{IsReported}
 use Rattle.pim_commands.specs.Census.{begun}
 use Rattle.pim_commands.specs.Engines.{RunsBoth}
 use Rattle.pim_commands.specs.Routers.{writing_of}
@@ -20,7 +20,7 @@ pub returns-clause-runs : goal.returns-clause-runs
 returns-clause-runs g c =
     answered g.F.Family.family g.F.Family.bytes_of g.O.Reader.Feed.remaining g.O.Reader.Feed.failures (g.O.Opener.known c.args.opener.now) (g.O.Opener.known c.open_two.new.opener)
     c.args.captures.now (Some c.args.asked.1.now.upstream)
-    (λ text. IsTold text (g.E.Drain.contents c.args.errors.now) (g.E.Drain.contents c.warn_of_both.new.errors) (g.E.Drain.failures c.args.errors.now) (g.E.Drain.failures c.warn_of_both.new.errors))
+    (λ text. IsReported text (g.E.Drain.contents c.args.errors.now) (g.E.Drain.contents c.warn_of_both.new.errors) (g.E.Drain.failures c.args.errors.now) (g.E.Drain.failures c.warn_of_both.new.errors))
     (g.W.Drain.contents c.args.writer.now) (g.W.Drain.contents c.run_command-answer.new.writer) c.run_command-answer.result _
     (over_both g.F.Family.family g.F.Family.bytes_of g.O.Reader.Feed.remaining g.O.Reader.Feed.failures (g.O.Opener.known c.args.opener.now) (g.O.Opener.known c.open_two.new.opener)
     c.args.captures.now (Some c.args.asked.1.now.upstream) _ c.in-Ok.files.routes c.in-Ok.files.pair.a c.run_command-answer.new.pair.a c.in-Ok.files.pair.b c.run_command-answer.new.pair.b

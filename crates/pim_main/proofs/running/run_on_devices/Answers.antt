@@ -1,5 +1,5 @@
 use Rattle.std.proofs.Common.{◌≡◌, ◌∙◌, ap, subst, ℕ, List, [], Some}
-use Rattle.pim_faults.specs.Telling.{IsTold}
+use Rattle.pim_faults.specs.Ending.{IsReported}
 use Rattle.pim_commands.specs.Running.{DoesTask}
 use Rattle.pim_main.proofs.running.run_on_devices.Goals as goal
 
@@ -22,6 +22,6 @@ returns-clause-ran g c =
       whole = c.pass_on-passed.ensures.whole;
       warned = c.pass_on-passed.ensures.warned;
       does = subst (λ (z : List ℕ × ℕ). DoesTask g.F.Family.family g.F.Family.bytes_of g.O.Reader.Feed.remaining g.O.Reader.Feed.failures (g.O.Opener.known c.args.files.now)
-          (g.O.Opener.known c.run_task-answer.new.opener) (g.R.Feed.remaining c.args.input.now) (λ text. IsTold text (Some z.0) (Some warnings.inner.items) z.1 warnings.failures)
+          (g.O.Opener.known c.run_task-answer.new.opener) (g.R.Feed.remaining c.args.input.now) (λ text. IsReported text (Some z.0) (Some warnings.inner.items) z.1 warnings.failures)
           (g.W.Drain.contents c.args.output.now) (g.W.Drain.contents c.run_task-answer.new.output) c.run_task-answer.result c.args.task.now) begun c.run_task-answer.ensures.done;
     }

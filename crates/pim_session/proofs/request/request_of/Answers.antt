@@ -3,7 +3,7 @@ use Rattle.pim_items.specs.declared.items.Item.{Item}
 use Rattle.pim_items.specs.Reading.{IsItem}
 use Rattle.pim_answers.specs.Fault.{fault_words}
 use Rattle.pim_session.specs.Request.{AsksLine}
-use Rattle.pim_session.specs.Seen.{asked_seen}
+use Rattle.pim_session.specs.Seen.{request_seen}
 use Rattle.pim_session.proofs.Asked.{line_asked, long_asked, long_text_asked, text_asked}
 use Rattle.pim_session.proofs.request.request_of.Goals as goal
 
@@ -14,9 +14,9 @@ returns-then-text-clause-asks g c = λ some is.
 
 pub returns-in-Line-clause-asks : goal.returns-in-Line-clause-asks
 returns-in-Line-clause-asks g c = λ some is.
-    line_asked some c.args.items.now (asked_seen c.request_of_line.result)
+    line_asked some c.args.items.now (request_seen c.request_of_line.result)
     (subst (λ (i : Item). IsItem some i c.args.items.now) c.in-Line.is is)
-    (subst (λ (l : List ℕ). AsksLine l (asked_seen c.request_of_line.result)) c.line.ensures.line c.request_of_line.ensures.asks)
+    (subst (λ (l : List ℕ). AsksLine l (request_seen c.request_of_line.result)) c.line.ensures.line c.request_of_line.ensures.asks)
 
 pub returns-in-LongLine-clause-asks : goal.returns-in-LongLine-clause-asks
 returns-in-LongLine-clause-asks g c = λ some is.
@@ -25,5 +25,5 @@ returns-in-LongLine-clause-asks g c = λ some is.
 
 pub returns-else-text-clause-asks : goal.returns-else-text-clause-asks
 returns-else-text-clause-asks g c = λ some is.
-    text_asked some c.in-Text.text c.args.items.now (asked_seen c.request_of_text.result)
+    text_asked some c.in-Text.text c.args.items.now (request_seen c.request_of_text.result)
     (subst (λ (i : Item). IsItem some i c.args.items.now) c.in-Text.is is) c.if-text.false c.request_of_text.ensures.asks

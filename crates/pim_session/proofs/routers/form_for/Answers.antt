@@ -11,8 +11,8 @@ returns-in-Ok c =
     subst (λ (any : AnyRouter). IsKeptFor (family_in any) c.args.command.now (state_in any) (store_seen c.args.store.now) (Ok (form.Ipv4 c.in-Ok.form))) (sym c.in-Ipv4.is)
     (e.0, e.1, (c.in-Ok.form.form, e.2.is, e.2.seen))
 
-pub returns-in-Ok-asked_for : goal.returns-in-Ok-asked_for
-returns-in-Ok-asked_for c =
-    let e = c.in-Ok-asked_for.ensures in
-    subst (λ (any : AnyRouter). IsKeptFor (family_in any) c.args.command.now (state_in any) (store_seen c.args.store.now) (Ok (form.Ipv6 c.in-Ok-asked_for.form))) (sym c.in-Ipv6.is)
-    (e.0, e.1, (c.in-Ok-asked_for.form.form, e.2.is, e.2.seen))
+pub returns-in-Ok-form_to_keep : goal.returns-in-Ok-form_to_keep
+returns-in-Ok-form_to_keep c =
+    let e = c.in-Ok-form_to_keep.ensures in
+    subst (λ (any : AnyRouter). IsKeptFor (family_in any) c.args.command.now (state_in any) (store_seen c.args.store.now) (Ok (form.Ipv6 c.in-Ok-form_to_keep.form))) (sym c.in-Ipv6.is)
+    (e.0, e.1, (c.in-Ok-form_to_keep.form.form, e.2.is, e.2.seen))

@@ -43,8 +43,8 @@ returns-in_default g c =
     let router : RouterState = state_in c.args.router.now in
     let kept : List Kept = store_seen c.args.store.now in
     record {
-      answered = told_as (Serves family c.args.command.now (router, kept)) (g.W.Drain.contents c.args.answers.now) (g.W.Drain.contents c.tell_any.new.answers) c.tell_any.result (router, kept)
-          (λ (text : List ℕ) it. serves_told family router router kept kept text c.args.command.now c.in_default.not-Run c.in_default.not-Packet c.in_default.not-Keep it) c.tell_any.ensures.told;
+      answered = told_as (Serves family c.args.command.now (router, kept)) (g.W.Drain.contents c.args.answers.now) (g.W.Drain.contents c.report_any.new.answers) c.report_any.result (router, kept)
+          (λ (text : List ℕ) it. serves_told family router router kept kept text c.args.command.now c.in_default.not-Run c.in_default.not-Packet c.in_default.not-Keep it) c.report_any.ensures.told;
       family = refl;
-      count = c.tell_any.ensures.count;
+      count = c.report_any.ensures.count;
     }

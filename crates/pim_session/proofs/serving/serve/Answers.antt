@@ -3,7 +3,7 @@ use Rattle.pim_answers.specs.Answered.{Whole}
 use Rattle.pim_answers.specs.StoreSeen.{store_seen}
 use Rattle.pim_session.specs.Answers.{Answers, session_in}
 use Rattle.pim_session.specs.RouterSeen.{family_in, state_in}
-use Rattle.pim_session.specs.Seen.{asked_seen}
+use Rattle.pim_session.specs.Seen.{request_seen}
 use Rattle.pim_session.specs.State.{Session, serving}
 use Rattle.pim_session.specs.Underway.{session_after}
 use Rattle.pim_session.proofs.Served.{one_given, one_less}
@@ -21,16 +21,16 @@ items-init g c = record {
 pub items-preserved : goal.items-preserved
 items-preserved g c =
     let now : Session = session_in (serving (family_in c.items.router) (state_in c.items.router)) (store_seen c.items.store) in
-    let after : Bool → Session = λ b. session_after b (family_in c.answer_asked.new.router) (state_in c.answer_asked.new.router) (store_seen c.answer_asked.new.store) in
-    let asked = asked_seen c.request_of-asked.result in
+    let after : Bool → Session = λ b. session_after b (family_in c.answer_or_refuse.new.router) (state_in c.answer_or_refuse.new.router) (store_seen c.answer_or_refuse.new.store) in
+    let asked = request_seen c.request_of-asked.result in
     let less = one_less c.in_ok-item.field-0 c.in-Some.item c.items.items.left c.next.new.self.left c.in-Some.is c.in_ok-item.ensures.left in
     let before = c.items.invariant.left in
     record {
       way = answered c.args.items.now.coming (g.W.Drain.contents c.args.answers.now) (g.W.Drain.contents c.items.answers) (g.W.Drain.contents c.next.new.answers) c.items.items.coming
           (session_in (serving (family_in c.args.router.now) (state_in c.args.router.now)) (store_seen c.args.store.now)) now c.in-Some.item c.next.new.self asked c.items.invariant.way c.in_ok-item.ensures.contents
           (one_given c.items.items.coming c.in_ok-item.field-0 c.in-Some.item c.next.new.self c.in-Some.is c.in_ok-item.ensures.item) c.request_of-asked.ensures.asks
-          (g.W.Drain.contents c.answer_asked.new.answers) (after true)
-          (subst (λ (b : Bool). Whole (Answers now asked) (g.W.Drain.contents c.next.new.answers) (g.W.Drain.contents c.answer_asked.new.answers) (after b)) c.in-Ok-true.field-0-test c.in-Ok-true.ensures.answered);
+          (g.W.Drain.contents c.answer_or_refuse.new.answers) (after true)
+          (subst (λ (b : Bool). Whole (Answers now asked) (g.W.Drain.contents c.next.new.answers) (g.W.Drain.contents c.answer_or_refuse.new.answers) (after b)) c.in-Ok-true.field-0-test c.in-Ok-true.ensures.answered);
       left = omega (arith, less, before);
       reads = c.in_ok-item.ensures.reads ∙ c.items.invariant.reads;
       failures = c.in-Ok-true.ensures.count ∙ c.in_ok-item.ensures.output ∙ c.items.invariant.failures;
@@ -39,18 +39,18 @@ items-preserved g c =
 pub returns-in-Ok-false-clause-ended : goal.returns-in-Ok-false-clause-ended
 returns-in-Ok-false-clause-ended g c = λ refused.
     let now : Session = session_in (serving (family_in c.items.router) (state_in c.items.router)) (store_seen c.items.store) in
-    let after : Bool → Session = λ b. session_after b (family_in c.answer_asked.new.router) (state_in c.answer_asked.new.router) (store_seen c.answer_asked.new.store) in
-    let asked = asked_seen c.request_of-asked.result in
+    let after : Bool → Session = λ b. session_after b (family_in c.answer_or_refuse.new.router) (state_in c.answer_or_refuse.new.router) (store_seen c.answer_or_refuse.new.store) in
+    let asked = request_seen c.request_of-asked.result in
     answered c.args.items.now.coming (g.W.Drain.contents c.args.answers.now) (g.W.Drain.contents c.items.answers) (g.W.Drain.contents c.next.new.answers) c.items.items.coming
     (session_in (serving (family_in c.args.router.now) (state_in c.args.router.now)) (store_seen c.args.store.now)) now c.in-Some.item c.next.new.self asked c.items.invariant.way c.in_ok-item.ensures.contents
     (one_given c.items.items.coming c.in_ok-item.field-0 c.in-Some.item c.next.new.self c.in-Some.is c.in_ok-item.ensures.item) c.request_of-asked.ensures.asks
-    (g.W.Drain.contents c.answer_asked.new.answers) (after false)
-    (subst (λ (b : Bool). Whole (Answers now asked) (g.W.Drain.contents c.next.new.answers) (g.W.Drain.contents c.answer_asked.new.answers) (after b)) c.in-Ok-false.field-0-test c.in-Ok-false.ensures.answered)
+    (g.W.Drain.contents c.answer_or_refuse.new.answers) (after false)
+    (subst (λ (b : Bool). Whole (Answers now asked) (g.W.Drain.contents c.next.new.answers) (g.W.Drain.contents c.answer_or_refuse.new.answers) (after b)) c.in-Ok-false.field-0-test c.in-Ok-false.ensures.answered)
 
 pub returns-in-Err-clause-ended : goal.returns-in-Err-clause-ended
 returns-in-Err-clause-ended g c = λ refused.
     failed c.args.items.now.coming (g.W.Drain.contents c.args.answers.now) (g.W.Drain.contents c.items.answers) (g.W.Drain.contents c.next.new.answers) c.items.items.coming
     (session_in (serving (family_in c.args.router.now) (state_in c.args.router.now)) (store_seen c.args.store.now)) (session_in (serving (family_in c.items.router) (state_in c.items.router)) (store_seen c.items.store))
-    c.in-Some.item c.next.new.self (asked_seen c.request_of-asked.result) c.items.invariant.way c.in_ok-item.ensures.contents
+    c.in-Some.item c.next.new.self (request_seen c.request_of-asked.result) c.items.invariant.way c.in_ok-item.ensures.contents
     (one_given c.items.items.coming c.in_ok-item.field-0 c.in-Some.item c.next.new.self c.in-Some.is c.in_ok-item.ensures.item) c.request_of-asked.ensures.asks
-    (g.W.Drain.contents c.answer_asked.new.answers) c.in-Err.ensures.answered
+    (g.W.Drain.contents c.answer_or_refuse.new.answers) c.in-Err.ensures.answered

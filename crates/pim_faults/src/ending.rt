@@ -2,8 +2,8 @@
 
 ghost use Rattle.std.specs.Prelude.{◌≡◌, true, false, option_map};
 ghost use Rattle.pim_device.specs.Device.{AppendsAll, failures_after};
-ghost use Rattle.pim_faults.specs.Telling.{is_shown, is_asked_for, clap_text, own_text, told_text};
-ghost use Rattle.pim_faults.specs.Telling.{IsAnswered, IsTold};
+ghost use Rattle.pim_faults.specs.Ending.{is_shown, is_help, clap_text, own_text};
+ghost use Rattle.pim_faults.specs.Ending.{written_text, IsAnswered, IsReported};
 ghost use Rattle.pim_faults.specs.Words.{fault_text};
 ghost use Rattle.pim_faults.specs.declared.fault.Fault.TheVariants.{Output};
 
@@ -28,8 +28,8 @@ fn is_shown(fault: &pim_words::Fault<'_>) -> bool
 }
 
 /// Whether the fault is a request for help or for the version.
-fn is_asked_for(fault: &Fault<'_>) -> bool
-    ensures { result ≡ is_asked_for fault.now }
+fn is_help(fault: &Fault<'_>) -> bool
+    ensures { result ≡ is_help fault.now }
 {
     match fault {
         Fault::Words(fault) => is_shown(fault),
@@ -58,9 +58,9 @@ fn own_text<'a>(fault: &'a Fault<'_>) -> Option<&'a str>
 }
 
 /// Writes the text of a fault. Where the device fails, it took a prefix of the text.
-fn write_told<D: Drain>(fault: &Fault<'_>, device: &mut D) -> Result<(), Failed>
+fn write_fault_text<D: Drain>(fault: &Fault<'_>, device: &mut D) -> Result<(), Failed>
     ensures bytes { AppendsAll (D.contents device.old) (D.contents device.new) result
-        (told_text fault.now) }
+        (written_text fault.now) }
     ensures count { D.failures device.new ≡ failures_after (D.failures device.old) result }
 {
     match own_text(fault) {
@@ -74,25 +74,25 @@ fn write_told<D: Drain>(fault: &Fault<'_>, device: &mut D) -> Result<(), Failed>
 /// A fault of `clap` is written as `clap`'s own text, any other fault as its line. Help and the
 /// version go to `output`. If that fails, the line `pimtree: output` goes to `errors`, and the
 /// status is 2. Every other fault goes to `errors`; a failure of that device is ignored.
-pub fn tell_into<W: Drain, E: Drain>(fault: &Fault<'_>, output: &mut W, errors: &mut E) -> u8
-    ensures asked { is_asked_for fault.now ≡ true → IsAnswered result (told_text fault.now)
+pub fn report_fault<W: Drain, E: Drain>(fault: &Fault<'_>, output: &mut W, errors: &mut E) -> u8
+    ensures asked { is_help fault.now ≡ true → IsAnswered result (written_text fault.now)
         (W.contents output.old) (W.contents output.new) (W.failures output.old)
         (W.failures output.new) }
-    ensures no_error { is_asked_for fault.now ≡ true → result ≡ 0 → errors.new ≡ errors.old }
-    ensures unwritten { is_asked_for fault.now ≡ true → result ≡ 2 → IsTold (fault_text Output)
+    ensures no_error { is_help fault.now ≡ true → result ≡ 0 → errors.new ≡ errors.old }
+    ensures unwritten { is_help fault.now ≡ true → result ≡ 2 → IsReported (fault_text Output)
         (E.contents errors.old) (E.contents errors.new) (E.failures errors.old)
         (E.failures errors.new) }
-    ensures mistake { is_asked_for fault.now ≡ false → IsTold (told_text fault.now)
+    ensures mistake { is_help fault.now ≡ false → IsReported (written_text fault.now)
         (E.contents errors.old) (E.contents errors.new) (E.failures errors.old)
         (E.failures errors.new) }
-    ensures no_output { is_asked_for fault.now ≡ false → output.new ≡ output.old }
-    ensures status { is_asked_for fault.now ≡ false → result ≡ 2 }
+    ensures no_output { is_help fault.now ≡ false → output.new ≡ output.old }
+    ensures status { is_help fault.now ≡ false → result ≡ 2 }
 {
-    if !is_asked_for(fault) {
-        let _ = write_told(fault, errors);
+    if !is_help(fault) {
+        let _ = write_fault_text(fault, errors);
         return FAULTY;
     }
-    match write_told(fault, output) {
+    match write_fault_text(fault, output) {
         Ok(()) => 0,
         Err(Failed) => {
             let _ = fault_line(&Fault::Output, errors);

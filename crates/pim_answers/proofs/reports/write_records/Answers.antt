@@ -3,7 +3,7 @@ use Rattle.std.specs.List.{flat_map}
 use Rattle.pim_down.specs.declared.machines.machine.Record.{Record}
 use Rattle.pim_report.specs.RecordLine.{record_line}
 use Rattle.pim_answers.proofs.Written.{IsLeft, left_all, first_written, first_stopped, none_left, stopped}
-use Rattle.pim_answers.proofs.telling.write_records.Goals as goal
+use Rattle.pim_answers.proofs.reports.write_records.Goals as goal
 
 pub loop-record-init : goal.loop-record-init
 loop-record-init g c =

@@ -8,12 +8,12 @@ use Rattle.pim_form.specs.Wants.{wants}
 use Rattle.pim_router.specs.State.{RouterState}
 use Rattle.pim_report.specs.DemandText.{demand_text}
 use Rattle.pim_answers.specs.Lines.{ok_line, fault_line}
-use Rattle.pim_answers.specs.Telling.{TellsWants}
+use Rattle.pim_answers.specs.Reports.{AnswersWants}
 
 module _ (family : AddressFamily) (router : RouterState) where
   -- the demand of the machines by the table
   pub demand_told : (machines : Downstream) (routes : RouteTable) (form : List GroupForm) → machines ≡ router.machines → routes ≡ router.routes → IsFormOf family (wants machines) form
-      → TellsWants family router (demand_text family true routes form ++ ok_line)
+      → AnswersWants family router (demand_text family true routes form ++ ok_line)
   demand_told machines routes form m r is = inl (
     form,
     subst (λ (d : Downstream). IsFormOf family (wants d) form) m is,
@@ -21,5 +21,5 @@ module _ (family : AddressFamily) (router : RouterState) where
   )
 
   -- memory was refused
-  pub demand_unheld : (words : List ℕ) → words ≡ codes "memory" → TellsWants family router (fault_line words)
+  pub demand_unheld : (words : List ℕ) → words ≡ codes "memory" → AnswersWants family router (fault_line words)
   demand_unheld words is = inr (ap fault_line is)

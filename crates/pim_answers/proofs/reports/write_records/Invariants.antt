@@ -2,7 +2,7 @@ use Rattle.std.proofs.Common.{◌≡◌}
 use Rattle.std.specs.List.{flat_map}
 use Rattle.pim_report.specs.RecordLine.{record_line}
 use Rattle.pim_answers.proofs.Written.{IsLeft}
-use Rattle.pim_answers.proofs.telling.write_records.Given as goal
+use Rattle.pim_answers.proofs.reports.write_records.Given as goal
 
 -- the lines of the records that are left are still to be written
 abbrev pub invariant-loop-record : goal.invariant-loop-record

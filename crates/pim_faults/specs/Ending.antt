@@ -23,9 +23,9 @@ is_shown (Clap refusal) = is_request refusal.kind
 is_shown other = false
 
 -- Whether the fault is a request for help or for the version.
-abbrev pub is_asked_for : Fault → Bool
-is_asked_for (Words fault) = is_shown fault
-is_asked_for other = false
+abbrev pub is_help : Fault → Bool
+is_help (Words fault) = is_shown fault
+is_help other = false
 
 -- `clap`'s own text of what it refuses or shows.
 abbrev pub clap_text : WordsFault → Option (List ℕ)
@@ -38,8 +38,8 @@ own_text (Words fault) = clap_text fault
 own_text other = None
 
 -- What is written of the fault: `clap`'s own text if there is one, otherwise the line of the fault.
-abbrev pub told_text : Fault → List ℕ
-told_text fault = unwrap_or (own_text fault) (fault_text fault)
+abbrev pub written_text : Fault → List ℕ
+written_text fault = unwrap_or (own_text fault) (fault_text fault)
 
 -- ---- a device that a text is written to: its bytes and its count of failures, before and after
 
@@ -57,5 +57,5 @@ IsAnswered status text old new before after =
     ((status ≡ 0) × TookAll text old new before after) ⊎ ((status ≡ 2) × Stopped text old new before after)
 
 -- A mistake was written, or the device failed.
-abbrev pub IsTold : List ℕ → Option (List ℕ) → Option (List ℕ) → ℕ → ℕ → Type 0
-IsTold text old new before after = TookAll text old new before after ⊎ Stopped text old new before after
+abbrev pub IsReported : List ℕ → Option (List ℕ) → Option (List ℕ) → ℕ → ℕ → Type 0
+IsReported text old new before after = TookAll text old new before after ⊎ Stopped text old new before after

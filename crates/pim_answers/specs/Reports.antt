@@ -17,24 +17,24 @@ abbrev pub moment_line : Option ℕ → List ℕ
 moment_line moment = line (number_or (codes "never") moment)
 
 -- `now`: the present moment.
-abbrev pub TellsNow : RouterState → List ℕ → Type 0
-TellsNow router text = text ≡ moment_line (Some router.machines.moment) ++ ok_line
+abbrev pub AnswersNow : RouterState → List ℕ → Type 0
+AnswersNow router text = text ≡ moment_line (Some router.machines.moment) ++ ok_line
 
 -- `next`: the first moment at which a timer of a record fires.
-abbrev pub TellsNext : RouterState → List ℕ → Type 0
-TellsNext router text = (due : Option ℕ) × IsNextDue router.machines due × (text ≡ moment_line due ++ ok_line)
+abbrev pub AnswersNext : RouterState → List ℕ → Type 0
+AnswersNext router text = (due : Option ℕ) × IsNextDue router.machines due × (text ≡ moment_line due ++ ok_line)
 
 -- `state`: the lines of the records.
-abbrev pub TellsState : AddressFamily → RouterState → List ℕ → Type 0
-TellsState family router text = text ≡ flat_map (record_line family) router.machines.records ++ ok_line
+abbrev pub AnswersState : AddressFamily → RouterState → List ℕ → Type 0
+AnswersState family router text = text ≡ flat_map (record_line family) router.machines.records ++ ok_line
 
 -- `wants`: the lines of the demand, each with its upstream neighbour. Or memory is refused.
-abbrev pub TellsWants : AddressFamily → RouterState → List ℕ → Type 0
-TellsWants family router text =
+abbrev pub AnswersWants : AddressFamily → RouterState → List ℕ → Type 0
+AnswersWants family router text =
     ((form : List GroupForm) × IsFormOf family (wants router.machines) form
     × (text ≡ demand_text family true router.routes form ++ ok_line))
     ⊎ (text ≡ memory_line)
 
 -- `neighbours`: the lines of the neighbours.
-abbrev pub TellsNeighbours : AddressFamily → RouterState → List ℕ → Type 0
-TellsNeighbours family router text = text ≡ neighbours_text family router ++ ok_line
+abbrev pub AnswersNeighbours : AddressFamily → RouterState → List ℕ → Type 0
+AnswersNeighbours family router text = text ≡ neighbours_text family router ++ ok_line

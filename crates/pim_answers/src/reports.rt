@@ -6,10 +6,10 @@ ghost use Rattle.std.specs.List.{flat_map};
 ghost use Rattle.pim_device.specs.Device.{AppendsAll, failures_after};
 ghost use Rattle.pim_report.specs.DemandText.{demand_text};
 ghost use Rattle.pim_report.specs.RecordLine.{record_line};
-ghost use Rattle.pim_answers.specs.Answered.{Told};
+ghost use Rattle.pim_answers.specs.Answered.{Wrote};
 ghost use Rattle.pim_answers.specs.Lines.{ok_line};
 ghost use Rattle.pim_answers.specs.Neighbours.{neighbours_text};
-ghost use Rattle.pim_answers.specs.Telling.{moment_line, TellsNext, TellsWants};
+ghost use Rattle.pim_answers.specs.Reports.{moment_line, AnswersNext, AnswersWants};
 
 use crate::fault::{Fault, write_fault, write_ok};
 use crate::neighbours::write_neighbours;
@@ -34,7 +34,7 @@ fn write_moment<W: Drain>(answers: &mut W, moment: Option<u64>) -> Result<(), Fa
 }
 
 /// Writes the line of a moment, or of `never`, and `ok`.
-fn tell_moment<W: Drain>(answers: &mut W, moment: Option<u64>) -> Result<(), Failed>
+fn answer_moment<W: Drain>(answers: &mut W, moment: Option<u64>) -> Result<(), Failed>
     ensures bytes { AppendsAll (W.contents answers.old) (W.contents answers.new) result
         (moment_line moment ++ ok_line) }
     ensures count { W.failures answers.new ≡ failures_after (W.failures answers.old) result }
@@ -55,7 +55,7 @@ pub fn answer_now<F: Family, W: Drain>(
         (moment_line (Some router.now.machines.moment) ++ ok_line) }
     ensures count { W.failures answers.new ≡ failures_after (W.failures answers.old) result }
 {
-    tell_moment(answers, Some(router.now()))
+    answer_moment(answers, Some(router.now()))
 }
 
 /// Answers `next`: the first moment at which a timer of a record fires, or `never`. The times of
@@ -67,11 +67,11 @@ pub fn answer_next<F: Family, W: Drain>(
     router: &Router<'_, F>,
     answers: &mut W,
 ) -> Result<(), Failed>
-    ensures told { Told (TellsNext router.now) (W.contents answers.old) (W.contents answers.new)
+    ensures told { Wrote (AnswersNext router.now) (W.contents answers.old) (W.contents answers.new)
         result }
     ensures count { W.failures answers.new ≡ failures_after (W.failures answers.old) result }
 {
-    tell_moment(answers, router.ports().next_due())
+    answer_moment(answers, router.ports().next_due())
 }
 
 /// Writes the lines of records.
@@ -106,7 +106,7 @@ pub fn answer_state<F: Family, W: Drain>(
 }
 
 /// Writes the lines of a demand, each with its upstream neighbour, and `ok`.
-fn tell_demand<F: Family, W: Drain>(
+fn answer_demand<F: Family, W: Drain>(
     answers: &mut W,
     routes: &Routes<F>,
     form: &NormalForm<F>,
@@ -128,12 +128,12 @@ pub fn answer_wants<F: Family, W: Drain>(
     router: &Router<'_, F>,
     answers: &mut W,
 ) -> Result<(), Failed>
-    ensures told { Told (TellsWants F.family router.now) (W.contents answers.old)
+    ensures told { Wrote (AnswersWants F.family router.now) (W.contents answers.old)
         (W.contents answers.new) result }
     ensures count { W.failures answers.new ≡ failures_after (W.failures answers.old) result }
 {
     match NormalForm::of(alloc, router.ports()) {
-        Ok(form) => tell_demand::<F, W>(answers, router.routes(), &form),
+        Ok(form) => answer_demand::<F, W>(answers, router.routes(), &form),
         Err(_) => write_fault(answers, &Fault::memory()),
     }
 }
