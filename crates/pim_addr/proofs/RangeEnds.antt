@@ -43,17 +43,17 @@ module _ {N : Type 0} (value_of : N → ℕ) (cmp : N → N → Ordering) (order
   unfolding before
   counted ends number place within part =
       sym (prefix_len_is (λ end. nat_lt end (value_of number)) (map value_of ends) place (value_of number) (omega (arith, length-map ends value_of))
-      (λ k l. told k (omega arith) ∙ part.0 k number (omega arith) l)
-      (λ l. told place (omega (arith, l, length-map ends value_of)) ∙ part.1 place number (omega arith) (omega (arith, l, length-map ends value_of))))
+      (λ k l. reported k (omega arith) ∙ part.0 k number (omega arith) l)
+      (λ l. reported place (omega (arith, l, length-map ends value_of)) ∙ part.1 place number (omega arith) (omega (arith, l, length-map ends value_of))))
     where
-      told : (k : ℕ) → k < length ends → nat_lt (get_or (map value_of ends) k (value_of number)) (value_of number) ≡ is_lt (cmp (get_or ends k number) number)
-      told k l = ap (λ n. nat_lt n (value_of number)) (get_or_of_map value_of ends k number (value_of number) l) ∙ sym (compared _ _) ∙ sym (ap is_lt (order (get_or ends k number) number))
+      reported : (k : ℕ) → k < length ends → nat_lt (get_or (map value_of ends) k (value_of number)) (value_of number) ≡ is_lt (cmp (get_or ends k number) number)
+      reported k l = ap (λ n. nat_lt n (value_of number)) (get_or_of_map value_of ends k number (value_of number) l) ∙ sym (compared _ _) ∙ sym (ap is_lt (order (get_or ends k number) number))
 
 -- an end that isn't equal to a number isn't the number's
-pub told_apart : {N : Type 0} (value_of : N → ℕ) (eq : N → N → Bool) (decides : (a b : N) → (eq a b ≡ true) ↔ (value_of a ≡ value_of b)) (ends : List N) (number x : N) (place : ℕ) →
+pub distinct_keys : {N : Type 0} (value_of : N → ℕ) (eq : N → N → Bool) (decides : (a b : N) → (eq a b ≡ true) ↔ (value_of a ≡ value_of b)) (ends : List N) (number x : N) (place : ℕ) →
     place ≡ before (value_of number) (map value_of ends) → x ≡ get_or ends place x → eq x number ≡ false →
     before (value_of number) (map value_of ends) < length (map value_of ends) → get_or (map value_of ends) (before (value_of number) (map value_of ends)) (value_of number) ≡ value_of number → ⊥
-told_apart value_of eq decides ends number x place e at differs within same =
+distinct_keys value_of eq decides ends number x place e at differs within same =
     let inside : place < length ends = omega (arith, e, within, length-map ends value_of) in
     let is : value_of x ≡ value_of number =
     ap value_of (at ∙ get_or_default ends place x number inside) ∙ sym (get_or_of_map value_of ends place number (value_of number) inside) ∙ ap (λ i. get_or (map value_of ends) i (value_of number)) e ∙ same in

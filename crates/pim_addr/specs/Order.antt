@@ -9,13 +9,13 @@ Place = ℕ × ℕ
 
 -- The first fault comes before the other: at a lower offset, or at the same offset with a lower
 -- number.
-abbrev pub IsToldBefore : Place → Place → Type 0
-IsToldBefore first other = (first.0 < other.0) ⊎ ((first.0 ≡ other.0) × (first.1 < other.1))
+abbrev pub IsReportedBefore : Place → Place → Type 0
+IsReportedBefore first other = (first.0 < other.0) ⊎ ((first.0 ≡ other.0) × (first.1 < other.1))
 
 -- The first fault of the list comes before each of the others.
 abbrev pub FirstIsLeast : List Place → Type 0
 FirstIsLeast [] = ⊤
-FirstIsLeast (first ∷ others) = AllByRecursion (IsToldBefore first) others
+FirstIsLeast (first ∷ others) = AllByRecursion (IsReportedBefore first) others
 
 -- The numbers of the faults of one part ascend, from `least` on.
 abbrev pub NumbersRise : ℕ → List ℕ → Type 0

@@ -132,7 +132,7 @@ via_faults family prefix neighbour rows =
 -- Memory where memory runs out.
 abbrev pub IsRefusedBy : List RouteFault → Result (Unit {0}) RouteFault → Type 0
 IsRefusedBy [] (Ok done) = Unit {0}
-IsRefusedBy [] (Err told) = told ≡ Memory
+IsRefusedBy [] (Err reported) = reported ≡ Memory
 IsRefusedBy (first ∷ others) result = result ≡ Err first
 
 -- ---- what holds of every table

@@ -1,32 +1,25 @@
 //! Addresses of IPv4 and IPv6, their encoded forms in PIM messages (RFC 7761, 4.9.1), their text,
 //! and route tables. The crate also exports the devices of `pim_device`.
 //!
-//! - `Family`: contracts see an address as its list of bytes. Reading and writing addresses are
-//!   inverse; order and equality are those of the bytes. So no definition above is generic.
-//! - Encoded addresses: a `read_` function returns the value of the bytes at the front, or the
-//!   first fault in the order of `AddrFault`. A `put_` function overwrites a slice of the length of
-//!   the form with the one canonical spelling, which is read as the same value.
-//! - Text: `write_text` writes the one text of an address over the front of its buffer and leaves
-//!   the rest. `read_text` returns an address exactly where the text names one. The text that is
-//!   written of an address names it.
-//! - `Routes`: contracts see a table as two maps, from prefixes to RPs and to upstream neighbours.
-//!   `rp_of` and `via` return the longest match. `add_rp` and `add_via` return the first fault of a
-//!   row, or `Memory` where it has none; after an error the table is unchanged. `equals` is
-//!   equality of the maps.
-//! - `first_of_parts_is_least`: the law on the order of faults that readers of message bodies use.
+//! - `Family`: contracts see an address as its list of bytes, so no definition above is generic.
+//! - Encoded addresses: a `read_` function returns the value at the front of the bytes, or the
+//!   first fault. A `put_` function writes the one canonical spelling.
+//! - Text: `write_text` writes the one text of an address, `read_text` reads any text of one.
+//! - `Routes`: `rp_of` is RP(G), `via` the upstream neighbour, each by the longest match. `add_rp`
+//!   and `add_via` return the first fault of a row, or `Memory`; a refusal changes nothing.
 //!
-//! Of the calls of this crate, only `add_rp` and `add_via` take memory.
+//! Of these calls, only `add_rp` and `add_via` take memory. Callers: all crates.
 #![tactic(auto)]
 
 mod below;
 mod encoded;
 mod family;
+pub mod laws;
 mod order;
 mod parsed;
 mod ranges;
 mod route;
 mod route_fault;
-mod route_laws;
 mod route_map;
 mod route_rows;
 mod routes;
@@ -47,10 +40,6 @@ pub use pim_device::{
 };
 pub use route::Route;
 pub use route_fault::RouteFault;
-pub use route_laws::{
-    one_neighbour_for_all, one_rp_for_all_groups, order_of_adding_is_free, route_map_has_one_list,
-    row_is_added_at_its_prefix,
-};
 pub use route_rows::RouteRows;
 pub use routes::{Routes, group_bits};
 pub use text::write_text;

@@ -82,7 +82,7 @@ impl<F: Family> RouteMap<F> {
         ensures ok { OnOk result (self.new ≡
             with_row (row_seen F.bytes_of row).0 (row_seen F.bytes_of row).1 self.old) }
         ensures err { OnErr result (self.new ≡ self.old) }
-        ensures told { IsRefusedBy (room_faults (row_seen F.bytes_of row).0 self.old) result }
+        ensures reported { IsRefusedBy (room_faults (row_seen F.bytes_of row).0 self.old) result }
     {
         let Err(place) = find_place::<F>(&self.rows, &row) else {
             return Err(RouteFault::Twice);

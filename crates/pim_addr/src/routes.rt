@@ -113,7 +113,7 @@ impl<F: Family> Routes<F> {
             ≡ with_rp (record { bits = length; address = F.bytes_of prefix }) (F.bytes_of rp)
             self.old) }
         ensures err { OnErr result (self.new ≡ self.old) }
-        ensures told { IsRefusedBy
+        ensures reported { IsRefusedBy
             (rp_faults F.family (record { bits = length; address = F.bytes_of prefix })
             (F.bytes_of rp) self.old.rps) result }
     {
@@ -151,7 +151,7 @@ impl<F: Family> Routes<F> {
             ≡ with_via (record { bits = length; address = F.bytes_of prefix })
             (F.bytes_of neighbour) self.old) }
         ensures err { OnErr result (self.new ≡ self.old) }
-        ensures told { IsRefusedBy
+        ensures reported { IsRefusedBy
             (via_faults F.family (record { bits = length; address = F.bytes_of prefix })
             (F.bytes_of neighbour) self.old.vias) result }
     {

@@ -6,24 +6,24 @@ use Rattle.pim_addr.specs.declared.family.AddressFamily.TheVariants.{Ipv4, Ipv6}
 use Rattle.pim_addr.specs.Routes.{RouteTable, rp_of}
 use Rattle.pim_form.specs.Messages.{Writing as Writer}
 use Rattle.pim_form.specs.NormalForm.{GroupForm}
-use Rattle.pim_form.specs.Refused.{told_too_big}
-use Rattle.pim_form.specs.Toward.{via_in, is_toward}
+use Rattle.pim_form.specs.Refused.{group_too_big}
+use Rattle.pim_form.specs.Toward.{via_of, is_toward}
 use Rattle.pim_form.specs.declared.fault.FormFault.{FormFault}
 use Rattle.pim_form.specs.declared.fault.FormFault.TheVariants.{TooBig, Memory, Tables}
 use Rattle.pim_request.specs.declared.command.Writing.{Writing}
 use Rattle.pim_request.specs.declared.command.Comparison.{Comparison}
-use Rattle.pim_router.specs.Canonical.{IsAskedBy, IsTooBig}
+use Rattle.pim_router.specs.Canonical.{IsDemandedBy, IsTooBig}
 use Rattle.pim_router.specs.State.{RouterState}
 use Rattle.pim_report.specs.MessageText.{messages_text}
 use Rattle.pim_answers.specs.Answered.{Wrote}
-use Rattle.pim_answers.specs.Asking.{UnlessIf, UnlessAny, SaysMade, SaysSame, AreCompared, AnswersMessages, AnswersFound, SaysOf, IfUsable, has_other_family, writer_words, writer_of, name_words}
+use Rattle.pim_answers.specs.Demanding.{UnlessIf, UnlessAny, SaysMade, SaysSame, AreCompared, AnswersMessages, AnswersFound, SaysOf, IfUsable, has_other_family, writer_words, writer_of, name_words}
 use Rattle.pim_answers.specs.declared.fault.Fault.{Fault}
-use Rattle.pim_answers.specs.declared.kept.Found.{Found}
-use Rattle.pim_answers.specs.declared.kept.Found.TheVariants.{Unknown, Other, Form}
+use Rattle.pim_answers.specs.declared.kept.FoundForm.{FoundForm}
+use Rattle.pim_answers.specs.declared.kept.FoundForm.TheVariants.{Unknown, Other, Form}
 use Rattle.pim_answers.specs.declared.kept.KeptForm.{KeptForm}
 use Rattle.pim_lines.specs.AnyAddress.{address_bytes}
 use Rattle.pim_addr.specs.Families.{is_same}
-use Rattle.pim_answers.specs.AskingSeen.{made_text, same_text, SaysBig, IsFirst, has_same_tables}
+use Rattle.pim_answers.specs.DemandingSeen.{made_text, same_text, SaysBig, IsFirst, has_same_tables}
 use Rattle.pim_answers.specs.Fault.{fault_words}
 use Rattle.pim_answers.specs.StoreSeen.{form_seen, IsFound}
 use Rattle.pim_answers.specs.Kept.{Kept, is_usable}
@@ -32,7 +32,7 @@ use Rattle.pim_answers.specs.Lines.{ok_line, fault_line}
 
 -- messages that were made, or why they weren't
 pub made_told : {F A N : Type 0} (family : AddressFamily) (bytes_of : A → List ℕ) (AreMade : List (List ℕ) → Type 0) (IsBig : Option (List ℕ) → Type 0) (made : Result (List (List ℕ)) (FormFault F A N))
-    → IfOk made AreMade → IsBig (option_map bytes_of (told_too_big made)) → (made ≡ Err Tables → ⊥) → SaysMade family AreMade IsBig (made_text family bytes_of made)
+    → IfOk made AreMade → IsBig (option_map bytes_of (group_too_big made)) → (made ≡ Err Tables → ⊥) → SaysMade family AreMade IsBig (made_text family bytes_of made)
 made_told family bytes_of AreMade IsBig (Ok messages) are big never = inl (inl (messages, are, refl), big)
 made_told family bytes_of AreMade IsBig (Err (TooBig group)) are big never = inr (bytes_of group, big, refl)
 made_told family bytes_of AreMade IsBig (Err Memory) are big never = inl (inr refl, big)
@@ -78,20 +78,20 @@ module _ {A E : Type 0} (family : AddressFamily) (router : RouterState) (upstrea
 
 -- the same neighbour by the same table
 pub toward_here : (family : AddressFamily) (form : List GroupForm) (routes table : RouteTable) (neighbour upstream : List ℕ) → routes ≡ table → neighbour ≡ upstream
-    → is_toward (rp_of family routes) (via_in family routes) neighbour form ≡ true → is_toward (rp_of family table) (via_in family table) upstream form ≡ true
+    → is_toward (rp_of family routes) (via_of family routes) neighbour form ≡ true → is_toward (rp_of family table) (via_of family table) upstream form ≡ true
 toward_here family form routes table neighbour upstream r n is =
-    subst (λ (t : RouteTable). is_toward (rp_of family t) (via_in family t) upstream form ≡ true) r
-    (subst (λ (a : List ℕ). is_toward (rp_of family routes) (via_in family routes) a form ≡ true) n is)
+    subst (λ (t : RouteTable). is_toward (rp_of family t) (via_of family t) upstream form ≡ true) r
+    (subst (λ (a : List ℕ). is_toward (rp_of family routes) (via_of family routes) a form ≡ true) n is)
 
 -- `messages` by a writer without a fault
 pub messages_told : {A E : Type 0} (family : AddressFamily) (writing : Writing) (writer : Writer) (router : RouterState) (old new : Option (List ℕ)) (r : Result A E) → has_other_family family writing ≡ false
-    → writer_words family writing ≡ [] → writer ≡ writer_of writing → (text : List ℕ) → SaysMade family (IsAskedBy family writer router) (IsTooBig family writer router) text → AppendsAll old new r text
+    → writer_words family writing ≡ [] → writer ≡ writer_of writing → (text : List ℕ) → SaysMade family (IsDemandedBy family writer router) (IsTooBig family writer router) text → AppendsAll old new r text
     → Wrote (AnswersMessages family writing router) old new r
 messages_told family writing writer router old new r same none is text tells written = record {
   text = text;
   says = unless_if (has_other_family family writing) family_words _ text same
-      (unless_any (writer_words family writing) (SaysMade family (IsAskedBy family (writer_of writing) router) (IsTooBig family (writer_of writing) router)) text none
-      (subst (λ (w : Writer). SaysMade family (IsAskedBy family w router) (IsTooBig family w router) text) is tells));
+      (unless_any (writer_words family writing) (SaysMade family (IsDemandedBy family (writer_of writing) router) (IsTooBig family (writer_of writing) router)) text none
+      (subst (λ (w : Writer). SaysMade family (IsDemandedBy family w router) (IsTooBig family w router) text) is tells));
   written = written;
 }
 
@@ -108,7 +108,7 @@ pub usable_is : {F A N : Type 0} (family : AddressFamily) (bytes_of : A → List
 usable_is family bytes_of routes upstream name kept b is = rw (same_family family) is
 
 -- a form of the other family can't
-pub found_other : {F A N X E : Type 0} (family : AddressFamily) (bytes_of : A → List ℕ) (name : List ℕ) (found : Found F A N) (known : Kept) (router : RouterState) (upstream : List ℕ) (Says : Kept → List ℕ → Type 0)
+pub found_other : {F A N X E : Type 0} (family : AddressFamily) (bytes_of : A → List ℕ) (name : List ℕ) (found : FoundForm F A N) (known : Kept) (router : RouterState) (upstream : List ℕ) (Says : Kept → List ℕ → Type 0)
     (old new : Option (List ℕ)) (r : Result X E) → ((form : Bor (KeptForm F A N)) → found ≡ Form form → ⊥) → IsFound family bytes_of name found (Some known) → AppendsAll old new r (fault_line (codes "tables"))
     → Wrote (IfUsable family router upstream Says known) old new r
 found_other family bytes_of name Unknown known router upstream Says old new r never is written = absurd cc
@@ -124,19 +124,19 @@ found_other family bytes_of name Other known router upstream Says old new r neve
 found_other family bytes_of name (Form form) known router upstream Says old new r never is written = absurd (never form refl)
 
 -- a form of the router's family is what is kept
-pub found_form : {F A N : Type 0} (family : AddressFamily) (bytes_of : A → List ℕ) (name : List ℕ) (found : Found F A N) (known : Kept) (form : Bor (KeptForm F A N)) → found ≡ Form form → IsFound family bytes_of name found (Some known)
+pub found_form : {F A N : Type 0} (family : AddressFamily) (bytes_of : A → List ℕ) (name : List ℕ) (found : FoundForm F A N) (known : Kept) (form : Bor (KeptForm F A N)) → found ≡ Form form → IsFound family bytes_of name found (Some known)
     → form_seen family bytes_of name form.now ≡ known
 found_form family bytes_of name found known form is found_is =
-    let here : Some known ≡ Some (form_seen family bytes_of name form.now) = subst (λ (f : Found _ _ _). IsFound family bytes_of name f (Some known)) is found_is in
+    let here : Some known ≡ Some (form_seen family bytes_of name form.now) = subst (λ (f : FoundForm _ _ _). IsFound family bytes_of name f (Some known)) is found_is in
     cc
 
 -- whether something is kept
-pub known_none : {F A N : Type 0} (family : AddressFamily) (bytes_of : A → List ℕ) (name : List ℕ) (found : Found F A N) (kept : Option Kept) → found ≡ Unknown → IsFound family bytes_of name found kept → false ≡ is_some kept
+pub known_none : {F A N : Type 0} (family : AddressFamily) (bytes_of : A → List ℕ) (name : List ℕ) (found : FoundForm F A N) (kept : Option Kept) → found ≡ Unknown → IsFound family bytes_of name found kept → false ≡ is_some kept
 known_none family bytes_of name found kept is found_is =
-    let none : kept ≡ None = subst (λ (f : Found _ _ _). IsFound family bytes_of name f kept) is found_is in
+    let none : kept ≡ None = subst (λ (f : FoundForm _ _ _). IsFound family bytes_of name f kept) is found_is in
     sym (ap is_some none)
 
-pub known_some : {F A N : Type 0} (family : AddressFamily) (bytes_of : A → List ℕ) (name : List ℕ) (found : Found F A N) (kept : Option Kept) → (found ≡ Unknown → ⊥) → IsFound family bytes_of name found kept → true ≡ is_some kept
+pub known_some : {F A N : Type 0} (family : AddressFamily) (bytes_of : A → List ℕ) (name : List ℕ) (found : FoundForm F A N) (kept : Option Kept) → (found ≡ Unknown → ⊥) → IsFound family bytes_of name found kept → true ≡ is_some kept
 known_some family bytes_of name Unknown kept never is = absurd (never refl)
 known_some family bytes_of name Other kept never (known, is, differs) = sym (ap is_some is)
 known_some family bytes_of name (Form form) kept never is = sym (ap is_some is)
@@ -185,8 +185,8 @@ module _ {A E : Type 0} (family : AddressFamily) (comparison : Comparison) (rout
       by : (k : Option Kept) → kept ≡ k → true ≡ is_some k → Wrote (AnswersFound family comparison router (Says (writer_of comparison.writing)) kept) old new r
       by None here e = absurd cc
       by (Some known) here e =
-          let told = tells known here in
-          of_family same told.text
-          (subst (λ (k : Option Kept). SaysOf family comparison router (Says (writer_of comparison.writing)) k told.text) (sym here)
-          (unless_any (writer_words family comparison.writing) _ told.text none
-          (subst (λ (w : Writer). IfUsable family router w.upstream (Says w) known told.text) is told.says))) told.written
+          let reported = tells known here in
+          of_family same reported.text
+          (subst (λ (k : Option Kept). SaysOf family comparison router (Says (writer_of comparison.writing)) k reported.text) (sym here)
+          (unless_any (writer_words family comparison.writing) _ reported.text none
+          (subst (λ (w : Writer). IfUsable family router w.upstream (Says w) known reported.text) is reported.says))) reported.written

@@ -15,10 +15,10 @@ use Rattle.pim_report.specs.MessageText.{messages_text}
 use Rattle.pim_report.specs.RefreshLine.{refresh_line}
 use Rattle.pim_request.specs.declared.command.Comparison.{Comparison}
 use Rattle.pim_router.specs.declared.step.Step.TheVariants.{Echo, Refresh, Reached}
-use Rattle.pim_router.specs.Course.{Telling, echo, refresh, verdict}
+use Rattle.pim_router.specs.Course.{RouterReport, echo, refresh, verdict}
 use Rattle.pim_router.specs.Canonical.{IsTooBig}
 use Rattle.pim_router.specs.Laws.{RunHasOneEnd}
-use Rattle.pim_router.specs.OneList.{OneListIsAsked, OneIsTooBig, OneListIsTold, OneIsTooBigToTell}
+use Rattle.pim_router.specs.OneList.{OneListIsDemanded, OneIsTooBig, OneListIsTheChange, OneChangeIsTooBig}
 use Rattle.pim_router.specs.Packets.{Packet as Received}
 use Rattle.pim_router.specs.State.{RouterState}
 use Rattle.pim_text.specs.OneReading.{OneBody, LongBody}
@@ -26,7 +26,7 @@ use Rattle.pim_text.specs.Spell.{IsLong, stated_in}
 use Rattle.pim_lines.specs.AnyAddress.{address_bytes}
 use Rattle.pim_answers.specs.declared.packets.FromText.{FromText}
 use Rattle.pim_answers.specs.Answered.{Refused, RefusedIf, RefusedBy, OrMemory, OrMemoryIf, Done}
-use Rattle.pim_answers.specs.Asking.{UnlessIf, UnlessAny, SaysMade, too_big_words, KeepsForm, kept_now, SaysOf, IfUsable, AnswersFound, SaysChange, has_other_family, name_words, IsFirstBig, AreCompared, SaysSame, writer_of, writer_words}
+use Rattle.pim_answers.specs.Demanding.{UnlessIf, UnlessAny, SaysMade, too_big_words, KeepsForm, kept_now, SaysOf, IfUsable, AnswersFound, SaysChange, has_other_family, name_words, IsFirstBig, AreCompared, SaysSame, writer_of, writer_words}
 use Rattle.pim_report.specs.SameLine.{same_line}
 use Rattle.pim_answers.specs.Families.{differ_from, family_words}
 use Rattle.pim_answers.specs.Kept.{Kept, with_kept, lacks_place, is_usable}
@@ -80,7 +80,7 @@ text_any (first ∷ others) Says one text other is too room more = is ∙ sym to
 -- ---- `run`
 
 module _ (law : RunHasOneEnd) (family : AddressFamily) (moment : ℕ) where
-  one_way : (some said : List Telling) (lines other : List ℕ) (router after end : RouterState) → Passes family moment some lines router after → Passes family moment said other router end → (lines ≡ other) × (after ≡ end)
+  one_way : (some said : List RouterReport) (lines other : List ℕ) (router after end : RouterState) → Passes family moment some lines router after → Passes family moment said other router end → (lines ≡ other) × (after ≡ end)
   unfolding Passes
   one_way [] [] lines other router after end is too = (is.1 ∙ sym too.1, (law moment router after end Reached Reached is.0 too.0).1)
   one_way [] (echo port group what ∷ said) lines other router after end is too =
@@ -117,7 +117,7 @@ module _ (law : RunHasOneEnd) (family : AddressFamily) (moment : ℕ) where
 
 pub one_run : RunHasOneEnd → OneRun
 one_run law family moment router text other after end is too room more =
-    let way = one_way law family moment is.told too.told is.lines too.lines router after end is.passes too.passes in
+    let way = one_way law family moment is.reported too.reported is.lines too.lines router after end is.passes too.passes in
     (is.text_is ∙ (ap (λ (l : List ℕ). l ++ ok_line) way.0 ∙ sym too.text_is), way.1)
 
 -- ---- packets
@@ -224,7 +224,7 @@ module _ (family : AddressFamily) (AreMade : List (List ℕ) → Type 0) (IsBig 
       let same : group ≡ g = cc in
       is ∙ (ap (λ (x : List ℕ). fault_line (too_big_words family x)) same ∙ sym so)
 
-pub one_messages : OneListIsAsked → OneIsTooBig → OneMessages
+pub one_messages : OneListIsDemanded → OneIsTooBig → OneMessages
 one_messages list big family writing router =
     text_if (has_other_family family writing) family_words _ (text_any (writer_words family writing) _ (one_made family _ _ (list family (writer_of writing) router) (big family (writer_of writing) router)))
 
@@ -238,7 +238,7 @@ module _ (family : AddressFamily) (comparison : Comparison) (router : RouterStat
   one_found : (found : Option Kept) → OneText (AnswersFound family comparison router Says found)
   one_found found = text_if (has_other_family family comparison.writing) family_words (SaysOf family comparison router Says found) (one_of found)
 
-pub one_change : OneListIsTold → OneIsTooBigToTell → OneChange
+pub one_change : OneListIsTheChange → OneChangeIsTooBig → OneChange
 one_change list big family comparison router kept =
     one_found family comparison router (SaysChange family (writer_of comparison.writing) router)
     (λ found. one_made family _ _ (list family (writer_of comparison.writing) found.form router) (big family (writer_of comparison.writing) found.form router)) _
@@ -251,7 +251,7 @@ same_test true false there back = absurd (false≢true (there refl))
 same_test false true there back = absurd (false≢true (back refl))
 same_test false false there back = refl
 
-module _ (canonical : OneListOfMessages) (list : OneListIsAsked) (big : OneIsTooBig) (family : AddressFamily) (writer : Writer) (router : RouterState) (kept : Kept) where
+module _ (canonical : OneListOfMessages) (list : OneListIsDemanded) (big : OneIsTooBig) (family : AddressFamily) (writer : Writer) (router : RouterState) (kept : Kept) where
   one_compared : (same other : Bool) → AreCompared family writer kept.form router same → AreCompared family writer kept.form router other → same ≡ other
   one_compared same other is too =
       let before = canonical family writer (rp_of family router.routes) kept.form is.before too.before is.of_kept too.of_kept in
@@ -280,7 +280,7 @@ module _ (canonical : OneListOfMessages) (list : OneListIsAsked) (big : OneIsToo
   one_same_text text other (inr (group, some, is)) (inr (g, any, so)) room more =
       is ∙ (ap (λ (x : List ℕ). fault_line (too_big_words family x)) (first_big group g some any) ∙ sym so)
 
-pub one_same : OneListOfMessages → OneListIsAsked → OneIsTooBig → OneSame
+pub one_same : OneListOfMessages → OneListIsDemanded → OneIsTooBig → OneSame
 one_same canonical list big family comparison router kept =
     one_found family comparison router (SaysSame family (writer_of comparison.writing) router)
     (λ found. one_same_text canonical list big family (writer_of comparison.writing) router found) _

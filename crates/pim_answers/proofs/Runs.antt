@@ -7,7 +7,7 @@ use Rattle.pim_device.specs.Device.{AppendsFront, AppendsAll}
 use Rattle.pim_down.specs.declared.machines.key.What.{What}
 use Rattle.pim_router.specs.declared.step.Step.{Step}
 use Rattle.pim_router.specs.declared.step.Step.TheVariants.{Echo, Refresh, Reached}
-use Rattle.pim_router.specs.Course.{Telling, echo, refresh, verdict, runs_to, Reaches, IsCourse}
+use Rattle.pim_router.specs.Course.{RouterReport, echo, refresh, verdict, runs_to, Reaches, IsCourse}
 use Rattle.pim_router.specs.Seen.{step_seen}
 use Rattle.pim_router.specs.State.{RouterState}
 use Rattle.pim_router.specs.Time.{Runs}
@@ -23,21 +23,21 @@ use Rattle.pim_answers.proofs.Written.{front-longer, front-more, both}
 
 -- Some way on from a state.
 pub record SomeWay (family : AddressFamily) (moment : ℕ) (state : RouterState) : Type 0 where
-  pub told : List Telling
+  pub reported : List RouterReport
   pub lines : List ℕ
   pub after : RouterState
-  pub passes : Passes family moment told lines state after
+  pub passes : Passes family moment reported lines state after
 
 -- What is told on the way from here is told on the way from the start, after what was told so far.
 pub record IsOnTheWay (family : AddressFamily) (moment : ℕ) (start now : RouterState) (old new : Option (List ℕ)) : Type 0 where
   pub done : List ℕ
-  pub goes_on : (way : SomeWay family moment now) → (told : List Telling) × Passes family moment told (done ++ way.lines) start way.after
+  pub goes_on : (way : SomeWay family moment now) → (reported : List RouterReport) × Passes family moment reported (done ++ way.lines) start way.after
   pub written : Appends old new done
 
 -- One line that is told on the way from a state, to the state after it.
 pub record IsStep (family : AddressFamily) (moment : ℕ) (now : RouterState) (line : List ℕ) (between : RouterState) : Type 0 where
-  pub one : Telling
-  pub goes_on : (way : SomeWay family moment between) → Passes family moment (one ∷ way.told) (line ++ way.lines) now way.after
+  pub one : RouterReport
+  pub goes_on : (way : SomeWay family moment between) → Passes family moment (one ∷ way.reported) (line ++ way.lines) now way.after
 
 -- a run that stopped early
 pub not_reached : {A : Type 0} (bytes_of : A → List ℕ) (step : Step A) → (step ≡ Reached → ⊥) → step_seen bytes_of step ≡ Reached → ⊥
@@ -47,7 +47,7 @@ not_reached bytes_of Reached never is = never refl
 
 module _ (family : AddressFamily) (moment : ℕ) where
   -- a run of the router tells its lines
-  tells_lines : (told : List Telling) (state after : RouterState) → Reaches moment told state after → (lines : List ℕ) × Passes family moment told lines state after
+  tells_lines : (reported : List RouterReport) (state after : RouterState) → Reaches moment reported state after → (lines : List ℕ) × Passes family moment reported lines state after
   unfolding Reaches Passes
   tells_lines [] state after reaches = ([], (reaches, refl))
   tells_lines (echo port group what ∷ more) state after (between, runs, reaches) =
@@ -63,8 +63,8 @@ module _ (family : AddressFamily) (moment : ℕ) where
   unfolding IsCourse
   some_way law state =
       let course = law family (runs_to moment ∷ []) state in
-      let told = tells_lines course.course.before state course.course.between course.course.begins in
-      record { told = course.course.before; lines = told.0; after = course.course.between; passes = told.1 }
+      let reported = tells_lines course.course.before state course.course.between course.course.begins in
+      record { reported = course.course.before; lines = reported.0; after = course.course.between; passes = reported.1 }
 
   -- an echo and a refresh are steps
   echoes : (now between : RouterState) (port : ℕ) (group : List ℕ) (what : What (List ℕ)) → Runs moment now (Echo port group what) between → IsStep family moment now (echo_line family between.machines.moment port group what) between
@@ -83,11 +83,11 @@ module _ (family : AddressFamily) (moment : ℕ) where
 
   -- the way after a step
   abbrev more_way : (now between : RouterState) (line : List ℕ) (s : IsStep family moment now line between) → SomeWay family moment between → SomeWay family moment now
-  more_way now between line s way = record { told = s.one ∷ way.told; lines = line ++ way.lines; after = way.after; passes = s.goes_on way }
+  more_way now between line s way = record { reported = s.one ∷ way.reported; lines = line ++ way.lines; after = way.after; passes = s.goes_on way }
 
   module _ (start : RouterState) (old : Option (List ℕ)) where
     pub begin : IsOnTheWay family moment start start old old
-    begin = record { done = []; goes_on = λ way. (way.told, way.passes); written = Appends-nil old }
+    begin = record { done = []; goes_on = λ way. (way.reported, way.passes); written = Appends-nil old }
 
     module _ (now : RouterState) (new : Option (List ℕ)) (w : IsOnTheWay family moment start now old new) where
       -- a step whose line was written
@@ -110,7 +110,7 @@ module _ (family : AddressFamily) (moment : ℕ) where
           record {
             text = lines ++ ok_line;
             after = way.after;
-            does = record { told = g.0; lines = lines; passes = g.1; text_is = refl };
+            does = record { reported = g.0; lines = lines; passes = g.1; text_is = refl };
             written = front-longer old newer lines ok_line (front-more old new newer w.done (line ++ way.lines) w.written (front-longer new newer line way.lines front));
           }
 
@@ -118,8 +118,8 @@ module _ (family : AddressFamily) (moment : ℕ) where
       pub arrived : {A E : Type 0} (after : RouterState) (newer : Option (List ℕ)) (r : Result A E) → Runs moment now Reached after → AppendsAll new newer r ok_line → Answered (AnswersRun family moment start) old newer r (λ _. after)
       unfolding Passes
       arrived after newer r runs written =
-          let way : SomeWay family moment now = record { told = []; lines = []; after = after; passes = (runs, refl) } in
+          let way : SomeWay family moment now = record { reported = []; lines = []; after = after; passes = (runs, refl) } in
           let g = w.goes_on way in
           answered_text (AnswersRun family moment start) old newer r after (w.done ++ ok_line)
-          (record { told = g.0; lines = w.done ++ []; passes = g.1; text_is = ap (λ (l : List ℕ). l ++ ok_line) (sym (append-nil w.done)) })
+          (record { reported = g.0; lines = w.done ++ []; passes = g.1; text_is = ap (λ (l : List ℕ). l ++ ok_line) (sym (append-nil w.done)) })
           (both old new newer r w.done ok_line w.written written)

@@ -13,7 +13,7 @@ use Rattle.pim_addr.specs.Routes.{RouteTable, rp_of}
 use Rattle.pim_form.specs.NormalForm.{GroupForm}
 use Rattle.pim_answers.specs.declared.kept.AnyForm.{AnyForm}
 use Rattle.pim_answers.specs.declared.kept.AnyForm.TheVariants.{Ipv4, Ipv6}
-use Rattle.pim_answers.specs.declared.kept.Entry.{Entry}
+use Rattle.pim_answers.specs.declared.kept.KeptEntry.{KeptEntry}
 use Rattle.pim_answers.specs.Kept.{Kept, place_of, kept_at, kept_as, kept_with, with_kept, lacks_place, star_of, stars_of}
 use Rattle.pim_answers.specs.StoreSeen.{any_seen, entry_seen}
 
@@ -23,18 +23,18 @@ named name (Ipv4 kept) = refl
 named name (Ipv6 kept) = refl
 
 -- the place of a name among entries is that among what is seen of them
-len_is : (name : List ℕ) (entries : List Entry) → position_or_len (λ (one : Kept). bytes_eq one.name name) (map entry_seen entries) ≡ position_or_len (λ (entry : Entry). bytes_eq entry.name.items name) entries
+len_is : (name : List ℕ) (entries : List KeptEntry) → position_or_len (λ (one : Kept). bytes_eq one.name name) (map entry_seen entries) ≡ position_or_len (λ (entry : KeptEntry). bytes_eq entry.name.items name) entries
 len_is name [] = refl
 len_is name (entry ∷ entries) = rw (named entry.name.items entry.form, len_is name entries) refl
 
-pub place_seen : (name : List ℕ) (entries : List Entry) → place_of name (map entry_seen entries) ≡ position (λ (entry : Entry). bytes_eq entry.name.items name) entries
+pub place_seen : (name : List ℕ) (entries : List KeptEntry) → place_of name (map entry_seen entries) ≡ position (λ (entry : KeptEntry). bytes_eq entry.name.items name) entries
 place_seen name entries = rw (len_is name entries, length-map entries entry_seen) refl
 
 -- an entry with another form
-abbrev pub with_form : Entry → AnyForm → Entry
+abbrev pub with_form : KeptEntry → AnyForm → KeptEntry
 with_form entry form = record { name = entry.name; form = form }
 
-module _ (name : List ℕ) (entries : List Entry) (place : ℕ) (d : Entry) (at : place_of name (map entry_seen entries) ≡ Some place) where
+module _ (name : List ℕ) (entries : List KeptEntry) (place : ℕ) (d : KeptEntry) (at : place_of name (map entry_seen entries) ≡ Some place) where
   there : (place < length (map entry_seen entries)) × (bytes_eq (get_or (map entry_seen entries) place (entry_seen d)).name name ≡ true)
   there =
       let p = position-Some (λ (one : Kept). bytes_eq one.name name) (map entry_seen entries) place (entry_seen d) at in
@@ -66,9 +66,9 @@ module _ (name : List ℕ) (entries : List Entry) (place : ℕ) (d : Entry) (at 
       ∙ ap (λ (n : List ℕ). set (map entry_seen entries) place (any_seen n form)) same_name
 
 -- the same, by the place among entries
-module _ (name : List ℕ) (entries : List Entry) where
+module _ (name : List ℕ) (entries : List KeptEntry) where
   abbrev place_in : Option ℕ
-  place_in = position (λ (entry : Entry). bytes_eq entry.name.items name) entries
+  place_in = position (λ (entry : KeptEntry). bytes_eq entry.name.items name) entries
 
   -- a name that isn't there
   pub not_kept : place_in ≡ None → None ≡ kept_as name (map entry_seen entries)
@@ -82,16 +82,16 @@ module _ (name : List ℕ) (entries : List Entry) where
   kept_new form none = with_place form None none
 
   -- a name that is there
-  pub kept_here : (place : ℕ) (here : Entry) → place_in ≡ Some place → here ≡ get_or entries place here → Some (any_seen name here.form) ≡ kept_as name (map entry_seen entries)
+  pub kept_here : (place : ℕ) (here : KeptEntry) → place_in ≡ Some place → here ≡ get_or entries place here → Some (any_seen name here.form) ≡ kept_as name (map entry_seen entries)
   kept_here place here at is =
       let seen : place_of name (map entry_seen entries) ≡ Some place = place_seen name entries ∙ at in
-      ap (λ (e : Entry). Some (any_seen name e.form)) is ∙ found name entries place here seen ∙ sym (ap (λ (p : Option ℕ). kept_at p (map entry_seen entries)) seen)
+      ap (λ (e : KeptEntry). Some (any_seen name e.form)) is ∙ found name entries place here seen ∙ sym (ap (λ (p : Option ℕ). kept_at p (map entry_seen entries)) seen)
 
-  pub kept_put : (form : AnyForm) (place : ℕ) (here : Entry) → place_in ≡ Some place → here ≡ get_or entries place here
+  pub kept_put : (form : AnyForm) (place : ℕ) (here : KeptEntry) → place_in ≡ Some place → here ≡ get_or entries place here
       → map entry_seen (set entries place (with_form here form)) ≡ with_kept (any_seen name form) (map entry_seen entries)
   kept_put form place here at is =
       let seen : place_of name (map entry_seen entries) ≡ Some place = place_seen name entries ∙ at in
-      ap (λ (e : Entry). map entry_seen (set entries place (with_form e form))) is ∙ kept_over name entries place here seen form ∙ sym (with_place form (Some place) at)
+      ap (λ (e : KeptEntry). map entry_seen (set entries place (with_form e form))) is ∙ kept_over name entries place here seen form ∙ sym (with_place form (Some place) at)
 
   -- a place that lacks, where the name is short and many are kept
   pub lacking : (known : Bool) → length name ≤ 64 → 64 ≤ length entries → known ≡ is_some place_in → not known ≡ lacks_place name (map entry_seen entries)

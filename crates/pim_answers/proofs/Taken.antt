@@ -20,8 +20,8 @@ use Rattle.pim_answers.specs.PacketsSeen.{has_other_family}
 use Rattle.pim_answers.proofs.Wrote.{answered_text, answered_more, refused_if, passed_if}
 
 -- the verdict is told, and the router is as after the packet
-pub taken : (family : AddressFamily) (packet : Packet) (router after : RouterState) (told : Verdict) → (told, after) ≡ received family packet router → Takes family packet router (verdict_line told ++ ok_line) after
-taken family packet router after told is = (ap (λ (end : Verdict × RouterState). verdict_line end.0 ++ ok_line) is, ap (λ (end : Verdict × RouterState). end.1) is)
+pub taken : (family : AddressFamily) (packet : Packet) (router after : RouterState) (reported : Verdict) → (reported, after) ≡ received family packet router → Takes family packet router (verdict_line reported ++ ok_line) after
+taken family packet router after reported is = (ap (λ (end : Verdict × RouterState). verdict_line end.0 ++ ok_line) is, ap (λ (end : Verdict × RouterState). end.1) is)
 
 -- a packet of these parts
 abbrev pub packet_with : ℕ → List ℕ → List ℕ → List ℕ → Packet
@@ -106,13 +106,13 @@ module _ {A E : Type 0} (family : AddressFamily) (from : FromText) (router : Rou
           → destination ≡ destination_of family from.sender.destination → given ≡ packet_from family from.sender message → Answered (OrMemoryIf (NeedsMemory family given router) router (Takes family given router)) old new r (λ _. after)
           → Answered (AnswersFrom family from router) old new r (λ _. after)
       from_taken message source destination given after is s d p it =
-          let told : IsMessageOf family from.text.now (address_bytes from.sender.source) (destination_of family from.sender.destination) message =
+          let reported : IsMessageOf family from.text.now (address_bytes from.sender.source) (destination_of family from.sender.destination) message =
           subst (λ (a : List ℕ). IsMessageOf family from.text.now a (destination_of family from.sender.destination) message) s
           (subst (λ (a : List ℕ). IsMessageOf family from.text.now source a message) d is) in
           of_text after (answered_more (OrMemoryIf (NeedsMemory family given router) router (Takes family given router)) (TakesShort family from router) old new r (λ _. after)
-          (λ text end does. inr (more message given told p text end does)) it)
+          (λ text end does. inr (more message given reported p text end does)) it)
         where
           more : (message : List ℕ) (given : Packet) → IsMessageOf family from.text.now (address_bytes from.sender.source) (destination_of family from.sender.destination) message
               → given ≡ packet_from family from.sender message → (text : List ℕ) (end : RouterState) → OrMemoryIf (NeedsMemory family given router) router (Takes family given router) text end → OrMemory router (TakesText family from router) text end
-          more message given told p text end (inl takes) = inl (message, told, subst (λ (q : Packet). Takes family q router text end) p takes)
-          more message given told p text end (inr (needs, is, same)) = inr (is, same)
+          more message given reported p text end (inl takes) = inl (message, reported, subst (λ (q : Packet). Takes family q router text end) p takes)
+          more message given reported p text end (inr (needs, is, same)) = inr (is, same)

@@ -10,7 +10,7 @@ told_text Says old new r text says written = record { text = text; says = says; 
 
 -- what a told text says, said otherwise
 pub told_more : {A E : Type 0} (Says Tells : List ℕ → Type 0) (old new : Option (List ℕ)) (r : Result A E) → ((text : List ℕ) → Says text → Tells text) → Wrote Says old new r → Wrote Tells old new r
-told_more Says Tells old new r more told = record { text = told.text; says = more told.text told.says; written = told.written }
+told_more Says Tells old new r more reported = record { text = reported.text; says = more reported.text reported.says; written = reported.written }
 
 module _ {S : Type 0} where
   -- a text that was written, and the state after it

@@ -6,7 +6,7 @@ use Rattle.std.specs.Str.{bytes_eq}
 use Rattle.pim_addr.specs.declared.family.AddressFamily.{AddressFamily}
 use Rattle.pim_addr.specs.Routes.{RouteTable, rp_of}
 use Rattle.pim_form.specs.NormalForm.{GroupForm, same_address}
-use Rattle.pim_form.specs.Toward.{via_in, is_toward}
+use Rattle.pim_form.specs.Toward.{via_of, is_toward}
 use Rattle.pim_addr.specs.Families.{is_same}
 
 -- What is kept under a name: the form of what was asked of a neighbour, and the RP of the group of
@@ -73,5 +73,5 @@ have_their_rps family routes stars =
 -- stars has the RP that it had.
 abbrev pub is_usable : AddressFamily → RouteTable → List ℕ → Kept → Bool
 is_usable family routes upstream kept =
-    is_same family kept.family && (is_toward (rp_of family routes) (via_in family routes) upstream kept.form
+    is_same family kept.family && (is_toward (rp_of family routes) (via_of family routes) upstream kept.form
     && have_their_rps family routes kept.stars)

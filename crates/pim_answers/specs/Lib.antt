@@ -10,7 +10,7 @@ pub mod RunningSeen
 pub mod Reports
 pub mod Kept
 pub mod StoreSeen
-pub mod Asking
-pub mod AskingSeen
+pub mod Demanding
+pub mod DemandingSeen
 pub mod Neighbours
 pub mod OneAnswer

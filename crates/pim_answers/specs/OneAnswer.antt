@@ -1,14 +1,14 @@
 -- A command has one answer, but that memory may be refused: the statements of the laws in
--- `src/one_answer.rt`.
+-- `src/laws.rt`.
 use Rattle.std.specs.Prelude.{◌≡◌, ◌≢◌, ℕ, List}
 use Rattle.pim_addr.specs.declared.family.AddressFamily.{AddressFamily}
 use Rattle.pim_request.specs.declared.command.Packet.{Packet}
 use Rattle.pim_request.specs.declared.command.Writing.{Writing}
-use Rattle.pim_request.specs.declared.command.Kept.{Kept as Keeping}
+use Rattle.pim_request.specs.declared.command.KeptWhat.{KeptWhat as Keeping}
 use Rattle.pim_request.specs.declared.command.Comparison.{Comparison}
 use Rattle.pim_router.specs.State.{RouterState}
 use Rattle.pim_answers.specs.declared.packets.FromText.{FromText}
-use Rattle.pim_answers.specs.Asking.{AnswersMessages, AnswersKeep, AnswersChange, AnswersSame}
+use Rattle.pim_answers.specs.Demanding.{AnswersMessages, AnswersKeep, AnswersChange, AnswersSame}
 use Rattle.pim_answers.specs.Kept.{Kept}
 use Rattle.pim_answers.specs.Lines.{memory_line}
 use Rattle.pim_answers.specs.Packets.{AnswersPacket, AnswersFrom}

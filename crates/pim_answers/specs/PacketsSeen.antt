@@ -5,7 +5,7 @@ use Rattle.pim_lines.specs.declared.either.AnyAddress.{AnyAddress}
 use Rattle.pim_text.specs.Spell.{IsLong, stated_in}
 use Rattle.pim_lines.specs.AnyAddress.{address_bytes}
 use Rattle.pim_answers.specs.declared.fault.Fault.{Fault}
-use Rattle.pim_answers.specs.declared.packets.Ends.{Ends}
+use Rattle.pim_answers.specs.declared.packets.AnswerEnds.{AnswerEnds}
 use Rattle.pim_answers.specs.declared.packets.FromText.{FromText}
 use Rattle.pim_answers.specs.Fault.{fault_words}
 use Rattle.pim_answers.specs.Families.{differ_from}
@@ -18,13 +18,13 @@ IsPort port count (Err fault) = (count ≤ port) × (fault_words fault ≡ port_
 
 module _ {A : Type 0} (bytes_of : A → List ℕ) where
   -- The source and the destination are these.
-  abbrev pub AreEnds : AnyAddress → AnyAddress → Ends A → Type 0
+  abbrev pub AreEnds : AnyAddress → AnyAddress → AnswerEnds A → Type 0
   AreEnds source destination ends =
       (bytes_of ends.source ≡ address_bytes source) × (bytes_of ends.destination ≡ address_bytes destination)
 
 module _ {A : Type 0} (family : AddressFamily) (bytes_of : A → List ℕ) where
   -- The source and the destination are these; without a destination ALL-PIM-ROUTERS.
-  abbrev pub AreEndsOf : AnyAddress → Option AnyAddress → Ends A → Type 0
+  abbrev pub AreEndsOf : AnyAddress → Option AnyAddress → AnswerEnds A → Type 0
   AreEndsOf source destination ends =
       (bytes_of ends.source ≡ address_bytes source) × (bytes_of ends.destination ≡ destination_of family destination)
 

@@ -7,9 +7,9 @@ use Rattle.pim_answers.specs.declared.kept.StarRp.{StarRp}
 use Rattle.pim_answers.specs.declared.kept.KeptForm.{KeptForm}
 use Rattle.pim_answers.specs.declared.kept.AnyForm.{AnyForm}
 use Rattle.pim_answers.specs.declared.kept.AnyForm.TheVariants.{Ipv4, Ipv6}
-use Rattle.pim_answers.specs.declared.kept.Entry.{Entry}
-use Rattle.pim_answers.specs.declared.kept.Found.{Found}
-use Rattle.pim_answers.specs.declared.kept.Found.TheVariants.{Unknown, Other, Form}
+use Rattle.pim_answers.specs.declared.kept.KeptEntry.{KeptEntry}
+use Rattle.pim_answers.specs.declared.kept.FoundForm.{FoundForm}
+use Rattle.pim_answers.specs.declared.kept.FoundForm.TheVariants.{Unknown, Other, Form}
 use Rattle.pim_answers.specs.declared.kept.Store.{Store}
 use Rattle.pim_answers.specs.Kept.{Kept}
 
@@ -28,7 +28,7 @@ any_seen name (Ipv4 kept) = form_seen family.Ipv4 (λ (a : List ℕ). a) name ke
 any_seen name (Ipv6 kept) = form_seen family.Ipv6 (λ (a : List ℕ). a) name kept
 
 -- What is kept under a name.
-abbrev pub entry_seen : Entry → Kept
+abbrev pub entry_seen : KeptEntry → Kept
 entry_seen entry = any_seen entry.name.items entry.form
 
 -- All that is kept.
@@ -36,7 +36,7 @@ abbrev pub store_seen : Store → List Kept
 store_seen store = map entry_seen store.entries.items
 
 -- What is found under a name is this, which is kept, if anything is.
-abbrev pub IsFound : {F A N : Type 0} → AddressFamily → (A → List ℕ) → List ℕ → Found F A N → Option Kept → Type 0
+abbrev pub IsFound : {F A N : Type 0} → AddressFamily → (A → List ℕ) → List ℕ → FoundForm F A N → Option Kept → Type 0
 IsFound family bytes_of name Unknown kept = kept ≡ None
 IsFound family bytes_of name Other kept = (known : Kept) × (kept ≡ Some known) × (is_same family known.family ≡ false)
 IsFound family bytes_of name (Form form) kept = kept ≡ Some (form_seen family bytes_of name form.now)

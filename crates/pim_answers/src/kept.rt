@@ -50,7 +50,7 @@ pub enum AnyForm {
 
 /// What is kept under a name, as a router of this family finds it.
 #[derive(Drop)]
-pub enum Found<'s, F: Family> {
+pub enum FoundForm<'s, F: Family> {
     /// Nothing is kept under the name.
     Unknown,
     /// A form of the other family.
@@ -60,30 +60,30 @@ pub enum Found<'s, F: Family> {
 }
 
 /// What an IPv4 router finds of a form.
-fn in_ipv4(form: &AnyForm) -> Found<'_, V4>
+fn in_ipv4(form: &AnyForm) -> FoundForm<'_, V4>
     ensures { (name : List ℕ)
         → IsFound family.Ipv4 (λ (a : List ℕ). a) name result (Some (any_seen name form.now)) }
 {
     match form {
-        AnyForm::Ipv4(form) => Found::Form(form),
-        AnyForm::Ipv6(_) => Found::Other,
+        AnyForm::Ipv4(form) => FoundForm::Form(form),
+        AnyForm::Ipv6(_) => FoundForm::Other,
     }
 }
 
 /// What an IPv6 router finds of a form.
-fn in_ipv6(form: &AnyForm) -> Found<'_, V6>
+fn in_ipv6(form: &AnyForm) -> FoundForm<'_, V6>
     ensures { (name : List ℕ)
         → IsFound family.Ipv6 (λ (a : List ℕ). a) name result (Some (any_seen name form.now)) }
 {
     match form {
-        AnyForm::Ipv4(_) => Found::Other,
-        AnyForm::Ipv6(form) => Found::Form(form),
+        AnyForm::Ipv4(_) => FoundForm::Other,
+        AnyForm::Ipv6(form) => FoundForm::Form(form),
     }
 }
 
 /// A name and what is kept under it.
 #[derive(Drop)]
-struct Entry {
+struct KeptEntry {
     name: Vec<u8>,
     form: AnyForm,
 }
@@ -91,7 +91,7 @@ struct Entry {
 /// What is kept, by name.
 #[derive(Drop)]
 pub struct Store {
-    entries: Vec<Entry>,
+    entries: Vec<KeptEntry>,
 }
 
 /// Adds the star of a group with its RP, if the group has one.
@@ -185,24 +185,24 @@ impl Store {
     }
 
     /// What is kept under a name, as an IPv4 router finds it.
-    pub fn find_ipv4(&self, name: &[u8]) -> Found<'_, V4>
+    pub fn find_ipv4(&self, name: &[u8]) -> FoundForm<'_, V4>
         ensures { IsFound family.Ipv4 (λ (a : List ℕ). a) name.now result
             (kept_as name.now (store_seen self.now)) }
     {
         match self.get(name) {
             Some(form) => in_ipv4(form),
-            None => Found::Unknown,
+            None => FoundForm::Unknown,
         }
     }
 
     /// What is kept under a name, as an IPv6 router finds it.
-    pub fn find_ipv6(&self, name: &[u8]) -> Found<'_, V6>
+    pub fn find_ipv6(&self, name: &[u8]) -> FoundForm<'_, V6>
         ensures { IsFound family.Ipv6 (λ (a : List ℕ). a) name.now result
             (kept_as name.now (store_seen self.now)) }
     {
         match self.get(name) {
             Some(form) => in_ipv6(form),
-            None => Found::Unknown,
+            None => FoundForm::Unknown,
         }
     }
 
@@ -233,7 +233,7 @@ impl Store {
     {
         let mut copy = Vec::new(alloc);
         copy.extend_from_slice(name)?;
-        self.entries.push(Entry { name: copy, form })?;
+        self.entries.push(KeptEntry { name: copy, form })?;
         Ok(())
     }
 

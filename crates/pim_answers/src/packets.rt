@@ -39,18 +39,18 @@ pub struct FromText<'a> {
 
 /// The source and the destination of a packet, in the router's family.
 #[derive(Clone, Copy, Debug)]
-struct Ends<A> {
+struct AnswerEnds<A> {
     source: A,
     destination: A,
 }
 
 /// The source and the destination in the family, if both are of it.
-fn both_of<F: Family>(source: AnyAddress, destination: AnyAddress) -> Option<Ends<F::Addr>>
+fn both_of<F: Family>(source: AnyAddress, destination: AnyAddress) -> Option<AnswerEnds<F::Addr>>
     ensures ends { IfSome result (AreEnds F.bytes_of source destination) }
     ensures same { IfSome result (λ _. differ_from F.family (source ∷ destination ∷ []) ≡ false) }
     ensures other { IfNone result (differ_from F.family (source ∷ destination ∷ []) ≡ true) }
 {
-    Some(Ends {
+    Some(AnswerEnds {
         source: of_family::<F>(source)?,
         destination: of_family::<F>(destination)?,
     })
@@ -81,7 +81,7 @@ fn answer_verdict<W: Drain>(answers: &mut W, verdict: Verdict) -> Result<(), Fai
 fn take<F: Family, W: Drain>(
     router: &mut Router<'_, F>,
     port: usize,
-    ends: Ends<F::Addr>,
+    ends: AnswerEnds<F::Addr>,
     message: &[u8],
     answers: &mut W,
 ) -> Result<(), Failed>
@@ -130,19 +130,19 @@ pub fn answer_packet<F: Family, W: Drain>(
 }
 
 /// The source, and ALL-PIM-ROUTERS, if the source is of the family.
-fn ends_to_all<F: Family>(source: AnyAddress) -> Option<Ends<F::Addr>>
+fn ends_to_all<F: Family>(source: AnyAddress) -> Option<AnswerEnds<F::Addr>>
     ensures ends { IfSome result (AreEndsOf F.family F.bytes_of source None) }
     ensures same { IfSome result (λ _. differ_from F.family (source ∷ []) ≡ false) }
     ensures other { IfNone result (differ_from F.family (source ∷ []) ≡ true) }
 {
-    Some(Ends {
+    Some(AnswerEnds {
         source: of_family::<F>(source)?,
         destination: all_routers::<F>(),
     })
 }
 
 /// The source and the destination of a sender. Without a destination it is ALL-PIM-ROUTERS.
-fn ends_of<F: Family>(sender: &Sender) -> Option<Ends<F::Addr>>
+fn ends_of<F: Family>(sender: &Sender) -> Option<AnswerEnds<F::Addr>>
     ensures ends { IfSome result
         (AreEndsOf F.family F.bytes_of sender.now.source sender.now.destination) }
     ensures same { IfSome result (λ _. differ_from F.family (addresses_of sender.now) ≡ false) }
@@ -156,7 +156,7 @@ fn ends_of<F: Family>(sender: &Sender) -> Option<Ends<F::Addr>>
 
 /// The source and the destination of a sender, if all addresses are of the family, those of the
 /// text too.
-fn ends_of_text<F: Family>(from: &FromText<'_>) -> Option<Ends<F::Addr>>
+fn ends_of_text<F: Family>(from: &FromText<'_>) -> Option<AnswerEnds<F::Addr>>
     ensures ends { IfSome result
         (AreEndsOf F.family F.bytes_of from.now.sender.source from.now.sender.destination) }
     ensures same { IfSome result (λ _. has_other_family F.family from.now ≡ false) }
@@ -183,7 +183,7 @@ fn type_of(is_hello: bool) -> MessageType
 /// Fills the room with the message that a text spells.
 fn fill_spelled<F: Family>(
     alloc: Global,
-    ends: Ends<F::Addr>,
+    ends: AnswerEnds<F::Addr>,
     from: &FromText<'_>,
     room: &mut Room,
 ) -> Result<(), Fault<'static>>

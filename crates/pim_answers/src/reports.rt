@@ -1,4 +1,4 @@
-//! The commands that tell of a router and leave it unchanged: `now`, `next`, `state`, `wants` and
+//! The commands that report on a router and leave it unchanged: `now`, `next`, `state`, `wants` and
 //! `neighbours`.
 
 ghost use Rattle.std.specs.Prelude.{◌≡◌, ◌++◌, true, Some};
@@ -67,7 +67,8 @@ pub fn answer_next<F: Family, W: Drain>(
     router: &Router<'_, F>,
     answers: &mut W,
 ) -> Result<(), Failed>
-    ensures told { Wrote (AnswersNext router.now) (W.contents answers.old) (W.contents answers.new)
+    ensures reported { Wrote (AnswersNext router.now) (W.contents answers.old)
+        (W.contents answers.new)
         result }
     ensures count { W.failures answers.new ≡ failures_after (W.failures answers.old) result }
 {
@@ -128,7 +129,7 @@ pub fn answer_wants<F: Family, W: Drain>(
     router: &Router<'_, F>,
     answers: &mut W,
 ) -> Result<(), Failed>
-    ensures told { Wrote (AnswersWants F.family router.now) (W.contents answers.old)
+    ensures reported { Wrote (AnswersWants F.family router.now) (W.contents answers.old)
         (W.contents answers.new) result }
     ensures count { W.failures answers.new ≡ failures_after (W.failures answers.old) result }
 {

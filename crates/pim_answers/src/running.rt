@@ -10,7 +10,8 @@ ghost use Rattle.pim_answers.specs.RunningSeen.{step_line};
 use crate::fault::write_ok;
 use pim_addr::{Drain, Failed, Family};
 use pim_report::{write_echo_line, write_refresh_line};
-use pim_router::{Router, Step, every_list_has_a_course};
+use pim_router::laws::every_list_has_a_course;
+use pim_router::{Router, Step};
 
 /// Whether a run ended at its moment.
 fn is_reached<A: Copy>(step: Step<A>) -> bool

@@ -11,7 +11,7 @@ use Rattle.pim_capture.specs.declared.header.Format.{Format}
 use Rattle.pim_capture.specs.Header.{judge_header, IsOfBytes}
 use Rattle.pim_capture.specs.Frame.{Datagram, judge_frame}
 use Rattle.pim_capture.specs.declared.event.Why.{Why}
-use Rattle.pim_capture.specs.Capture.{Told, Answer, ended, most_captured, captured_length, millis_of, frame_of, after_record, told_of, record_told, record_faults, unless_fault, records}
+use Rattle.pim_capture.specs.Capture.{EventSeen, Answer, ended, most_captured, captured_length, millis_of, frame_of, after_record, event_by, record_event, record_faults, unless_fault, records}
 use Rattle.pim_capture.specs.Parts.{BeginsWith, FillsExactly}
 use Rattle.pim_capture.specs.Next.{IsNext, IsRefusal, CountsReads, in_front}
 use Rattle.pim_capture.proofs.Fronts.{front_is, front_reached}
@@ -64,9 +64,9 @@ bound_known left format (Some xs) None h got z some b e = absurd e
 bound_known left format (Some xs) (Some ys) h got z some b e = records_bound left format xs z (came h xs ys got some b e).1
 
 -- the first record is at fault
-at_fault : (left : ℕ) (format : Format) (xs : List ℕ) (fault : CaptureFault) → 0 < left → 0 < length xs → judged (record_faults format xs) (record_told format xs) ≡ Err fault
+at_fault : (left : ℕ) (format : Format) (xs : List ℕ) (fault : CaptureFault) → 0 < left → 0 < length xs → judged (record_faults format xs) (record_event format xs) ≡ Err fault
     → records left format xs ≡ Err fault ∷ []
-at_fault left format xs fault some there e = records_step left format xs some there ∙ ap (λ r. unless_fault r (λ told. Ok told ∷ records (left - 1) format (after_record format xs))) e
+at_fault left format xs fault some there e = records_step left format xs some there ∙ ap (λ r. unless_fault r (λ reported. Ok reported ∷ records (left - 1) format (after_record format xs))) e
 
 pub header_cut_known : (left : ℕ) (format : Format) (old new : Option (List ℕ)) (h : List ℕ) (got : ℕ) → 0 < left → 0 < got → got < 16 → got ≤ length h
     → Consumes old new (take got h) → IsAtEnd new → IsNext (option_map (records left format) old) (Err Truncated) (option_map (records (left - 1) format) new)
@@ -75,7 +75,7 @@ header_cut_known left format (Some xs) None h got some there cut b e d = absurd 
 header_cut_known left format (Some xs) (Some ys) h got some there cut b e d =
     let n = came h xs ys got there b e in
     let short : length xs < 16 = omega (arith, ap length d) in
-    at_fault left format xs Truncated some n.1 (header_cut format xs (record_told format xs) short)
+    at_fault left format xs Truncated some n.1 (header_cut format xs (record_event format xs) short)
 
 -- ---- its header is whole
 
@@ -97,7 +97,7 @@ too_long_known left format (Some xs) None h some l e long = absurd e
 too_long_known left format (Some xs) (Some ys) h some l e long =
     let f = header_is h xs ys l e in
     let P : List ℕ → Type 0 = λ header. most_captured < captured_length format header in
-    at_fault left format xs TooLong some f.3 (too_long format xs (record_told format xs) f.2 (subst P (sym f.0) long))
+    at_fault left format xs TooLong some f.3 (too_long format xs (record_event format xs) f.2 (subst P (sym f.0) long))
 
 frame_cut_known : (left : ℕ) (format : Format) (old mid : Option (List ℕ)) (xs ms ns : List ℕ) (h : List ℕ) → 0 < left → length h ≡ 16 → xs ≡ h ++ ms
     → captured_length format h ≤ most_captured → length ms < captured_length format h → records left format xs ≡ Err Truncated ∷ []
@@ -106,13 +106,13 @@ frame_cut_known left format old mid xs ms ns h some l e short cut =
     let P : List ℕ → Type 0 = λ header. captured_length format header ≤ most_captured in
     let Q : List ℕ → List ℕ → Type 0 = λ header rest. length rest < captured_length format header in
     at_fault left format xs Truncated some f.3
-    (frame_cut format xs (record_told format xs) f.2 (subst P (sym f.0) short)
+    (frame_cut format xs (record_event format xs) f.2 (subst P (sym f.0) short)
     (subst (λ rest. Q (take 16 xs) rest) (sym f.1) (subst (λ header. Q header ms) (sym f.0) cut)))
 
 pub frame_fault_known : (left : ℕ) (format : Format) (old mid new : Option (List ℕ)) (h bytes : List ℕ) (fault : CaptureFault) (failures failures' : ℕ)
     → 0 < left → length h ≡ 16 → Consumes old mid h → captured_length format h ≤ most_captured
     → FillsExactly (captured_length format h) mid new bytes (Err fault) → CountsReads {A = Unit {0}} ⊥ failures failures' (Err fault)
-    → IsRefusal {A = Told} failures failures' (Err fault) ⊎ IsNext (option_map (records left format) old) (Err fault) (option_map (records (left - 1) format) new)
+    → IsRefusal {A = EventSeen} failures failures' (Err fault) ⊎ IsNext (option_map (records left format) old) (Err fault) (option_map (records (left - 1) format) new)
 frame_fault_known left format None mid new h bytes fault failures failures' some l e short fills counts = inr tt
 frame_fault_known left format (Some xs) None new h bytes fault failures failures' some l e short fills counts = absurd e
 frame_fault_known left format (Some xs) (Some ms) None h bytes fault failures failures' some l e short fills counts = absurd fills
@@ -134,13 +134,13 @@ frame_fault_known left format (Some xs) (Some ms) (Some ns) h bytes (LinkNumber 
 
 -- ---- it is whole
 
-in_front_told : (millis : ℕ) (frame : List ℕ) (r : Result Datagram Why) (later : List Answer) → in_front (Ok (told_of millis frame r)) later ≡ Ok (told_of millis frame r) ∷ later
+in_front_told : (millis : ℕ) (frame : List ℕ) (r : Result Datagram Why) (later : List Answer) → in_front (Ok (event_by millis frame r)) later ≡ Ok (event_by millis frame r) ∷ later
 in_front_told millis frame (Ok datagram) later = refl
 in_front_told millis frame (Err why) later = refl
 
 record_whole : (left : ℕ) (format : Format) (xs ms ns : List ℕ) (h bytes : List ℕ) → 0 < left → length h ≡ 16 → xs ≡ h ++ ms → captured_length format h ≤ most_captured
     → length bytes ≡ captured_length format h → ms ≡ bytes ++ ns
-    → records left format xs ≡ Ok (told_of (millis_of format h) bytes (judge_frame format.link bytes)) ∷ records (left - 1) format ns
+    → records left format xs ≡ Ok (event_by (millis_of format h) bytes (judge_frame format.link bytes)) ∷ records (left - 1) format ns
 record_whole left format xs ms ns h bytes some l e short size e' =
     let f = header_is h xs ms l e in
     let n : length ms ≡ captured_length format h + length ns = ap length e' ∙ length-append bytes ns ∙ ap (λ k. k + length ns) size in
@@ -153,17 +153,17 @@ record_whole left format xs ms ns h bytes some l e short size e' =
     ap (λ header. take (captured_length format header) (drop 16 xs)) f.0 ∙ ap (take (captured_length format h)) f.1 ∙ g.0 in
     let after : after_record format xs ≡ ns =
     ap (λ header. drop (captured_length format header) (drop 16 xs)) f.0 ∙ ap (drop (captured_length format h)) f.1 ∙ g.1 in
-    let told : record_told format xs ≡ told_of (millis_of format h) bytes (judge_frame format.link bytes) =
-    ap (λ header. told_of (millis_of format header) (frame_of format xs) (judge_frame format.link (frame_of format xs))) f.0
-    ∙ ap (λ bs. told_of (millis_of format h) bs (judge_frame format.link bs)) frame in
+    let reported : record_event format xs ≡ event_by (millis_of format h) bytes (judge_frame format.link bytes) =
+    ap (λ header. event_by (millis_of format header) (frame_of format xs) (judge_frame format.link (frame_of format xs))) f.0
+    ∙ ap (λ bs. event_by (millis_of format h) bs (judge_frame format.link bs)) frame in
     records_step left format xs some f.3
-    ∙ ap (λ r. unless_fault r (λ t. Ok t ∷ records (left - 1) format (after_record format xs))) (whole format xs (record_told format xs) f.2 (subst P (sym f.0) short) there)
-    ∙ ap (λ t. Ok t ∷ records (left - 1) format (after_record format xs)) told
-    ∙ ap (λ bs. Ok (told_of (millis_of format h) bytes (judge_frame format.link bytes)) ∷ records (left - 1) format bs) after
+    ∙ ap (λ r. unless_fault r (λ t. Ok t ∷ records (left - 1) format (after_record format xs))) (whole format xs (record_event format xs) f.2 (subst P (sym f.0) short) there)
+    ∙ ap (λ t. Ok t ∷ records (left - 1) format (after_record format xs)) reported
+    ∙ ap (λ bs. Ok (event_by (millis_of format h) bytes (judge_frame format.link bytes)) ∷ records (left - 1) format bs) after
 
 pub record_known : (left : ℕ) (format : Format) (old mid new : Option (List ℕ)) (h bytes : List ℕ) → 0 < left → length h ≡ 16 → Consumes old mid h
     → captured_length format h ≤ most_captured → length bytes ≡ captured_length format h → Consumes mid new bytes
-    → IsNext (option_map (records left format) old) (Ok (told_of (millis_of format h) bytes (judge_frame format.link bytes))) (option_map (records (left - 1) format) new)
+    → IsNext (option_map (records left format) old) (Ok (event_by (millis_of format h) bytes (judge_frame format.link bytes))) (option_map (records (left - 1) format) new)
 record_known left format None mid new h bytes some l e short size e' = tt
 record_known left format (Some xs) None new h bytes some l e short size e' = absurd e
 record_known left format (Some xs) (Some ms) None h bytes some l e short size e' = absurd e'

@@ -15,10 +15,10 @@ use Rattle.pim_capture.specs.Frame.{Datagram, judge_frame}
 -- What a capture returns: a PIM packet, with its time in milliseconds since 1970, the bytes of its
 -- record and what they carry; a record without a whole PIM packet, with its time and the reason; or
 -- the end.
-pub data Told : Type 0 where
-  packet : ℕ → List ℕ → Datagram → Told
-  skipped : ℕ → Why → Told
-  ended : Told
+pub data EventSeen : Type 0 where
+  packet : ℕ → List ℕ → Datagram → EventSeen
+  skipped : ℕ → Why → EventSeen
+  ended : EventSeen
 
 -- ---- a record: seconds, fraction, captured length and original length (ignored), four bytes each;
 -- then its captured bytes
@@ -63,20 +63,20 @@ record_faults format bytes =
     ++ fault_if (nat_lt (length (drop 16 bytes)) (captured_length format (take 16 bytes))) Truncated
 
 -- What a record of this time and these bytes gives, by the judgment of its frame.
-abbrev pub told_of : ℕ → List ℕ → Result Datagram Why → Told
-told_of millis frame (Ok datagram) = packet millis frame datagram
-told_of millis frame (Err why) = skipped millis why
+abbrev pub event_by : ℕ → List ℕ → Result Datagram Why → EventSeen
+event_by millis frame (Ok datagram) = packet millis frame datagram
+event_by millis frame (Err why) = skipped millis why
 
 -- What the first record gives if it has no fault.
-abbrev pub record_told : Format → List ℕ → Told
-record_told format bytes =
-    told_of (millis_of format (take 16 bytes)) (frame_of format bytes) (judge_frame format.link (frame_of format bytes))
+abbrev pub record_event : Format → List ℕ → EventSeen
+record_event format bytes =
+    event_by (millis_of format (take 16 bytes)) (frame_of format bytes) (judge_frame format.link (frame_of format bytes))
 
 -- ---- the file
 
 -- One result of a capture.
 abbrev pub Answer : Type 0
-Answer = Result Told CaptureFault
+Answer = Result EventSeen CaptureFault
 
 -- The results that follow from a value. A fault is the last result.
 abbrev pub unless_fault : {A : Type 0} → Result A CaptureFault → (A → List Answer) → List Answer
@@ -94,8 +94,8 @@ unfoldable pub records : ℕ → Format → List ℕ → List Answer
 records zero format bytes = (if is_empty bytes then Ok ended else Err Read) ∷ []
 records (suc left) format bytes =
     if is_empty bytes then Ok ended ∷ [] else
-    unless_fault (judged (record_faults format bytes) (record_told format bytes))
-    (λ told. Ok told ∷ records left format (after_record format bytes))
+    unless_fault (judged (record_faults format bytes) (record_event format bytes))
+    (λ reported. Ok reported ∷ records left format (after_record format bytes))
 
 -- The results for the bytes of a file: its records after the file header, or the fault of the
 -- header.

@@ -46,9 +46,9 @@ raw_family number = if number == 4 then Some Ipv4 else (if number == 6 then Some
 
 -- The address family of a frame: by the Ethernet type, or by the IP version where there is no link
 -- layer.
-abbrev pub named_family : Link → List ℕ → Option AddressFamily
-named_family Ethernet frame = ethernet_family (big_number 2 (drop (if is_tagged frame then 16 else 12) frame))
-named_family Raw frame = raw_family (version frame)
+abbrev pub stated_family : Link → List ℕ → Option AddressFamily
+stated_family Ethernet frame = ethernet_family (big_number 2 (drop (if is_tagged frame then 16 else 12) frame))
+stated_family Raw frame = raw_family (version frame)
 
 -- Whether the captured bytes end before the family is known.
 abbrev pub is_link_cut : Link → List ℕ → Bool
@@ -131,4 +131,4 @@ judge_packet (Some family) packet = judged (packet_whys family packet) (datagram
 abbrev pub judge_frame : Link → List ℕ → Result Datagram Why
 judge_frame link frame =
     if is_link_cut link frame then Err Cut
-    else judge_packet (named_family link frame) (drop (link_length link frame) frame)
+    else judge_packet (stated_family link frame) (drop (link_length link frame) frame)

@@ -9,18 +9,18 @@ use Rattle.pim_capture.specs.declared.fault.CaptureFault.TheVariants as fault
 use Rattle.pim_capture.specs.declared.header.Format.{Format}
 use Rattle.pim_capture.specs.declared.event.Event.{Event}
 use Rattle.pim_capture.specs.declared.event.Event.TheVariants.{Packet, Skipped, End}
-use Rattle.pim_capture.specs.declared.capture.State.{State}
-use Rattle.pim_capture.specs.declared.capture.State.TheVariants.{Unbegun, Records, Ended, Failed}
+use Rattle.pim_capture.specs.declared.capture.CaptureState.{CaptureState}
+use Rattle.pim_capture.specs.declared.capture.CaptureState.TheVariants.{Unbegun, Records, Ended, Failed}
 use Rattle.pim_capture.specs.declared.capture.Capture.{Capture}
 use Rattle.pim_capture.specs.Seen.{ip_seen, LiesIn}
 use Rattle.pim_capture.specs.Header.{judge_header}
-use Rattle.pim_capture.specs.Capture.{Told, packet, skipped, ended, Answer, most_captured, most_records}
+use Rattle.pim_capture.specs.Capture.{EventSeen, packet, skipped, ended, Answer, most_captured, most_records}
 use Rattle.pim_capture.specs.Capture.{captured_length, answers, records}
 
 -- ---- a result, with the bytes in the buffer
 
 -- What an event means if the buffer holds these bytes.
-abbrev pub event_seen : List ℕ → Event → Told
+abbrev pub event_seen : List ℕ → Event → EventSeen
 event_seen bytes (Packet millis ip) = packet millis bytes (ip_seen bytes ip)
 event_seen bytes (Skipped millis why) = skipped millis why
 event_seen bytes End = ended
@@ -40,7 +40,7 @@ PayloadLiesIn bytes End = ⊤
 
 -- The results that a capture in this state has still to return, if the remaining bytes of its
 -- reader are known.
-abbrev pub coming_in : State → Option (List ℕ) → Option (List Answer)
+abbrev pub coming_in : CaptureState → Option (List ℕ) → Option (List Answer)
 coming_in Unbegun bytes = option_map answers bytes
 coming_in (Records format left) bytes = option_map (records left format) bytes
 coming_in Ended bytes = Some (Ok ended ∷ [])
@@ -51,7 +51,7 @@ abbrev pub reader_of : {R : Type 0} → Capture R → R
 reader_of capture = capture.reader
 
 -- How far a capture was read.
-abbrev pub state_of : {R : Type 0} → Capture R → State
+abbrev pub state_of : {R : Type 0} → Capture R → CaptureState
 state_of capture = capture.state
 
 -- The results that a capture has still to return, or `None` if the bytes of its reader aren't
@@ -75,7 +75,7 @@ IsNext (Some all) answer (Some later) = all ≡ in_front answer later
 
 -- A result that the bytes don't determine: a read failed in this call, or memory was refused.
 abbrev pub IsRefusal : {A : Type 0} → ℕ → ℕ → Result A CaptureFault → Type 0
-IsRefusal failures failures' (Ok told) = ⊥
+IsRefusal failures failures' (Ok reported) = ⊥
 IsRefusal failures failures' (Err fault.Read) = FailedIn failures failures'
 IsRefusal failures failures' (Err fault.Memory) = ⊤
 IsRefusal failures failures' (Err _) = ⊥
@@ -109,26 +109,26 @@ IsBy moment End = ⊤
 
 -- The captured length of the next record, if one more may be read, its header is whole and the
 -- length is within the limit.
-abbrev pub length_named : ℕ → Format → List ℕ → Option ℕ
-length_named left format bytes =
+abbrev pub stated_length : ℕ → Format → List ℕ → Option ℕ
+stated_length left format bytes =
     if left == 0 || nat_lt (length bytes) 16 || nat_lt most_captured (captured_length format (take 16 bytes)) then None
     else Some (captured_length format (take 16 bytes))
 
 -- The captured length of the first record after this file header.
-abbrev pub first_named : Result Format CaptureFault → List ℕ → Option ℕ
-first_named (Ok format) bytes = length_named most_records format bytes
-first_named (Err fault) bytes = None
+abbrev pub first_length : Result Format CaptureFault → List ℕ → Option ℕ
+first_length (Ok format) bytes = stated_length most_records format bytes
+first_length (Err fault) bytes = None
 
 -- The captured length of the next record of a capture in this state.
-abbrev pub named_in : State → List ℕ → Option ℕ
-named_in Unbegun bytes = first_named (judge_header (take 24 bytes)) (drop 24 bytes)
-named_in (Records format left) bytes = length_named left format bytes
-named_in Ended bytes = None
-named_in Failed bytes = None
+abbrev pub length_in : CaptureState → List ℕ → Option ℕ
+length_in Unbegun bytes = first_length (judge_header (take 24 bytes)) (drop 24 bytes)
+length_in (Records format left) bytes = stated_length left format bytes
+length_in Ended bytes = None
+length_in Failed bytes = None
 
 -- The captured length of the next record, if the bytes of the reader are known.
-abbrev pub named : {R : Type 0} → (R → Option (List ℕ)) → Capture R → Option (Option ℕ)
-named remaining capture = option_map (named_in capture.state) (remaining capture.reader)
+abbrev pub next_length : {R : Type 0} → (R → Option (List ℕ)) → Capture R → Option (Option ℕ)
+next_length remaining capture = option_map (length_in capture.state) (remaining capture.reader)
 
 -- The next record is longer than this capacity. If the bytes aren't known, the capacity is below
 -- the limit.
@@ -137,22 +137,22 @@ LacksRoom capacity None = capacity < most_captured
 LacksRoom capacity (Some size) = IsSomeAnd size (λ length. capacity < length)
 
 -- The next record has this length. If the bytes aren't known, the length is within the limit.
-abbrev pub IsNamed : ℕ → Option (Option ℕ) → Type 0
-IsNamed length None = length ≤ most_captured
-IsNamed length (Some size) = size ≡ Some length
+abbrev pub HasLength : ℕ → Option (Option ℕ) → Type 0
+HasLength length None = length ≤ most_captured
+HasLength length (Some size) = size ≡ Some length
 
 -- After a record the buffer has its length, and after the end the old length. After a fault it has
 -- either.
 abbrev pub FitsRecord : Result Event CaptureFault → ℕ → ℕ → Option (Option ℕ) → Type 0
-FitsRecord (Ok (Packet millis ip)) old new size = IsNamed new size
-FitsRecord (Ok (Skipped millis why)) old new size = IsNamed new size
+FitsRecord (Ok (Packet millis ip)) old new size = HasLength new size
+FitsRecord (Ok (Skipped millis why)) old new size = HasLength new size
 FitsRecord (Ok End) old new size = new ≡ old
-FitsRecord (Err fault) old new size = (new ≡ old) ⊎ IsNamed new size
+FitsRecord (Err fault) old new size = (new ≡ old) ⊎ HasLength new size
 
 -- ---- how much is read
 
 -- The number of records that may still be read of a capture in this state.
-abbrev pub records_left : State → ℕ
+abbrev pub records_left : CaptureState → ℕ
 records_left Unbegun = most_records
 records_left (Records format left) = left
 records_left Ended = 0
@@ -175,13 +175,13 @@ most_taken headers (Err _) = headers + most_captured
 -- ---- after the last result
 
 -- After the end a call returns the end, and after a fault it returns `Failed`.
-abbrev pub IsRepeated : State → Result Event CaptureFault → Type 0
+abbrev pub IsRepeated : CaptureState → Result Event CaptureFault → Type 0
 IsRepeated Ended answer = answer ≡ Ok End
 IsRepeated Failed answer = answer ≡ Err fault.Failed
 IsRepeated _ answer = ⊤
 
 -- The end leaves the capture ended, and a fault leaves it failed.
-abbrev pub StaysOver : Result Event CaptureFault → State → Type 0
+abbrev pub StaysOver : Result Event CaptureFault → CaptureState → Type 0
 StaysOver (Ok End) state = state ≡ Ended
 StaysOver (Err fault) state = state ≡ Failed
 StaysOver (Ok _) state = ⊤

@@ -3,13 +3,14 @@
 ghost use Rattle.std.specs.Prelude.{◌≡◌, ◌+◌, ◌<◌, IfOk, max, vec_len, vec_capacity, ◌⊎◌};
 ghost use Rattle.pim_device.specs.Device.{ConsumesAtMost};
 ghost use Rattle.std.specs.Option.{option_map};
-ghost use Rattle.pim_capture.specs.declared.capture.State.TheVariants.{Unbegun};
+ghost use Rattle.pim_capture.specs.declared.capture.CaptureState.TheVariants.{Unbegun};
 ghost use Rattle.pim_capture.specs.Capture.{answers};
 ghost use Rattle.pim_capture.specs.Next.{coming, seen, reader_of, state_of, IsNext, IsRefusal};
 ghost use Rattle.pim_capture.specs.Next.{CountsReads};
 ghost use Rattle.pim_capture.specs.Next.{CountsRecord, records_left, most_taken, OnMemory};
 ghost use Rattle.pim_capture.specs.Next.{IsRepeated, StaysOver};
-ghost use Rattle.pim_capture.specs.Next.{PayloadLiesIn, IsBy, latest_moment, named, LacksRoom};
+ghost use Rattle.pim_capture.specs.Next.{PayloadLiesIn, IsBy, latest_moment, next_length};
+ghost use Rattle.pim_capture.specs.Next.{LacksRoom};
 ghost use Rattle.pim_capture.specs.Next.{FitsRecord};
 
 use crate::event::Event;
@@ -23,7 +24,7 @@ const MOST_RECORDS: u32 = 4_294_967_295;
 
 /// How far a capture was read.
 #[derive(Clone, Copy, Debug)]
-pub enum State {
+pub enum CaptureState {
     /// Nothing was read.
     Unbegun,
     /// The file header, and none or some records, were read.
@@ -43,7 +44,7 @@ pub enum State {
 #[derive(Debug, Drop)]
 pub struct Capture<R> {
     reader: R,
-    state: State,
+    state: CaptureState,
 }
 
 impl<R: Feed> Capture<R> {
@@ -55,7 +56,7 @@ impl<R: Feed> Capture<R> {
     {
         Capture {
             reader,
-            state: State::Unbegun,
+            state: CaptureState::Unbegun,
         }
     }
 
@@ -83,9 +84,9 @@ impl<R: Feed> Capture<R> {
         // Memory is refused only if the buffer has less room than the next record needs. If the
         // bytes are known, that record's header is whole.
         ensures memory { OnMemory result
-            (LacksRoom (vec_capacity buffer.old) (named R.remaining self.old)) }
+            (LacksRoom (vec_capacity buffer.old) (next_length R.remaining self.old)) }
         ensures length { FitsRecord result (vec_len buffer.old) (vec_len buffer.new)
-            (named R.remaining self.old) }
+            (next_length R.remaining self.old) }
         ensures capacity { vec_capacity buffer.new
             ≡ max (vec_capacity buffer.old) (vec_len buffer.new) }
         ensures payload { IfOk result (PayloadLiesIn buffer.new.items) }
@@ -94,20 +95,20 @@ impl<R: Feed> Capture<R> {
         ensures over { StaysOver result (state_of self.new) }
     {
         let state = self.state;
-        self.state = State::Failed;
+        self.state = CaptureState::Failed;
         let (format, left) = match state {
-            State::Unbegun => (begin(&mut self.reader)?, MOST_RECORDS),
-            State::Records { format, left } => (format, left),
-            State::Ended => {
-                self.state = State::Ended;
+            CaptureState::Unbegun => (begin(&mut self.reader)?, MOST_RECORDS),
+            CaptureState::Records { format, left } => (format, left),
+            CaptureState::Ended => {
+                self.state = CaptureState::Ended;
                 return Ok(Event::End);
             }
-            State::Failed => return Err(CaptureFault::Failed),
+            CaptureState::Failed => return Err(CaptureFault::Failed),
         };
         let event = next_record(&mut self.reader, format, left, buffer)?;
         self.state = match event {
-            Event::End => State::Ended,
-            _ => State::Records {
+            Event::End => CaptureState::Ended,
+            _ => CaptureState::Records {
                 format,
                 left: left - 1,
             },
@@ -118,7 +119,7 @@ impl<R: Feed> Capture<R> {
     /// Calls `pass_record` of the reader. The capture stays as it is.
     pub fn pass_record(&mut self)
         ensures coming { coming R.remaining self.new ≡ coming R.remaining self.old }
-        ensures named { named R.remaining self.new ≡ named R.remaining self.old }
+        ensures next_length { next_length R.remaining self.new ≡ next_length R.remaining self.old }
         ensures failures { R.failures (reader_of self.new) ≡ R.failures (reader_of self.old) }
         ensures state { state_of self.new ≡ state_of self.old }
     {

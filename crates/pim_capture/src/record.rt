@@ -10,11 +10,11 @@ ghost use Rattle.std.specs.Option.{option_map};
 ghost use Rattle.pim_device.specs.Device.{ConsumesAtMost};
 ghost use Rattle.pim_capture.specs.declared.event.Event.TheVariants.{End};
 ghost use Rattle.pim_capture.specs.Frame.{judge_frame};
-ghost use Rattle.pim_capture.specs.Capture.{records, millis_of, told_of, most_captured};
+ghost use Rattle.pim_capture.specs.Capture.{records, millis_of, event_by, most_captured};
 ghost use Rattle.pim_capture.specs.Parts.{BeginsWith, FillsExactly};
 ghost use Rattle.pim_capture.specs.Next.{event_seen, seen, IsNext, IsRefusal, CountsReads};
 ghost use Rattle.pim_capture.specs.Next.{OnMemory, most_taken};
-ghost use Rattle.pim_capture.specs.Next.{PayloadLiesIn, IsBy, latest_moment, length_named};
+ghost use Rattle.pim_capture.specs.Next.{PayloadLiesIn, IsBy, latest_moment, stated_length};
 ghost use Rattle.pim_capture.specs.Next.{LacksRoom, FitsRecord};
 
 use crate::event::Event;
@@ -102,7 +102,7 @@ fn millis(format: Format, header: &[u8]) -> u64
 /// The event of a record with these bytes.
 fn event_of(millis: u64, link: Link, frame: &[u8]) -> Event
     ensures event { event_seen frame.now result
-        ≡ told_of millis frame.now (judge_frame link frame.now) }
+        ≡ event_by millis frame.now (judge_frame link frame.now) }
     ensures payload { PayloadLiesIn frame.now result }
     ensures moment { IsBy millis result }
     ensures record { result ≢ End }
@@ -127,9 +127,9 @@ pub fn next_record<R: Feed>(
     ensures reads { CountsReads (left ≡ 0) (R.failures reader.old) (R.failures reader.new) result }
     ensures memory { OnMemory result
         (LacksRoom (vec_capacity buffer.old)
-        (option_map (length_named left format) (R.remaining reader.old))) }
+        (option_map (stated_length left format) (R.remaining reader.old))) }
     ensures length { FitsRecord result (vec_len buffer.old) (vec_len buffer.new)
-        (option_map (length_named left format) (R.remaining reader.old)) }
+        (option_map (stated_length left format) (R.remaining reader.old)) }
     ensures capacity { vec_capacity buffer.new
         ≡ max (vec_capacity buffer.old) (vec_len buffer.new) }
     ensures payload { IfOk result (PayloadLiesIn buffer.new.items) }

@@ -43,8 +43,8 @@ joins_group own group message =
 
 -- Where a census misses an address, messages count, and the upstream neighbour of none of them has
 -- that address.
-abbrev pub MissedIsNamedByNone : Type 0
-MissedIsNamedByNone = (family : AddressFamily) (packets : List Datagram) (own : List ℕ)
+abbrev pub MissedIsListedByNone : Type 0
+MissedIsListedByNone = (family : AddressFamily) (packets : List Datagram) (own : List ℕ)
     → misses own (census_of family packets).upstreams ≡ true
     → (0 < length (messages_counted family packets))
     × (list_any (is_for own) (messages_counted family packets) ≡ false)

@@ -3,8 +3,8 @@ use Rattle.std.specs.Prelude.{Bool, ◌&&◌, List, [], ◌∷◌, ◌++◌, len
 use Rattle.std.specs.Prelude.{if◌then◌else◌}
 use Rattle.pim_census.specs.declared.census.StarJoin.{StarJoin}
 
--- The slots after an item is added. The first free slot takes it, unless a slot before that has it. If
--- no slot is free, they stay.
+-- The slots after an item is added. The first free slot takes it, unless a slot before that has it.
+-- If no slot is free, they stay.
 unfoldable pub added : {A : Type 0} → (A → A → Bool) → A → List (Option A) → List (Option A)
 added same item [] = []
 added same item (None ∷ slots) = Some item ∷ slots

@@ -138,8 +138,8 @@ impl Census {
     pub fn misses<F: Family>(&self, own: F::Addr) -> bool
         ensures { result ≡ misses (F.bytes_of own) self.now.upstreams }
     {
-        let is_named = has(&self.upstreams, field_of::<F>(own));
-        self.upstreams[0].is_some() && self.upstreams[7].is_none() && !is_named
+        let is_listed_neighbour = has(&self.upstreams, field_of::<F>(own));
+        self.upstreams[0].is_some() && self.upstreams[7].is_none() && !is_listed_neighbour
     }
 
     /// The group of the first Join(\*,G) for the upstream neighbour `own` that has no RP in the

@@ -13,7 +13,7 @@ use Rattle.pim_form.specs.NormalForm.{GroupForm}
 use Rattle.pim_form.specs.Packing.{joined, IsPacking}
 use Rattle.pim_form.specs.Units.{WantUnit}
 use Rattle.pim_change.specs.Change.{ChangeUnit, change}
-use Rattle.pim_change.specs.Told.{weight, weights, IsPacked, told_message, TellRuns, TellChange}
+use Rattle.pim_change.specs.Written.{weight, weights, IsPacked, written_message, CarryRuns, CarryChange}
 use Rattle.pim_change.specs.Laws.{OneListOfChange}
 
 abbrev all : List (List ChangeUnit) → List ChangeUnit
@@ -50,26 +50,26 @@ same_runs (run ∷ one) (r ∷ other) heavy whole =
     λ i. head i ∷ tail i
 
 module _ (checksum : OneChecksum) (packing : OnePacking) (family : AddressFamily) (writing : Writing) (rps : List ℕ → Option (List ℕ)) where
-  one_told : (runs : List (List ChangeUnit)) (one other : List (List ℕ)) → TellRuns family writing rps runs one → TellRuns family writing rps runs other → one ≡ other
+  one_told : (runs : List (List ChangeUnit)) (one other : List (List ℕ)) → CarryRuns family writing rps runs one → CarryRuns family writing rps runs other → one ≡ other
   one_told [] [] [] is too = refl
   one_told [] [] (bytes ∷ other) is too = absurd too
   one_told [] (bytes ∷ one) other is too = absurd is
   one_told (run ∷ runs) [] other is too = absurd is
   one_told (run ∷ runs) (bytes ∷ one) [] is too = absurd too
   one_told (run ∷ runs) (bytes ∷ one) (b ∷ other) is too =
-      let head = checksum family writing.own (all_routers family) JoinPrune (canonical family (told_message writing rps run)) bytes b is.0 too.0 in
+      let head = checksum family writing.own (all_routers family) JoinPrune (canonical family (written_message writing rps run)) bytes b is.0 too.0 in
       let tail = one_told runs one other is.1 too.1 in
       λ i. head i ∷ tail i
 
   packed : (units : List ChangeUnit) (runs : List (List ChangeUnit)) → IsPacked family writing.budget units runs → IsPacking family writing.budget (weights units) (map weights runs)
   packed units runs is = record { whole = weights_of_all runs ∙ ap weights is.whole; cut = is.cut }
 
-  one_list : (old new : List GroupForm) (one other : List (List ℕ)) → TellChange family writing rps old new one → TellChange family writing rps old new other → one ≡ other
+  one_list : (old new : List GroupForm) (one other : List (List ℕ)) → CarryChange family writing rps old new one → CarryChange family writing rps old new other → one ≡ other
   one_list old new one other is too =
       let units = change old new in
       let heavy = packing family writing.budget (weights units) (map weights is.runs) (map weights too.runs) (packed units is.runs is.packing) (packed units too.runs too.packing) in
       let runs = same_runs is.runs too.runs heavy (is.packing.whole ∙ sym too.packing.whole) in
-      one_told is.runs one other is.told (subst (λ (rs : List (List ChangeUnit)). TellRuns family writing rps rs other) (sym runs) too.told)
+      one_told is.runs one other is.reported (subst (λ (rs : List (List ChangeUnit)). CarryRuns family writing rps rs other) (sym runs) too.reported)
 
 pub one_list_of_change : OneChecksum → OnePacking → OneListOfChange
 one_list_of_change checksum packing family writing rps old new one other is too = one_list checksum packing family writing rps old new one other is too

@@ -5,24 +5,24 @@ use Rattle.pim_jp.specs.declared.entry.Entry.{Entry}
 use Rattle.pim_jp.specs.Spelling.{star_count}
 use Rattle.pim_form.specs.NormalForm.{GroupForm, same_address, groups_of}
 use Rattle.pim_form.specs.Settled.{group_in}
-use Rattle.pim_change.specs.declared.unit.Kind.{Kind}
-use Rattle.pim_change.specs.declared.unit.Kind.TheVariants.{JoinRpt, PruneRpt, JoinSource, PruneSource}
-use Rattle.pim_change.specs.Change.{Telling, star_joined, star_pruned, told, lacking, star_change, sources_change, group_change, ChangeUnit, unit_of, in_order, change_at, change}
-use Rattle.pim_change.specs.Told.{rp_entry, excepted_entries, joined_entries, pruned_entries, GroupTellings, tellings_of, set_in_front, in_front, grouped, told_set}
+use Rattle.pim_change.specs.declared.unit.ActionKind.{ActionKind}
+use Rattle.pim_change.specs.declared.unit.ActionKind.TheVariants.{JoinRpt, PruneRpt, JoinSource, PruneSource}
+use Rattle.pim_change.specs.Change.{Action, star_joined, star_pruned, of_source, lacking, star_change, sources_change, group_change, ChangeUnit, unit_of, in_order, change_at, change}
+use Rattle.pim_change.specs.Written.{rp_entry, excepted_entries, joined_entries, pruned_entries, GroupActions, tellings_of, set_in_front, in_front, grouped, written_set}
 use Rattle.pim_change.proofs.Addresses.{same_itself, same_is}
 use Rattle.pim_change.proofs.Sorted.{in_order_sorted, one_if, count, count_append, count_flat, count_once}
 
-unfoldable pub is_star : Telling → Bool
+unfoldable pub is_star : Action → Bool
 is_star (star_joined exceptions) = true
 is_star star_pruned = true
-is_star (told kind source) = false
+is_star (of_source kind source) = false
 
 abbrev of_star : List ℕ → ChangeUnit → Bool
-of_star group this = is_star this.telling && same_address group this.group
+of_star group this = is_star this.action && same_address group this.group
 
 -- ---- a change
 
-no_stars : (kind : Kind) (sources : List (List ℕ)) → count is_star (map (told kind) sources) ≡ 0
+no_stars : (kind : ActionKind) (sources : List (List ℕ)) → count is_star (map (of_source kind) sources) ≡ 0
 unfolding count is_star
 no_stars kind [] = refl
 no_stars kind (x ∷ xs) = let rest = no_stars kind xs in omega (arith, rest)
@@ -33,7 +33,7 @@ star_once None None = omega arith
 star_once None (Some exceptions) = omega arith
 star_once (Some excepted) None = omega arith
 star_once (Some excepted) (Some exceptions) =
-    let both = count_append is_star (map (told JoinRpt) (lacking excepted exceptions)) (map (told PruneRpt) (lacking exceptions excepted)) in
+    let both = count_append is_star (map (of_source JoinRpt) (lacking excepted exceptions)) (map (of_source PruneRpt) (lacking exceptions excepted)) in
     let one = no_stars JoinRpt (lacking excepted exceptions) in
     let other = no_stars PruneRpt (lacking exceptions excepted) in
     omega (arith, both, one, other)
@@ -41,7 +41,7 @@ star_once (Some excepted) (Some exceptions) =
 group_once : (old new : GroupForm) → count is_star (group_change old new) ≤ 1
 group_once old new =
     let both = count_append is_star (star_change old.star new.star) (sources_change old.sources new.sources) in
-    let sources = count_append is_star (map (told JoinSource) (lacking new.sources old.sources)) (map (told PruneSource) (lacking old.sources new.sources)) in
+    let sources = count_append is_star (map (of_source JoinSource) (lacking new.sources old.sources)) (map (of_source PruneSource) (lacking old.sources new.sources)) in
     let one = no_stars JoinSource (lacking new.sources old.sources) in
     let other = no_stars PruneSource (lacking old.sources new.sources) in
     let star = star_once old.star new.star in
@@ -55,7 +55,7 @@ and_true : (a : Bool) → (a && true) ≡ a
 and_true true = refl
 and_true false = refl
 
-of_group : (g h : List ℕ) (b : Bool) (tellings : List Telling) → same_address g h ≡ b → count (of_star g) (map (unit_of h) tellings) ≡ cond b (count is_star tellings) 0
+of_group : (g h : List ℕ) (b : Bool) (tellings : List Action) → same_address g h ≡ b → count (of_star g) (map (unit_of h) tellings) ≡ cond b (count is_star tellings) 0
 unfolding count
 of_group g h true [] s = refl
 of_group g h false [] s = refl
@@ -104,22 +104,22 @@ runs_have_one_star old new runs whole =
 
 -- ---- its sets
 
-abbrev Few : List ChangeUnit → GroupTellings → Type 0
+abbrev Few : List ChangeUnit → GroupActions → Type 0
 Few run set = count is_star set.tellings ≤ count (of_star set.group) run
 
-few_more : (this : ChangeUnit) (run : List ChangeUnit) (sets : List GroupTellings) → AllByRecursion (Few run) sets → AllByRecursion (Few (this ∷ run)) sets
+few_more : (this : ChangeUnit) (run : List ChangeUnit) (sets : List GroupActions) → AllByRecursion (Few run) sets → AllByRecursion (Few (this ∷ run)) sets
 unfolding count
 few_more this run [] few = tt
 few_more this run (set ∷ sets) few = (omega (arith, few.0), few_more this run sets few.1)
 
-own_few : (this : ChangeUnit) (run : List ChangeUnit) (tellings : List Telling) → count is_star tellings ≤ count (of_star this.group) run → Few (this ∷ run) (tellings_of this.group (this.telling ∷ tellings))
+own_few : (this : ChangeUnit) (run : List ChangeUnit) (tellings : List Action) → count is_star tellings ≤ count (of_star this.group) run → Few (this ∷ run) (tellings_of this.group (this.action ∷ tellings))
 unfolding count
 own_few this run tellings few =
-    let own : (is_star this.telling && same_address this.group this.group) ≡ is_star this.telling = ap (λ b. is_star this.telling && b) (same_itself this.group) ∙ and_true (is_star this.telling) in
+    let own : (is_star this.action && same_address this.group this.group) ≡ is_star this.action = ap (λ b. is_star this.action && b) (same_itself this.group) ∙ and_true (is_star this.action) in
     let here = ap one_if own in
     omega (arith, here, few)
 
-front_few : (this : ChangeUnit) (run : List ChangeUnit) (sets : List GroupTellings) → AllByRecursion (Few run) sets → AllByRecursion (Few (this ∷ run)) (in_front this sets)
+front_few : (this : ChangeUnit) (run : List ChangeUnit) (sets : List GroupActions) → AllByRecursion (Few run) sets → AllByRecursion (Few (this ∷ run)) (in_front this sets)
 unfolding count
 front_few this run [] few = (own_few this run [] (omega arith), tt)
 front_few this run (first ∷ sets) few =
@@ -150,16 +150,16 @@ unfolding star_count
 rp_few None = omega arith
 rp_few (Some address) = omega arith
 
-telling_few : (rp : Option (List ℕ)) (telling : Telling) → star_count (joined_entries rp telling) + star_count (pruned_entries rp telling) ≤ cond (is_star telling) 1 0
+telling_few : (rp : Option (List ℕ)) (action : Action) → star_count (joined_entries rp action) + star_count (pruned_entries rp action) ≤ cond (is_star action) 1 0
 unfolding star_count is_star
 telling_few rp (star_joined exceptions) = let none = no_rpts exceptions in let one = rp_few rp in omega (arith, none, one)
 telling_few rp star_pruned = let one = rp_few rp in omega (arith, one)
-telling_few rp (told JoinRpt source) = omega arith
-telling_few rp (told PruneRpt source) = omega arith
-telling_few rp (told JoinSource source) = omega arith
-telling_few rp (told PruneSource source) = omega arith
+telling_few rp (of_source JoinRpt source) = omega arith
+telling_few rp (of_source PruneRpt source) = omega arith
+telling_few rp (of_source JoinSource source) = omega arith
+telling_few rp (of_source PruneSource source) = omega arith
 
-tellings_few : (rp : Option (List ℕ)) (tellings : List Telling) → star_count (flat_map (joined_entries rp) tellings) + star_count (flat_map (pruned_entries rp) tellings) ≤ count is_star tellings
+tellings_few : (rp : Option (List ℕ)) (tellings : List Action) → star_count (flat_map (joined_entries rp) tellings) + star_count (flat_map (pruned_entries rp) tellings) ≤ count is_star tellings
 unfolding count star_count
 tellings_few rp [] = omega arith
 tellings_few rp (t ∷ tellings) =
@@ -169,13 +169,13 @@ tellings_few rp (t ∷ tellings) =
     let rest = tellings_few rp tellings in
     omega (arith, joined, pruned, first, rest)
 
-abbrev pub HasFewStars : (List ℕ → Option (List ℕ)) → GroupTellings → Type 0
-HasFewStars rps set = star_count ((told_set rps set).joined ++ (told_set rps set).pruned) ≤ 1
+abbrev pub HasFewStars : (List ℕ → Option (List ℕ)) → GroupActions → Type 0
+HasFewStars rps set = star_count ((written_set rps set).joined ++ (written_set rps set).pruned) ≤ 1
 
-sets_few : (rps : List ℕ → Option (List ℕ)) (run : List ChangeUnit) (sets : List GroupTellings) → HasOneStar run → AllByRecursion (Few run) sets → AllByRecursion (HasFewStars rps) sets
+sets_few : (rps : List ℕ → Option (List ℕ)) (run : List ChangeUnit) (sets : List GroupActions) → HasOneStar run → AllByRecursion (Few run) sets → AllByRecursion (HasFewStars rps) sets
 sets_few rps run [] one few = tt
 sets_few rps run (set ∷ sets) one few =
-    let both = stars_append (told_set rps set).joined (told_set rps set).pruned in
+    let both = stars_append (written_set rps set).joined (written_set rps set).pruned in
     let most = tellings_few (rps set.group) set.tellings in
     let once = one set.group in
     (omega (arith, both, most, few.0, once), sets_few rps run sets one few.1)

@@ -10,7 +10,7 @@ use Rattle.pim_form.specs.Messages.{Writing}
 use Rattle.pim_change.specs.declared.unit.Unit.{Unit}
 use Rattle.pim_change.specs.Change.{ChangeUnit}
 use Rattle.pim_change.specs.Seen.{units_seen}
-use Rattle.pim_change.specs.Told.{weights, TellsRun, TellUnits}
+use Rattle.pim_change.specs.Written.{weights, CarriesRun, CarryUnits}
 
 joined_weights : (runs : List (List ChangeUnit)) → joined (map weights runs) ≡ weights (flat_map (λ run. run) runs)
 joined_weights [] = refl
@@ -19,14 +19,14 @@ joined_weights (run ∷ runs) =
     ∙ sym (map-append _ run (flat_map (λ run. run) runs))
 
 module _ (family : AddressFamily) (writing : Writing) (rps : List ℕ → Option (List ℕ)) where
-  none_told : TellUnits family writing rps [] []
+  none_told : CarryUnits family writing rps [] []
   unfolding AreRuns
-  none_told = record { runs = []; packing = record { whole = refl; cut = tt }; told = tt }
+  none_told = record { runs = []; packing = record { whole = refl; cut = tt }; reported = tt }
 
   one_more : (units run left : List ChangeUnit) (bytes : List ℕ) (messages : List (List ℕ)) → run ++ left ≡ units
       → IsNonempty (weights run) → fits family writing.budget (weights run) ≡ true
-      → StopsBefore family writing.budget (weights run) (weights left) → TellsRun family writing rps run bytes
-      → TellUnits family writing rps left messages → TellUnits family writing rps units (bytes ∷ messages)
+      → StopsBefore family writing.budget (weights run) (weights left) → CarriesRun family writing rps run bytes
+      → CarryUnits family writing rps left messages → CarryUnits family writing rps units (bytes ∷ messages)
   unfolding AreRuns
   one_more units run left bytes messages is some fitting stops tells others =
       let behind : weights left ≡ joined (map weights others.runs) =
@@ -42,7 +42,7 @@ module _ (family : AddressFamily) (writing : Writing) (rps : List ℕ → Option
             others.packing.cut,
           );
         };
-        told = (tells, others.told);
+        reported = (tells, others.reported);
       }
 
   module _ {A : Type 0} (bytes_of : A → List ℕ) (units : List (Unit A)) where
@@ -59,8 +59,8 @@ module _ (family : AddressFamily) (writing : Writing) (rps : List ℕ → Option
 
     abbrev pub Goes : ℕ → List (List ℕ) → Type 0
     Goes start messages = (left : List (List ℕ)) →
-        TellUnits family writing rps (units_seen bytes_of (drop start units)) left →
-        TellUnits family writing rps (units_seen bytes_of units) (messages ++ left)
+        CarryUnits family writing rps (units_seen bytes_of (drop start units)) left →
+        CarryUnits family writing rps (units_seen bytes_of units) (messages ++ left)
 
     pub goes_from : Goes 0 []
     goes_from = λ left tells. tells
@@ -70,27 +70,27 @@ module _ (family : AddressFamily) (writing : Writing) (rps : List ℕ → Option
         → fits family writing.budget (weights (units_seen bytes_of (take n left))) ≡ true
         → StopsBefore family writing.budget (weights (units_seen bytes_of (take n left)))
         (weights (units_seen bytes_of (drop n left)))
-        → TellsRun family writing rps (units_seen bytes_of run) bytes → more ≡ messages ++ bytes ∷ []
+        → CarriesRun family writing rps (units_seen bytes_of run) bytes → more ≡ messages ++ bytes ∷ []
         → Goes start messages → Goes (start + n) more
-    goes_on start n left run messages more bytes is_left is_run below some fitting stops tells is_more goes = λ others told.
+    goes_on start n left run messages more bytes is_left is_run below some fitting stops tells is_more goes = λ others reported.
         let long : 0 < length left = omega (arith, ap length is_left, below, length-drop start units) in
         let behind : drop (start + n) units ≡ drop n left =
         sym (ap (drop n) is_left ∙ drop-drop n start units) in
-        let these : TellsRun family writing rps (units_seen bytes_of (take n left)) bytes =
-        subst (λ (l : List (Unit A)). TellsRun family writing rps (units_seen bytes_of l) bytes) is_run tells in
-        let here : TellUnits family writing rps (units_seen bytes_of left) (bytes ∷ others) =
+        let these : CarriesRun family writing rps (units_seen bytes_of (take n left)) bytes =
+        subst (λ (l : List (Unit A)). CarriesRun family writing rps (units_seen bytes_of l) bytes) is_run tells in
+        let here : CarryUnits family writing rps (units_seen bytes_of left) (bytes ∷ others) =
         one_more (units_seen bytes_of left) (units_seen bytes_of (take n left)) (units_seen bytes_of (drop n left)) bytes
         others (seen_cut n left) (nonempty n left some long) fitting stops these
-        (subst (λ (l : List (Unit A)). TellUnits family writing rps (units_seen bytes_of l) others) behind told) in
+        (subst (λ (l : List (Unit A)). CarryUnits family writing rps (units_seen bytes_of l) others) behind reported) in
         let all = goes (bytes ∷ others)
-        (subst (λ (l : List (Unit A)). TellUnits family writing rps (units_seen bytes_of l) (bytes ∷ others))
+        (subst (λ (l : List (Unit A)). CarryUnits family writing rps (units_seen bytes_of l) (bytes ∷ others))
         is_left here) in
-        subst (λ (l : List (List ℕ)). TellUnits family writing rps (units_seen bytes_of units) l)
+        subst (λ (l : List (List ℕ)). CarryUnits family writing rps (units_seen bytes_of units) l)
         (sym (append_assoc messages (bytes ∷ []) others) ∙ ap (λ (l : List (List ℕ)). l ++ others) (sym is_more)) all
 
     pub goes_to : (start : ℕ) (messages : List (List ℕ)) → length units ≤ start → Goes start messages
-        → TellUnits family writing rps (units_seen bytes_of units) messages
+        → CarryUnits family writing rps (units_seen bytes_of units) messages
     goes_to start messages all goes =
-        subst (TellUnits family writing rps (units_seen bytes_of units)) (append-nil messages)
-        (goes [] (subst (λ (l : List (Unit A)). TellUnits family writing rps (units_seen bytes_of l) [])
+        subst (CarryUnits family writing rps (units_seen bytes_of units)) (append-nil messages)
+        (goes [] (subst (λ (l : List (Unit A)). CarryUnits family writing rps (units_seen bytes_of l) [])
         (sym (drop_all start units all)) none_told))

@@ -14,12 +14,12 @@ use Rattle.pim_form.specs.Units.{WantUnit, source_unit, star_unit, unit_group, u
 use Rattle.pim_form.specs.Units.{groups_behind, run_groups, run_size}
 use Rattle.pim_form.specs.Packing.{fits, most_groups, StopsBefore}
 use Rattle.pim_change.specs.declared.unit.Unit.{Unit}
-use Rattle.pim_change.specs.declared.unit.Telling.{Telling as TellingOf}
-use Rattle.pim_change.specs.declared.unit.Telling.TheVariants.{JoinStar}
-use Rattle.pim_change.specs.Change.{Telling, star_joined, star_pruned, told, ChangeUnit}
-use Rattle.pim_change.specs.Seen.{telling_seen, unit_seen, units_seen}
-use Rattle.pim_change.specs.TooBig.{telling_fits, too_big}
-use Rattle.pim_change.specs.Told.{weight, weights}
+use Rattle.pim_change.specs.declared.unit.Action.{Action as ActionOf}
+use Rattle.pim_change.specs.declared.unit.Action.TheVariants.{JoinStar}
+use Rattle.pim_change.specs.Change.{Action, star_joined, star_pruned, of_source, ChangeUnit}
+use Rattle.pim_change.specs.Seen.{action_seen, unit_seen, units_seen}
+use Rattle.pim_change.specs.TooBig.{action_fits, too_big}
+use Rattle.pim_change.specs.Written.{weight, weights}
 use Rattle.pim_change.specs.Runs.{last_group}
 use Rattle.pim_change.proofs.Addresses.{same_is, same_itself}
 use Rattle.pim_change.proofs.RunSizes.{weight_group}
@@ -99,7 +99,7 @@ module _ {A : Type 0} (bytes_of : A → List ℕ) where
   unfolding last_group
   last_at before [] n d below = absurd (omega arith)
   last_at before (unit ∷ units) zero d below =
-      ap Some (weight_group (bytes_of unit.group) (telling_seen bytes_of unit.telling))
+      ap Some (weight_group (bytes_of unit.group) (action_seen bytes_of unit.action))
   last_at before (unit ∷ units) (suc n) d below =
       last_at (Some (unit_group (weight (unit_seen bytes_of unit)))) units n d (omega arith)
 
@@ -128,7 +128,7 @@ module _ {A : Type 0} (bytes_of : A → List ℕ) where
   groups_next units n d counted more begins below so_far is more_is =
       let next = get_or units n d in
       let of_group : unit_group (weight (unit_seen bytes_of next)) ≡ bytes_of next.group =
-      weight_group (bytes_of next.group) (telling_seen bytes_of next.telling) in
+      weight_group (bytes_of next.group) (action_seen bytes_of next.action) in
       let one : (if is_of_group (last_group None (run_to units n)) (unit_group (weight (unit_seen bytes_of next)))
       then zero else suc zero) ≡ bool_byte begins =
       ap (λ (group : List ℕ). if is_of_group (last_group None (run_to units n)) group then zero else suc zero) of_group
@@ -172,10 +172,10 @@ module _ {A : Type 0} (bytes_of : A → List ℕ) where
     -- ---- units of which each fits alone
 
     fits_first : (this : ChangeUnit) (units : List ChangeUnit) → too_big family budget (this ∷ units) ≡ None
-        → (telling_fits family budget this.group this.telling ≡ true) × (too_big family budget units ≡ None)
+        → (action_fits family budget this.group this.action ≡ true) × (too_big family budget units ≡ None)
     unfolding too_big
     fits_first this units none =
-        by (telling_fits family budget this.group this.telling) (too_big family budget units) none
+        by (action_fits family budget this.group this.action) (too_big family budget units) none
       where
         by : (b : Bool) (others : Option (List ℕ)) → (if b then others else Some this.group) ≡ None
             → (b ≡ true) × (others ≡ None)
@@ -184,8 +184,8 @@ module _ {A : Type 0} (bytes_of : A → List ℕ) where
 
     pub fits_at : (units : List (Unit A)) (n : ℕ) (d : Unit A) → n < length units
         → too_big family budget (units_seen bytes_of units) ≡ None
-        → telling_fits family budget (bytes_of (get_or units n d).group)
-        (telling_seen bytes_of (get_or units n d).telling) ≡ true
+        → action_fits family budget (bytes_of (get_or units n d).group)
+        (action_seen bytes_of (get_or units n d).action) ≡ true
     fits_at [] n d below none = absurd (omega arith)
     fits_at (unit ∷ units) zero d below none =
         (fits_first (unit_seen bytes_of unit) (units_seen bytes_of units) none).0
@@ -214,14 +214,14 @@ module _ {A : Type 0} (bytes_of : A → List ℕ) where
     some_fit (unit ∷ units) zero d below least none full =
         let this = unit_seen bytes_of unit in
         absurd (both_ways (fits family budget (weight this ∷ [])) full
-        (alone this.group this.telling (fits_first this (units_seen bytes_of units) none).0))
+        (alone this.group this.action (fits_first this (units_seen bytes_of units) none).0))
       where
-        alone : (group : List ℕ) (telling : Telling) → telling_fits family budget group telling ≡ true
-            → fits family budget (weight (record { group = group; telling = telling }) ∷ []) ≡ true
+        alone : (group : List ℕ) (action : Action) → action_fits family budget group action ≡ true
+            → fits family budget (weight (record { group = group; action = action }) ∷ []) ≡ true
         alone group (star_joined exceptions) is = is
         alone group star_pruned is =
             one_fits (source_unit group [] ∷ []) (small family budget group [] least) (single group [])
-        alone group (told kind source) is =
+        alone group (of_source kind source) is =
             one_fits (source_unit group source ∷ []) (small family budget group source least) (single group source)
 
     -- ---- what is known of what fits
@@ -231,11 +231,11 @@ module _ {A : Type 0} (bytes_of : A → List ℕ) where
 
 -- what the star of a unit that fits names
 pub few_exceptions : {A : Type 0} (bytes_of : A → List ℕ) (family : AddressFamily) (budget : ℕ) (group : List ℕ)
-    (telling : TellingOf A) (exceptions : Bor (List A)) → budget ≤ 65000 → telling ≡ JoinStar exceptions
-    → telling_fits family budget group (telling_seen bytes_of telling) ≡ true → length exceptions.now + 1 ≤ 65000
-few_exceptions bytes_of family budget group telling exceptions most is fitting =
+    (action : ActionOf A) (exceptions : Bor (List A)) → budget ≤ 65000 → action ≡ JoinStar exceptions
+    → action_fits family budget group (action_seen bytes_of action) ≡ true → length exceptions.now + 1 ≤ 65000
+few_exceptions bytes_of family budget group action exceptions most is fitting =
     let alone : fits family budget (star_unit group (map bytes_of exceptions.now) ∷ []) ≡ true =
-    subst (λ (t : TellingOf _). telling_fits family budget group (telling_seen bytes_of t) ≡ true) is fitting in
+    subst (λ (t : ActionOf _). action_fits family budget group (action_seen bytes_of t) ≡ true) is fitting in
     let both = and_parts (nat_le (run_size family (star_unit group (map bytes_of exceptions.now) ∷ [])) budget)
     (nat_le (run_groups (star_unit group (map bytes_of exceptions.now) ∷ [])) most_groups) alone in
     let size = leb-true (run_size family (star_unit group (map bytes_of exceptions.now) ∷ [])) budget both.0 in

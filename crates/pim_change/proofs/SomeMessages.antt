@@ -12,10 +12,10 @@ use Rattle.pim_form.specs.Laws.{UnitsPackIfEachFits}
 use Rattle.pim_form.specs.Messages.{Writing, IsWriting}
 use Rattle.pim_form.specs.Packing.{fits, most_groups, AreRuns}
 use Rattle.pim_form.specs.Units.{WantUnit, source_unit, run_entries, groups_behind, run_groups, run_size}
-use Rattle.pim_change.specs.Change.{Telling, star_joined, star_pruned, told, ChangeUnit, change}
+use Rattle.pim_change.specs.Change.{Action, star_joined, star_pruned, of_source, ChangeUnit, change}
 use Rattle.pim_change.specs.Laws.{ChangeHasMessagesUnlessTooBig}
-use Rattle.pim_change.specs.TooBig.{telling_fits, too_big}
-use Rattle.pim_change.specs.Told.{weight_of, weight, weights, told_message, TellRuns, TellUnits}
+use Rattle.pim_change.specs.TooBig.{action_fits, too_big}
+use Rattle.pim_change.specs.Written.{weight_of, weight, weights, written_message, CarryRuns, CarryUnits}
 
 -- ---- units that fit alone
 
@@ -34,23 +34,23 @@ module _ (family : AddressFamily) (budget : ℕ) (least : 70 ≤ budget) where
       within Ipv4 = omega (arith, least)
       within Ipv6 = omega (arith, least)
 
-  unit_alone : (group : List ℕ) (telling : Telling) → telling_fits family budget group telling ≡ true → Alone (weight_of group telling)
+  unit_alone : (group : List ℕ) (action : Action) → action_fits family budget group action ≡ true → Alone (weight_of group action)
   unit_alone group (star_joined exceptions) fit = fit
   unit_alone group star_pruned fit = source_alone group []
-  unit_alone group (told kind source) fit = source_alone group source
+  unit_alone group (of_source kind source) fit = source_alone group source
 
-  unit_fits : (group : List ℕ) (telling : Telling) → Alone (weight_of group telling) → telling_fits family budget group telling ≡ true
+  unit_fits : (group : List ℕ) (action : Action) → Alone (weight_of group action) → action_fits family budget group action ≡ true
   unit_fits group (star_joined exceptions) alone = alone
   unit_fits group star_pruned alone = refl
-  unit_fits group (told kind source) alone = refl
+  unit_fits group (of_source kind source) alone = refl
 
   units_alone : (units : List ChangeUnit) → too_big family budget units ≡ None → AllByRecursion Alone (weights units)
   unfolding too_big
   units_alone [] none = tt
   units_alone (this ∷ units) none =
-      elim (telling_fits family budget this.group this.telling) as
-      (λ b. telling_fits family budget this.group this.telling ≡ b → cond b (too_big family budget units) (Some this.group) ≡ None → AllByRecursion Alone (weights (this ∷ units))) [
-        | true ↦ λ fit none'. (unit_alone this.group this.telling fit, units_alone units none')
+      elim (action_fits family budget this.group this.action) as
+      (λ b. action_fits family budget this.group this.action ≡ b → cond b (too_big family budget units) (Some this.group) ≡ None → AllByRecursion Alone (weights (this ∷ units))) [
+        | true ↦ λ fit none'. (unit_alone this.group this.action fit, units_alone units none')
         | false ↦ λ full none'. absurd cc
       ] refl none
 
@@ -58,7 +58,7 @@ module _ (family : AddressFamily) (budget : ℕ) (least : 70 ≤ budget) where
   unfolding too_big
   none_too_big [] all = refl
   none_too_big (this ∷ units) all =
-      ap (λ b. cond b (too_big family budget units) (Some this.group)) (unit_fits this.group this.telling all.0) ∙ none_too_big units all.1
+      ap (λ b. cond b (too_big family budget units) (Some this.group)) (unit_fits this.group this.action all.0) ∙ none_too_big units all.1
 
 -- ---- units in the runs of their weights
 
@@ -106,25 +106,25 @@ joined_weights (run ∷ runs) = (λ i. weights run ++ joined_weights runs i) ∙
 -- ---- messages
 
 module _ (seal : SomeMessageIsSealed) (packs : UnitsPackIfEachFits) (family : AddressFamily) (writing : Writing) (rps : List ℕ → Option (List ℕ)) where
-  some_told : (runs : List (List ChangeUnit)) → (messages : List (List ℕ)) × TellRuns family writing rps runs messages
+  some_told : (runs : List (List ChangeUnit)) → (messages : List (List ℕ)) × CarryRuns family writing rps runs messages
   some_told [] = ([], tt)
   some_told (run ∷ runs) =
-      let message = seal family writing.own (all_routers family) JoinPrune (canonical family (told_message writing rps run)) in
+      let message = seal family writing.own (all_routers family) JoinPrune (canonical family (written_message writing rps run)) in
       let others = some_told runs in
       (message.0 ∷ others.0, (message.1, others.1))
 
   some_messages : (units : List ChangeUnit) → IsWriting family writing → too_big family writing.budget units ≡ None
-      → (messages : List (List ℕ)) × TellUnits family writing rps units messages
+      → (messages : List (List ℕ)) × CarryUnits family writing rps units messages
   some_messages units is none =
       let packing = (packs family writing.budget (weights units)).1 (units_alone family writing.budget is.least units none) in
       let runs = in_runs weight packing.0 units packing.1.whole in
       let messages = some_told runs.parts in
-      (messages.0, record { runs = runs.parts; packing = record { whole = runs.whole; cut = subst (AreRuns family writing.budget) (sym runs.are) packing.1.cut }; told = messages.1 })
+      (messages.0, record { runs = runs.parts; packing = record { whole = runs.whole; cut = subst (AreRuns family writing.budget) (sym runs.are) packing.1.cut }; reported = messages.1 })
 
-  told_fit : (units : List ChangeUnit) → IsWriting family writing → (messages : List (List ℕ)) × TellUnits family writing rps units messages
+  told_fit : (units : List ChangeUnit) → IsWriting family writing → (messages : List (List ℕ)) × CarryUnits family writing rps units messages
       → too_big family writing.budget units ≡ None
-  told_fit units is telling =
-      let tells = telling.1 in
+  told_fit units is action =
+      let tells = action.1 in
       none_too_big family writing.budget is.least units
       ((packs family writing.budget (weights units)).0
       (map weights tells.runs, record { whole = joined_weights tells.runs ∙ ap weights tells.packing.whole; cut = tells.packing.cut }))

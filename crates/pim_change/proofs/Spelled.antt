@@ -14,9 +14,9 @@ use Rattle.pim_form.specs.Rows.{exceptions_of}
 use Rattle.pim_form.specs.Messages.{Writing, IsWriting, IsRp, IsRpOf, HaveRps}
 use Rattle.pim_form.specs.Packing.{fits}
 use Rattle.pim_form.specs.Settled.{group_in}
-use Rattle.pim_change.specs.declared.unit.Kind.TheVariants.{JoinRpt, PruneRpt, JoinSource, PruneSource}
-use Rattle.pim_change.specs.Change.{Telling, star_joined, star_pruned, told, lacking, star_change, sources_change, group_change, ChangeUnit, unit_of, in_order, change_at, change}
-use Rattle.pim_change.specs.Told.{weights, rp_entry, excepted_entries, joined_entries, pruned_entries, GroupTellings, set_in_front, in_front, grouped, told_set, told_message, IsShort}
+use Rattle.pim_change.specs.declared.unit.ActionKind.TheVariants.{JoinRpt, PruneRpt, JoinSource, PruneSource}
+use Rattle.pim_change.specs.Change.{Action, star_joined, star_pruned, of_source, lacking, star_change, sources_change, group_change, ChangeUnit, unit_of, in_order, change_at, change}
+use Rattle.pim_change.specs.Written.{weights, rp_entry, excepted_entries, joined_entries, pruned_entries, GroupActions, set_in_front, in_front, grouped, written_set, written_message, IsShort}
 use Rattle.pim_change.proofs.Addresses.{same_itself, same_is}
 use Rattle.pim_change.proofs.Sorted.{either_all}
 use Rattle.pim_change.proofs.OneStar.{HasOneStar, HasFewStars, one_star_a_set}
@@ -95,13 +95,13 @@ module _ (family : AddressFamily) (rps : List ℕ → Option (List ℕ)) where
 
   -- ---- a telling, under the form that is wanted
 
-  abbrev IsFair : Option (List ℕ) → GroupForm → Telling → Type 0
+  abbrev IsFair : Option (List ℕ) → GroupForm → Action → Type 0
   IsFair rp wanted (star_joined exceptions) = IsRp family rp × AllByRecursion Valid exceptions × (wanted.star ≡ Some exceptions)
   IsFair rp wanted star_pruned = IsRp family rp
-  IsFair rp wanted (told JoinRpt source) = Valid source × (is_listed source (exceptions_of wanted.star) ≡ false)
-  IsFair rp wanted (told PruneRpt source) = Valid source × (is_listed source (exceptions_of wanted.star) ≡ true)
-  IsFair rp wanted (told JoinSource source) = Valid source × (is_listed source wanted.sources ≡ true)
-  IsFair rp wanted (told PruneSource source) = Valid source × (is_listed source wanted.sources ≡ false)
+  IsFair rp wanted (of_source JoinRpt source) = Valid source × (is_listed source (exceptions_of wanted.star) ≡ false)
+  IsFair rp wanted (of_source PruneRpt source) = Valid source × (is_listed source (exceptions_of wanted.star) ≡ true)
+  IsFair rp wanted (of_source JoinSource source) = Valid source × (is_listed source wanted.sources ≡ true)
+  IsFair rp wanted (of_source PruneSource source) = Valid source × (is_listed source wanted.sources ≡ false)
 
   star_fair : (rp : Option (List ℕ)) (wanted : GroupForm) (before now : Option (List (List ℕ))) → IsRpOf family rp before → IsRpOf family rp now → AllByRecursion Valid (exceptions_of before) → AllByRecursion Valid (exceptions_of now)
       → wanted.star ≡ now → AllByRecursion (IsFair rp wanted) (star_change before now)
@@ -109,32 +109,32 @@ module _ (family : AddressFamily) (rps : List ℕ → Option (List ℕ)) where
   star_fair rp wanted None (Some exceptions) b n bs ns w = ((n, ns, w), tt)
   star_fair rp wanted (Some excepted) None b n bs ns w = (b, tt)
   star_fair rp wanted (Some excepted) (Some exceptions) b n bs ns w =
-      all_append (IsFair rp wanted) (map (told JoinRpt) (lacking excepted exceptions)) (map (told PruneRpt) (lacking exceptions excepted))
-      (all_map (IsFair rp wanted) (told JoinRpt) (lacking excepted exceptions)
-      (weaker (λ s. Valid s × (is_listed s excepted ≡ true) × (is_listed s exceptions ≡ false)) (λ s. IsFair rp wanted (told JoinRpt s)) (lacking excepted exceptions)
+      all_append (IsFair rp wanted) (map (of_source JoinRpt) (lacking excepted exceptions)) (map (of_source PruneRpt) (lacking exceptions excepted))
+      (all_map (IsFair rp wanted) (of_source JoinRpt) (lacking excepted exceptions)
+      (weaker (λ s. Valid s × (is_listed s excepted ≡ true) × (is_listed s exceptions ≡ false)) (λ s. IsFair rp wanted (of_source JoinRpt s)) (lacking excepted exceptions)
       (λ s is. (is.0, ap (λ o. is_listed s (exceptions_of o)) w ∙ is.2)) (lacking_of Valid excepted exceptions excepted bs (λ s l. l))))
-      (all_map (IsFair rp wanted) (told PruneRpt) (lacking exceptions excepted)
-      (weaker (λ s. Valid s × (is_listed s exceptions ≡ true) × (is_listed s excepted ≡ false)) (λ s. IsFair rp wanted (told PruneRpt s)) (lacking exceptions excepted)
+      (all_map (IsFair rp wanted) (of_source PruneRpt) (lacking exceptions excepted)
+      (weaker (λ s. Valid s × (is_listed s exceptions ≡ true) × (is_listed s excepted ≡ false)) (λ s. IsFair rp wanted (of_source PruneRpt s)) (lacking exceptions excepted)
       (λ s is. (is.0, ap (λ o. is_listed s (exceptions_of o)) w ∙ is.1)) (lacking_of Valid exceptions excepted exceptions ns (λ s l. l))))
 
   sources_fair : (rp : Option (List ℕ)) (wanted : GroupForm) (before : List (List ℕ)) → AllByRecursion Valid before → AllByRecursion Valid wanted.sources → AllByRecursion (IsFair rp wanted) (sources_change before wanted.sources)
   sources_fair rp wanted before bs ns =
-      all_append (IsFair rp wanted) (map (told JoinSource) (lacking wanted.sources before)) (map (told PruneSource) (lacking before wanted.sources))
-      (all_map (IsFair rp wanted) (told JoinSource) (lacking wanted.sources before)
-      (weaker (λ s. Valid s × (is_listed s wanted.sources ≡ true) × (is_listed s before ≡ false)) (λ s. IsFair rp wanted (told JoinSource s)) (lacking wanted.sources before)
+      all_append (IsFair rp wanted) (map (of_source JoinSource) (lacking wanted.sources before)) (map (of_source PruneSource) (lacking before wanted.sources))
+      (all_map (IsFair rp wanted) (of_source JoinSource) (lacking wanted.sources before)
+      (weaker (λ s. Valid s × (is_listed s wanted.sources ≡ true) × (is_listed s before ≡ false)) (λ s. IsFair rp wanted (of_source JoinSource s)) (lacking wanted.sources before)
       (λ s is. (is.0, is.1)) (lacking_of Valid wanted.sources before wanted.sources ns (λ s l. l))))
-      (all_map (IsFair rp wanted) (told PruneSource) (lacking before wanted.sources)
-      (weaker (λ s. Valid s × (is_listed s before ≡ true) × (is_listed s wanted.sources ≡ false)) (λ s. IsFair rp wanted (told PruneSource s)) (lacking before wanted.sources)
+      (all_map (IsFair rp wanted) (of_source PruneSource) (lacking before wanted.sources)
+      (weaker (λ s. Valid s × (is_listed s before ≡ true) × (is_listed s wanted.sources ≡ false)) (λ s. IsFair rp wanted (of_source PruneSource s)) (lacking before wanted.sources)
       (λ s is. (is.0, is.2)) (lacking_of Valid before wanted.sources before bs (λ s l. l))))
 
   -- ---- a change
 
   module _ (old new : List GroupForm) where
-    abbrev IsFairIn : List ℕ → Telling → Type 0
+    abbrev IsFairIn : List ℕ → Action → Type 0
     IsFairIn group this = IsFair (rps group) (group_in group new) this
 
     abbrev pub IsFairUnit : ChangeUnit → Type 0
-    IsFairUnit this = IsGroupAddress family this.group × IsFairIn this.group this.telling
+    IsFairUnit this = IsGroupAddress family this.group × IsFairIn this.group this.action
 
     at_fair : (group : List ℕ) → IsGroupAddress family group → IsFine (rps group) (group_in group old) → IsFine (rps group) (group_in group new) → AllByRecursion IsFairUnit (change_at old new group)
     at_fair group is before wanted =
@@ -153,11 +153,11 @@ module _ (family : AddressFamily) (rps : List ℕ → Option (List ℕ)) where
 
     -- ---- the sets of a run
 
-    record IsFairSet (set : GroupTellings) : Type 0 where
+    record IsFairSet (set : GroupActions) : Type 0 where
       group : IsGroupAddress family set.group
       tellings : AllByRecursion (IsFairIn set.group) set.tellings
 
-    front_fair : (this : ChangeUnit) (sets : List GroupTellings) → IsFairUnit this → AllByRecursion IsFairSet sets → AllByRecursion IsFairSet (in_front this sets)
+    front_fair : (this : ChangeUnit) (sets : List GroupActions) → IsFairUnit this → AllByRecursion IsFairSet sets → AllByRecursion IsFairSet (in_front this sets)
     front_fair this [] fair all = (record { group = fair.0; tellings = (fair.1, tt) }, tt)
     front_fair this (first ∷ sets) fair all =
         elim (same_address this.group first.group) as (λ b. same_address this.group first.group ≡ b → AllByRecursion IsFairSet (set_in_front b this first sets)) [
@@ -181,21 +181,21 @@ module _ (family : AddressFamily) (rps : List ℕ → Option (List ℕ)) where
   rpts_valid [] all = tt
   rpts_valid (x ∷ xs) all = (all.0, rpts_valid xs all.1)
 
-  joined_valid : (rp : Option (List ℕ)) (wanted : GroupForm) (this : Telling) → IsFair rp wanted this → AllByRecursion (IsMessageEntry family) (joined_entries rp this)
+  joined_valid : (rp : Option (List ℕ)) (wanted : GroupForm) (this : Action) → IsFair rp wanted this → AllByRecursion (IsMessageEntry family) (joined_entries rp this)
   joined_valid rp wanted (star_joined exceptions) fair = rp_valid rp fair.0
   joined_valid rp wanted star_pruned fair = tt
-  joined_valid rp wanted (told JoinRpt source) fair = (fair.0, tt)
-  joined_valid rp wanted (told PruneRpt source) fair = tt
-  joined_valid rp wanted (told JoinSource source) fair = (fair.0, tt)
-  joined_valid rp wanted (told PruneSource source) fair = tt
+  joined_valid rp wanted (of_source JoinRpt source) fair = (fair.0, tt)
+  joined_valid rp wanted (of_source PruneRpt source) fair = tt
+  joined_valid rp wanted (of_source JoinSource source) fair = (fair.0, tt)
+  joined_valid rp wanted (of_source PruneSource source) fair = tt
 
-  pruned_valid : (rp : Option (List ℕ)) (wanted : GroupForm) (this : Telling) → IsFair rp wanted this → AllByRecursion (IsMessageEntry family) (pruned_entries rp this)
+  pruned_valid : (rp : Option (List ℕ)) (wanted : GroupForm) (this : Action) → IsFair rp wanted this → AllByRecursion (IsMessageEntry family) (pruned_entries rp this)
   pruned_valid rp wanted (star_joined exceptions) fair = rpts_valid exceptions fair.1
   pruned_valid rp wanted star_pruned fair = rp_valid rp fair
-  pruned_valid rp wanted (told JoinRpt source) fair = tt
-  pruned_valid rp wanted (told PruneRpt source) fair = (fair.0, tt)
-  pruned_valid rp wanted (told JoinSource source) fair = tt
-  pruned_valid rp wanted (told PruneSource source) fair = (fair.0, tt)
+  pruned_valid rp wanted (of_source JoinRpt source) fair = tt
+  pruned_valid rp wanted (of_source PruneRpt source) fair = (fair.0, tt)
+  pruned_valid rp wanted (of_source JoinSource source) fair = tt
+  pruned_valid rp wanted (of_source PruneSource source) fair = (fair.0, tt)
 
   -- a joined entry is wanted, a pruned one isn't
   abbrev IsJoined : GroupForm → Entry (List ℕ) → Type 0
@@ -223,21 +223,21 @@ module _ (family : AddressFamily) (rps : List ℕ → Option (List ℕ)) where
     rpts_pruned wanted exceptions xs w (λ s l. are s (or_right (same_address s x) (is_listed s xs) l)),
   )
 
-  joined_wanted : (rp : Option (List ℕ)) (wanted : GroupForm) (this : Telling) → IsFair rp wanted this → AllByRecursion (IsJoined wanted) (joined_entries rp this)
+  joined_wanted : (rp : Option (List ℕ)) (wanted : GroupForm) (this : Action) → IsFair rp wanted this → AllByRecursion (IsJoined wanted) (joined_entries rp this)
   joined_wanted rp wanted (star_joined exceptions) fair = rp_joined wanted rp
   joined_wanted rp wanted star_pruned fair = tt
-  joined_wanted rp wanted (told JoinRpt source) fair = (fair.1, tt)
-  joined_wanted rp wanted (told PruneRpt source) fair = tt
-  joined_wanted rp wanted (told JoinSource source) fair = (fair.1, tt)
-  joined_wanted rp wanted (told PruneSource source) fair = tt
+  joined_wanted rp wanted (of_source JoinRpt source) fair = (fair.1, tt)
+  joined_wanted rp wanted (of_source PruneRpt source) fair = tt
+  joined_wanted rp wanted (of_source JoinSource source) fair = (fair.1, tt)
+  joined_wanted rp wanted (of_source PruneSource source) fair = tt
 
-  pruned_wanted : (rp : Option (List ℕ)) (wanted : GroupForm) (this : Telling) → IsFair rp wanted this → AllByRecursion (IsPruned wanted) (pruned_entries rp this)
+  pruned_wanted : (rp : Option (List ℕ)) (wanted : GroupForm) (this : Action) → IsFair rp wanted this → AllByRecursion (IsPruned wanted) (pruned_entries rp this)
   pruned_wanted rp wanted (star_joined exceptions) fair = rpts_pruned wanted exceptions exceptions fair.2 (λ s l. l)
   pruned_wanted rp wanted star_pruned fair = rp_pruned wanted rp
-  pruned_wanted rp wanted (told JoinRpt source) fair = tt
-  pruned_wanted rp wanted (told PruneRpt source) fair = (fair.1, tt)
-  pruned_wanted rp wanted (told JoinSource source) fair = tt
-  pruned_wanted rp wanted (told PruneSource source) fair = (fair.1, tt)
+  pruned_wanted rp wanted (of_source JoinRpt source) fair = tt
+  pruned_wanted rp wanted (of_source PruneRpt source) fair = (fair.1, tt)
+  pruned_wanted rp wanted (of_source JoinSource source) fair = tt
+  pruned_wanted rp wanted (of_source PruneSource source) fair = (fair.1, tt)
 
   apart_one : (wanted : GroupForm) (pruned joined : Entry (List ℕ)) → IsPruned wanted pruned → IsJoined wanted joined → same_source pruned joined ≡ false
   apart_one wanted (Star rp) joined p j = refl
@@ -267,7 +267,7 @@ module _ (family : AddressFamily) (rps : List ℕ → Option (List ℕ)) where
   -- ---- a message
 
   module _ (old new : List GroupForm) where
-    set_spelled : (set : GroupTellings) → IsFairSet old new set → HasFewStars rps set → IsShort (told_set rps set) → IsMessageSet family (told_set rps set)
+    set_spelled : (set : GroupActions) → IsFairSet old new set → HasFewStars rps set → IsShort (written_set rps set) → IsMessageSet family (written_set rps set)
     set_spelled set fair few short =
         let rp = rps set.group in
         let wanted = group_in set.group new in (
@@ -275,7 +275,7 @@ module _ (family : AddressFamily) (rps : List ℕ → Option (List ℕ)) where
           fair.group.1,
           (
             few,
-            apart_lists wanted (told_set rps set).pruned (told_set rps set).joined (all_flat (IsPruned wanted) (IsFair rp wanted) (pruned_entries rp) set.tellings (pruned_wanted rp wanted) fair.tellings)
+            apart_lists wanted (written_set rps set).pruned (written_set rps set).joined (all_flat (IsPruned wanted) (IsFair rp wanted) (pruned_entries rp) set.tellings (pruned_wanted rp wanted) fair.tellings)
                 (all_flat (IsJoined wanted) (IsFair rp wanted) (joined_entries rp) set.tellings (joined_wanted rp wanted) fair.tellings),
           ),
           short.0,
@@ -284,12 +284,12 @@ module _ (family : AddressFamily) (rps : List ℕ → Option (List ℕ)) where
           all_flat (IsMessageEntry family) (IsFair rp wanted) (pruned_entries rp) set.tellings (pruned_valid rp wanted) fair.tellings,
         )
 
-    sets_spelled : (sets : List GroupTellings) → AllByRecursion (IsFairSet old new) sets → AllByRecursion (HasFewStars rps) sets → AllByRecursion IsShort (map (told_set rps) sets) → AllByRecursion (IsMessageSet family) (map (told_set rps) sets)
+    sets_spelled : (sets : List GroupActions) → AllByRecursion (IsFairSet old new) sets → AllByRecursion (HasFewStars rps) sets → AllByRecursion IsShort (map (written_set rps) sets) → AllByRecursion (IsMessageSet family) (map (written_set rps) sets)
     sets_spelled [] fair few short = tt
     sets_spelled (set ∷ sets) fair few short = (set_spelled set fair.0 few.0 short.0, sets_spelled sets fair.1 few.1 short.1)
 
     pub run_spelled : (writing : Writing) (run : List ChangeUnit) → IsWriting family writing → AllByRecursion (IsFairUnit old new) run → HasOneStar run → fits family writing.budget (weights run) ≡ true
-        → IsMessage family (told_message writing rps run)
+        → IsMessage family (written_message writing rps run)
     run_spelled writing run is fair one fitting =
         let most = few_sets family writing.budget rps run is.most fitting in (
           is.upstream.0,

@@ -10,11 +10,11 @@ use Rattle.pim_addr.specs.declared.family.AddressFamily.{AddressFamily}
 use Rattle.pim_form.specs.NormalForm.{GroupForm, AreAscending, groups_of}
 use Rattle.pim_form.specs.TooBig.{star_fits}
 use Rattle.pim_form.specs.Settled.{unwanted}
-use Rattle.pim_change.specs.declared.unit.Kind.{Kind}
-use Rattle.pim_change.specs.declared.unit.Kind.TheVariants.{JoinRpt, PruneRpt, JoinSource, PruneSource}
-use Rattle.pim_change.specs.Change.{Telling, told, ChangeUnit, about, lacking, star_change, sources_change}
+use Rattle.pim_change.specs.declared.unit.ActionKind.{ActionKind}
+use Rattle.pim_change.specs.declared.unit.ActionKind.TheVariants.{JoinRpt, PruneRpt, JoinSource, PruneSource}
+use Rattle.pim_change.specs.Change.{Action, of_source, ChangeUnit, about, lacking, star_change, sources_change}
 use Rattle.pim_change.specs.Change.{group_change, change}
-use Rattle.pim_change.specs.TooBig.{telling_fits, too_big, star_change_fits}
+use Rattle.pim_change.specs.TooBig.{action_fits, too_big, star_change_fits}
 use Rattle.pim_change.proofs.Changing.{change_less, change_equal, change_greater, change_gone, change_came, no_change}
 
 module _ (family : AddressFamily) (budget : ℕ) where
@@ -27,7 +27,7 @@ module _ (family : AddressFamily) (budget : ℕ) where
       → too_big family budget (xs ++ ys) ≡ behind (too_big family budget xs) (too_big family budget ys)
   unfolding too_big behind
   too_big_append [] ys = refl
-  too_big_append (x ∷ xs) ys = by (too_big_append xs ys) (telling_fits family budget x.group x.telling)
+  too_big_append (x ∷ xs) ys = by (too_big_append xs ys) (action_fits family budget x.group x.action)
     where
       by : too_big family budget (xs ++ ys) ≡ behind (too_big family budget xs) (too_big family budget ys)
           → (b : Bool) → cond b (too_big family budget (xs ++ ys)) (Some x.group) ≡ behind
@@ -35,15 +35,15 @@ module _ (family : AddressFamily) (budget : ℕ) where
       by others true = others
       by others false = refl
 
-  kind_fits : (group : List ℕ) (kind : Kind) (sources : List (List ℕ)) (others : List Telling)
-      → too_big family budget (about group (map (told kind) sources ++ others)) ≡ too_big family budget
+  kind_fits : (group : List ℕ) (kind : ActionKind) (sources : List (List ℕ)) (others : List Action)
+      → too_big family budget (about group (map (of_source kind) sources ++ others)) ≡ too_big family budget
       (about group others)
   unfolding too_big
   kind_fits group kind [] others = refl
   kind_fits group kind (s ∷ sources) others = kind_fits group kind sources others
 
-  kind_last : (group : List ℕ) (kind : Kind) (sources : List (List ℕ))
-      → too_big family budget (about group (map (told kind) sources)) ≡ None
+  kind_last : (group : List ℕ) (kind : ActionKind) (sources : List (List ℕ))
+      → too_big family budget (about group (map (of_source kind) sources)) ≡ None
   unfolding too_big
   kind_last group kind [] = refl
   kind_last group kind (s ∷ sources) = kind_last group kind sources
@@ -51,10 +51,10 @@ module _ (family : AddressFamily) (budget : ℕ) where
   sources_fit : (group : List ℕ) (old new : List (List ℕ))
       → too_big family budget (about group (sources_change old new)) ≡ None
   sources_fit group old new =
-      kind_fits group JoinSource (lacking new old) (map (told PruneSource) (lacking old new))
+      kind_fits group JoinSource (lacking new old) (map (of_source PruneSource) (lacking old new))
       ∙ kind_last group PruneSource (lacking old new)
 
-  star_part : (group : List ℕ) (a b : Option (List (List ℕ))) (others : List Telling)
+  star_part : (group : List ℕ) (a b : Option (List (List ℕ))) (others : List Action)
       → too_big family budget (about group others) ≡ None
       → too_big family budget (about group (star_change a b ++ others)) ≡ cond
       (is_some a || star_fits family budget group b) None (Some group)
@@ -68,11 +68,11 @@ module _ (family : AddressFamily) (budget : ℕ) where
       ]
   star_part group (Some excepted) None others none = none
   star_part group (Some excepted) (Some exceptions) others none =
-      ap (λ (l : List Telling). too_big family budget (about group l))
-      (append_assoc (map (told JoinRpt) (lacking excepted exceptions))
-      (map (told PruneRpt) (lacking exceptions excepted)) others)
+      ap (λ (l : List Action). too_big family budget (about group l))
+      (append_assoc (map (of_source JoinRpt) (lacking excepted exceptions))
+      (map (of_source PruneRpt) (lacking exceptions excepted)) others)
       ∙ kind_fits group JoinRpt (lacking excepted exceptions)
-      (map (told PruneRpt) (lacking exceptions excepted) ++ others)
+      (map (of_source PruneRpt) (lacking exceptions excepted) ++ others)
       ∙ kind_fits group PruneRpt (lacking exceptions excepted) others ∙ none
 
   -- a group's change doesn't fit exactly if its new star doesn't

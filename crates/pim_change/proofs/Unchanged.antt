@@ -3,8 +3,8 @@ use Rattle.std.proofs.Common.{◌≡◌, ℕ, Bool, true, false, ◌||◌, List,
 use Rattle.std.specs.List.{AllByRecursion, flat_map}
 use Rattle.pim_form.specs.NormalForm.{GroupForm, same_address, is_listed, groups_of}
 use Rattle.pim_form.specs.Settled.{group_in}
-use Rattle.pim_change.specs.declared.unit.Kind.TheVariants.{JoinRpt, PruneRpt, JoinSource, PruneSource}
-use Rattle.pim_change.specs.Change.{told, ChangeUnit, about, lacking, star_change, group_change, in_order, change_at, change}
+use Rattle.pim_change.specs.declared.unit.ActionKind.TheVariants.{JoinRpt, PruneRpt, JoinSource, PruneSource}
+use Rattle.pim_change.specs.Change.{of_source, ChangeUnit, about, lacking, star_change, group_change, in_order, change_at, change}
 use Rattle.pim_change.proofs.Addresses.{same_itself}
 
 none_of : (xs ys : List (List ℕ)) → AllByRecursion (λ x. is_listed x ys ≡ true) xs → lacking xs ys ≡ []
@@ -30,11 +30,11 @@ nothing_lacks xs = none_of xs xs (all_listed xs)
 same_star : (star : Option (List (List ℕ))) → star_change star star ≡ []
 same_star None = refl
 same_star (Some exceptions) =
-    λ i. map (told JoinRpt) (nothing_lacks exceptions i) ++ map (told PruneRpt) (nothing_lacks exceptions i)
+    λ i. map (of_source JoinRpt) (nothing_lacks exceptions i) ++ map (of_source PruneRpt) (nothing_lacks exceptions i)
 
 same_group : (this : GroupForm) → group_change this this ≡ []
 same_group this = λ i. same_star this.star i
-    ++ (map (told JoinSource) (nothing_lacks this.sources i) ++ map (told PruneSource) (nothing_lacks this.sources i))
+    ++ (map (of_source JoinSource) (nothing_lacks this.sources i) ++ map (of_source PruneSource) (nothing_lacks this.sources i))
 
 no_units : (f : List ℕ → List ChangeUnit) → ((g : List ℕ) → f g ≡ []) → (groups : List (List ℕ))
     → flat_map f groups ≡ []

@@ -11,22 +11,22 @@ use Rattle.std.proofs.lemmas.List.{append-nil, nil_from_length}
 use Rattle.pim_form.specs.NormalForm.{GroupForm, AreAscending, groups_of}
 use Rattle.pim_form.specs.Rows.{exceptions_of}
 use Rattle.pim_form.specs.Settled.{unwanted}
-use Rattle.pim_change.specs.declared.unit.Kind.{Kind}
-use Rattle.pim_change.specs.declared.unit.Kind.TheVariants.{JoinRpt, PruneRpt, JoinSource, PruneSource}
+use Rattle.pim_change.specs.declared.unit.ActionKind.{ActionKind}
+use Rattle.pim_change.specs.declared.unit.ActionKind.TheVariants.{JoinRpt, PruneRpt, JoinSource, PruneSource}
 use Rattle.pim_change.specs.declared.unit.Unit.{Unit}
-use Rattle.pim_change.specs.declared.unit.Telling.TheVariants.{Of}
-use Rattle.pim_change.specs.Change.{Telling, told, ChangeUnit, unit_of, about, lacking, star_change, sources_change}
+use Rattle.pim_change.specs.declared.unit.Action.TheVariants.{Of}
+use Rattle.pim_change.specs.Change.{Action, of_source, ChangeUnit, unit_of, about, lacking, star_change, sources_change}
 use Rattle.pim_change.specs.Change.{group_change, change}
 use Rattle.pim_change.specs.Seen.{unit_seen, units_seen}
 use Rattle.pim_change.proofs.Lacking.{lacking_all, lacking_less, lacking_equal, lacking_greater}
 use Rattle.pim_change.proofs.Changing.{change_less, change_equal, change_greater, change_gone, change_came, no_change}
 
-about_more : (group : List ℕ) (xs ys : List Telling) → about group (xs ++ ys) ≡ about group xs ++ about group ys
+about_more : (group : List ℕ) (xs ys : List Action) → about group (xs ++ ys) ≡ about group xs ++ about group ys
 about_more group [] ys = refl
 about_more group (x ∷ xs) ys = ap (λ (l : List ChangeUnit). unit_of group x ∷ l) (about_more group xs ys)
 
 -- two parts that are told one after the other
-pub told_both : (group : List ℕ) (start middle all : List ChangeUnit) (xs ys : List Telling)
+pub told_both : (group : List ℕ) (start middle all : List ChangeUnit) (xs ys : List Action)
     → middle ≡ start ++ about group xs → all ≡ middle ++ about group ys → all ≡ start ++ about group (xs ++ ys)
 told_both group start middle all xs ys first second =
     second ∙ ap (λ (l : List ChangeUnit). l ++ about group ys) first
@@ -68,20 +68,20 @@ module _ {A : Type 0} (bytes_of : A → List ℕ) where
 
   -- ---- what one list lacks of another
 
-  abbrev pub kind_told : Kind → A → List A → List ChangeUnit
-  kind_told kind group sources = about (bytes_of group) (map (told kind) (map bytes_of sources))
+  abbrev pub kind_told : ActionKind → A → List A → List ChangeUnit
+  kind_told kind group sources = about (bytes_of group) (map (of_source kind) (map bytes_of sources))
 
-  abbrev pub lacking_told : Kind → A → List A → List A → List ChangeUnit
+  abbrev pub lacking_told : ActionKind → A → List A → List A → List ChangeUnit
   lacking_told kind group one other =
-      about (bytes_of group) (map (told kind) (lacking (map bytes_of one) (map bytes_of other)))
+      about (bytes_of group) (map (of_source kind) (lacking (map bytes_of one) (map bytes_of other)))
 
-  pub record IsLacking (kind : Kind) (group : A) (units : List (Unit A)) (one other : List A) (all : List ChangeUnit)
+  pub record IsLacking (kind : ActionKind) (group : A) (units : List (Unit A)) (one other : List A) (all : List ChangeUnit)
       : Type 0 where
     pub first : AreAscending (map bytes_of one)
     pub second : AreAscending (map bytes_of other)
     pub so_far : Tells units (lacking_told kind group one other) all
 
-  module _ (kind : Kind) (group : A) (units units' : List (Unit A)) (one one' other other' : List A) (x y : A)
+  module _ (kind : ActionKind) (group : A) (units units' : List (Unit A)) (one one' other other' : List A) (x y : A)
       (all : List ChangeUnit) (is_one : one ≡ x ∷ one') (is_other : other ≡ y ∷ other')
       (lacks : IsLacking kind group units one other all) where
     up_one : AreAscending (map bytes_of (x ∷ one'))
@@ -94,13 +94,13 @@ module _ {A : Type 0} (bytes_of : A → List ℕ) where
     opened = subst (λ o. Tells units (lacking_told kind group (x ∷ one') o) all) is_other
         (subst (λ o. Tells units (lacking_told kind group o other) all) is_one lacks.so_far)
 
-    by_lists : (l l' : List (List ℕ)) → l ≡ l' → Tells units (about (bytes_of group) (map (told kind) l)) all
-        → Tells units (about (bytes_of group) (map (told kind) l')) all
+    by_lists : (l l' : List (List ℕ)) → l ≡ l' → Tells units (about (bytes_of group) (map (of_source kind) l)) all
+        → Tells units (about (bytes_of group) (map (of_source kind) l')) all
     by_lists l l' same tells = subst
-        (λ (m : List (List ℕ)). Tells units (about (bytes_of group) (map (told kind) m)) all) same tells
+        (λ (m : List (List ℕ)). Tells units (about (bytes_of group) (map (of_source kind) m)) all) same tells
 
     pub lack_less : slice_cmp nat_cmp (bytes_of x) (bytes_of y) ≡ Less
-        → units' ≡ units ++ (record { group = group; telling = Of kind x }) ∷ []
+        → units' ≡ units ++ (record { group = group; action = Of kind x }) ∷ []
         → IsLacking kind group units' one' other all
     unfolding IsStrictlySortedBy
     lack_less less is =
@@ -111,7 +111,7 @@ module _ {A : Type 0} (bytes_of : A → List ℕ) where
           first = up_one.1;
           second = lacks.second;
           so_far = subst (λ o. Tells units' (lacking_told kind group one' o) all) (sym is_other)
-              (one_more units units' (record { group = group; telling = Of kind x })
+              (one_more units units' (record { group = group; action = Of kind x })
               (lacking_told kind group one' (y ∷ other')) all is here);
         }
 
@@ -137,7 +137,7 @@ module _ {A : Type 0} (bytes_of : A → List ℕ) where
           opened);
     }
 
-  module _ (kind : Kind) (group : A) (units units' : List (Unit A)) (one other : List A) (all : List ChangeUnit)
+  module _ (kind : ActionKind) (group : A) (units units' : List (Unit A)) (one other : List A) (all : List ChangeUnit)
       (is : units_seen bytes_of units' ≡ units_seen bytes_of units ++ kind_told kind group one)
       (lacks : IsLacking kind group units one other all) where
     pub lack_first : length one ≡ 0 → units_seen bytes_of units' ≡ all
@@ -151,7 +151,7 @@ module _ {A : Type 0} (bytes_of : A → List ℕ) where
         let empty = nil_from_length other none in
         let here : Tells units (lacking_told kind group one []) all =
         subst (λ (o : List A). Tells units (lacking_told kind group one o) all) empty lacks.so_far in
-        is ∙ subst (λ (l : List (List ℕ)). units_seen bytes_of units ++ about (bytes_of group) (map (told kind) l) ≡
+        is ∙ subst (λ (l : List (List ℕ)). units_seen bytes_of units ++ about (bytes_of group) (map (of_source kind) l) ≡
         all) (lacking_all (map bytes_of one)) here
 
   -- ---- forms
@@ -270,19 +270,19 @@ module _ {A : Type 0} (bytes_of : A → List ℕ) where
 -- ---- a group that was not told, or isn't wanted
 
 pub all_came : (new : GroupForm)
-    → group_change (unwanted new.group) new ≡ star_change None new.star ++ map (told JoinSource) new.sources
+    → group_change (unwanted new.group) new ≡ star_change None new.star ++ map (of_source JoinSource) new.sources
 all_came new =
-    ap (λ (l : List Telling). star_change None new.star ++ l)
-    (append-nil (map (told JoinSource) (lacking new.sources [])) ∙ ap (map (told JoinSource)) (lacking_all new.sources))
+    ap (λ (l : List Action). star_change None new.star ++ l)
+    (append-nil (map (of_source JoinSource) (lacking new.sources [])) ∙ ap (map (of_source JoinSource)) (lacking_all new.sources))
 
 pub all_gone : (old : GroupForm)
-    → group_change old (unwanted old.group) ≡ star_change old.star None ++ map (told PruneSource) old.sources
-all_gone old = ap (λ (l : List (List ℕ)). star_change old.star None ++ map (told PruneSource) l)
+    → group_change old (unwanted old.group) ≡ star_change old.star None ++ map (of_source PruneSource) old.sources
+all_gone old = ap (λ (l : List (List ℕ)). star_change old.star None ++ map (of_source PruneSource) l)
     (lacking_all old.sources)
 
 both_stay : (old new : Option (List (List ℕ))) → is_some old ≡ true → is_some new ≡ true
-    → star_change old new ≡ map (told JoinRpt) (lacking (exceptions_of old) (exceptions_of new))
-    ++ map (told PruneRpt) (lacking (exceptions_of new) (exceptions_of old))
+    → star_change old new ≡ map (of_source JoinRpt) (lacking (exceptions_of old) (exceptions_of new))
+    ++ map (of_source PruneRpt) (lacking (exceptions_of new) (exceptions_of old))
 both_stay None new is_old is_new = absurd (false≢true is_old)
 both_stay (Some old) None is_old is_new = absurd (false≢true is_new)
 both_stay (Some old) (Some new) is_old is_new = refl
@@ -296,29 +296,29 @@ module _ {A : Type 0} (bytes_of : A → List ℕ) (group : A) (start : List Chan
       → all ≡ start ++ about address (star_change old new)
   exceptions_told address before after old new middle all is e f is_old is_new first second =
       told_both (bytes_of group) start middle all
-      (map (told JoinRpt) (lacking (map bytes_of before) (map bytes_of after)))
-      (map (told PruneRpt) (lacking (map bytes_of after) (map bytes_of before))) first second
+      (map (of_source JoinRpt) (lacking (map bytes_of before) (map bytes_of after)))
+      (map (of_source PruneRpt) (lacking (map bytes_of after) (map bytes_of before))) first second
       ∙ (λ i. start ++ about (is i)
-      (map (told JoinRpt) (lacking (e i) (f i)) ++ map (told PruneRpt) (lacking (f i) (e i))))
-      ∙ ap (λ (l : List Telling). start ++ about address l) (sym (both_stay old new is_old is_new))
+      (map (of_source JoinRpt) (lacking (e i) (f i)) ++ map (of_source PruneRpt) (lacking (f i) (e i))))
+      ∙ ap (λ (l : List Action). start ++ about address l) (sym (both_stay old new is_old is_new))
 
   pub new_told : (new : GroupForm) (sources : List A) (middle all : List ChangeUnit) → bytes_of group ≡ new.group
       → map bytes_of sources ≡ new.sources → middle ≡ start ++ about new.group (star_change None new.star)
       → all ≡ middle ++ kind_told bytes_of JoinSource group sources
       → all ≡ start ++ about new.group (group_change (unwanted new.group) new)
   new_told new sources middle all is e first second =
-      told_both new.group start middle all (star_change None new.star) (map (told JoinSource) new.sources) first
-      (second ∙ (λ i. middle ++ about (is i) (map (told JoinSource) (e i))))
-      ∙ ap (λ (l : List Telling). start ++ about new.group l) (sym (all_came new))
+      told_both new.group start middle all (star_change None new.star) (map (of_source JoinSource) new.sources) first
+      (second ∙ (λ i. middle ++ about (is i) (map (of_source JoinSource) (e i))))
+      ∙ ap (λ (l : List Action). start ++ about new.group l) (sym (all_came new))
 
   pub old_told : (old : GroupForm) (sources : List A) (middle all : List ChangeUnit) → bytes_of group ≡ old.group
       → map bytes_of sources ≡ old.sources → middle ≡ start ++ about old.group (star_change old.star None)
       → all ≡ middle ++ kind_told bytes_of PruneSource group sources
       → all ≡ start ++ about old.group (group_change old (unwanted old.group))
   old_told old sources middle all is e first second =
-      told_both old.group start middle all (star_change old.star None) (map (told PruneSource) old.sources) first
-      (second ∙ (λ i. middle ++ about (is i) (map (told PruneSource) (e i))))
-      ∙ ap (λ (l : List Telling). start ++ about old.group l) (sym (all_gone old))
+      told_both old.group start middle all (star_change old.star None) (map (of_source PruneSource) old.sources) first
+      (second ∙ (λ i. middle ++ about (is i) (map (of_source PruneSource) (e i))))
+      ∙ ap (λ (l : List Action). start ++ about old.group l) (sym (all_gone old))
 
   pub group_told : (old new : GroupForm) (before after : List A) (first second all : List ChangeUnit)
       → bytes_of group ≡ new.group → map bytes_of before ≡ old.sources → map bytes_of after ≡ new.sources
@@ -327,13 +327,13 @@ module _ {A : Type 0} (bytes_of : A → List ℕ) (group : A) (start : List Chan
       → all ≡ second ++ lacking_told bytes_of PruneSource group before after
       → all ≡ start ++ about new.group (group_change old new)
   group_told old new before after first second all is e f stars joins prunes =
-      let joins' : second ≡ first ++ about new.group (map (told JoinSource) (lacking new.sources old.sources)) =
-      joins ∙ (λ i. first ++ about (is i) (map (told JoinSource) (lacking (f i) (e i)))) in
-      let prunes' : all ≡ second ++ about new.group (map (told PruneSource) (lacking old.sources new.sources)) =
-      prunes ∙ (λ i. second ++ about (is i) (map (told PruneSource) (lacking (e i) (f i)))) in
+      let joins' : second ≡ first ++ about new.group (map (of_source JoinSource) (lacking new.sources old.sources)) =
+      joins ∙ (λ i. first ++ about (is i) (map (of_source JoinSource) (lacking (f i) (e i)))) in
+      let prunes' : all ≡ second ++ about new.group (map (of_source PruneSource) (lacking old.sources new.sources)) =
+      prunes ∙ (λ i. second ++ about (is i) (map (of_source PruneSource) (lacking (e i) (f i)))) in
       told_both new.group start first all (star_change old.star new.star) (sources_change old.sources new.sources) stars
-      (told_both new.group first second all (map (told JoinSource) (lacking new.sources old.sources))
-      (map (told PruneSource) (lacking old.sources new.sources)) joins' prunes')
+      (told_both new.group first second all (map (of_source JoinSource) (lacking new.sources old.sources))
+      (map (of_source PruneSource) (lacking old.sources new.sources)) joins' prunes')
 
 module _ {A : Type 0} (bytes_of : A → List ℕ) (units : List (Unit A)) where
   pub gone_starts : (groups : List GroupForm) → AreAscending (groups_of groups)

@@ -7,17 +7,17 @@ use Rattle.std.specs.Cmp.Lexicographic.{slice_cmp}
 use Rattle.pim_form.specs.NormalForm.{GroupForm, is_listed, groups_of}
 use Rattle.pim_form.specs.Merge.{by_order}
 use Rattle.pim_form.specs.Settled.{group_in}
-use Rattle.pim_change.specs.declared.unit.Kind.{Kind}
-use Rattle.pim_change.specs.declared.unit.Kind.TheVariants.{JoinRpt, PruneRpt, JoinSource, PruneSource}
+use Rattle.pim_change.specs.declared.unit.ActionKind.{ActionKind}
+use Rattle.pim_change.specs.declared.unit.ActionKind.TheVariants.{JoinRpt, PruneRpt, JoinSource, PruneSource}
 
 -- ---- the change of one group
 
 -- What a message says of a group and doesn't split: Join(*,G) with a Prune(S,G,rpt) for each
 -- exception (RFC 7761, 4.9.5.2), Prune(*,G), or the Join or Prune of one source.
-pub data Telling : Type 0 where
-  star_joined : List (List ℕ) → Telling
-  star_pruned : Telling
-  told : Kind → List ℕ → Telling
+pub data Action : Type 0 where
+  star_joined : List (List ℕ) → Action
+  star_pruned : Action
+  of_source : ActionKind → List ℕ → Action
 
 -- The addresses of the first list that aren't in the other list, in their order.
 abbrev pub lacking : List (List ℕ) → List (List ℕ) → List (List ℕ)
@@ -25,19 +25,19 @@ lacking one other = filter (λ address. not (is_listed address other)) one
 
 -- A star that comes is Join(*,G) with all its exceptions; one that goes is Prune(*,G). For a star
 -- that stays, each exception that went is Join(S,G,rpt), and then each that came is Prune(S,G,rpt).
-abbrev pub star_change : Option (List (List ℕ)) → Option (List (List ℕ)) → List Telling
+abbrev pub star_change : Option (List (List ℕ)) → Option (List (List ℕ)) → List Action
 star_change None None = []
 star_change None (Some exceptions) = star_joined exceptions ∷ []
 star_change (Some excepted) None = star_pruned ∷ []
 star_change (Some excepted) (Some exceptions) =
-    map (told JoinRpt) (lacking excepted exceptions) ++ map (told PruneRpt) (lacking exceptions excepted)
+    map (of_source JoinRpt) (lacking excepted exceptions) ++ map (of_source PruneRpt) (lacking exceptions excepted)
 
 -- Each source that came is Join(S,G), and then each that went is Prune(S,G).
-abbrev pub sources_change : List (List ℕ) → List (List ℕ) → List Telling
-sources_change old new = map (told JoinSource) (lacking new old) ++ map (told PruneSource) (lacking old new)
+abbrev pub sources_change : List (List ℕ) → List (List ℕ) → List Action
+sources_change old new = map (of_source JoinSource) (lacking new old) ++ map (of_source PruneSource) (lacking old new)
 
 -- The change of one group: of its star and then of its sources.
-abbrev pub group_change : GroupForm → GroupForm → List Telling
+abbrev pub group_change : GroupForm → GroupForm → List Action
 group_change old new = star_change old.star new.star ++ sources_change old.sources new.sources
 
 -- ---- addresses in order
@@ -61,14 +61,14 @@ in_order (address ∷ others) = inserted address (in_order others)
 -- One unit of a change: a group and what a message says of it.
 pub record ChangeUnit : Type 0 where
   pub group : List ℕ
-  pub telling : Telling
+  pub action : Action
 
 -- The unit of a group and what is said of it.
-abbrev pub unit_of : List ℕ → Telling → ChangeUnit
-unit_of group telling = record { group = group; telling = telling }
+abbrev pub unit_of : List ℕ → Action → ChangeUnit
+unit_of group action = record { group = group; action = action }
 
 -- The units of one group.
-abbrev pub about : List ℕ → List Telling → List ChangeUnit
+abbrev pub about : List ℕ → List Action → List ChangeUnit
 about group tellings = map (unit_of group) tellings
 
 -- The units for the change of one group between two forms.

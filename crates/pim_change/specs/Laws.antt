@@ -10,7 +10,7 @@ use Rattle.pim_form.specs.Settled.{group_in}
 use Rattle.pim_form.specs.TooBig as form
 use Rattle.pim_change.specs.Change.{ChangeUnit, in_order, change}
 use Rattle.pim_change.specs.TooBig as changed
-use Rattle.pim_change.specs.Told.{told_message, TellChange}
+use Rattle.pim_change.specs.Written.{written_message, CarryChange}
 
 -- The change from a form to itself has no units.
 abbrev pub EqualFormsChangeNothing : Type 0
@@ -30,7 +30,7 @@ AreReadAsRuns family writing rps [] [] = Unit {0}
 AreReadAsRuns family writing rps [] (bytes ∷ messages) = ⊥
 AreReadAsRuns family writing rps (run ∷ runs) [] = ⊥
 AreReadAsRuns family writing rps (run ∷ runs) (bytes ∷ messages) =
-    IsReadAs family writing.own bytes (told_message writing rps run) × AreReadAsRuns family writing rps runs messages
+    IsReadAs family writing.own bytes (written_message writing rps run) × AreReadAsRuns family writing rps runs messages
 
 -- The byte strings are read as the messages of runs, and together these runs are the change.
 pub record IsReadAsChange (family : AddressFamily) (writing : Writing) (rps : List ℕ → Option (List ℕ)) (old new : List GroupForm)
@@ -44,7 +44,7 @@ pub record IsReadAsChange (family : AddressFamily) (writing : Writing) (rps : Li
 abbrev pub ChangeIsRead : Type 0
 ChangeIsRead = (family : AddressFamily) (writing : Writing) (rps : List ℕ → Option (List ℕ)) (old new : List GroupForm)
     (messages : List (List ℕ)) → IsWriting family writing → IsNormal family old → IsNormal family new →
-    HaveRps family rps old → HaveRps family rps new → TellChange family writing rps old new messages →
+    HaveRps family rps old → HaveRps family rps new → CarryChange family writing rps old new messages →
     IsReadAsChange family writing rps old new messages
 
 -- The messages of the change between two normal forms, whose stars have RPs, are within their
@@ -53,7 +53,7 @@ abbrev pub ChangeMessagesAreShort : Type 0
 ChangeMessagesAreShort = (family : AddressFamily) (writing : Writing) (rps : List ℕ → Option (List ℕ)) (old new : List GroupForm)
     (messages : List (List ℕ)) → IsWriting family writing →
     IsNormal family old → IsNormal family new → HaveRps family rps old → HaveRps family rps new →
-    TellChange family writing rps old new messages →
+    CarryChange family writing rps old new messages →
     AllByRecursion (λ (message : List ℕ). length message ≤ writing.budget) messages
 
 -- Addresses in order are strictly ascending, and they are the addresses of the list.
@@ -64,11 +64,11 @@ AddressesAreInOrder = (addresses : List (List ℕ)) → AreAscending (in_order a
 -- The change between two forms has messages by a writer exactly if it isn't too big.
 abbrev pub ChangeHasMessagesUnlessTooBig : Type 0
 ChangeHasMessagesUnlessTooBig = (family : AddressFamily) (writing : Writing) (rps : List ℕ → Option (List ℕ)) (old new : List GroupForm) →
-    IsWriting family writing → ((messages : List (List ℕ)) × TellChange family writing rps old new messages)
+    IsWriting family writing → ((messages : List (List ℕ)) × CarryChange family writing rps old new messages)
     ↔ (changed.too_big family writing.budget (change old new) ≡ None)
 
 -- The change between two forms has at most one list of messages by a writer.
 abbrev pub OneListOfChange : Type 0
 OneListOfChange = (family : AddressFamily) (writing : Writing) (rps : List ℕ → Option (List ℕ)) (old new : List GroupForm)
-    (one other : List (List ℕ)) → TellChange family writing rps old new one →
-    TellChange family writing rps old new other → one ≡ other
+    (one other : List (List ℕ)) → CarryChange family writing rps old new one →
+    CarryChange family writing rps old new other → one ≡ other

@@ -3,5 +3,5 @@ pub mod Change
 pub mod Seen
 pub mod TooBig
 pub mod Laws
-pub mod Told
+pub mod Written
 pub mod Runs

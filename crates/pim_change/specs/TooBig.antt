@@ -5,20 +5,20 @@ use Rattle.std.specs.Option.{is_some}
 use Rattle.pim_addr.specs.declared.family.AddressFamily.{AddressFamily}
 use Rattle.pim_form.specs.NormalForm.{GroupForm}
 use Rattle.pim_form.specs.TooBig.{star_fits}
-use Rattle.pim_change.specs.Change.{Telling, star_joined, star_pruned, told, ChangeUnit}
+use Rattle.pim_change.specs.Change.{Action, star_joined, star_pruned, of_source, ChangeUnit}
 
 -- A new star with all its exceptions fits a message alone, or the unit is a single entry.
-abbrev pub telling_fits : AddressFamily → ℕ → List ℕ → Telling → Bool
-telling_fits family budget group (star_joined exceptions) = star_fits family budget group (Some exceptions)
-telling_fits family budget group star_pruned = true
-telling_fits family budget group (told kind source) = true
+abbrev pub action_fits : AddressFamily → ℕ → List ℕ → Action → Bool
+action_fits family budget group (star_joined exceptions) = star_fits family budget group (Some exceptions)
+action_fits family budget group star_pruned = true
+action_fits family budget group (of_source kind source) = true
 
 -- The first group of a change whose new star doesn't fit. It is the least one, since the groups of
 -- a change between normal forms ascend.
 unfoldable pub too_big : AddressFamily → ℕ → List ChangeUnit → Option (List ℕ)
 too_big family budget [] = None
 too_big family budget (this ∷ units) =
-    if telling_fits family budget this.group this.telling then too_big family budget units else Some this.group
+    if action_fits family budget this.group this.action then too_big family budget units else Some this.group
 
 -- The group had a star before, or its new star, if it has one, fits a message alone.
 abbrev pub star_change_fits : AddressFamily → ℕ → GroupForm → GroupForm → Bool

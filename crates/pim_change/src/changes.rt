@@ -8,7 +8,7 @@ ghost use Rattle.pim_form.specs.NormalForm.{AreAscending, groups_of};
 ghost use Rattle.pim_change.specs.Change.{change};
 ghost use Rattle.pim_change.specs.Seen.{units_seen};
 
-use crate::telling::{push_both, push_new, push_old};
+use crate::action::{push_both, push_new, push_old};
 use crate::unit::Unit;
 use pim_addr::Family;
 use pim_form::{Groups, NormalForm};
@@ -50,16 +50,16 @@ fn push_came<'a, F: Family>(
 /// only refusal is for lack of memory.
 pub fn changed<'a, F: Family>(
     alloc: Global,
-    told: &NormalForm<F>,
+    reported: &NormalForm<F>,
     wanted: &'a NormalForm<F>,
 ) -> Result<Vec<Unit<'a, F::Addr>>, AllocError>
     ensures { IfOk result (λ units. units_seen F.bytes_of units.items
-        ≡ change told.now wanted.now) }
+        ≡ change reported.now wanted.now) }
 {
-    told.is_normal();
+    reported.is_normal();
     wanted.is_normal();
     let mut units = Vec::new(alloc);
-    let mut left = told.groups();
+    let mut left = reported.groups();
     let mut right = wanted.groups();
     while let Some((old, left_behind)) = left.split_first() {
         let Some((new, right_behind)) = right.split_first() else {

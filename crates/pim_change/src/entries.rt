@@ -4,12 +4,12 @@ ghost use Rattle.std.specs.Prelude.{◌≡◌, ◌++◌, map, OnOk};
 ghost use Rattle.std.specs.List.{flat_map};
 ghost use Rattle.pim_addr.specs.Routes.{rp_of};
 ghost use Rattle.pim_jp.specs.Seen.{entry_seen};
-ghost use Rattle.pim_change.specs.Seen.{telling_seen, tellings_seen};
-ghost use Rattle.pim_change.specs.Told.{rp_entry, kind_joined, kind_pruned, excepted_entries};
-ghost use Rattle.pim_change.specs.Told.{joined_entries};
-ghost use Rattle.pim_change.specs.Told.{pruned_entries};
+ghost use Rattle.pim_change.specs.Seen.{action_seen, tellings_seen};
+ghost use Rattle.pim_change.specs.Written.{rp_entry, kind_joined, kind_pruned, excepted_entries};
+ghost use Rattle.pim_change.specs.Written.{joined_entries};
+ghost use Rattle.pim_change.specs.Written.{pruned_entries};
 
-use crate::unit::{Kind, Telling, Unit};
+use crate::unit::{Action, ActionKind, Unit};
 use pim_addr::{Family, Routes};
 use pim_jp::Entry;
 use std::alloc::AllocError;
@@ -33,17 +33,17 @@ fn push_rp<F: Family>(
 /// Adds the joined entry of a source, if it is joined.
 fn push_kind_joined<F: Family>(
     entries: &mut Vec<Entry<F::Addr>>,
-    kind: Kind,
+    kind: ActionKind,
     source: F::Addr,
 ) -> Result<(), AllocError>
     ensures { OnOk result (map (entry_seen F.bytes_of) entries.new.items
         ≡ map (entry_seen F.bytes_of) entries.old.items ++ kind_joined kind (F.bytes_of source)) }
 {
     match kind {
-        Kind::JoinRpt => entries.push(Entry::Rpt(source))?,
-        Kind::JoinSource => entries.push(Entry::Source(source))?,
-        Kind::PruneRpt => {}
-        Kind::PruneSource => {}
+        ActionKind::JoinRpt => entries.push(Entry::Rpt(source))?,
+        ActionKind::JoinSource => entries.push(Entry::Source(source))?,
+        ActionKind::PruneRpt => {}
+        ActionKind::PruneSource => {}
     }
     Ok(())
 }
@@ -51,17 +51,17 @@ fn push_kind_joined<F: Family>(
 /// Adds the pruned entry of a source, if it is pruned.
 fn push_kind_pruned<F: Family>(
     entries: &mut Vec<Entry<F::Addr>>,
-    kind: Kind,
+    kind: ActionKind,
     source: F::Addr,
 ) -> Result<(), AllocError>
     ensures { OnOk result (map (entry_seen F.bytes_of) entries.new.items
         ≡ map (entry_seen F.bytes_of) entries.old.items ++ kind_pruned kind (F.bytes_of source)) }
 {
     match kind {
-        Kind::JoinRpt => {}
-        Kind::JoinSource => {}
-        Kind::PruneRpt => entries.push(Entry::Rpt(source))?,
-        Kind::PruneSource => entries.push(Entry::Source(source))?,
+        ActionKind::JoinRpt => {}
+        ActionKind::JoinSource => {}
+        ActionKind::PruneRpt => entries.push(Entry::Rpt(source))?,
+        ActionKind::PruneSource => entries.push(Entry::Source(source))?,
     }
     Ok(())
 }
@@ -86,17 +86,17 @@ fn push_joined<F: Family>(
     entries: &mut Vec<Entry<F::Addr>>,
     routes: &Routes<F>,
     group: F::Addr,
-    telling: &Telling<'_, F::Addr>,
+    action: &Action<'_, F::Addr>,
 ) -> Result<(), AllocError>
     ensures { OnOk result (map (entry_seen F.bytes_of) entries.new.items
         ≡ map (entry_seen F.bytes_of) entries.old.items
         ++ joined_entries (rp_of F.family routes.now (F.bytes_of group))
-        (telling_seen F.bytes_of telling.now)) }
+        (action_seen F.bytes_of action.now)) }
 {
-    match telling {
-        Telling::JoinStar(_) => push_rp::<F>(entries, routes, group),
-        Telling::PruneStar => Ok(()),
-        Telling::Of(kind, source) => push_kind_joined::<F>(entries, *kind, *source),
+    match action {
+        Action::JoinStar(_) => push_rp::<F>(entries, routes, group),
+        Action::PruneStar => Ok(()),
+        Action::Of(kind, source) => push_kind_joined::<F>(entries, *kind, *source),
     }
 }
 
@@ -105,17 +105,17 @@ fn push_pruned<F: Family>(
     entries: &mut Vec<Entry<F::Addr>>,
     routes: &Routes<F>,
     group: F::Addr,
-    telling: &Telling<'_, F::Addr>,
+    action: &Action<'_, F::Addr>,
 ) -> Result<(), AllocError>
     ensures { OnOk result (map (entry_seen F.bytes_of) entries.new.items
         ≡ map (entry_seen F.bytes_of) entries.old.items
         ++ pruned_entries (rp_of F.family routes.now (F.bytes_of group))
-        (telling_seen F.bytes_of telling.now)) }
+        (action_seen F.bytes_of action.now)) }
 {
-    match telling {
-        Telling::JoinStar(exceptions) => push_excepted::<F>(entries, exceptions),
-        Telling::PruneStar => push_rp::<F>(entries, routes, group),
-        Telling::Of(kind, source) => push_kind_pruned::<F>(entries, *kind, *source),
+    match action {
+        Action::JoinStar(exceptions) => push_excepted::<F>(entries, exceptions),
+        Action::PruneStar => push_rp::<F>(entries, routes, group),
+        Action::Of(kind, source) => push_kind_pruned::<F>(entries, *kind, *source),
     }
 }
 
@@ -132,7 +132,7 @@ pub(crate) fn push_all_joined<F: Family>(
         (tellings_seen F.bytes_of units.now)) }
 {
     for unit in units {
-        push_joined::<F>(entries, routes, group, &unit.telling)?;
+        push_joined::<F>(entries, routes, group, &unit.action)?;
     }
     Ok(())
 }
@@ -150,7 +150,7 @@ pub(crate) fn push_all_pruned<F: Family>(
         (tellings_seen F.bytes_of units.now)) }
 {
     for unit in units {
-        push_pruned::<F>(entries, routes, group, &unit.telling)?;
+        push_pruned::<F>(entries, routes, group, &unit.action)?;
     }
     Ok(())
 }

@@ -36,15 +36,16 @@ fn too_big_of_new<F: Family>(groups: Groups<'_, F>, budget: usize) -> Option<F::
 /// Returns the least group with a new star that, with all its exceptions, doesn't fit a message of
 /// this budget alone; `None` if there is none. It allocates nothing.
 pub fn too_big<F: Family>(
-    told: &NormalForm<F>,
+    reported: &NormalForm<F>,
     wanted: &NormalForm<F>,
     budget: usize,
 ) -> Option<F::Addr>
-    ensures { option_map F.bytes_of result ≡ too_big F.family budget (change told.now wanted.now) }
+    ensures { option_map F.bytes_of result
+        ≡ too_big F.family budget (change reported.now wanted.now) }
 {
-    told.is_normal();
+    reported.is_normal();
     wanted.is_normal();
-    let mut left = told.groups();
+    let mut left = reported.groups();
     let mut right = wanted.groups();
     while let Some((old, left_behind)) = left.split_first() {
         let Some((new, right_behind)) = right.split_first() else {

@@ -21,7 +21,7 @@ pub fn new_stars_alone_are_too_big()
 pub fn change_is_read()
     ensures { ChangeIsRead }
 {
-    pim_form::sealed_message_is_read();
+    pim_form::laws::sealed_message_is_read();
 }
 
 /// The messages of the change between two normal forms, whose stars have RPs, are within their
@@ -29,7 +29,7 @@ pub fn change_is_read()
 pub fn change_messages_are_short()
     ensures { ChangeMessagesAreShort }
 {
-    pim_jp::canonical_has_its_length();
+    pim_jp::laws::canonical_has_its_length();
 }
 
 /// Addresses in order are strictly ascending, and they are the addresses of the list.
@@ -43,7 +43,7 @@ pub fn change_has_messages_unless_too_big()
     ensures { ChangeHasMessagesUnlessTooBig }
 {
     pim_frame::some_message_is_sealed();
-    pim_form::units_pack_if_each_fits();
+    pim_form::laws::units_pack_if_each_fits();
 }
 
 /// The change between two forms has at most one list of messages by a writer.
@@ -51,5 +51,5 @@ pub fn one_list_of_change()
     ensures { OneListOfChange }
 {
     pim_frame::one_checksum();
-    pim_form::one_packing();
+    pim_form::laws::one_packing();
 }

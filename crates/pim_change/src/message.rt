@@ -17,9 +17,10 @@ ghost use Rattle.pim_jp.specs.Canonical.{canonical_head, canonical_head_length};
 ghost use Rattle.pim_jp.specs.Seen.{set_seen};
 ghost use Rattle.pim_form.specs.Packing.{fits};
 ghost use Rattle.pim_change.specs.Seen.{tellings_seen, units_seen};
-ghost use Rattle.pim_change.specs.Change.{Telling, unit_of};
-ghost use Rattle.pim_change.specs.Told.{IsShort, tellings_of, told_set, told_sets, set_size};
-ghost use Rattle.pim_change.specs.Told.{grouped, weights, TellsRun};
+ghost use Rattle.pim_change.specs.Change.{Action, unit_of};
+ghost use Rattle.pim_change.specs.Written.{IsShort, tellings_of, written_set, written_sets};
+ghost use Rattle.pim_change.specs.Written.{set_size};
+ghost use Rattle.pim_change.specs.Written.{grouped, weights, CarriesRun};
 
 use crate::entries::{push_all_joined, push_all_pruned};
 use crate::unit::Unit;
@@ -58,13 +59,13 @@ fn append_set<F: Family>(
     units: &[Unit<'_, F::Addr>],
     bytes: &mut Vec<u8>,
 ) -> Result<(), AllocError>
-    requires { IsShort (told_set (rp_of F.family routes.now)
+    requires { IsShort (written_set (rp_of F.family routes.now)
         (tellings_of (F.bytes_of group) (tellings_seen F.bytes_of units.now))) }
     ensures appended { OnOk result (bytes.new.items ≡ bytes.old.items ++ canonical_set F.family
-        (told_set (rp_of F.family routes.now)
+        (written_set (rp_of F.family routes.now)
         (tellings_of (F.bytes_of group) (tellings_seen F.bytes_of units.now)))) }
     ensures longer { OnOk result (length bytes.new.items ≡ length bytes.old.items
-        + set_size F.family (told_set (rp_of F.family routes.now)
+        + set_size F.family (written_set (rp_of F.family routes.now)
         (tellings_of (F.bytes_of group) (tellings_seen F.bytes_of units.now)))) }
 {
     let mut joined = Vec::new(alloc);
@@ -77,9 +78,9 @@ fn append_set<F: Family>(
 /// The number of units at the front that are of this group.
 fn front_length<F: Family>(units: &[Unit<'_, F::Addr>], group: F::Addr) -> usize
     ensures within { result ≤ length units.now }
-    ensures cut { (telling : Telling)
-        → grouped (unit_of (F.bytes_of group) telling ∷ units_seen F.bytes_of units.now)
-        ≡ tellings_of (F.bytes_of group) (telling
+    ensures cut { (action : Action)
+        → grouped (unit_of (F.bytes_of group) action ∷ units_seen F.bytes_of units.now)
+        ≡ tellings_of (F.bytes_of group) (action
         ∷ tellings_seen F.bytes_of (take result units.now))
         ∷ grouped (units_seen F.bytes_of (drop result units.now)) }
 {
@@ -99,17 +100,18 @@ fn append_sets<F: Family>(
     bytes: &mut Vec<u8>,
 ) -> Result<u8, AllocError>
     requires short { AllByRecursion IsShort
-        (told_sets (rp_of F.family routes.now) (units_seen F.bytes_of units.now)) }
+        (written_sets (rp_of F.family routes.now) (units_seen F.bytes_of units.now)) }
     requires groups { length
-        (told_sets (rp_of F.family routes.now) (units_seen F.bytes_of units.now)) ≤ 255 }
+        (written_sets (rp_of F.family routes.now) (units_seen F.bytes_of units.now)) ≤ 255 }
     ensures appended { OnOk result (bytes.new.items ≡ bytes.old.items
         ++ flat_map (canonical_set F.family)
-        (told_sets (rp_of F.family routes.now) (units_seen F.bytes_of units.now))) }
+        (written_sets (rp_of F.family routes.now) (units_seen F.bytes_of units.now))) }
     ensures longer { OnOk result (length bytes.new.items ≡ length bytes.old.items
         + canonical_sets_length F.family
-        (told_sets (rp_of F.family routes.now) (units_seen F.bytes_of units.now))) }
+        (written_sets (rp_of F.family routes.now) (units_seen F.bytes_of units.now))) }
     ensures counted { IfOk result (λ count.
-        count ≡ length (told_sets (rp_of F.family routes.now) (units_seen F.bytes_of units.now))) }
+        count ≡ length
+        (written_sets (rp_of F.family routes.now) (units_seen F.bytes_of units.now))) }
 {
     let mut start = 0;
     let mut count = 0;
@@ -135,7 +137,7 @@ pub(crate) fn message<F: Family>(
     units: &[Unit<'_, F::Addr>],
 ) -> Result<Vec<u8>, AllocError>
     requires { fits F.family writer.now.budget (weights (units_seen F.bytes_of units.now)) ≡ true }
-    ensures { IfOk result (λ bytes. TellsRun F.family writer.now (rp_of F.family routes.now)
+    ensures { IfOk result (λ bytes. CarriesRun F.family writer.now (rp_of F.family routes.now)
         (units_seen F.bytes_of units.now) bytes.items) }
 {
     writer.is_writing();

@@ -5,11 +5,11 @@
 
 ghost use Rattle.std.specs.Prelude.{◌≡◌, ◌≢◌, None, Err, option_map, IfOk};
 ghost use Rattle.pim_addr.specs.Routes.{rp_of};
-ghost use Rattle.pim_form.specs.Refused.{told_too_big};
+ghost use Rattle.pim_form.specs.Refused.{group_too_big};
 ghost use Rattle.pim_change.specs.Change.{change};
 ghost use Rattle.pim_change.specs.Seen.{units_seen};
 ghost use Rattle.pim_change.specs.TooBig.{too_big};
-ghost use Rattle.pim_change.specs.Told.{TellUnits, TellChange};
+ghost use Rattle.pim_change.specs.Written.{CarryUnits, CarryChange};
 
 use crate::changes::changed;
 use crate::fitting::too_big;
@@ -22,14 +22,14 @@ use std::alloc::{AllocError, Global};
 
 /// The messages of these units, each of which fits a message alone. The only refusal is for lack of
 /// memory.
-fn told_units<F: Family>(
+fn write_units<F: Family>(
     alloc: Global,
     units: &[Unit<'_, F::Addr>],
     writer: &Writer<F>,
     routes: &Routes<F>,
 ) -> Result<Messages, AllocError>
     requires { too_big F.family writer.now.budget (units_seen F.bytes_of units.now) ≡ None }
-    ensures { IfOk result (λ messages. TellUnits F.family writer.now (rp_of F.family routes.now)
+    ensures { IfOk result (λ messages. CarryUnits F.family writer.now (rp_of F.family routes.now)
         (units_seen F.bytes_of units.now) messages) }
 {
     writer.is_writing();
@@ -47,19 +47,19 @@ fn told_units<F: Family>(
 }
 
 /// The messages of a change whose new stars fit. The only refusal is for lack of memory.
-fn told_change<F: Family>(
+fn write_change<F: Family>(
     alloc: Global,
-    told: &NormalForm<F>,
+    reported: &NormalForm<F>,
     wanted: &NormalForm<F>,
     writer: &Writer<F>,
     routes: &Routes<F>,
 ) -> Result<Messages, AllocError>
-    requires { too_big F.family writer.now.budget (change told.now wanted.now) ≡ None }
-    ensures { IfOk result (λ messages. TellChange F.family writer.now (rp_of F.family routes.now)
-        told.now wanted.now messages) }
+    requires { too_big F.family writer.now.budget (change reported.now wanted.now) ≡ None }
+    ensures { IfOk result (λ messages. CarryChange F.family writer.now (rp_of F.family routes.now)
+        reported.now wanted.now messages) }
 {
-    let units = changed::<F>(alloc, told, wanted)?;
-    told_units::<F>(alloc, &units, writer, routes)
+    let units = changed::<F>(alloc, reported, wanted)?;
+    write_units::<F>(alloc, &units, writer, routes)
 }
 
 /// Returns the messages that move the writer's upstream neighbour from the form that was last sent
@@ -75,22 +75,22 @@ fn told_change<F: Family>(
 /// message; it is looked for first. `Memory` if an allocation is refused.
 pub fn triggered<F: Family>(
     alloc: Global,
-    told: &NormalForm<F>,
+    reported: &NormalForm<F>,
     wanted: &NormalForm<F>,
     writer: &Writer<F>,
     routes: &Routes<F>,
 ) -> Result<Messages, FormFault<F>>
     ensures change { IfOk result
-        (λ messages. TellChange F.family writer.now (rp_of F.family routes.now)
-        told.now wanted.now messages) }
-    ensures too_big { option_map F.bytes_of (told_too_big result)
-        ≡ too_big F.family writer.now.budget (change told.now wanted.now) }
+        (λ messages. CarryChange F.family writer.now (rp_of F.family routes.now)
+        reported.now wanted.now messages) }
+    ensures too_big { option_map F.bytes_of (group_too_big result)
+        ≡ too_big F.family writer.now.budget (change reported.now wanted.now) }
     ensures not_tables { result ≢ Err FormFault.Tables }
 {
-    if let Some(group) = too_big::<F>(told, wanted, writer.budget()) {
+    if let Some(group) = too_big::<F>(reported, wanted, writer.budget()) {
         return Err(FormFault::TooBig(group));
     }
-    match told_change::<F>(alloc, told, wanted, writer, routes) {
+    match write_change::<F>(alloc, reported, wanted, writer, routes) {
         Ok(messages) => Ok(messages),
         Err(_) => Err(FormFault::Memory),
     }

@@ -9,12 +9,12 @@ ghost use Rattle.pim_form.specs.Units.{WantUnit};
 ghost use Rattle.pim_form.specs.Units.{unit_entries};
 ghost use Rattle.pim_form.specs.Units.{run_groups, run_entries, is_of_group};
 ghost use Rattle.pim_form.specs.Packing.{fits, StopsBefore};
-ghost use Rattle.pim_change.specs.Seen.{telling_seen, unit_seen, units_seen};
-ghost use Rattle.pim_change.specs.TooBig.{telling_fits, too_big};
-ghost use Rattle.pim_change.specs.Told.{weight, weights};
+ghost use Rattle.pim_change.specs.Seen.{action_seen, unit_seen, units_seen};
+ghost use Rattle.pim_change.specs.TooBig.{action_fits, too_big};
+ghost use Rattle.pim_change.specs.Written.{weight, weights};
 ghost use Rattle.pim_change.specs.Runs.{last_group};
 
-use crate::unit::{Telling, Unit};
+use crate::unit::{Action, Unit};
 use pim_addr::Family;
 use pim_form::{MOST_GROUPS, message_size};
 
@@ -33,16 +33,16 @@ fn has_room<F: Family>(groups: usize, entries: usize, budget: usize) -> bool
 /// The number of entries of a unit that fits a message of this budget alone.
 fn entry_count<F: Family>(unit: &Unit<'_, F::Addr>, budget: usize) -> usize
     requires most { budget ≤ 65000 }
-    requires fits { telling_fits F.family budget (F.bytes_of unit.now.group)
-        (telling_seen F.bytes_of unit.now.telling)
+    requires fits { action_fits F.family budget (F.bytes_of unit.now.group)
+        (action_seen F.bytes_of unit.now.action)
         ≡ true }
     ensures count { result ≡ unit_entries (weight (unit_seen F.bytes_of unit.now)) }
     ensures small { result ≤ 65000 }
 {
-    match &unit.telling {
-        Telling::JoinStar(exceptions) => exceptions.len() + 1,
-        Telling::PruneStar => 1,
-        Telling::Of(_, _) => 1,
+    match &unit.action {
+        Action::JoinStar(exceptions) => exceptions.len() + 1,
+        Action::PruneStar => 1,
+        Action::Of(_, _) => 1,
     }
 }
 

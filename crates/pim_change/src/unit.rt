@@ -2,7 +2,7 @@
 
 /// What a message says of one source of a group.
 #[derive(Clone, Copy, Debug, PartialEq, Eq)]
-pub enum Kind {
+pub enum ActionKind {
     /// Join(S,G,rpt): the source was an exception of a star that stays.
     JoinRpt,
     /// Prune(S,G,rpt): the source became an exception of a star that stays.
@@ -15,13 +15,13 @@ pub enum Kind {
 
 /// What a message says of a group and doesn't split.
 #[derive(Clone, Copy, Debug)]
-pub enum Telling<'a, A> {
+pub enum Action<'a, A> {
     /// Join(*,G) with a Prune(S,G,rpt) for each exception (RFC 7761, 4.9.5.2).
     JoinStar(&'a [A]),
     /// Prune(*,G).
     PruneStar,
     /// The Join or Prune of one source.
-    Of(Kind, A),
+    Of(ActionKind, A),
 }
 
 /// One unit of a change.
@@ -30,5 +30,5 @@ pub struct Unit<'a, A> {
     /// The group.
     pub group: A,
     /// What a message says of it.
-    pub telling: Telling<'a, A>,
+    pub action: Action<'a, A>,
 }

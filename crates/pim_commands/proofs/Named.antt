@@ -4,7 +4,7 @@ use Rattle.std.specs.Prelude.{filter}
 use Rattle.std.specs.Borrow.{Bor}
 use Rattle.std.proofs.lemmas.List.{drop_more, drop_all}
 use Rattle.pim_files.specs.Captures.{PortFiles, files_from, is_further, with_more}
-use Rattle.pim_words.specs.declared.fault.Side.{Side}
+use Rattle.pim_words.specs.declared.fault.RouterSide.{RouterSide}
 use Rattle.pim_words.specs.declared.task.More.{More}
 use Rattle.pim_words.specs.declared.task.Port.{Port}
 use Rattle.pim_commands.specs.Naming.{further_name, name_at, file_of, file_at, is_in, are_in, ports_of}
@@ -49,11 +49,11 @@ no_file number port further place left own over = ap (λ l. further_name own (fi
 -- ---- the ports of a router
 
 -- those that are left at a place, of which the first has the number `at`
-abbrev pub left_from : {A : Type 0} → Option Side → List More → ℕ → ℕ → List (Port A) → List (PortFiles A)
+abbrev pub left_from : {A : Type 0} → Option RouterSide → List More → ℕ → ℕ → List (Port A) → List (PortFiles A)
 left_from side further at place ports = filter (are_in side) (files_from at further (drop place ports))
 
 -- the port at this place is one of the router, or not
-pub one_port : {A : Type 0} (side : Option Side) (further : List More) (ports : List (Port A)) (at next place : ℕ) (port : Port A) (b : Bool) → next ≡ suc at → place < length ports → is_in side port ≡ b
+pub one_port : {A : Type 0} (side : Option RouterSide) (further : List More) (ports : List (Port A)) (at next place : ℕ) (port : Port A) (b : Bool) → next ≡ suc at → place < length ports → is_in side port ≡ b
     → port ≡ get_or ports place port
     → left_from side further at place ports ≡ cond b (with_more at further port ∷ left_from side further next (place + 1) ports) (left_from side further next (place + 1) ports)
 one_port side further ports at next place port b more below is here =
@@ -61,7 +61,7 @@ one_port side further ports at next place port b more below is here =
     ∙ ap (λ t. cond t (with_more at further port ∷ left_from side further (suc at) (place + 1) ports) (left_from side further (suc at) (place + 1) ports)) is
     ∙ ap (λ n. cond b (with_more at further port ∷ left_from side further n (place + 1) ports) (left_from side further n (place + 1) ports)) (sym more)
 
-module _ {A : Type 0} (side : Option Side) (further : List More) (ports : List (Port A)) (at place : ℕ) (port : Port A) (below : place < length ports) (here : port ≡ get_or ports place port) where
+module _ {A : Type 0} (side : Option RouterSide) (further : List More) (ports : List (Port A)) (at place : ℕ) (port : Port A) (below : place < length ports) (here : port ≡ get_or ports place port) where
   -- it isn't one
   pub another_port : (next left file : ℕ) → next ≡ suc at → is_in side port ≡ false → file_at (left_from side further at place ports) left file ≡ file_at (left_from side further next (place + 1) ports) left file
   another_port next left file more is = ap (λ l. file_at l left file) (one_port side further ports at next place port false more below is here)
@@ -78,7 +78,7 @@ module _ {A : Type 0} (side : Option Side) (further : List More) (ports : List (
       ap (λ n. file_at (left_from side further at place ports) n file) one ∙ ap (λ l. file_at l (suc fewer) file) (one_port side further ports at next place port true more below is here)
 
 -- none is left
-pub no_port : {A : Type 0} (side : Option Side) (further : List More) (ports : List (Port A)) (at place left file : ℕ) → length ports ≤ place
+pub no_port : {A : Type 0} (side : Option RouterSide) (further : List More) (ports : List (Port A)) (at place left file : ℕ) → length ports ≤ place
     → file_at (left_from side further at place ports) left file ≡ None
 no_port side further ports at place left file over = ap (λ l. file_at (filter (are_in side) (files_from at further l)) left file) (drop_all place ports over)
 
@@ -87,12 +87,12 @@ each_in : {A : Type 0} (ports : List (PortFiles A)) → filter (are_in None) por
 each_in [] = refl
 each_in (it ∷ ports) = ap (λ l. it ∷ l) (each_in ports)
 
-pub same_ports : {A : Type 0} (side : Option Side) (ports : List (PortFiles A)) → filter (are_in side) ports ≡ ports_of side ports
+pub same_ports : {A : Type 0} (side : Option RouterSide) (ports : List (PortFiles A)) → filter (are_in side) ports ≡ ports_of side ports
 same_ports None ports = each_in ports
 same_ports (Some side) ports = refl
 
 -- the same words name the same
-pub same_words : {A : Type 0} (side : Option Side) (further further' : List More) (ports ports' : List (Port A)) → further ≡ further' → ports ≡ ports'
+pub same_words : {A : Type 0} (side : Option RouterSide) (further further' : List More) (ports ports' : List (Port A)) → further ≡ further' → ports ≡ ports'
     → filter (are_in side) (files_from 0 further ports) ≡ ports_of side (files_from 0 further' ports')
 same_words side further further' ports ports' e f =
     ap (λ m. filter (are_in side) (files_from 0 m ports)) e ∙ ap (λ p. filter (are_in side) (files_from 0 further' p)) f ∙ same_ports side (files_from 0 further' ports')

@@ -39,9 +39,9 @@ told_first (of_config.Delay port) others = refl
 told_first of_config.Limit others = refl
 told_first of_config.Memory others = tt
 
-pub unmade_is : {A : Type 0} (faults : List ConfigFault) (value : A) (told : ConfigFault) → IsMadeUnless faults value (Err told) → IsFirstCause (map config_fault faults) (config_fault told)
-unmade_is [] value told is = rw (is) tt
-unmade_is (first ∷ others) value told is = let same : told ≡ first = cc in rw (same) (told_first first (map config_fault others))
+pub unmade_is : {A : Type 0} (faults : List ConfigFault) (value : A) (reported : ConfigFault) → IsMadeUnless faults value (Err reported) → IsFirstCause (map config_fault faults) (config_fault reported)
+unmade_is [] value reported is = rw (is) tt
+unmade_is (first ∷ others) value reported is = let same : reported ≡ first = cc in rw (same) (told_first first (map config_fault others))
 
 pub in_front : (these others : List Fault) (fault : Fault) → IsFirstCause these fault → IsFirstCause (these ++ others) fault
 in_front these others of_run.Memory is = tt
@@ -56,17 +56,17 @@ is_read before true file number cause = refl
 is_read before false None number cause = refl
 is_read before false (Some file) number cause = refl
 
-pub capture_is_read : {A : Type 0} (before : ℕ) (ports : List (PortFiles A)) (told : MergeFault) → write_failures_after {A = ℕ} before (Err (port_fault ports told)) ≡ before
-capture_is_read before ports told = is_read before (is_memory told.fault) (file_at ports told.capture told.file) told.«record» told.fault
+pub capture_is_read : {A : Type 0} (before : ℕ) (ports : List (PortFiles A)) (reported : MergeFault) → write_failures_after {A = ℕ} before (Err (port_fault ports reported)) ≡ before
+capture_is_read before ports reported = is_read before (is_memory reported.fault) (file_at ports reported.capture reported.file) reported.«record» reported.fault
 
 -- the device's failures are those that are told
-pub failures_answered : {A P : Type 0} (ports others : List (PortFiles P)) (family : AddressFamily) (bytes_of : A → List ℕ) (before : ℕ) (told : Result ℕ (ExchangeFault A))
-    → failures_of_exchange before told ≡ write_failures_after before (answer_of ports others family bytes_of told)
+pub failures_answered : {A P : Type 0} (ports others : List (PortFiles P)) (family : AddressFamily) (bytes_of : A → List ℕ) (before : ℕ) (reported : Result ℕ (ExchangeFault A))
+    → failures_of_exchange before reported ≡ write_failures_after before (answer_of ports others family bytes_of reported)
 failures_answered ports others family bytes_of before (Ok status) = refl
 failures_answered ports others family bytes_of before (Err (of_exchange.TooBig group)) = refl
 failures_answered ports others family bytes_of before (Err (of_exchange.Full needed)) = refl
-failures_answered ports others family bytes_of before (Err (of_exchange.Second told)) = sym (capture_is_read before others told)
-failures_answered ports others family bytes_of before (Err (of_exchange.Replay (of_replay.Capture told))) = sym (capture_is_read before ports told)
+failures_answered ports others family bytes_of before (Err (of_exchange.Second reported)) = sym (capture_is_read before others reported)
+failures_answered ports others family bytes_of before (Err (of_exchange.Replay (of_replay.Capture reported))) = sym (capture_is_read before ports reported)
 failures_answered ports others family bytes_of before (Err (of_exchange.Replay of_replay.Output)) = refl
 failures_answered ports others family bytes_of before (Err (of_exchange.Replay of_replay.Memory)) = refl
 

@@ -15,7 +15,7 @@ use Rattle.pim_faults.specs.Unopened.{open_fault}
 use Rattle.pim_commands.specs.Report.{write_failures_after}
 
 -- a fault of opening isn't one of writing
-pub not_written : (before : ℕ) (told : OpenFault) → write_failures_after {A = ℕ} before (Err (open_fault told)) ≡ before
+pub not_written : (before : ℕ) (reported : OpenFault) → write_failures_after {A = ℕ} before (Err (open_fault reported)) ≡ before
 not_written before opening.Upstream = refl
 not_written before opening.Rp = refl
 not_written before (opening.File word) = refl
@@ -42,7 +42,7 @@ module _ {A R : Type 0} (family : AddressFamily) (bytes_of : A → List ℕ) (re
     each = o.each;
     untaken = o.untaken;
     held = o.held;
-    asked = o.asked;
+    requested = o.requested;
     answers = is;
   }
 
@@ -63,14 +63,14 @@ module _ {A R : Type 0} (family : AddressFamily) (bytes_of : A → List ℕ) (re
     untaken_of_b = o.untaken_of_b;
     held_of_a = o.held_of_a;
     held_of_b = o.held_of_b;
-    asked = o.asked;
+    requested = o.requested;
     answers = is;
   }
 
   -- a file isn't open, and the device has not failed
   pub not_failed : (before : ℕ) (fault : Fault) → OpensNot family bytes_of remaining failures known last captures upstream fault
       → before ≡ write_failures_after {A = ℕ} before (Err fault)
-  not_failed before fault u = sym (ap (λ (f : Fault). write_failures_after {A = ℕ} before (Err f)) u.is ∙ not_written before u.told)
+  not_failed before fault u = sym (ap (λ (f : Fault). write_failures_after {A = ℕ} before (Err f)) u.is ∙ not_written before u.reported)
 
   -- what is returned and written over it
   pub answered : (Warns : List ℕ → Type 0) (old new : Option (List ℕ)) (result : Result ℕ Fault) (Answered : Type 0) → Answered

@@ -16,12 +16,12 @@ use Rattle.pim_commands.specs.Routers.{writer_causes, IsFirstCause, IsWriterOf}
 
 -- an engine ran
 pub ran : {A S P : Type 0} (causes : List Fault) (Unmade : Type 0) (Ran : S → Result ℕ (ExchangeFault A) → Type 0) (ports others : List (PortFiles P)) (family : AddressFamily) (bytes_of : A → List ℕ)
-    (after : S) (told : Result ℕ (ExchangeFault A)) (result : Result ℕ Fault) → Ran after told → result ≡ answer_of ports others family bytes_of told
+    (after : S) (reported : Result ℕ (ExchangeFault A)) (result : Result ℕ Fault) → Ran after reported → result ≡ answer_of ports others family bytes_of reported
     → Runs causes Unmade Ran (answer_of ports others family bytes_of) result
 ran causes Unmade Ran ports others family bytes_of after (Ok status) result is answer =
-    rw (answer) (record { after = after; told = Ok status; ran = is; answered = refl })
+    rw (answer) (record { after = after; reported = Ok status; ran = is; answered = refl })
 ran causes Unmade Ran ports others family bytes_of after (Err fault) result is answer =
-    rw (answer) (inr (record { after = after; told = Err fault; ran = is; answered = refl }))
+    rw (answer) (inr (record { after = after; reported = Err fault; ran = is; answered = refl }))
 
 -- there is no writer
 pub not_written : (family : AddressFamily) (writing : Writing) (fault : Fault) → IsWriterOf family writing (Err fault) → IsFirstCause (writer_causes (has_bad_address family writing)) fault
@@ -29,11 +29,11 @@ not_written family writing fault is = rw (is.0, is.1) refl
 
 -- ---- the device's failures
 
-pub failures_replayed : (A : Type 0) (before : ℕ) (told : Result ℕ RunFault) → failures_of_device before told ≡ failures_of_exchange before (of_replayed {A = A} told)
+pub failures_replayed : (A : Type 0) (before : ℕ) (reported : Result ℕ RunFault) → failures_of_device before reported ≡ failures_of_exchange before (of_replayed {A = A} reported)
 failures_replayed A before (Ok status) = refl
 failures_replayed A before (Err fault) = refl
 
-pub failures_traced : (A : Type 0) (before : ℕ) (told : Result (Unit {0}) RunFault) → failures_of_device before told ≡ failures_of_exchange before (of_traced {A = A} told)
+pub failures_traced : (A : Type 0) (before : ℕ) (reported : Result (Unit {0}) RunFault) → failures_of_device before reported ≡ failures_of_exchange before (of_traced {A = A} reported)
 failures_traced A before (Ok done) = refl
 failures_traced A before (Err fault) = refl
 

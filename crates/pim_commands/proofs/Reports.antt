@@ -29,12 +29,12 @@ use Rattle.pim_commands.specs.Report.{content_faults, content_text, body_report,
 -- the faults of a body are told as those of its message
 
 first_told : {E V : Type 0} (name : E → Fault) (all : List E) (value : V) (text : List ℕ) (fault : E) → judged all value ≡ Err fault → judged (map name all) text ≡ Err (name fault)
-first_told name [] value text fault told = absurd cc
-first_told name (first ∷ others) value text fault told = let same : first ≡ fault = cc in ap (λ f. Err (name f)) same
+first_told name [] value text fault reported = absurd cc
+first_told name (first ∷ others) value text fault reported = let same : first ≡ fault = cc in ap (λ f. Err (name f)) same
 
 none_told : {E V : Type 0} (name : E → Fault) (text_of : V → List ℕ) (all : List E) (value given : V) → judged all value ≡ Ok given → judged (map name all) (text_of value) ≡ Ok (text_of given)
-none_told name text_of [] value given told = let same : value ≡ given = cc in ap (λ v. Ok (text_of v)) same
-none_told name text_of (first ∷ others) value given told = absurd cc
+none_told name text_of [] value given reported = let same : value ≡ given = cc in ap (λ v. Ok (text_of v)) same
+none_told name text_of (first ∷ others) value given reported = absurd cc
 
 -- an input that isn't too long is looked at as a message
 pub short_input : (family : AddressFamily) (source destination input : List ℕ) → length input ≤ 65536 → input_report family source destination input ≡ message_report family source destination input
@@ -95,8 +95,8 @@ told_hello family body value = none_told Hello (hello_text family) (hello_option
 
 framed : (family : AddressFamily) (all : List FrameFault) (held given : Content) → judged all held ≡ Ok given
     → judged (map Frame all ++ content_faults family held) (content_text family held) ≡ judged (content_faults family given) (content_text family given)
-framed family [] held given told = let same : held ≡ given = cc in ap (λ (c : Content). judged (content_faults family c) (content_text family c)) same
-framed family (first ∷ others) held given told = absurd cc
+framed family [] held given reported = let same : held ≡ given = cc in ap (λ (c : Content). judged (content_faults family c) (content_text family c)) same
+framed family (first ∷ others) held given reported = absurd cc
 
 pub framed_body : (family : AddressFamily) (source destination message body : List ℕ) → judged (frame_faults family source destination message) (content message) ≡ Ok (join_prune body)
     → message_report family source destination message ≡ body_report family body
@@ -109,12 +109,12 @@ framed_hello family source destination message body = framed family (frame_fault
 -- ---- the text of a message states it
 
 same_value : {E V : Type 0} (all : List E) (value given : V) → judged all value ≡ Ok given → value ≡ given
-same_value [] value given told = cc
-same_value (first ∷ others) value given told = absurd cc
+same_value [] value given reported = cc
+same_value (first ∷ others) value given reported = absurd cc
 
 pub stated_message : MessageTextStates → (family : AddressFamily) (body : List ℕ) (message : Message) → judged (faults family body) (message_of family body) ≡ Ok message → IsMessage family message → IsStated family (join_prune body)
-stated_message law family body message told legal =
-    let same = same_value (faults family body) (message_of family body) message told in
+stated_message law family body message reported legal =
+    let same = same_value (faults family body) (message_of family body) message reported in
     subst (λ (m : Message). States (message_text family m) (message_in family m)) (sym same) (law family message legal)
 
 -- what holds anyway holds of a result that is returned

@@ -1,7 +1,7 @@
 -- A trace and a replay of the same captures lead to the same router.
 use Rattle.std.proofs.Common.{◌≡◌, ◌∙◌, ℕ, Bool, List, [], ◌∷◌, ◌++◌, None, refl, sym, ap, subst, arith}
 use Rattle.pim_addr.specs.declared.family.AddressFamily.{AddressFamily}
-use Rattle.pim_capture.specs.Capture.{Answer, Told}
+use Rattle.pim_capture.specs.Capture.{Answer, EventSeen}
 use Rattle.pim_merge.specs.Content.{Content, holds, of_other_family, without_packet, no_record, content_in}
 use Rattle.pim_merge.specs.declared.end.End.{End}
 use Rattle.pim_merge.specs.Ends.{last_of, end_moment, clock_of}
@@ -10,7 +10,7 @@ use Rattle.pim_merge.specs.Laws.{MergeByHasOneEnd}
 use Rattle.pim_merge.specs.Merge.{Taken}
 use Rattle.pim_merge.specs.Next.{MergeState}
 use Rattle.pim_router.specs.declared.step.Step.TheVariants.{Echo, Refresh, Reached}
-use Rattle.pim_router.specs.Course.{Telling, echo, refresh, verdict}
+use Rattle.pim_router.specs.Course.{RouterReport, echo, refresh, verdict}
 use Rattle.pim_router.specs.Happening.{Happening, Happens}
 use Rattle.pim_router.specs.Laws.{RunsPastAreTurns, HappeningGoesOn, HappeningHasOneEnd}
 use Rattle.pim_router.specs.Refreshes.{RunsPast}
@@ -30,27 +30,27 @@ module _ (merges : MergeByHasOneEnd) (are_turns : RunsPastAreTurns) (goes_on : H
   -- ---- time
 
   -- the runs of a replay up to a moment are all turns up to it
-  has_happened : (moment : ℕ) (told : List Telling) (state : RouterState) (account : Account) (after : RouterState) → replay.Passes moment told state account after
+  has_happened : (moment : ℕ) (reported : List RouterReport) (state : RouterState) (account : Account) (after : RouterState) → replay.Passes moment reported state account after
       → (happened : List (ℕ × Happening)) × Happens moment state happened after
   unfolding replay.Passes RunsPast
   has_happened moment [] state account after (run, none) =
       let past = are_turns 0 moment state after Reached run in
-      (past.told, record { passes = past.passes; ends = past.ends refl })
-  has_happened moment (echo p g w ∷ told) state account after (between, others, run, is, passes) =
+      (past.reported, record { passes = past.passes; ends = past.ends refl })
+  has_happened moment (echo p g w ∷ reported) state account after (between, others, run, is, passes) =
       let past = are_turns 0 moment state between (Echo p g w) run in
-      let rest = has_happened moment told between others after passes in
-      (past.told ++ rest.0, goes_on moment moment state between after past.told rest.0 (omega arith) past.passes rest.1)
-  has_happened moment (refresh ∷ told) state account after (between, others, run, is, passes) =
+      let rest = has_happened moment reported between others after passes in
+      (past.reported ++ rest.0, goes_on moment moment state between after past.reported rest.0 (omega arith) past.passes rest.1)
+  has_happened moment (refresh ∷ reported) state account after (between, others, run, is, passes) =
       let past = are_turns 0 moment state between Refresh run in
-      let rest = has_happened moment told between others after passes in
-      (past.told ++ rest.0, goes_on moment moment state between after past.told rest.0 (omega arith) past.passes rest.1)
-  has_happened moment (verdict v ∷ told) state account after passes = absurd passes
+      let rest = has_happened moment reported between others after passes in
+      (past.reported ++ rest.0, goes_on moment moment state between after past.reported rest.0 (omega arith) past.passes rest.1)
+  has_happened moment (verdict v ∷ reported) state account after passes = absurd passes
 
   time_same : (moment : ℕ) (ledger ledger' : Ledger) (events : List Occurrence) (account : Account) (state start after other : RouterState)
       → state ≡ start → trace.PassesTime moment ledger state events ledger' after
       → replay.PassesTime moment start account other → after ≡ other
   time_same moment ledger ledger' events account state start after other same one two =
-      let happened = has_happened moment two.told start account other two.passes in
+      let happened = has_happened moment two.reported start account other two.passes in
       (one_end moment state after other one.happened happened.0 one.happens (subst (λ s. Happens moment s happened.0 other) (sym same) happened.1)).1
 
   -- ---- a record
@@ -62,25 +62,25 @@ module _ (merges : MergeByHasOneEnd) (are_turns : RunsPastAreTurns) (goes_on : H
   content_same (without_packet why) port frame ledger ledger' state after events (said, kept, same) = same
   content_same no_record port frame ledger ledger' state after events (said, kept, same) = same
 
-  record_same : (port : ℕ) (told : Told) (ledger ledger' : Ledger) (state after : RouterState) (events : List Occurrence)
-      → turns.TakesRecord family port told ledger state events ledger' after → after ≡ (replayed.taking family port told state).1
-  record_same port told ledger ledger' state after events takes =
-      content_same (content_in family told) port (frame_of port ledger) ledger ledger' state after events takes
+  record_same : (port : ℕ) (reported : EventSeen) (ledger ledger' : Ledger) (state after : RouterState) (events : List Occurrence)
+      → turns.TakesRecord family port reported ledger state events ledger' after → after ≡ (replayed.taking family port reported state).1
+  record_same port reported ledger ledger' state after events takes =
+      content_same (content_in family reported) port (frame_of port ledger) ledger ledger' state after events takes
 
   -- ---- turns
 
   turn_same : (this : Taken) (ledger ledger' : Ledger) (events : List Occurrence) (account : Account) (state start after other : RouterState)
-      → state ≡ start → turns.TellsTurn family this ledger state events ledger' after
-      → replayed.TellsTurn family this start account other → after ≡ other
+      → state ≡ start → turns.WritesTurn family this ledger state events ledger' after
+      → replayed.WritesTurn family this start account other → after ≡ other
   turn_same this ledger ledger' events account state start after other same one two =
       let between = time_same this.moment (turns.counting this ledger) one.ledger_then one.way two.first state start one.between two.between same one.passes two.begins in
-      record_same this.capture this.told one.ledger_then ledger' one.between after one.of_record one.takes
-      ∙ (ap (λ s. (replayed.taking family this.capture this.told s).1) between ∙ sym (ap (λ (end : Account × RouterState). end.1) two.goes_on))
+      record_same this.capture this.reported one.ledger_then ledger' one.between after one.of_record one.takes
+      ∙ (ap (λ s. (replayed.taking family this.capture this.reported s).1) between ∙ sym (ap (λ (end : Account × RouterState). end.1) two.goes_on))
 
   turns_same : (taken : List Taken) (ledger ledger' : Ledger) (events : List Occurrence) (account : Account) (state start after other : RouterState)
-      → state ≡ start → traces.TellsTurns family taken ledger state events ledger' after
-      → replays.TellsTurns family taken start account other → after ≡ other
-  unfolding traces.TellsTurns replays.TellsTurns
+      → state ≡ start → traces.WritesTurns family taken ledger state events ledger' after
+      → replays.WritesTurns family taken start account other → after ≡ other
+  unfolding traces.WritesTurns replays.WritesTurns
   turns_same [] ledger ledger' events account state start after other same (none, kept, is) (none', is') = is ∙ (same ∙ sym is')
   turns_same (first ∷ others) ledger ledger' events account state start after other same (a, b, l, s, begins, more, is) two =
       let between = turn_same first ledger l a two.first state start s two.between same begins two.begins in
@@ -88,14 +88,14 @@ module _ (merges : MergeByHasOneEnd) (are_turns : RunsPastAreTurns) (goes_on : H
 
   -- ---- the whole
 
-  pub trace_and_report : (tells_via : Bool) (end : End) (merge : MergeState) (captures : List (List Answer)) (state after other : RouterState) (events : List Occurrence) (text : List ℕ)
-      → IsComing merge.lanes captures → traces.IsTrace family end merge state events after → report.IsReport family tells_via end merge state other text → after ≡ other
-  trace_and_report tells_via end merge captures state after other events text coming this that =
+  pub trace_and_report : (shows_via : Bool) (end : End) (merge : MergeState) (captures : List (List Answer)) (state after other : RouterState) (events : List Occurrence) (text : List ℕ)
+      → IsComing merge.lanes captures → traces.IsTrace family end merge state events after → report.IsReport family shows_via end merge state other text → after ≡ other
+  trace_and_report shows_via end merge captures state after other events text coming this that =
       let taken = this.tells.taken in
       let one = this.tells.runs in
       let same = (merges (last_of end) merge.clock captures taken that.tells.taken None None (this.tells.are captures coming) (that.tells.are captures coming)).0 in
       let two =
-      subst (λ t. Follows (replays.TellsTurns family t state) (replays.PassesToEnd end (clock_of merge.clock t)) that.account other) (sym same) that.tells.tells in
+      subst (λ t. Follows (replays.WritesTurns family t state) (replays.PassesToEnd end (clock_of merge.clock t)) that.account other) (sym same) that.tells.tells in
       let between = turns_same taken (traces.ledger_for state) one.ledger_then one.turns two.first state state one.between two.between refl one.tells two.begins in
       time_same (end_moment end (clock_of merge.clock taken) one.between.machines.moment) one.ledger_then this.ledger one.way two.second one.between two.between after other between one.passes
       (subst (λ s. replay.PassesTime (end_moment end (clock_of merge.clock taken) s.machines.moment) two.between two.second other) (sym between) two.goes_on)

@@ -7,7 +7,7 @@ use Rattle.pim_event_lines.specs.TextLine.{text_line}
 use Rattle.pim_events.specs.declared.filter.Filter.{Filter}
 use Rattle.pim_events.specs.Filter.{filter_seen, if_shown}
 use Rattle.pim_words.specs.declared.task.Tracing.{Tracing}
-use Rattle.pim_commands.specs.Tracing.{form_of, selection_of, line_of}
+use Rattle.pim_commands.specs.Tracing.{selection_of, line_of}
 
 module _ {A : Type 0} (family : AddressFamily) (bytes_of : A → List ℕ) (names : List (List ℕ)) (tracing : Tracing A) (filter : Filter A)
     (all : filter.all ≡ tracing.all) (groups : filter.groups.now ≡ tracing.groups.items) (sources : filter.sources.now ≡ tracing.sources.items) (from : filter.from ≡ tracing.from) where
@@ -16,8 +16,8 @@ module _ {A : Type 0} (family : AddressFamily) (bytes_of : A → List ℕ) (name
 
   pub as_json : tracing.json ≡ true → (λ event. if_shown (filter_seen bytes_of filter) event (json_line family names event)) ≡ line_of family bytes_of names tracing
   as_json json = λ i event. if_shown (same_selection i) event
-      (ap (λ b. if b then json_line family names event else text_line family names (form_of tracing.form) event) (sym json) i)
+      (ap (λ b. if b then json_line family names event else text_line family names tracing.form event) (sym json) i)
 
-  pub as_text : tracing.json ≡ false → (λ event. if_shown (filter_seen bytes_of filter) event (text_line family names (form_of tracing.form) event)) ≡ line_of family bytes_of names tracing
+  pub as_text : tracing.json ≡ false → (λ event. if_shown (filter_seen bytes_of filter) event (text_line family names tracing.form event)) ≡ line_of family bytes_of names tracing
   as_text json = λ i event. if_shown (same_selection i) event
-      (ap (λ b. if b then json_line family names event else text_line family names (form_of tracing.form) event) (sym json) i)
+      (ap (λ b. if b then json_line family names event else text_line family names tracing.form event) (sym json) i)

@@ -9,7 +9,7 @@ use Rattle.pim_addr.specs.Routes.{RouteTable}
 use Rattle.pim_device.specs.Device.{AppendsFront, AppendsAll, failures_after}
 use Rattle.pim_merge.specs.declared.tally.Tally.{Tally}
 use Rattle.pim_merge.specs.Tally.{tally_at}
-use Rattle.pim_words.specs.declared.fault.Side.{Side}
+use Rattle.pim_words.specs.declared.fault.RouterSide.{RouterSide}
 use Rattle.pim_files.specs.Captures.{files_from, with_more}
 use Rattle.pim_words.specs.declared.task.More.{More}
 use Rattle.pim_words.specs.declared.task.Port.{Port}
@@ -73,7 +73,7 @@ stopped old new (Err x) text e p = p
 
 -- ---- the ports of a router
 
-module _ {A : Type 0} (family : AddressFamily) (bytes_of : A → List ℕ) (table : RouteTable) (side : Option Side) (tallies : List Tally) (further : List More) (ports : List (Port A)) (at next place number : ℕ) (port : Port A) (more : next ≡ suc at) (below : place < length ports)
+module _ {A : Type 0} (family : AddressFamily) (bytes_of : A → List ℕ) (table : RouteTable) (side : Option RouterSide) (tallies : List Tally) (further : List More) (ports : List (Port A)) (at next place number : ℕ) (port : Port A) (more : next ≡ suc at) (below : place < length ports)
     (here : port ≡ get_or ports place port) where
   -- what is left before this port and after it
   left_at : (b : Bool) → is_in side port ≡ b → warnings_from family bytes_of table number (left_from side further at place ports) tallies
@@ -99,7 +99,7 @@ module _ {A : Type 0} (family : AddressFamily) (bytes_of : A → List ℕ) (tabl
       left_stopped old now new (port_warnings family bytes_of table (with_more at further port) (tally_at number tallies)) (warnings_from family bytes_of table (suc number) (left_from side further next (place + 1) ports) tallies) all
       (subst (λ l. IsLeft old now l all) (left_at true is) w) p
 
-pub ports_warned : {A : Type 0} (family : AddressFamily) (bytes_of : A → List ℕ) (table : RouteTable) (side : Option Side) (tallies : List Tally) (further : List More) (ports : List (Port A)) (at place number : ℕ) (old now : Option (List ℕ)) (all : List ℕ) → length ports ≤ place
+pub ports_warned : {A : Type 0} (family : AddressFamily) (bytes_of : A → List ℕ) (table : RouteTable) (side : Option RouterSide) (tallies : List Tally) (further : List More) (ports : List (Port A)) (at place number : ℕ) (old now : Option (List ℕ)) (all : List ℕ) → length ports ≤ place
     → IsLeft old now (warnings_from family bytes_of table number (left_from side further at place ports) tallies) all → Appends old now all
 ports_warned family bytes_of table side tallies further ports at place number old now all over w =
     left_none old now all (subst (λ l. IsLeft old now l all) (ap (λ l. warnings_from family bytes_of table number (filter (are_in side) (files_from at further l)) tallies) (drop_all place ports over)) w)

@@ -14,10 +14,10 @@ use Rattle.pim_commands.specs.Naming.{port_fault}
 module _ {A P : Type 0} (ports others : List (PortFiles P)) (family : AddressFamily) (bytes_of : A → List ℕ) where
   -- The program's fault for a fault of an engine.
   abbrev pub engine_fault : ExchangeFault A → Fault
-  engine_fault (of_exchange.Replay (of_replay.Capture told)) = port_fault ports told
+  engine_fault (of_exchange.Replay (of_replay.Capture reported)) = port_fault ports reported
   engine_fault (of_exchange.Replay of_replay.Output) = Output
   engine_fault (of_exchange.Replay of_replay.Memory) = Memory
-  engine_fault (of_exchange.Second told) = port_fault others told
+  engine_fault (of_exchange.Second reported) = port_fault others reported
   engine_fault (of_exchange.TooBig group) = TooBig (address_in family (bytes_of group))
   engine_fault (of_exchange.Full needed) = Full needed
 

@@ -1,4 +1,5 @@
--- What a command asks for, as its definition says it. These definitions serve private functions only.
+-- What a command asks for, as its definition says it. These definitions serve private functions
+-- only.
 use Rattle.std.specs.Prelude.{⊤, List, ℕ, Option, None, Some}
 use Rattle.pim_addr.specs.declared.family.AddressFamily.{AddressFamily}
 use Rattle.pim_words.specs.declared.task.Captures.{Captures}

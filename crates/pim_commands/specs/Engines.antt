@@ -5,9 +5,9 @@ use Rattle.pim_addr.specs.Routes.{RouteTable}
 use Rattle.pim_events.specs.Events.{Occurrence}
 use Rattle.pim_exchange.specs.declared.fault.ExchangeFault.{ExchangeFault}
 use Rattle.pim_exchange.specs.declared.fault.ExchangeFault.TheVariants.{Replay}
-use Rattle.pim_exchange.specs.ChangeText.{TellsChange}
+use Rattle.pim_exchange.specs.ChangeText.{WritesChange}
 use Rattle.pim_exchange.specs.Emit.{Emits}
-use Rattle.pim_exchange.specs.MirrorText.{TellsMirror}
+use Rattle.pim_exchange.specs.MirrorText.{WritesMirror}
 use Rattle.pim_exchange.specs.Same.{Compares}
 use Rattle.pim_files.specs.Captures.{of_router}
 use Rattle.pim_files.specs.Opening.{port_files}
@@ -18,7 +18,7 @@ use Rattle.pim_run.specs.declared.fault.RunFault.{RunFault}
 use Rattle.pim_replay.specs.Report.{Replays}
 use Rattle.pim_router.specs.State.{RouterState, new_router}
 use Rattle.pim_trace.specs.Trace.{Traces}
-use Rattle.pim_words.specs.declared.fault.Side.TheVariants as side
+use Rattle.pim_words.specs.declared.fault.RouterSide.TheVariants as side
 use Rattle.pim_words.specs.declared.task.Captures.{Captures}
 use Rattle.pim_faults.specs.declared.fault.Fault.{Fault}
 use Rattle.pim_commands.specs.declared.two_routers.TwoRouters.{TwoRouters}
@@ -49,32 +49,32 @@ of_traced (Err fault) = Err (Replay fault)
 
 -- The result is one of these, as one of any engine.
 pub record IsAsOf {T U : Type 0} (Told : T → Type 0) (of : T → U) (result : U) : Type 0 where
-  pub told : T
-  pub is_told : Told told
-  pub is : result ≡ of told
+  pub reported : T
+  pub is_told : Told reported
+  pub is : result ≡ of reported
 
 module _ {A : Type 0} (family : AddressFamily) (bytes_of : A → List ℕ) (captures : Captures A) where
   -- What the engine returns and writes that leads the router from `state` to `after`.
   abbrev pub Does : Engine → MergeState → MergeState → RouterState → Option (List ℕ) → Option (List ℕ) → RouterState →
       Result ℕ (ExchangeFault A) → Type 0
-  Does a_report merge merge' state old new after told = IsAsOf
-      (Replays family (is_some captures.routes) (end_of captures) merge merge' state after old new) of_replayed told
-  Does (a_trace line) merge merge' state old new after told = IsAsOf
-      (Traces line family (end_of captures) merge merge' state after old new) of_traced told
-  Does (a_mirror writing) merge merge' state old new after told =
-      TellsMirror family (end_of captures) writing captures.limit merge merge' state after bytes_of old new told
-  Does (an_emission writing) merge merge' state old new after told =
-      Emits family (end_of captures) writing merge merge' state after bytes_of old new told
+  Does a_report merge merge' state old new after reported = IsAsOf
+      (Replays family (is_some captures.routes) (end_of captures) merge merge' state after old new) of_replayed reported
+  Does (a_trace line) merge merge' state old new after reported = IsAsOf
+      (Traces line family (end_of captures) merge merge' state after old new) of_traced reported
+  Does (a_mirror writing) merge merge' state old new after reported =
+      WritesMirror family (end_of captures) writing captures.limit merge merge' state after bytes_of old new reported
+  Does (an_emission writing) merge merge' state old new after reported =
+      Emits family (end_of captures) writing merge merge' state after bytes_of old new reported
 
   -- The same for two routers and a writer.
   abbrev pub DoesBoth : TwoRouters → Writing → MergeState → MergeState → MergeState → MergeState → RouterState →
       RouterState → Option (List ℕ) → Option (List ℕ) → RouterState × RouterState → Result ℕ (ExchangeFault A) → Type 0
-  DoesBoth Same writing merge merge' other other' state state_of old new after told =
+  DoesBoth Same writing merge merge' other other' state state_of old new after reported =
       Compares family (end_of captures) writing merge merge' state after.0 other other' state_of after.1
-      bytes_of old new told
-  DoesBoth Change writing merge merge' other other' state state_of old new after told =
-      TellsChange family (end_of captures) writing captures.limit merge merge' state after.0 other other' state_of
-      after.1 bytes_of old new told
+      bytes_of old new reported
+  DoesBoth Change writing merge merge' other other' state state_of old new after reported =
+      WritesChange family (end_of captures) writing captures.limit merge merge' state after.0 other other' state_of
+      after.1 bytes_of old new reported
 
   -- The captures before the run. A census of each has begun, if ports of the words have links, but
   -- for a trace.
@@ -94,9 +94,9 @@ causes_of family engine = []
 pub record HasRun {S T : Type 0} (Ran : S → T → Type 0) (answer : T → Result ℕ Fault) (result : Result ℕ Fault)
     : Type 0 where
   pub after : S
-  pub told : T
-  pub ran : Ran after told
-  pub answered : result ≡ answer told
+  pub reported : T
+  pub ran : Ran after reported
+  pub answered : result ≡ answer reported
 
 -- The engine ran, or `Unmade` holds and the result is the first of these causes.
 abbrev pub Runs : {S T : Type 0} → List Fault → Type 0 → (S → T → Type 0) → (T → Result ℕ Fault) →

@@ -10,10 +10,10 @@ use Rattle.pim_events.specs.Events.{Occurrence}
 use Rattle.pim_trace.specs.Trace.{IsTrace}
 use Rattle.pim_replay.specs.Report.{IsReport}
 
--- A trace ends with the router whose state the report of a replay has, for the same captures and the
--- same end of the run.
+-- A trace ends with the router whose state the report of a replay has, for the same captures and
+-- the same end of the run.
 abbrev pub TraceEndsAsReplay : Type 0
-TraceEndsAsReplay = (family : AddressFamily) (tells_via : Bool) (end : End) (merge : MergeState)
+TraceEndsAsReplay = (family : AddressFamily) (shows_via : Bool) (end : End) (merge : MergeState)
     (captures : List (List Answer)) (state after other : RouterState) (events : List Occurrence) (text : List ℕ) →
     IsComing merge.lanes captures → IsTrace family end merge state events after →
-    IsReport family tells_via end merge state other text → after ≡ other
+    IsReport family shows_via end merge state other text → after ≡ other

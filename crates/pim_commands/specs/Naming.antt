@@ -6,7 +6,7 @@ use Rattle.pim_capture.specs.declared.fault.CaptureFault.TheVariants as of_captu
 use Rattle.pim_files.specs.Captures.{PortFiles, of_router}
 use Rattle.pim_words.specs.Faults.{is_of}
 use Rattle.pim_merge.specs.declared.merge.MergeFault.{MergeFault}
-use Rattle.pim_words.specs.declared.fault.Side.{Side}
+use Rattle.pim_words.specs.declared.fault.RouterSide.{RouterSide}
 use Rattle.pim_words.specs.declared.task.More.{More}
 use Rattle.pim_words.specs.declared.task.Port.{Port}
 use Rattle.pim_faults.specs.declared.fault.Fault.{Fault}
@@ -50,21 +50,21 @@ in_file (Some file) number cause = InFile cause file number
 -- The program's fault for a fault of a capture of a router with these ports. The captures are
 -- numbered as the ports. It names the file of the capture in which the fault is.
 abbrev pub port_fault : {A : Type 0} → List (PortFiles A) → MergeFault → Fault
-port_fault ports told = cond (is_memory told.fault) Memory
-    (in_file (file_at ports told.capture told.file) told.«record» told.fault)
+port_fault ports reported = cond (is_memory reported.fault) Memory
+    (in_file (file_at ports reported.capture reported.file) reported.«record» reported.fault)
 
 -- The ports of a router: of one of two routers, or all.
-abbrev pub ports_of : {A : Type 0} → Option Side → List (PortFiles A) → List (PortFiles A)
+abbrev pub ports_of : {A : Type 0} → Option RouterSide → List (PortFiles A) → List (PortFiles A)
 ports_of None ports = ports
 ports_of (Some side) ports = of_router side ports
 
 -- ---- used by private functions only
 
 -- Whether the port is one of the router: of one of two, or of the one of all ports.
-abbrev pub is_in : {A : Type 0} → Option Side → Port A → Bool
+abbrev pub is_in : {A : Type 0} → Option RouterSide → Port A → Bool
 is_in None port = true
 is_in (Some side) port = is_of side port
 
 -- The same of a port with its further files.
-abbrev pub are_in : {A : Type 0} → Option Side → PortFiles A → Bool
+abbrev pub are_in : {A : Type 0} → Option RouterSide → PortFiles A → Bool
 are_in side it = is_in side it.port

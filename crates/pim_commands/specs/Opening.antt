@@ -8,11 +8,11 @@ use Rattle.pim_addr.specs.Routes.{RouteTable}
 use Rattle.pim_files.specs.declared.fault.OpenFault.{OpenFault}
 use Rattle.pim_files.specs.Captures.{of_router, HoldFiles}
 use Rattle.pim_words.specs.Faults.{is_of}
-use Rattle.pim_files.specs.Files.{Known, AsksFor, AsksFront}
+use Rattle.pim_files.specs.Files.{Known, RequestsFor, RequestsFront}
 use Rattle.pim_files.specs.Opening.{file_names, port_files, IsUnopened}
 use Rattle.pim_files.specs.Table.{IsTable}
 use Rattle.pim_merge.specs.Next.{MergeState, IsUntaken}
-use Rattle.pim_words.specs.declared.fault.Side.TheVariants as side
+use Rattle.pim_words.specs.declared.fault.RouterSide.TheVariants as side
 use Rattle.pim_words.specs.declared.task.Captures.{Captures}
 use Rattle.pim_words.specs.declared.task.Tracing.{Tracing}
 use Rattle.pim_words.specs.declared.task.Writing.{Writing}
@@ -31,16 +31,16 @@ use Rattle.pim_faults.specs.Unopened.{open_fault}
 
 module _ {A R : Type 0} (family : AddressFamily) (bytes_of : A → List ℕ) (remaining : R → Option (List ℕ))
     (failures : R → ℕ) (known known' : Known) (captures : Captures A) (upstream : Option A) where
-  -- Not all files are open, and this is the program's fault. Some first ones of the names were asked
-  -- for.
+  -- Not all files are open, and this is the program's fault. Some first ones of the names were
+  -- asked for.
   pub record OpensNot (fault : Fault) : Type 0 where
-    pub told : OpenFault
-    pub is : fault ≡ open_fault told
-    pub unopened : IsUnopened family bytes_of remaining failures known.files captures upstream told
-    pub asked : AsksFront known known' (file_names captures)
+    pub reported : OpenFault
+    pub is : fault ≡ open_fault reported
+    pub unopened : IsUnopened family bytes_of remaining failures known.files captures upstream reported
+    pub requested : RequestsFront known known' (file_names captures)
 
-  -- The result has the property `Answered`, or it is a fault of opening and nothing is written. `Warns`
-  -- says of a text that it was written to the device for errors.
+  -- The result has the property `Answered`, or it is a fault of opening and nothing is written.
+  -- `Warns` says of a text that it was written to the device for errors.
   abbrev pub Opens : (List ℕ → Type 0) → Option (List ℕ) → Option (List ℕ) → Result ℕ Fault → Type 0 → Type 0
   Opens Warns old new (Ok status) Answered = Answered
   Opens Warns old new (Err fault) Answered = (OpensNot fault × (new ≡ old) × Warns []) ⊎ Answered
@@ -56,7 +56,7 @@ module _ {A R : Type 0} (family : AddressFamily) (bytes_of : A → List ℕ) (re
     pub each : length merge.lanes ≡ length captures.ports.items
     pub untaken : IsUntaken merge
     pub held : HoldFiles known.files (port_files captures) merge.lanes
-    pub asked : AsksFor known known' (file_names captures)
+    pub requested : RequestsFor known known' (file_names captures)
     pub answers : Answers table merge merge'
 
   -- The same for two routers, each with the captures of its own ports.
@@ -74,7 +74,7 @@ module _ {A R : Type 0} (family : AddressFamily) (bytes_of : A → List ℕ) (re
       pub untaken_of_b : IsUntaken other
       pub held_of_a : HoldFiles known.files (of_router side.A (port_files captures)) merge.lanes
       pub held_of_b : HoldFiles known.files (of_router side.B (port_files captures)) other.lanes
-      pub asked : AsksFor known known' (file_names captures)
+      pub requested : RequestsFor known known' (file_names captures)
       pub answers : Answers table merge merge' other other'
 
 -- ---- what each command returns and writes. `Warns` says of a text that it was written to the device

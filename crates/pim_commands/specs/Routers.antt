@@ -16,7 +16,7 @@ use Rattle.pim_router.specs.Seen.{setup_seen}
 use Rattle.pim_router.specs.State.{Setup}
 use Rattle.pim_time.specs.declared.reading.Time.{Time}
 use Rattle.pim_words.specs.declared.fault.ConfigCause.TheVariants as cause
-use Rattle.pim_words.specs.declared.fault.Side.{Side}
+use Rattle.pim_words.specs.declared.fault.RouterSide.{RouterSide}
 use Rattle.pim_words.specs.declared.task.Captures.{Captures}
 use Rattle.pim_words.specs.declared.task.Port.{Port}
 use Rattle.pim_words.specs.declared.task.Writing.{Writing}
@@ -44,12 +44,12 @@ abbrev pub config_of : {A : Type 0} → Port A → PortConfig A
 config_of port = record { address = port.address; propagation = 500; override_ms = 2500 }
 
 -- The ports of a router: of one of two, or of the one of all ports.
-abbrev pub ports_in : {A : Type 0} → Option Side → List (Port A) → List (Port A)
+abbrev pub ports_in : {A : Type 0} → Option RouterSide → List (Port A) → List (Port A)
 ports_in None ports = ports
 ports_in (Some side) ports = filter (is_of side) ports
 
 -- The set-up of a router: its ports, the table and the limit on records.
-abbrev pub setup_in : {A : Type 0} → (A → List ℕ) → Captures A → Option Side → RouteTable → Setup
+abbrev pub setup_in : {A : Type 0} → (A → List ℕ) → Captures A → Option RouterSide → RouteTable → Setup
 setup_in bytes_of captures side table =
     setup_seen bytes_of (map config_of (ports_in side captures.ports.items)) table captures.limit
 

@@ -3,23 +3,13 @@ use Rattle.std.specs.Prelude.{ℕ, suc, if◌then◌else◌, List, [], ◌∷◌
 use Rattle.std.specs.Prelude.{Option, None, Some}
 use Rattle.std.specs.Borrow.{Bor}
 use Rattle.pim_addr.specs.declared.family.AddressFamily.{AddressFamily}
-use Rattle.pim_event_lines.specs.declared.moments.TimeForm.{TimeForm as Form}
-use Rattle.pim_event_lines.specs.declared.moments.TimeForm.TheVariants as form
 use Rattle.pim_events.specs.Events.{Occurrence}
 use Rattle.pim_events.specs.Filter.{Selection, if_shown}
 use Rattle.pim_event_lines.specs.JsonLine.{json_line}
 use Rattle.pim_event_lines.specs.TextLine.{text_line}
-use Rattle.pim_words.specs.declared.task.TimeForm.{TimeForm}
-use Rattle.pim_words.specs.declared.task.TimeForm.TheVariants.{Ms, Epoch, Utc}
 use Rattle.pim_words.specs.declared.task.Tracing.{Tracing}
 
 -- ---- what is printed of an event
-
--- The form of moments, as the printer of text takes it.
-abbrev pub form_of : TimeForm → Form
-form_of Ms = form.Ms
-form_of Epoch = form.Epoch
-form_of Utc = form.Utc
 
 -- The name of a port: the one that its word gives, or else its number.
 abbrev pub name_of : ℕ → Option (Bor (List ℕ)) → List ℕ
@@ -43,4 +33,4 @@ selection_of bytes_of tracing = record {
 -- What is printed of an event: its line as JSON or as text, or nothing where it isn't shown.
 abbrev pub line_of : {A : Type 0} → AddressFamily → (A → List ℕ) → List (List ℕ) → Tracing A → Occurrence → List ℕ
 line_of family bytes_of names tracing event = if_shown (selection_of bytes_of tracing) event
-    (if tracing.json then json_line family names event else text_line family names (form_of tracing.form) event)
+    (if tracing.json then json_line family names event else text_line family names tracing.form event)

@@ -6,7 +6,7 @@ use Rattle.pim_addr.specs.Routes.{RouteTable}
 use Rattle.pim_census.specs.declared.census.Census.{Census}
 use Rattle.pim_census.specs.Missing.{misses, without_rp}
 use Rattle.pim_files.specs.Captures.{PortFiles}
-use Rattle.pim_merge.specs.declared.tally.Place.{Place}
+use Rattle.pim_merge.specs.declared.tally.RecordPlace.{RecordPlace}
 use Rattle.pim_merge.specs.declared.tally.Tally.{Tally}
 use Rattle.pim_merge.specs.Lane.{tallies_of}
 use Rattle.pim_merge.specs.Next.{MergeState}
@@ -19,12 +19,12 @@ use Rattle.pim_commands.specs.Naming.{name_at}
 
 -- A count that isn't 0, as the place that its warning names: the port's own file. Counts are of all
 -- files of a port.
-abbrev pub counted : ℕ → Option Place
+abbrev pub counted : ℕ → Option RecordPlace
 counted count = cond (nat_lt 0 count) (Some (record { file = 0; «record» = count })) None
 
--- The warnings on records, in order, each with what it names, if it is there: a file of the port and
--- a number.
-abbrev pub rows_of : Tally → List (Warning × Option Place)
+-- The warnings on records, in order, each with what it names, if it is there: a file of the port
+-- and a number.
+abbrev pub rows_of : Tally → List (Warning × Option RecordPlace)
 rows_of tally = (CutShort, tally.cut_short)
     ∷ (Fragments, counted tally.fragments)
     ∷ (CutFrames, counted tally.cut_frames)
@@ -33,13 +33,13 @@ rows_of tally = (CutShort, tally.cut_short)
     ∷ []
 
 -- The line of a warning on a port's capture, if it is there.
-abbrev pub warned : {A : Type 0} → PortFiles A → Warning → Option Place → List ℕ
+abbrev pub warned : {A : Type 0} → PortFiles A → Warning → Option RecordPlace → List ℕ
 warned it warning None = []
 warned it warning (Some place) = warning_text warning (name_at it place.file).now place.«record»
 
 -- The lines of these warnings.
-unfoldable pub record_warnings : {A : Type 0} → PortFiles A → List (Warning × Option Place) → List ℕ
-record_warnings it rows = flat_map (λ (row : Warning × Option Place). warned it row.0 row.1) rows
+unfoldable pub record_warnings : {A : Type 0} → PortFiles A → List (Warning × Option RecordPlace) → List ℕ
+record_warnings it rows = flat_map (λ (row : Warning × Option RecordPlace). warned it row.0 row.1) rows
 
 -- The warning that no message of a capture is for the router with this address, if messages are for
 -- others.
@@ -65,8 +65,8 @@ census_warnings family table file own (Some census) =
     missed_warning family file own census ++ unserved_warning family table file own census
 
 module _ {A : Type 0} (family : AddressFamily) (bytes_of : A → List ℕ) (table : RouteTable) where
-  -- The warnings on the capture of a port. There are none on that of a port without a link. The port's
-  -- own file names those on messages.
+  -- The warnings on the capture of a port. There are none on that of a port without a link. The
+  -- port's own file names those on messages.
   abbrev pub port_warnings : PortFiles A → Tally → List ℕ
   port_warnings it tally = cond (is_some it.port.link) (record_warnings it (rows_of tally)
       ++ census_warnings family table it.port.file.now (bytes_of it.port.address) tally.census) []

@@ -21,7 +21,8 @@ use pim_faults::Fault;
 use pim_frame::{Body, open};
 use pim_hello::Hello;
 use pim_jp::JpView;
-use pim_text::{hello_text, hello_text_states_it, message_text, message_text_states, type_text};
+use pim_text::laws::message_text_states;
+use pim_text::{hello_text, hello_text_states_it, message_text, type_text};
 use pim_words::Task;
 use std::alloc::Global;
 

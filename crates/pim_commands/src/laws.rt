@@ -6,8 +6,8 @@ ghost use Rattle.pim_commands.specs.Laws.{TraceEndsAsReplay};
 pub fn trace_ends_as_replay()
     ensures { TraceEndsAsReplay }
 {
-    pim_merge::merge_by_has_one_end();
-    pim_router::runs_past_are_turns();
-    pim_router::happening_goes_on();
-    pim_router::happening_has_one_end();
+    pim_merge::laws::merge_by_has_one_end();
+    pim_router::laws::runs_past_are_turns();
+    pim_router::laws::happening_goes_on();
+    pim_router::laws::happening_has_one_end();
 }

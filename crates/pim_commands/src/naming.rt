@@ -11,7 +11,7 @@ use pim_capture::CaptureFault;
 use pim_faults::Fault;
 use pim_files::is_further;
 use pim_merge::MergeFault;
-use pim_words::{Captures, More, Port, Side, is_of};
+use pim_words::{Captures, More, Port, RouterSide, is_of};
 
 /// Whether the fault of a capture is that memory was refused.
 fn is_memory(fault: CaptureFault) -> bool
@@ -21,7 +21,7 @@ fn is_memory(fault: CaptureFault) -> bool
 }
 
 /// Whether the port is one of the router: of one of two, or of the one of all ports.
-pub(crate) fn is_in<A: Copy>(side: Option<Side>, port: &Port<'_, A>) -> bool
+pub(crate) fn is_in<A: Copy>(side: Option<RouterSide>, port: &Port<'_, A>) -> bool
     ensures { result ≡ is_in side port.now }
 {
     match side {
@@ -74,7 +74,7 @@ fn file_of<'a, A: Copy>(
 fn file_at<'a, A: Copy>(
     ports: &[Port<'a, A>],
     further: &[More<'a>],
-    side: Option<Side>,
+    side: Option<RouterSide>,
     number: usize,
     file: u64,
 ) -> Option<&'a str>
@@ -112,12 +112,12 @@ fn in_file<'a>(file: Option<&'a str>, number: u64, cause: CaptureFault) -> Fault
 /// The program's fault for a fault of a capture of a router: one of two, or the one of all ports.
 pub(crate) fn port_fault<'a, A: Copy>(
     captures: &Captures<'a, A>,
-    side: Option<Side>,
-    told: MergeFault,
+    side: Option<RouterSide>,
+    reported: MergeFault,
 ) -> Fault<'a>
-    ensures { result ≡ port_fault (ports_of side (port_files captures.now)) told }
+    ensures { result ≡ port_fault (ports_of side (port_files captures.now)) reported }
 {
-    if is_memory(told.fault) {
+    if is_memory(reported.fault) {
         return Fault::Memory;
     }
     in_file(
@@ -125,10 +125,10 @@ pub(crate) fn port_fault<'a, A: Copy>(
             &captures.ports,
             &captures.more,
             side,
-            told.capture,
-            told.file,
+            reported.capture,
+            reported.file,
         ),
-        told.record,
-        told.fault,
+        reported.record,
+        reported.fault,
     )
 }

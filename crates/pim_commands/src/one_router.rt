@@ -97,20 +97,20 @@ fn begin_for<F: Family, R: Feed + Drop>(
 }
 
 /// The result of a replay, as one of any engine.
-fn of_replayed<A>(told: Result<u8, RunFault>) -> Result<u8, ExchangeFault<A>>
-    ensures { result ≡ of_replayed told }
+fn of_replayed<A>(reported: Result<u8, RunFault>) -> Result<u8, ExchangeFault<A>>
+    ensures { result ≡ of_replayed reported }
 {
-    match told {
+    match reported {
         Ok(status) => Ok(status),
         Err(fault) => Err(ExchangeFault::Replay(fault)),
     }
 }
 
 /// The result of a trace, as one of any engine.
-fn of_traced<A>(told: Result<(), RunFault>) -> Result<u8, ExchangeFault<A>>
-    ensures { result ≡ of_traced told }
+fn of_traced<A>(reported: Result<(), RunFault>) -> Result<u8, ExchangeFault<A>>
+    ensures { result ≡ of_traced reported }
 {
-    match told {
+    match reported {
         Ok(()) => Ok(0),
         Err(fault) => Err(ExchangeFault::Replay(fault)),
     }
@@ -142,8 +142,8 @@ fn lead<F: Family, R: Feed + Drop, W: Drain>(
             of_replayed(replay_into::<F, R, W>(alloc, merge, router, end, via, writer))
         }
         Made::Trace(names, tracing) => {
-            let asked = (captures, tracing);
-            of_traced(trace_by::<F, R, W>(alloc, asked, names, merge, router, writer))
+            let requested = (captures, tracing);
+            of_traced(trace_by::<F, R, W>(alloc, requested, names, merge, router, writer))
         }
         Made::Mirror(by) => {
             mirror_into::<F, R, W>(alloc, merge, router, end, by, captures.limit, writer)
@@ -180,8 +180,8 @@ fn run_made<'a, F: Family, R: Feed + Drop, W: Drain>(
         Ok(router) => router,
         Err(fault) => return Err(fault),
     };
-    let told = lead::<F, R, W>(alloc, captures, made, merge, &mut router, writer);
-    answer_of::<F>(captures, None, None, told)
+    let reported = lead::<F, R, W>(alloc, captures, made, merge, &mut router, writer);
+    answer_of::<F>(captures, None, None, reported)
 }
 
 /// Runs a command over the captures of a new router.

@@ -28,7 +28,7 @@ pub(crate) fn open_one<'a, F: Family, O: Opener>(
 {
     match pim_files::open_one::<F, O>(alloc, opener, captures, upstream) {
         Ok(files) => Ok(files),
-        Err(told) => Err(Fault::from(told)),
+        Err(reported) => Err(Fault::from(reported)),
     }
 }
 
@@ -50,6 +50,6 @@ pub(crate) fn open_two<'a, F: Family, O: Opener>(
 {
     match pim_files::open_two::<F, O>(alloc, opener, captures, upstream) {
         Ok(files) => Ok(files),
-        Err(told) => Err(Fault::from(told)),
+        Err(reported) => Err(Fault::from(reported)),
     }
 }

@@ -16,7 +16,7 @@ use pim_faults::Fault;
 use pim_form::{Writer, WriterFault};
 use pim_merge::End;
 use pim_router::{Config, ConfigFault, PortConfig, Router};
-use pim_words::{Captures, ConfigCause, Port, Side, Writing};
+use pim_words::{Captures, ConfigCause, Port, RouterSide, Writing};
 use std::alloc::{AllocError, Global};
 
 /// The propagation delay of each port, in milliseconds (RFC 7761, 4.11: Propagation_delay_default).
@@ -54,7 +54,7 @@ fn config<A: Copy>(port: &Port<'_, A>) -> PortConfig<A>
 pub(crate) fn configs<A: Copy>(
     alloc: Global,
     ports: &[Port<'_, A>],
-    side: Option<Side>,
+    side: Option<RouterSide>,
 ) -> Result<Vec<PortConfig<A>>, AllocError>
     ensures { IfOk result (λ configs. configs.items
         ≡ map config_of (filter (is_in side) ports.now)) }
@@ -77,7 +77,7 @@ fn config_fault(fault: ConfigFault) -> Fault<'static>
         ConfigFault::Memory => return Fault::Memory,
         _ => ConfigCause::Ports,
     };
-    Fault::Words(pim_words::Fault::Config(cause))
+    Fault::Words(pim_words::CommandFault::Config(cause))
 }
 
 /// A new router with these ports, this table and this limit on records, or its first fault.
@@ -116,7 +116,7 @@ pub(crate) fn writer_of<F: Family>(writing: &Writing<F::Addr>) -> Result<Writer<
         writing.budget,
     ) {
         Ok(writer) => Ok(writer),
-        Err(WriterFault::Address) => Err(Fault::Words(pim_words::Fault::WriterAddress)),
+        Err(WriterFault::Address) => Err(Fault::Words(pim_words::CommandFault::WriterAddress)),
         Err(WriterFault::Holdtime | WriterFault::Budget) => unreachable!(),
     }
 }

@@ -8,7 +8,7 @@ ghost use Rattle.pim_run.specs.Faults.{failures_of_device};
 ghost use Rattle.pim_trace.specs.Trace.{Traces};
 ghost use Rattle.pim_words.specs.Plan.{IsBounded};
 ghost use Rattle.pim_commands.specs.Routers.{end_of};
-ghost use Rattle.pim_commands.specs.Tracing.{form_of, name_of, names_of, line_of};
+ghost use Rattle.pim_commands.specs.Tracing.{name_of, names_of, line_of};
 
 use crate::routers::end_of;
 use pim_addr::{Drain, Family, Feed};
@@ -19,19 +19,8 @@ use pim_merge::Merge;
 use pim_router::Router;
 use pim_run::RunFault;
 use pim_trace::trace_into;
-use pim_words::{Captures, TimeForm, Tracing};
+use pim_words::{Captures, Tracing};
 use std::alloc::{AllocError, Global};
-
-/// The form of moments that the words ask for, as the printer of text takes it.
-fn form_of(form: TimeForm) -> pim_event_lines::TimeForm
-    ensures { result ≡ form_of form }
-{
-    match form {
-        TimeForm::Ms => pim_event_lines::TimeForm::Ms,
-        TimeForm::Epoch => pim_event_lines::TimeForm::Epoch,
-        TimeForm::Utc => pim_event_lines::TimeForm::Utc,
-    }
-}
 
 /// The name of a port: the one that its word gives, or else its number.
 fn name_of(port: usize, given: Option<&str>) -> Name
@@ -49,7 +38,8 @@ fn name_of(port: usize, given: Option<&str>) -> Name
 
 /// The names of the ports.
 pub(crate) fn names_of(alloc: Global, given: &[Option<&str>]) -> Result<Vec<Name>, AllocError>
-    requires { AllByRecursion (λ name. IfSome name (λ text. is_port_name text.now ≡ true)) given.now }
+    requires { AllByRecursion
+        (λ name. IfSome name (λ text. is_port_name text.now ≡ true)) given.now }
     ensures { IfOk result (λ names. names.items ≡ names_of 0 given.now) }
 {
     let mut names = Vec::new(alloc);
@@ -77,22 +67,22 @@ fn filter_of<'t, A>(tracing: &'t Tracing<'_, A>) -> Filter<'t, A>
 /// Traces the captures of a router, and prints its events with these names as the words ask.
 pub(crate) fn trace_by<F: Family, R: Feed + Drop, W: Drain>(
     alloc: Global,
-    asked: (&Captures<'_, F::Addr>, &Tracing<'_, F::Addr>),
+    requested: (&Captures<'_, F::Addr>, &Tracing<'_, F::Addr>),
     names: &[Name],
     merge: &mut Merge<R>,
     router: &mut Router<'_, F>,
     writer: &mut W,
 ) -> Result<(), RunFault>
-    requires after { IsBounded asked.0.now }
+    requires after { IsBounded requested.0.now }
     requires ports { length merge.old.lanes ≡ length router.old.ports }
     requires moment { router.old.machines.moment ≤ latest_moment }
-    ensures events { Traces (line_of F.family F.bytes_of names.now asked.entry.1.now) F.family
-        (end_of asked.entry.0.now)
+    ensures events { Traces (line_of F.family F.bytes_of names.now requested.entry.1.now) F.family
+        (end_of requested.entry.0.now)
         merge.old merge.new router.old router.new
         (W.contents writer.old) (W.contents writer.new) result }
     ensures count { W.failures writer.new ≡ failures_of_device (W.failures writer.old) result }
 {
-    let (captures, tracing) = asked;
+    let (captures, tracing) = requested;
     let end = end_of(captures);
     let filter = filter_of(tracing);
     if tracing.json {
@@ -101,7 +91,7 @@ pub(crate) fn trace_by<F: Family, R: Feed + Drop, W: Drain>(
     }
     let printer = TextPrinter {
         names,
-        form: form_of(tracing.form),
+        form: tracing.form,
         filter,
     };
     trace_into(alloc, &printer, writer, merge, router, end)

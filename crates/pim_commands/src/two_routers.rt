@@ -18,7 +18,7 @@ use pim_addr::{Drain, Family, Feed, Routes};
 use pim_exchange::{change_into, same_into};
 use pim_faults::Fault;
 use pim_files::{Opener, Pair};
-use pim_words::{Captures, Side, Writing};
+use pim_words::{Captures, RouterSide, Writing};
 use std::alloc::Global;
 
 /// What a command does with the captures of two routers.
@@ -39,32 +39,34 @@ pub(crate) enum TwoRouters {
 fn run_command<'a, F: Family, R: Feed + Drop, W: Drain>(
     alloc: Global,
     captures: &Captures<'a, F::Addr>,
-    asked: (TwoRouters, &Writing<F::Addr>),
+    requested: (TwoRouters, &Writing<F::Addr>),
     routes: &Routes<F>,
     pair: &mut Pair<R>,
     writer: &mut W,
 ) -> Result<u8, Fault<'a>>
     requires after { IsBounded captures.now }
     requires limit { IsLimited captures.now }
-    requires writing { IsWritable asked.1.now }
-    requires a { length pair.old.a.lanes ≡ length (filter (is_of Side.A) captures.now.ports.items) }
-    requires b { length pair.old.b.lanes ≡ length (filter (is_of Side.B) captures.now.ports.items) }
-    ensures runs { RunsBoth F.family F.bytes_of captures.now asked.entry.0
-        (writing_of F.bytes_of asked.entry.1.now) routes.now
+    requires writing { IsWritable requested.1.now }
+    requires a { length pair.old.a.lanes
+        ≡ length (filter (is_of RouterSide.A) captures.now.ports.items) }
+    requires b { length pair.old.b.lanes
+        ≡ length (filter (is_of RouterSide.B) captures.now.ports.items) }
+    ensures runs { RunsBoth F.family F.bytes_of captures.now requested.entry.0
+        (writing_of F.bytes_of requested.entry.1.now) routes.now
         pair.old.a pair.new.a pair.old.b pair.new.b
         (W.contents writer.old) (W.contents writer.new) result }
     ensures count { W.failures writer.new ≡ write_failures_after (W.failures writer.old) result }
 {
-    let (command, writing) = asked;
+    let (command, writing) = requested;
     let (end, limit) = (end_of(captures), captures.limit);
     let by = match writer_of::<F>(writing) {
         Ok(by) => by,
         Err(fault) => return Err(fault),
     };
-    let Ok(ports_a) = configs(alloc, &captures.ports, Some(Side::A)) else {
+    let Ok(ports_a) = configs(alloc, &captures.ports, Some(RouterSide::A)) else {
         return Err(Fault::Memory);
     };
-    let Ok(ports_b) = configs(alloc, &captures.ports, Some(Side::B)) else {
+    let Ok(ports_b) = configs(alloc, &captures.ports, Some(RouterSide::B)) else {
         return Err(Fault::Memory);
     };
     let mut a = match router_of::<F>(alloc, &ports_a, routes, limit) {
@@ -79,14 +81,16 @@ fn run_command<'a, F: Family, R: Feed + Drop, W: Drain>(
     let of_b = &mut pair.b;
     match command {
         TwoRouters::Same => {
-            let told = same_into::<F, R, W>(alloc, of_a, &mut a, of_b, &mut b, end, &by, writer);
-            answer_of::<F>(captures, Some(Side::A), Some(Side::B), told)
+            let reported = same_into::<F, R, W>(
+                alloc, of_a, &mut a, of_b, &mut b, end, &by, writer,
+            );
+            answer_of::<F>(captures, Some(RouterSide::A), Some(RouterSide::B), reported)
         }
         TwoRouters::Change => {
-            let told = change_into::<F, R, W>(
+            let reported = change_into::<F, R, W>(
                 alloc, of_a, &mut a, of_b, &mut b, end, &by, limit, writer,
             );
-            answer_of::<F>(captures, Some(Side::A), Some(Side::B), told)
+            answer_of::<F>(captures, Some(RouterSide::A), Some(RouterSide::B), reported)
         }
     }
 }
@@ -100,27 +104,28 @@ fn run_two<'a, F: Family, O: Opener, W: Drain, E: Drain>(
     alloc: Global,
     opener: &mut O,
     captures: &Captures<'a, F::Addr>,
-    asked: (TwoRouters, &Writing<F::Addr>),
+    requested: (TwoRouters, &Writing<F::Addr>),
     writer: &mut W,
     errors: &mut E,
 ) -> Result<u8, Fault<'a>>
     requires after { IsBounded captures.now }
     requires limit { IsLimited captures.now }
-    requires writing { IsWritable asked.1.now }
+    requires writing { IsWritable requested.1.now }
     ensures runs { BothRun F.family F.bytes_of O.Reader.remaining O.Reader.failures
-        (O.known opener.old) (O.known opener.new) captures.now asked.entry.0 asked.entry.1.now
+        (O.known opener.old)
+        (O.known opener.new) captures.now requested.entry.0 requested.entry.1.now
         (λ text. IsReported text (E.contents errors.old) (E.contents errors.new)
         (E.failures errors.old) (E.failures errors.new))
         (W.contents writer.old) (W.contents writer.new) result }
     ensures count { W.failures writer.new ≡ write_failures_after (W.failures writer.old) result }
 {
-    let mut files = match open_two::<F, O>(alloc, opener, captures, Some(asked.1.upstream)) {
+    let mut files = match open_two::<F, O>(alloc, opener, captures, Some(requested.1.upstream)) {
         Ok(files) => files,
         Err(fault) => return Err(fault),
     };
     begin_both::<F, _>(captures, &mut files.pair);
     let pair = &mut files.pair;
-    let answer = run_command::<F, _, W>(alloc, captures, asked, &files.routes, pair, writer);
+    let answer = run_command::<F, _, W>(alloc, captures, requested, &files.routes, pair, writer);
     warn_of_both::<F, E, _>(errors, captures, &files.routes, &files.pair);
     answer
 }
@@ -150,8 +155,8 @@ pub fn same<'a, F: Family, O: Opener, W: Drain, E: Drain>(
         (W.contents writer.old) (W.contents writer.new) result }
     ensures count { W.failures writer.new ≡ write_failures_after (W.failures writer.old) result }
 {
-    let asked = (TwoRouters::Same, writing);
-    run_two::<F, O, W, E>(alloc, opener, captures, asked, writer, errors)
+    let requested = (TwoRouters::Same, writing);
+    run_two::<F, O, W, E>(alloc, opener, captures, requested, writer, errors)
 }
 
 /// Replays the captures of two routers that the words name. It writes the messages that move the
@@ -180,6 +185,6 @@ pub fn change<'a, F: Family, O: Opener, W: Drain, E: Drain>(
         (W.contents writer.old) (W.contents writer.new) result }
     ensures count { W.failures writer.new ≡ write_failures_after (W.failures writer.old) result }
 {
-    let asked = (TwoRouters::Change, writing);
-    run_two::<F, O, W, E>(alloc, opener, captures, asked, writer, errors)
+    let requested = (TwoRouters::Change, writing);
+    run_two::<F, O, W, E>(alloc, opener, captures, requested, writer, errors)
 }

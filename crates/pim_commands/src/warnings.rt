@@ -17,15 +17,15 @@ use pim_addr::{Drain, Failed, Family, Feed, Routes};
 use pim_census::Census;
 use pim_faults::{Warning, missed_line, unserved_line, warning_line};
 use pim_files::Pair;
-use pim_merge::{Merge, Place, Tally};
-use pim_words::{Captures, More, Port, Side};
+use pim_merge::{Merge, RecordPlace, Tally};
+use pim_words::{Captures, More, Port, RouterSide};
 
 /// A count that isn't 0, as the place that its warning names: the port's own file.
-fn counted(count: u64) -> Option<Place>
+fn counted(count: u64) -> Option<RecordPlace>
     ensures { result ≡ counted count }
 {
     if 0 < count {
-        return Some(Place {
+        return Some(RecordPlace {
             file: 0,
             record: count,
         });
@@ -35,7 +35,7 @@ fn counted(count: u64) -> Option<Place>
 
 /// The warnings on records, in order, each with what it names, if it is there: a file of the port
 /// and a number.
-fn rows_of(tally: &Tally) -> [(Warning, Option<Place>); 5]
+fn rows_of(tally: &Tally) -> [(Warning, Option<RecordPlace>); 5]
     ensures { result ≡ rows_of tally.now }
 {
     [
@@ -54,7 +54,7 @@ fn write_row<W: Drain, A: Copy>(
     port: &Port<'_, A>,
     further: &[More<'_>],
     warning: Warning,
-    place: Option<Place>,
+    place: Option<RecordPlace>,
 ) -> Result<(), Failed>
     ensures bytes { AppendsAll (W.contents writer.old) (W.contents writer.new) result
         (warned (with_more at further.now port.now) warning place) }
@@ -76,7 +76,7 @@ fn write_rows<W: Drain, A: Copy>(
     at: usize,
     port: &Port<'_, A>,
     further: &[More<'_>],
-    rows: &[(Warning, Option<Place>)],
+    rows: &[(Warning, Option<RecordPlace>)],
 ) -> Result<(), Failed>
     ensures bytes { AppendsAll (W.contents writer.old) (W.contents writer.new) result
         (record_warnings (with_more at further.now port.now) rows.now) }
@@ -187,7 +187,7 @@ fn write_router<F: Family, W: Drain, R: Feed + Drop>(
     writer: &mut W,
     captures: &Captures<'_, F::Addr>,
     routes: &Routes<F>,
-    side: Option<Side>,
+    side: Option<RouterSide>,
     merge: &Merge<R>,
 ) -> Result<(), Failed>
     ensures bytes { AppendsAll (W.contents writer.old) (W.contents writer.new) result
@@ -217,14 +217,16 @@ fn write_pair<F: Family, W: Drain, R: Feed + Drop>(
     pair: &Pair<R>,
 ) -> Result<(), Failed>
     ensures bytes { AppendsAll (W.contents writer.old) (W.contents writer.new) result
-        (warnings_text F.family F.bytes_of routes.now (of_router Side.A (port_files captures.now))
+        (warnings_text F.family F.bytes_of routes.now
+        (of_router RouterSide.A (port_files captures.now))
         pair.now.a
-        ++ warnings_text F.family F.bytes_of routes.now (of_router Side.B (port_files captures.now))
+        ++ warnings_text F.family F.bytes_of routes.now
+        (of_router RouterSide.B (port_files captures.now))
         pair.now.b) }
     ensures count { W.failures writer.new ≡ failures_after (W.failures writer.old) result }
 {
-    write_router::<F, W, R>(writer, captures, routes, Some(Side::A), &pair.a)?;
-    write_router::<F, W, R>(writer, captures, routes, Some(Side::B), &pair.b)
+    write_router::<F, W, R>(writer, captures, routes, Some(RouterSide::A), &pair.a)?;
+    write_router::<F, W, R>(writer, captures, routes, Some(RouterSide::B), &pair.b)
 }
 
 /// Writes the warnings on the captures of a router to the device for errors. A failure of that
@@ -252,9 +254,9 @@ pub(crate) fn warn_of_both<F: Family, E: Drain, R: Feed + Drop>(
     pair: &Pair<R>,
 )
     ensures { IsReported (warnings_text F.family F.bytes_of routes.now
-        (of_router Side.A (port_files captures.now)) pair.now.a
+        (of_router RouterSide.A (port_files captures.now)) pair.now.a
         ++ warnings_text F.family F.bytes_of routes.now
-        (of_router Side.B (port_files captures.now)) pair.now.b)
+        (of_router RouterSide.B (port_files captures.now)) pair.now.b)
         (E.contents errors.old) (E.contents errors.new) (E.failures errors.old)
         (E.failures errors.new) }
 {

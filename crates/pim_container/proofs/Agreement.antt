@@ -22,40 +22,40 @@ use Rattle.pim_capture.specs.Frame.{Datagram, judge_packet, ethernet_family, raw
 use Rattle.pim_capture.specs.Header as header
 use Rattle.pim_capture.specs.Capture as capture
 use Rattle.pim_capture.specs.Capture.{records}
-use Rattle.pim_container.specs.declared.link.Endianness.{Endianness}
-use Rattle.pim_container.specs.declared.link.Endianness.TheVariants.{Big, Little}
-use Rattle.pim_container.specs.declared.link.Link.{Link}
-use Rattle.pim_container.specs.declared.link.Link.TheVariants as link
-use Rattle.pim_container.specs.declared.classic.Format.{Format}
-use Rattle.pim_container.specs.declared.classic.Resolution.{Resolution}
-use Rattle.pim_container.specs.declared.classic.Resolution.TheVariants.{Microseconds, Nanoseconds}
+use Rattle.pim_container.specs.declared.link.BlockEndianness.{BlockEndianness}
+use Rattle.pim_container.specs.declared.link.BlockEndianness.TheVariants.{Big, Little}
+use Rattle.pim_container.specs.declared.link.LinkLayer.{LinkLayer}
+use Rattle.pim_container.specs.declared.link.LinkLayer.TheVariants as link
+use Rattle.pim_container.specs.declared.classic.ClassicFormat.{ClassicFormat}
+use Rattle.pim_container.specs.declared.classic.ClassicResolution.{ClassicResolution}
+use Rattle.pim_container.specs.declared.classic.ClassicResolution.TheVariants.{Microseconds, Nanoseconds}
 use Rattle.pim_container.specs.declared.container.Container.TheVariants.{Classic, Blocks}
-use Rattle.pim_container.specs.declared.fault.Fault.TheVariants as fault
+use Rattle.pim_container.specs.declared.fault.ContainerFault.TheVariants as fault
 use Rattle.pim_container.specs.declared.tags.Carried.{Carried}
-use Rattle.pim_container.specs.declared.place.Place.{Place}
+use Rattle.pim_container.specs.declared.place.PacketPlace.{PacketPlace}
 use Rattle.pim_container.specs.declared.event.Origin.{Origin}
 use Rattle.pim_container.specs.Link.{number, is_tag, second_type, after_one, after_two, tagged, link_of, place_in, typed_place, untagged_place, place_of}
-use Rattle.pim_container.specs.Told.{Told, section, packet_told, placed_told, frame_told}
+use Rattle.pim_container.specs.EventSeen.{EventSeen, section, packet_event, placed_event, frame_event}
 use Rattle.pim_container.specs.Block.{is_section}
 use Rattle.pim_container.specs.Classic as classic
 use Rattle.pim_container.specs.Pieces.{Answer, answers, classic_answers, judge_beginning, pieces, unless_fault, unless_faults}
-use Rattle.pim_container.specs.Agreement.{IsAt, SameTold, SameAnswers, AfterSection}
+use Rattle.pim_container.specs.Agreement.{IsAt, SameEvent, SameAnswers, AfterSection}
 
 -- ---- what stands for what
 
-abbrev pub order_as : order_type.Endianness → Endianness
+abbrev pub order_as : order_type.Endianness → BlockEndianness
 order_as order.Big = Big
 order_as order.Little = Little
 
-abbrev pub link_as : layer_type.Link → Link
+abbrev pub link_as : layer_type.Link → LinkLayer
 link_as layer.Ethernet = link.Ethernet
 link_as layer.Raw = link.Raw
 
-abbrev pub resolution_as : unit_type.Resolution → Resolution
+abbrev pub resolution_as : unit_type.Resolution → ClassicResolution
 resolution_as resolution.Microseconds = Microseconds
 resolution_as resolution.Nanoseconds = Nanoseconds
 
-abbrev pub format_as : format.Format → Format
+abbrev pub format_as : format.Format → ClassicFormat
 format_as f = record { order = order_as f.endianness; resolution = resolution_as f.resolution; link = link_as f.link }
 
 number_same : (o : order_type.Endianness) (n : ℕ) (xs : List ℕ) → number (order_as o) n xs ≡ header.number o n xs
@@ -68,16 +68,16 @@ per_same resolution.Nanoseconds = refl
 
 -- ---- frames
 
-at_time : (millis : ℕ) (origin : Origin) (r : Result Datagram Why) → IsAt millis (packet_told millis origin r)
+at_time : (millis : ℕ) (origin : Origin) (r : Result Datagram Why) → IsAt millis (packet_event millis origin r)
 at_time millis origin (Ok datagram) = refl
 at_time millis origin (Err why) = refl
 
-placed_at : (millis : ℕ) (bytes : List ℕ) (r : Result Place Why) → IsAt millis (placed_told millis 0 None bytes r)
+placed_at : (millis : ℕ) (bytes : List ℕ) (r : Result PacketPlace Why) → IsAt millis (placed_event millis 0 None bytes r)
 placed_at millis bytes (Err why) = refl
 placed_at millis bytes (Ok place) =
     at_time millis (record { interface = 0; name = None; index = place.index; vlan = place.vlan; is_copy = place.is_copy }) (judge_packet (Some place.family) (drop place.at bytes))
 
-same_packet : (millis : ℕ) (bytes : List ℕ) (origin : Origin) (r : Result Datagram Why) → SameTold (capture.told_of millis bytes r) (packet_told millis origin r)
+same_packet : (millis : ℕ) (bytes : List ℕ) (origin : Origin) (r : Result Datagram Why) → SameEvent (capture.event_by millis bytes r) (packet_event millis origin r)
 same_packet millis bytes origin (Ok datagram) = (refl, refl)
 same_packet millis bytes origin (Err Cut) = refl
 same_packet millis bytes origin (Err NotIp) = refl
@@ -91,7 +91,7 @@ same_packet millis bytes origin (Err CutShort) = refl
 same_packet millis bytes origin (Err NextFile) = refl
 
 same_raw : (millis : ℕ) (bytes : List ℕ) (cut : Bool) (family : Option AddressFamily)
-    → SameTold (capture.told_of millis bytes (if cut then Err Cut else judge_packet family bytes)) (placed_told millis 0 None bytes (if cut then Err Cut else untagged_place family 0))
+    → SameEvent (capture.event_by millis bytes (if cut then Err Cut else judge_packet family bytes)) (placed_event millis 0 None bytes (if cut then Err Cut else untagged_place family 0))
 same_raw millis bytes true family = refl
 same_raw millis bytes false None = refl
 same_raw millis bytes false (Some family) =
@@ -103,21 +103,21 @@ no_family type e = grind (arith, common_steps)
 
 -- a place behind these tags, and a packet of the family that it names
 same_typed : (millis : ℕ) (bytes : List ℕ) (carrier : Carried) (family : Option AddressFamily)
-    → SameTold (capture.told_of millis bytes (judge_packet family (drop carrier.at bytes))) (placed_told millis 0 None bytes (place_in family carrier 0 false))
+    → SameEvent (capture.event_by millis bytes (judge_packet family (drop carrier.at bytes))) (placed_event millis 0 None bytes (place_in family carrier 0 false))
 same_typed millis bytes carrier None = refl
 same_typed millis bytes carrier (Some family) =
     same_packet millis bytes (record { interface = 0; name = None; index = 0; vlan = carrier.vlan; is_copy = false }) (judge_packet (Some family) (drop carrier.at bytes))
 
 -- no IP for `pim_capture`, and another result of that time
-same_other : (millis : ℕ) (bytes rest : List ℕ) (family : Option AddressFamily) (r : Result Place Why) → family ≡ None
-    → SameTold (capture.told_of millis bytes (judge_packet family rest)) (placed_told millis 0 None bytes r)
+same_other : (millis : ℕ) (bytes rest : List ℕ) (family : Option AddressFamily) (r : Result PacketPlace Why) → family ≡ None
+    → SameEvent (capture.event_by millis bytes (judge_packet family rest)) (placed_event millis 0 None bytes r)
 same_other millis bytes rest family r e =
-    subst (λ it. SameTold (capture.told_of millis bytes (judge_packet it rest)) (placed_told millis 0 None bytes r)) (sym e) (placed_at millis bytes r)
+    subst (λ it. SameEvent (capture.event_by millis bytes (judge_packet it rest)) (placed_event millis 0 None bytes r)) (sym e) (placed_at millis bytes r)
 
 -- a frame without a tag of 802.1Q
 untagged : (millis : ℕ) (bytes : List ℕ) (cut tag : Bool) (carrier : Carried) (more : Option Carried) → is_tag carrier.type_number ≡ tag
-    → SameTold (capture.told_of millis bytes (if cut then Err Cut else judge_packet (ethernet_family carrier.type_number) (drop carrier.at bytes)))
-    (placed_told millis 0 None bytes (if cut then Err Cut else typed_place (if tag then more else Some carrier) 0 false))
+    → SameEvent (capture.event_by millis bytes (if cut then Err Cut else judge_packet (ethernet_family carrier.type_number) (drop carrier.at bytes)))
+    (placed_event millis 0 None bytes (if cut then Err Cut else typed_place (if tag then more else Some carrier) 0 false))
 untagged millis bytes true tag carrier more e = refl
 untagged millis bytes false false carrier more e = same_typed millis bytes carrier (ethernet_family carrier.type_number)
 untagged millis bytes false true carrier more e =
@@ -126,8 +126,8 @@ untagged millis bytes false true carrier more e =
 -- a frame with such a tag: the tests of its length, and of the type after the tag
 tagged_once : (millis : ℕ) (bytes : List ℕ) (cut short cut' tag : Bool) (carrier : Carried) (more : Option Carried) → (short ≡ true → cut ≡ true) → (short ≡ false → cut' ≡ cut)
     → is_tag carrier.type_number ≡ tag
-    → SameTold (capture.told_of millis bytes (if cut then Err Cut else judge_packet (ethernet_family carrier.type_number) (drop carrier.at bytes)))
-    (placed_told millis 0 None bytes (if short then Err Cut else typed_place (if cut' then None else (if not tag then Some carrier else more)) 0 false))
+    → SameEvent (capture.event_by millis bytes (if cut then Err Cut else judge_packet (ethernet_family carrier.type_number) (drop carrier.at bytes)))
+    (placed_event millis 0 None bytes (if short then Err Cut else typed_place (if cut' then None else (if not tag then Some carrier else more)) 0 false))
 tagged_once millis bytes true true cut' tag carrier more h k e = refl
 tagged_once millis bytes false true cut' tag carrier more h k e = absurd (false≢true (h refl))
 tagged_once millis bytes true false true tag carrier more h k e = refl
@@ -150,7 +150,7 @@ judged_by once bytes =
     else judge_packet (ethernet_family (big_number 2 (drop (if once then 16 else 12) bytes))) (drop (if once then 18 else 14) bytes)
 
 same_by : (millis : ℕ) (bytes : List ℕ) (once : Bool) → frame.is_tagged bytes ≡ once
-    → SameTold (capture.told_of millis bytes (judged_by once bytes)) (placed_told millis 0 None bytes (place_of link.Ethernet bytes))
+    → SameEvent (capture.event_by millis bytes (judged_by once bytes)) (placed_event millis 0 None bytes (place_of link.Ethernet bytes))
 unfolding judged_by
 same_by millis bytes false e =
     let type = big_number 2 (drop 12 bytes) in
@@ -163,16 +163,16 @@ same_by millis bytes true e =
     λ whole. ap (λ n. nat_lt n 4) (length-drop 14 bytes) ∙ left_is (length bytes) whole in
     let once = tagged_once millis bytes (nat_lt (length bytes) 18) (nat_lt (length bytes) 14) (nat_lt (length rest) 4) (is_tag (second_type rest)) (after_one 14 rest)
     (if nat_lt (length rest) 8 then None else Some (after_two 14 rest)) (less_is (length bytes) 14 18 (omega arith)) l refl in
-    let there : SameTold (capture.told_of millis bytes (if nat_lt (length bytes) 18 then Err Cut else judge_packet (ethernet_family (big_number 2 (drop 16 bytes))) (drop 18 bytes)))
-    (placed_told millis 0 None bytes (if nat_lt (length bytes) 14 then Err Cut else typed_place (tagged 14 rest) 0 false)) =
-    subst (λ it. SameTold (capture.told_of millis bytes (if nat_lt (length bytes) 18 then Err Cut else judge_packet (ethernet_family (big_number 2 it)) (drop 18 bytes)))
-    (placed_told millis 0 None bytes (if nat_lt (length bytes) 14 then Err Cut else typed_place (tagged 14 rest) 0 false))) (drop-drop 2 14 bytes) once in
-    subst (λ it. SameTold (capture.told_of millis bytes (if nat_lt (length bytes) 18 then Err Cut else judge_packet (ethernet_family (big_number 2 (drop 16 bytes))) (drop 18 bytes)))
-    (placed_told millis 0 None bytes (if nat_lt (length bytes) 14 then Err Cut else typed_place (if it then tagged 14 rest
+    let there : SameEvent (capture.event_by millis bytes (if nat_lt (length bytes) 18 then Err Cut else judge_packet (ethernet_family (big_number 2 (drop 16 bytes))) (drop 18 bytes)))
+    (placed_event millis 0 None bytes (if nat_lt (length bytes) 14 then Err Cut else typed_place (tagged 14 rest) 0 false)) =
+    subst (λ it. SameEvent (capture.event_by millis bytes (if nat_lt (length bytes) 18 then Err Cut else judge_packet (ethernet_family (big_number 2 it)) (drop 18 bytes)))
+    (placed_event millis 0 None bytes (if nat_lt (length bytes) 14 then Err Cut else typed_place (tagged 14 rest) 0 false))) (drop-drop 2 14 bytes) once in
+    subst (λ it. SameEvent (capture.event_by millis bytes (if nat_lt (length bytes) 18 then Err Cut else judge_packet (ethernet_family (big_number 2 (drop 16 bytes))) (drop 18 bytes)))
+    (placed_event millis 0 None bytes (if nat_lt (length bytes) 14 then Err Cut else typed_place (if it then tagged 14 rest
     else Some (record { type_number = big_number 2 (drop 12 bytes); at = 14; vlan = record { outer = 0; inner = 0 } })) 0 false))) (sym is) there
 
 same_ethernet : (millis : ℕ) (bytes : List ℕ)
-    → SameTold (capture.told_of millis bytes (frame.judge_frame layer.Ethernet bytes)) (placed_told millis 0 None bytes (place_of link.Ethernet bytes))
+    → SameEvent (capture.event_by millis bytes (frame.judge_frame layer.Ethernet bytes)) (placed_event millis 0 None bytes (place_of link.Ethernet bytes))
 unfolding judged_by
 same_ethernet millis bytes = same_by millis bytes (frame.is_tagged bytes) refl
 
@@ -180,11 +180,11 @@ pub never : (n : ℕ) → nat_lt n 0 ≡ false
 never n = grind (arith, common_steps)
 
 same_frame : (millis : ℕ) (l : layer_type.Link) (bytes : List ℕ)
-    → SameTold (capture.told_of millis bytes (frame.judge_frame l bytes)) (frame_told millis 0 None (Some (link_as l)) bytes)
+    → SameEvent (capture.event_by millis bytes (frame.judge_frame l bytes)) (frame_event millis 0 None (Some (link_as l)) bytes)
 same_frame millis layer.Ethernet bytes = same_ethernet millis bytes
 same_frame millis layer.Raw bytes =
-    subst (λ it. SameTold (capture.told_of millis bytes (frame.judge_frame layer.Raw bytes))
-    (placed_told millis 0 None bytes (if it then Err Cut else (if length bytes == 0 then Err Cut else untagged_place (raw_family (version bytes)) 0))))
+    subst (λ it. SameEvent (capture.event_by millis bytes (frame.judge_frame layer.Raw bytes))
+    (placed_event millis 0 None bytes (if it then Err Cut else (if length bytes == 0 then Err Cut else untagged_place (raw_family (version bytes)) 0))))
     (sym (never (length bytes))) (same_raw millis bytes (length bytes == 0) (raw_family (version bytes)))
 
 -- ---- records
@@ -236,27 +236,27 @@ millis_same f xs n =
 pub length_same : (f : format.Format) (xs : List ℕ) → classic.captured_length (format_as f) (take 16 xs) ≡ capture.captured_length f (take 16 xs)
 length_same f xs = number_same f.endianness 4 (drop 8 (take 16 xs))
 
-record_same : (f : format.Format) (xs : List ℕ) → SameTold (capture.record_told f xs) (classic.record_told (format_as f) (take (16 + capture.captured_length f (take 16 xs)) xs))
+record_same : (f : format.Format) (xs : List ℕ) → SameEvent (capture.record_event f xs) (classic.record_event (format_as f) (take (16 + capture.captured_length f (take 16 xs)) xs))
 record_same f xs =
     let n = capture.captured_length f (take 16 xs) in
-    let same : SameTold (capture.record_told f xs) (frame_told (capture.millis_of f (take 16 xs)) 0 None (Some (link_as f.link)) (take n (drop 16 xs))) =
+    let same : SameEvent (capture.record_event f xs) (frame_event (capture.millis_of f (take 16 xs)) 0 None (Some (link_as f.link)) (take n (drop 16 xs))) =
     same_frame (capture.millis_of f (take 16 xs)) f.link (take n (drop 16 xs)) in
-    let framed : SameTold (capture.record_told f xs) (frame_told (capture.millis_of f (take 16 xs)) 0 None (Some (link_as f.link)) (drop 16 (take (16 + n) xs))) =
-    subst (λ it. SameTold (capture.record_told f xs) (frame_told (capture.millis_of f (take 16 xs)) 0 None (Some (link_as f.link)) it)) (sym (drop-take 16 n xs)) same in
-    subst (λ it. SameTold (capture.record_told f xs) (frame_told it 0 None (Some (link_as f.link)) (drop 16 (take (16 + n) xs)))) (sym (millis_same f xs n)) framed
+    let framed : SameEvent (capture.record_event f xs) (frame_event (capture.millis_of f (take 16 xs)) 0 None (Some (link_as f.link)) (drop 16 (take (16 + n) xs))) =
+    subst (λ it. SameEvent (capture.record_event f xs) (frame_event (capture.millis_of f (take 16 xs)) 0 None (Some (link_as f.link)) it)) (sym (drop-take 16 n xs)) same in
+    subst (λ it. SameEvent (capture.record_event f xs) (frame_event it 0 None (Some (link_as f.link)) (drop 16 (take (16 + n) xs)))) (sym (millis_same f xs n)) framed
 
 -- ---- the results, one by one
 
 -- the results for a record of this captured length, where `cut` is the test of its head
-unfoldable pub ones_of : Bool → Bool → Bool → capture.Told → List capture.Answer → List capture.Answer
+unfoldable pub ones_of : Bool → Bool → Bool → capture.EventSeen → List capture.Answer → List capture.Answer
 ones_of a b d one ones =
-    capture.unless_fault (judged (if a then theirs.Truncated ∷ [] else fault_if b theirs.TooLong ++ fault_if d theirs.Truncated) one) (λ told. Ok told ∷ ones)
+    capture.unless_fault (judged (if a then theirs.Truncated ∷ [] else fault_if b theirs.TooLong ++ fault_if d theirs.Truncated) one) (λ reported. Ok reported ∷ ones)
 
-unfoldable pub others_of : Bool → Bool → Bool → Told → List Answer → List Answer
+unfoldable pub others_of : Bool → Bool → Bool → EventSeen → List Answer → List Answer
 others_of a b d other others =
-    unless_fault (unless_faults (if a then fault.Truncated ∷ [] else fault_if b fault.TooLong ++ fault_if d fault.Truncated) (Ok other)) (λ told. Ok told ∷ others)
+    unless_fault (unless_faults (if a then fault.Truncated ∷ [] else fault_if b fault.TooLong ++ fault_if d fault.Truncated) (Ok other)) (λ reported. Ok reported ∷ others)
 
-step : (a b d d' : Bool) (one : capture.Told) (other : Told) (ones : List capture.Answer) (others : List Answer) → (a ≡ false → d' ≡ d) → SameTold one other → SameAnswers ones others
+step : (a b d d' : Bool) (one : capture.EventSeen) (other : EventSeen) (ones : List capture.Answer) (others : List Answer) → (a ≡ false → d' ≡ d) → SameEvent one other → SameAnswers ones others
     → SameAnswers (ones_of a b d one ones) (others_of a b d' other others)
 unfolding SameAnswers ones_of others_of
 step true b d d' one other ones others h s t = (refl, tt)
@@ -282,10 +282,10 @@ same_records (suc left) f (b ∷ bs) =
     subst (λ it. SameAnswers (records left f (capture.after_record f xs)) (pieces left c [] it)) (drop-drop n 16 xs) (same_records left f (capture.after_record f xs)) in
     let whole : nat_lt (length xs) 16 ≡ false → nat_lt (length xs) (16 + n) ≡ nat_lt (length (drop 16 xs)) n =
     λ e. rest_is (length xs) n e ∙ ap (λ it. nat_lt it n) (sym (length-drop 16 xs)) in
-    let here = step (nat_lt (length xs) 16) (nat_lt capture.most_captured n) (nat_lt (length (drop 16 xs)) n) (nat_lt (length xs) (16 + n)) (capture.record_told f xs)
-    (classic.record_told (format_as f) (take (16 + n) xs)) (records left f (capture.after_record f xs)) (pieces left c [] (drop (16 + n) xs)) whole (record_same f xs) later in
-    subst (λ it. SameAnswers (ones_of (nat_lt (length xs) 16) (nat_lt capture.most_captured n) (nat_lt (length (drop 16 xs)) n) (capture.record_told f xs) (records left f (capture.after_record f xs)))
-    (others_of (nat_lt (length xs) 16) (nat_lt capture.most_captured it) (nat_lt (length xs) (16 + it)) (classic.record_told (format_as f) (take (16 + it) xs)) (pieces left c [] (drop (16 + it) xs))))
+    let here = step (nat_lt (length xs) 16) (nat_lt capture.most_captured n) (nat_lt (length (drop 16 xs)) n) (nat_lt (length xs) (16 + n)) (capture.record_event f xs)
+    (classic.record_event (format_as f) (take (16 + n) xs)) (records left f (capture.after_record f xs)) (pieces left c [] (drop (16 + n) xs)) whole (record_same f xs) later in
+    subst (λ it. SameAnswers (ones_of (nat_lt (length xs) 16) (nat_lt capture.most_captured n) (nat_lt (length (drop 16 xs)) n) (capture.record_event f xs) (records left f (capture.after_record f xs)))
+    (others_of (nat_lt (length xs) 16) (nat_lt capture.most_captured it) (nat_lt (length xs) (16 + it)) (classic.record_event (format_as f) (take (16 + it) xs)) (pieces left c [] (drop (16 + it) xs))))
     (sym (length_same f xs)) here
 
 -- ---- the file header
@@ -313,7 +313,7 @@ resolution_by : (b : Bool) → (if b then Nanoseconds else Microseconds) ≡ res
 resolution_by true = refl
 resolution_by false = refl
 
-rest_of_links : Endianness → ℕ → Option Link
+rest_of_links : BlockEndianness → ℕ → Option LinkLayer
 rest_of_links o n =
     if n == 228 then Some link.Ipv4
     else (if n == 229 then Some link.Ipv6
@@ -322,7 +322,7 @@ rest_of_links o n =
     else (if n == 0 then Some (link.Loopback o)
     else (if n == 108 then Some (link.Loopback Big) else None)))))
 
-link_by : (t t' u v : Bool) (w : Option Link) → (not t && not t') ≡ false
+link_by : (t t' u v : Bool) (w : Option LinkLayer) → (not t && not t') ≡ false
     → (if t then Some link.Ethernet else (if t' || u || v then Some link.Raw else w)) ≡ Some (link_as (if t then layer.Ethernet else layer.Raw))
 link_by true t' u v w e = refl
 link_by false true u v w e = refl

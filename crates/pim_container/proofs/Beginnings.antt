@@ -6,20 +6,20 @@ use Rattle.std.proofs.lemmas.List.{take_at, drop_at, take_all, length-append, le
 use Rattle.std.proofs.lemmas.Grind.{common_steps}
 use Rattle.pim_addr.specs.Faults.{Answers}
 use Rattle.pim_capture.specs.Capture.{most_records}
-use Rattle.pim_container.specs.declared.link.Endianness.TheVariants.{Big}
-use Rattle.pim_container.specs.declared.fault.Fault.{Fault}
-use Rattle.pim_container.specs.declared.fault.Fault.TheVariants as fault
+use Rattle.pim_container.specs.declared.link.BlockEndianness.TheVariants.{Big}
+use Rattle.pim_container.specs.declared.fault.ContainerFault.{ContainerFault}
+use Rattle.pim_container.specs.declared.fault.ContainerFault.TheVariants as fault
 use Rattle.pim_container.specs.declared.interface.Interface.{Interface}
-use Rattle.pim_container.specs.declared.classic.Format.{Format}
+use Rattle.pim_container.specs.declared.classic.ClassicFormat.{ClassicFormat}
 use Rattle.pim_container.specs.declared.container.Container.{Container}
 use Rattle.pim_container.specs.declared.container.Container.TheVariants.{Classic, Blocks}
-use Rattle.pim_container.specs.declared.reader.Step.{Step}
-use Rattle.pim_container.specs.Told.{section, ended}
+use Rattle.pim_container.specs.declared.reader.ReaderStep.{ReaderStep}
+use Rattle.pim_container.specs.EventSeen.{section, ended}
 use Rattle.pim_container.specs.Block.{is_section}
 use Rattle.pim_container.specs.Classic.{judge_header}
-use Rattle.pim_container.specs.Pieces.{Answer, answers, classic_answers, judge_beginning, pieces, judge_piece, piece_told, container_after, unless_fault, unless_faults, head_length, head_of, piece_of, piece_length, head_faults}
+use Rattle.pim_container.specs.Pieces.{Answer, answers, classic_answers, judge_beginning, pieces, judge_piece, piece_event, container_after, unless_fault, unless_faults, head_length, head_of, piece_of, piece_length, head_faults}
 use Rattle.pim_addr.specs.Faults.{fault_if}
-use Rattle.pim_container.specs.Next.{IsNext, IsRefusal, CountsReads, FillsAfter, BeginsClassic, Tells, behind}
+use Rattle.pim_container.specs.Next.{IsNext, IsRefusal, CountsReads, FillsAfter, BeginsClassic, Reads, behind}
 use Rattle.pim_container.proofs.Steps.{pieces_end, pieces_bound, at_fault, failed}
 
 -- ---- what came of known bytes
@@ -35,9 +35,9 @@ all_read old new h got l e = subst (λ bs. Consumes old new bs) (take_all got h 
 
 short : (c : Container) (is : List Interface) (xs : List ℕ) → length xs < head_length c → judge_piece c is xs ≡ Err fault.Truncated
 short c is xs h =
-    let told = piece_told (container_after c (head_of c xs)) is (piece_of c xs) in
+    let reported = piece_event (container_after c (head_of c xs)) is (piece_of c xs) in
     let test : nat_lt (length xs) (head_length c) ≡ true = grind (arith, common_steps) in
-    ap (λ b. unless_faults (if b then fault.Truncated ∷ [] else head_faults c (head_of c xs) ++ fault_if (nat_lt (length xs) (piece_length c (head_of c xs))) fault.Truncated) told) test
+    ap (λ b. unless_faults (if b then fault.Truncated ∷ [] else head_faults c (head_of c xs) ++ fault_if (nat_lt (length xs) (piece_length c (head_of c xs))) fault.Truncated) reported) test
 
 pub end_known : (left : ℕ) (c : Container) (is : List Interface) (old new : Option (List ℕ)) (h : List ℕ) (got : ℕ) (after : List ℕ → List Answer) → got ≡ 0 → Consumes old new (take got h) → IsAtEnd new
     → IsNext (option_map (pieces left c is) old) (Ok ended) (option_map after new)
@@ -68,11 +68,11 @@ cut_known left c is (Some xs) (Some ys) h got after some there cut b e d =
 
 -- ---- the results of a step from a part of the bytes
 
-pub tells_from : (n n' : ℕ) (old : Option (List ℕ)) (f : List ℕ → List Answer) (all : Option (List Answer)) (new : Option (List ℕ)) (is : List Interface) (bytes : List ℕ) (r : Result Step Fault)
-    → IfSome old (λ xs. all ≡ Some (f xs)) → Tells n n' all new is bytes r → Tells n n' (option_map f old) new is bytes r
+pub tells_from : (n n' : ℕ) (old : Option (List ℕ)) (f : List ℕ → List Answer) (all : Option (List Answer)) (new : Option (List ℕ)) (is : List Interface) (bytes : List ℕ) (r : Result ReaderStep ContainerFault)
+    → IfSome old (λ xs. all ≡ Some (f xs)) → Reads n n' all new is bytes r → Reads n n' (option_map f old) new is bytes r
 tells_from n n' None f all new is bytes (Ok step) h t = tt
 tells_from n n' None f all new is bytes (Err fault) h t = inr tt
-tells_from n n' (Some xs) f all new is bytes r h t = subst (λ it. Tells n n' it new is bytes r) h t
+tells_from n n' (Some xs) f all new is bytes r h t = subst (λ it. Reads n n' it new is bytes r) h t
 
 pub piece_begins : (left : ℕ) (c : Container) (is : List Interface) (old mid : Option (List ℕ)) (head : List ℕ) → Consumes old mid head
     → IfSome old (λ xs. option_map (pieces left c is) (behind head mid) ≡ Some (pieces left c is xs))
@@ -144,7 +144,7 @@ header_read head bytes xs ys l e =
       sym (ap (drop 24) e ∙ drop_at bytes ys 24 l),
     )
 
-classic_fault : (xs ys : List ℕ) (f : Fault) → judge_beginning xs ≡ Err f → BeginsClassic (Some xs) (Some ys) (Err f)
+classic_fault : (xs ys : List ℕ) (f : ContainerFault) → judge_beginning xs ≡ Err f → BeginsClassic (Some xs) (Some ys) (Err f)
 classic_fault xs ys fault.Magic e = e
 classic_fault xs ys (fault.LinkType n) e = e
 classic_fault xs ys fault.Truncated e = e
@@ -155,7 +155,7 @@ classic_fault xs ys fault.Read e = tt
 classic_fault xs ys fault.Memory e = tt
 classic_fault xs ys fault.Failed e = e
 
-pub header_known : (head bytes : List ℕ) (old new : Option (List ℕ)) (r : Result Format Fault) → FillsAfter head 24 old new bytes (Ok tt) → Answers (λ it. it) r (judge_header bytes)
+pub header_known : (head bytes : List ℕ) (old new : Option (List ℕ)) (r : Result ClassicFormat ContainerFault) → FillsAfter head 24 old new bytes (Ok tt) → Answers (λ it. it) r (judge_header bytes)
     → BeginsClassic (behind head old) new r
 header_known head bytes None new r fills a = tt
 header_known head bytes (Some xs) None r fills a = absurd fills.2
@@ -164,7 +164,7 @@ header_known head bytes (Some xs) (Some ys) (Ok format) fills a =
 header_known head bytes (Some xs) (Some ys) (Err f) fills a =
     let h = header_read head bytes xs ys fills.0 fills.2 in classic_fault (head ++ xs) ys f (h.0 ∙ a)
 
-pub classic_known : (is : List Interface) (old mid new : Option (List ℕ)) (head : List ℕ) (format : Format) → is ≡ [] → length head ≡ 12 → is_section head ≡ false → Consumes old mid head
+pub classic_known : (is : List Interface) (old mid new : Option (List ℕ)) (head : List ℕ) (format : ClassicFormat) → is ≡ [] → length head ≡ 12 → is_section head ≡ false → Consumes old mid head
     → BeginsClassic (behind head mid) new (Ok format) → IsNext (option_map answers old) (Ok section) (option_map (pieces most_records (Classic format) is) new)
 classic_known is None mid new head format i l s e b = tt
 classic_known is (Some xs) None new head format i l s e b = absurd e
@@ -177,13 +177,13 @@ classic_known is (Some xs) (Some ms) (Some ys) head format i l s e b =
     ∙ ap (λ it. Ok section ∷ pieces most_records (Classic format) [] it) after
     ∙ ap (λ it. Ok section ∷ pieces most_records (Classic format) it ys) (sym i)
 
-classic_at_fault : (xs head ms : List ℕ) (f : Fault) → length head ≡ 12 → is_section head ≡ false → xs ≡ head ++ ms → judge_beginning (head ++ ms) ≡ Err f → answers xs ≡ Err f ∷ []
+classic_at_fault : (xs head ms : List ℕ) (f : ContainerFault) → length head ≡ 12 → is_section head ≡ false → xs ≡ head ++ ms → judge_beginning (head ++ ms) ≡ Err f → answers xs ≡ Err f ∷ []
 classic_at_fault xs head ms f l s e b =
     is_classic xs head ms l s e
     ∙ ap (λ r. unless_fault r (λ it. Ok section ∷ pieces most_records (Classic it) [] (drop 24 xs))) (ap judge_beginning e ∙ b)
 
-pub classic_fault_known : (old mid new : Option (List ℕ)) (head : List ℕ) (f : Fault) (n n' : ℕ) (after : List ℕ → List Answer) → length head ≡ 12 → is_section head ≡ false → Consumes old mid head
-    → BeginsClassic (behind head mid) new (Err f) → CountsReads {A = Format} ⊥ n n' (Err f) → IsRefusal {A = Step} n n' (Err f) ⊎ IsNext (option_map answers old) (Err f) (option_map after new)
+pub classic_fault_known : (old mid new : Option (List ℕ)) (head : List ℕ) (f : ContainerFault) (n n' : ℕ) (after : List ℕ → List Answer) → length head ≡ 12 → is_section head ≡ false → Consumes old mid head
+    → BeginsClassic (behind head mid) new (Err f) → CountsReads {A = ClassicFormat} ⊥ n n' (Err f) → IsRefusal {A = ReaderStep} n n' (Err f) ⊎ IsNext (option_map answers old) (Err f) (option_map after new)
 classic_fault_known None mid new head f n n' after l s e b k = inr tt
 classic_fault_known (Some xs) None new head f n n' after l s e b k = absurd e
 classic_fault_known (Some xs) (Some ms) None head f n n' after l s e b k = absurd b

@@ -17,47 +17,47 @@ use Rattle.pim_capture.specs.Frame.{Datagram, judge_packet, ethernet_family, raw
 use Rattle.pim_capture.specs.Header as header
 use Rattle.pim_capture.specs.Capture as capture
 use Rattle.pim_capture.specs.Capture.{records}
-use Rattle.pim_container.specs.declared.link.Endianness.TheVariants.{Big}
-use Rattle.pim_container.specs.declared.link.Link.TheVariants as link
+use Rattle.pim_container.specs.declared.link.BlockEndianness.TheVariants.{Big}
+use Rattle.pim_container.specs.declared.link.LinkLayer.TheVariants as link
 use Rattle.pim_container.specs.declared.container.Container.TheVariants.{Classic, Blocks}
 use Rattle.pim_container.specs.declared.tags.Carried.{Carried}
 use Rattle.pim_container.specs.Link.{is_tag, second_type, after_one, after_two, tagged, place_in, typed_place, untagged_place, place_of}
-use Rattle.pim_container.specs.Told.{Told, section, packet_told, placed_told, frame_told}
+use Rattle.pim_container.specs.EventSeen.{EventSeen, section, packet_event, placed_event, frame_event}
 use Rattle.pim_container.specs.Block.{is_section}
 use Rattle.pim_container.specs.Classic as classic
 use Rattle.pim_container.specs.Pieces.{Answer, answers, classic_answers, pieces, unless_fault}
-use Rattle.pim_container.specs.Agreement.{has_further_tag, is_faulty, lacks_further_tags, of_vlan, ExactTold, ExactAnswers, ExactAfterSection}
+use Rattle.pim_container.specs.Agreement.{has_further_tag, is_faulty, lacks_further_tags, of_vlan, ExactEvent, ExactAnswers, ExactAfterSection}
 use Rattle.pim_container.proofs.Agreement.{link_as, format_as, less_is, left_is, judged_by, never, millis_same, length_same, rest_is, ones_of, others_of, header_same}
 
 -- ---- frames
 
-exact_packet : (millis : ℕ) (bytes : List ℕ) (vlan : Vlan) (r : Result Datagram Why) → ExactTold (capture.told_of millis bytes r) (packet_told millis (of_vlan vlan) r)
+exact_packet : (millis : ℕ) (bytes : List ℕ) (vlan : Vlan) (r : Result Datagram Why) → ExactEvent (capture.event_by millis bytes r) (packet_event millis (of_vlan vlan) r)
 exact_packet millis bytes vlan (Ok datagram) = (vlan, refl)
 exact_packet millis bytes vlan (Err why) = refl
 
 exact_raw : (millis : ℕ) (bytes : List ℕ) (cut : Bool) (family : Option AddressFamily)
-    → ExactTold (capture.told_of millis bytes (if cut then Err Cut else judge_packet family bytes)) (placed_told millis 0 None bytes (if cut then Err Cut else untagged_place family 0))
+    → ExactEvent (capture.event_by millis bytes (if cut then Err Cut else judge_packet family bytes)) (placed_event millis 0 None bytes (if cut then Err Cut else untagged_place family 0))
 exact_raw millis bytes true family = refl
 exact_raw millis bytes false None = refl
 exact_raw millis bytes false (Some family) = exact_packet millis bytes (record { outer = 0; inner = 0 }) (judge_packet (Some family) bytes)
 
 exact_typed : (millis : ℕ) (bytes : List ℕ) (carrier : Carried) (family : Option AddressFamily)
-    → ExactTold (capture.told_of millis bytes (judge_packet family (drop carrier.at bytes))) (placed_told millis 0 None bytes (place_in family carrier 0 false))
+    → ExactEvent (capture.event_by millis bytes (judge_packet family (drop carrier.at bytes))) (placed_event millis 0 None bytes (place_in family carrier 0 false))
 exact_typed millis bytes carrier None = refl
 exact_typed millis bytes carrier (Some family) = exact_packet millis bytes carrier.vlan (judge_packet (Some family) (drop carrier.at bytes))
 
 -- a frame without a tag
 untagged : (millis : ℕ) (bytes : List ℕ) (cut tag : Bool) (carrier : Carried) (more : Option Carried) → tag ≡ false
-    → ExactTold (capture.told_of millis bytes (if cut then Err Cut else judge_packet (ethernet_family carrier.type_number) (drop carrier.at bytes)))
-    (placed_told millis 0 None bytes (if cut then Err Cut else typed_place (if tag then more else Some carrier) 0 false))
+    → ExactEvent (capture.event_by millis bytes (if cut then Err Cut else judge_packet (ethernet_family carrier.type_number) (drop carrier.at bytes)))
+    (placed_event millis 0 None bytes (if cut then Err Cut else typed_place (if tag then more else Some carrier) 0 false))
 untagged millis bytes true tag carrier more e = refl
 untagged millis bytes false false carrier more e = exact_typed millis bytes carrier (ethernet_family carrier.type_number)
 untagged millis bytes false true carrier more e = absurd (false≢true (sym e))
 
 -- a frame with one tag of 802.1Q: the tests of its length, and of the type after the tag
 tagged_once : (millis : ℕ) (bytes : List ℕ) (cut short cut' tag : Bool) (carrier : Carried) (more : Option Carried) → (short ≡ true → cut ≡ true) → (short ≡ false → cut' ≡ cut) → tag ≡ false
-    → ExactTold (capture.told_of millis bytes (if cut then Err Cut else judge_packet (ethernet_family carrier.type_number) (drop carrier.at bytes)))
-    (placed_told millis 0 None bytes (if short then Err Cut else typed_place (if cut' then None else (if not tag then Some carrier else more)) 0 false))
+    → ExactEvent (capture.event_by millis bytes (if cut then Err Cut else judge_packet (ethernet_family carrier.type_number) (drop carrier.at bytes)))
+    (placed_event millis 0 None bytes (if short then Err Cut else typed_place (if cut' then None else (if not tag then Some carrier else more)) 0 false))
 tagged_once millis bytes true true cut' tag carrier more h k e = refl
 tagged_once millis bytes false true cut' tag carrier more h k e = absurd (false≢true (h refl))
 tagged_once millis bytes true false true tag carrier more h k e = refl
@@ -67,7 +67,7 @@ tagged_once millis bytes false false false false carrier more h k e = exact_type
 tagged_once millis bytes false false false true carrier more h k e = absurd (false≢true (sym e))
 
 exact_by : (millis : ℕ) (bytes : List ℕ) (once : Bool) → frame.is_tagged bytes ≡ once → is_tag (big_number 2 (drop (if once then 16 else 12) bytes)) ≡ false
-    → ExactTold (capture.told_of millis bytes (judged_by once bytes)) (placed_told millis 0 None bytes (place_of link.Ethernet bytes))
+    → ExactEvent (capture.event_by millis bytes (judged_by once bytes)) (placed_event millis 0 None bytes (place_of link.Ethernet bytes))
 unfolding judged_by
 exact_by millis bytes false e plain =
     let type = big_number 2 (drop 12 bytes) in
@@ -80,34 +80,34 @@ exact_by millis bytes true e plain =
     λ whole. ap (λ n. nat_lt n 4) (length-drop 14 bytes) ∙ left_is (length bytes) whole in
     let once = tagged_once millis bytes (nat_lt (length bytes) 18) (nat_lt (length bytes) 14) (nat_lt (length rest) 4) (is_tag (second_type rest)) (after_one 14 rest)
     (if nat_lt (length rest) 8 then None else Some (after_two 14 rest)) (less_is (length bytes) 14 18 (omega arith)) l (ap (λ it. is_tag (big_number 2 it)) (drop-drop 2 14 bytes) ∙ plain) in
-    let there : ExactTold (capture.told_of millis bytes (if nat_lt (length bytes) 18 then Err Cut else judge_packet (ethernet_family (big_number 2 (drop 16 bytes))) (drop 18 bytes)))
-    (placed_told millis 0 None bytes (if nat_lt (length bytes) 14 then Err Cut else typed_place (tagged 14 rest) 0 false)) =
-    subst (λ it. ExactTold (capture.told_of millis bytes (if nat_lt (length bytes) 18 then Err Cut else judge_packet (ethernet_family (big_number 2 it)) (drop 18 bytes)))
-    (placed_told millis 0 None bytes (if nat_lt (length bytes) 14 then Err Cut else typed_place (tagged 14 rest) 0 false))) (drop-drop 2 14 bytes) once in
-    subst (λ it. ExactTold (capture.told_of millis bytes (if nat_lt (length bytes) 18 then Err Cut else judge_packet (ethernet_family (big_number 2 (drop 16 bytes))) (drop 18 bytes)))
-    (placed_told millis 0 None bytes (if nat_lt (length bytes) 14 then Err Cut else typed_place (if it then tagged 14 rest
+    let there : ExactEvent (capture.event_by millis bytes (if nat_lt (length bytes) 18 then Err Cut else judge_packet (ethernet_family (big_number 2 (drop 16 bytes))) (drop 18 bytes)))
+    (placed_event millis 0 None bytes (if nat_lt (length bytes) 14 then Err Cut else typed_place (tagged 14 rest) 0 false)) =
+    subst (λ it. ExactEvent (capture.event_by millis bytes (if nat_lt (length bytes) 18 then Err Cut else judge_packet (ethernet_family (big_number 2 it)) (drop 18 bytes)))
+    (placed_event millis 0 None bytes (if nat_lt (length bytes) 14 then Err Cut else typed_place (tagged 14 rest) 0 false))) (drop-drop 2 14 bytes) once in
+    subst (λ it. ExactEvent (capture.event_by millis bytes (if nat_lt (length bytes) 18 then Err Cut else judge_packet (ethernet_family (big_number 2 (drop 16 bytes))) (drop 18 bytes)))
+    (placed_event millis 0 None bytes (if nat_lt (length bytes) 14 then Err Cut else typed_place (if it then tagged 14 rest
     else Some (record { type_number = big_number 2 (drop 12 bytes); at = 14; vlan = record { outer = 0; inner = 0 } })) 0 false))) (sym is) there
 
 exact_frame : (millis : ℕ) (l : layer_type.Link) (bytes : List ℕ) → has_further_tag l bytes ≡ false
-    → ExactTold (capture.told_of millis bytes (frame.judge_frame l bytes)) (frame_told millis 0 None (Some (link_as l)) bytes)
+    → ExactEvent (capture.event_by millis bytes (frame.judge_frame l bytes)) (frame_event millis 0 None (Some (link_as l)) bytes)
 unfolding judged_by
 exact_frame millis layer.Ethernet bytes plain = exact_by millis bytes (frame.is_tagged bytes) refl plain
 exact_frame millis layer.Raw bytes plain =
-    subst (λ it. ExactTold (capture.told_of millis bytes (frame.judge_frame layer.Raw bytes))
-    (placed_told millis 0 None bytes (if it then Err Cut else (if length bytes == 0 then Err Cut else untagged_place (raw_family (version bytes)) 0))))
+    subst (λ it. ExactEvent (capture.event_by millis bytes (frame.judge_frame layer.Raw bytes))
+    (placed_event millis 0 None bytes (if it then Err Cut else (if length bytes == 0 then Err Cut else untagged_place (raw_family (version bytes)) 0))))
     (sym (never (length bytes))) (exact_raw millis bytes (length bytes == 0) (raw_family (version bytes)))
 
 -- ---- records
 
 exact_record : (f : format.Format) (xs : List ℕ) → has_further_tag f.link (capture.frame_of f xs) ≡ false
-    → ExactTold (capture.record_told f xs) (classic.record_told (format_as f) (take (16 + capture.captured_length f (take 16 xs)) xs))
+    → ExactEvent (capture.record_event f xs) (classic.record_event (format_as f) (take (16 + capture.captured_length f (take 16 xs)) xs))
 exact_record f xs plain =
     let n = capture.captured_length f (take 16 xs) in
-    let same : ExactTold (capture.record_told f xs) (frame_told (capture.millis_of f (take 16 xs)) 0 None (Some (link_as f.link)) (take n (drop 16 xs))) =
+    let same : ExactEvent (capture.record_event f xs) (frame_event (capture.millis_of f (take 16 xs)) 0 None (Some (link_as f.link)) (take n (drop 16 xs))) =
     exact_frame (capture.millis_of f (take 16 xs)) f.link (take n (drop 16 xs)) plain in
-    let framed : ExactTold (capture.record_told f xs) (frame_told (capture.millis_of f (take 16 xs)) 0 None (Some (link_as f.link)) (drop 16 (take (16 + n) xs))) =
-    subst (λ it. ExactTold (capture.record_told f xs) (frame_told (capture.millis_of f (take 16 xs)) 0 None (Some (link_as f.link)) it)) (sym (drop-take 16 n xs)) same in
-    subst (λ it. ExactTold (capture.record_told f xs) (frame_told it 0 None (Some (link_as f.link)) (drop 16 (take (16 + n) xs)))) (sym (millis_same f xs n)) framed
+    let framed : ExactEvent (capture.record_event f xs) (frame_event (capture.millis_of f (take 16 xs)) 0 None (Some (link_as f.link)) (drop 16 (take (16 + n) xs))) =
+    subst (λ it. ExactEvent (capture.record_event f xs) (frame_event (capture.millis_of f (take 16 xs)) 0 None (Some (link_as f.link)) it)) (sym (drop-take 16 n xs)) same in
+    subst (λ it. ExactEvent (capture.record_event f xs) (frame_event it 0 None (Some (link_as f.link)) (drop 16 (take (16 + n) xs)))) (sym (millis_same f xs n)) framed
 
 -- ---- the results, one by one
 
@@ -120,8 +120,8 @@ tag_test false false true tag later e no-a no-b no-d = absurd (false≢true (sym
 tag_test false false false true later e no-a no-b no-d = absurd (false≢true e)
 tag_test false false false false later e no-a no-b no-d = (refl, e)
 
-step : (a b d d' : Bool) (one : capture.Told) (other : Told) (ones : List capture.Answer) (others : List Answer) → (a ≡ false → d' ≡ d)
-    → (a ≡ false → b ≡ false → d ≡ false → ExactTold one other × ExactAnswers ones others) → ExactAnswers (ones_of a b d one ones) (others_of a b d' other others)
+step : (a b d d' : Bool) (one : capture.EventSeen) (other : EventSeen) (ones : List capture.Answer) (others : List Answer) → (a ≡ false → d' ≡ d)
+    → (a ≡ false → b ≡ false → d ≡ false → ExactEvent one other × ExactAnswers ones others) → ExactAnswers (ones_of a b d one ones) (others_of a b d' other others)
 unfolding ExactAnswers ones_of others_of
 step true b d d' one other ones others h s = (refl, tt)
 step false true d d' one other ones others h s = (refl, tt)
@@ -144,11 +144,11 @@ exact_records (suc left) f (b ∷ bs) e =
     λ none. subst (λ it. ExactAnswers (records left f (capture.after_record f xs)) (pieces left c [] it)) (drop-drop n 16 xs) (exact_records left f (capture.after_record f xs) none) in
     let whole : nat_lt (length xs) 16 ≡ false → nat_lt (length xs) (16 + n) ≡ nat_lt (length (drop 16 xs)) n =
     λ it. rest_is (length xs) n it ∙ ap (λ it. nat_lt it n) (sym (length-drop 16 xs)) in
-    let here = step (nat_lt (length xs) 16) (nat_lt capture.most_captured n) (nat_lt (length (drop 16 xs)) n) (nat_lt (length xs) (16 + n)) (capture.record_told f xs)
-    (classic.record_told (format_as f) (take (16 + n) xs)) (records left f (capture.after_record f xs)) (pieces left c [] (drop (16 + n) xs)) whole
+    let here = step (nat_lt (length xs) 16) (nat_lt capture.most_captured n) (nat_lt (length (drop 16 xs)) n) (nat_lt (length xs) (16 + n)) (capture.record_event f xs)
+    (classic.record_event (format_as f) (take (16 + n) xs)) (records left f (capture.after_record f xs)) (pieces left c [] (drop (16 + n) xs)) whole
     (λ no-a no-b no-d. (exact_record f xs (parts no-a no-b no-d).0, later (parts no-a no-b no-d).1)) in
-    subst (λ it. ExactAnswers (ones_of (nat_lt (length xs) 16) (nat_lt capture.most_captured n) (nat_lt (length (drop 16 xs)) n) (capture.record_told f xs) (records left f (capture.after_record f xs)))
-    (others_of (nat_lt (length xs) 16) (nat_lt capture.most_captured it) (nat_lt (length xs) (16 + it)) (classic.record_told (format_as f) (take (16 + it) xs)) (pieces left c [] (drop (16 + it) xs))))
+    subst (λ it. ExactAnswers (ones_of (nat_lt (length xs) 16) (nat_lt capture.most_captured n) (nat_lt (length (drop 16 xs)) n) (capture.record_event f xs) (records left f (capture.after_record f xs)))
+    (others_of (nat_lt (length xs) 16) (nat_lt capture.most_captured it) (nat_lt (length xs) (16 + it)) (classic.record_event (format_as f) (take (16 + it) xs)) (pieces left c [] (drop (16 + it) xs))))
     (sym (length_same f xs)) here
 
 -- ---- the file

@@ -3,16 +3,16 @@ use Rattle.std.proofs.Common.{◌≡◌, ℕ, zero, suc, ◌-◌, ◌<◌, true,
 use Rattle.std.specs.Option.{option_map}
 use Rattle.std.specs.Io.KnownBytes.{Consumes}
 use Rattle.pim_capture.specs.Capture.{most_records}
-use Rattle.pim_container.specs.declared.link.Endianness.TheVariants.{Big}
-use Rattle.pim_container.specs.declared.event.Event.{Event}
-use Rattle.pim_container.specs.declared.event.Event.TheVariants as event
+use Rattle.pim_container.specs.declared.link.BlockEndianness.TheVariants.{Big}
+use Rattle.pim_container.specs.declared.event.ContainerEvent.{ContainerEvent}
+use Rattle.pim_container.specs.declared.event.ContainerEvent.TheVariants as event
 use Rattle.pim_container.specs.declared.interface.Interface.{Interface}
-use Rattle.pim_container.specs.declared.classic.Format.{Format}
+use Rattle.pim_container.specs.declared.classic.ClassicFormat.{ClassicFormat}
 use Rattle.pim_container.specs.declared.container.Container.{Container}
 use Rattle.pim_container.specs.declared.container.Container.TheVariants.{Classic, Blocks}
-use Rattle.pim_container.specs.declared.piece.Found.{Found}
-use Rattle.pim_container.specs.declared.reader.State.TheVariants.{Unbegun}
-use Rattle.pim_container.specs.Told.{event_seen}
+use Rattle.pim_container.specs.declared.piece.FoundPiece.{FoundPiece}
+use Rattle.pim_container.specs.declared.reader.ReaderState.TheVariants.{Unbegun}
+use Rattle.pim_container.specs.EventSeen.{event_seen}
 use Rattle.pim_container.specs.Block.{is_section}
 use Rattle.pim_container.specs.Pieces.{head_of, piece_of, after_piece, container_after, interfaces_after, judge_piece, judge_beginning}
 use Rattle.pim_container.specs.Next.{TakesPiece, BeginsClassic, behind}
@@ -33,7 +33,7 @@ needs_step (suc left) c count is bytes e =
     let one : left ≡ suc left - 1 = omega arith in
     ap (λ n. first_need (suc left) c count bytes ∷ unless_record count (judge_piece c is bytes) (later_of n c is bytes)) one
 
-passes_unknown : (e : Event) (new : Option (List Need)) → PassesNeed e None new
+passes_unknown : (e : ContainerEvent) (new : Option (List Need)) → PassesNeed e None new
 passes_unknown (event.Packet millis origin ip) new = tt
 passes_unknown (event.Skipped millis why) new = tt
 passes_unknown event.Untimed new = tt
@@ -42,7 +42,7 @@ passes_unknown (event.Interface name) new = tt
 passes_unknown event.Passed new = tt
 passes_unknown event.End new = tt
 
-passes_known : (e : Event) (bytes : List ℕ) (count count' : ℕ) (need : Need) (all later : List Need) (rest : ℕ → List Need) → all ≡ need ∷ unless_record count (Ok (event_seen bytes e)) rest
+passes_known : (e : ContainerEvent) (bytes : List ℕ) (count count' : ℕ) (need : Need) (all later : List Need) (rest : ℕ → List Need) → all ≡ need ∷ unless_record count (Ok (event_seen bytes e)) rest
     → CountsList e count count' → later ≡ rest count' → PassesNeed e (Some all) (Some later)
 passes_known (event.Packet millis origin ip) bytes count count' need all later rest a k l = tt
 passes_known (event.Skipped millis why) bytes count count' need all later rest a k l = tt
@@ -52,7 +52,7 @@ passes_known (event.Interface name) bytes count count' need all later rest a k l
 passes_known event.Passed bytes count count' need all later rest a k l = ap Some (l ∙ ap rest k ∙ sym (ap (drop 1) a))
 passes_known event.End bytes count count' need all later rest a k l = tt
 
-pub piece_passed : (left : ℕ) (c : Container) (count count' : ℕ) (is is' : List Interface) (head bytes : List ℕ) (old new : Option (List ℕ)) (found : Found) → 0 < left
+pub piece_passed : (left : ℕ) (c : Container) (count count' : ℕ) (is is' : List Interface) (head bytes : List ℕ) (old new : Option (List ℕ)) (found : FoundPiece) → 0 < left
     → TakesPiece c is (behind head old) new is' bytes (Ok found) → CountsList found.event count count'
     → PassesNeed found.event (option_map (needs left c count is) (behind head old)) (option_map (needs (left - 1) found.container count' is') new)
 unfolding later_of
@@ -70,13 +70,13 @@ piece_passed left c count count' is is' head bytes (Some xs) (Some ys) found som
 
 -- ---- from a part of the bytes to all
 
-pub next_passes : (left : ℕ) (c : Container) (count : ℕ) (is : List Interface) (head : List ℕ) (old mid : Option (List ℕ)) (new : Option (List Need)) (e : Event) → Consumes old mid head
+pub next_passes : (left : ℕ) (c : Container) (count : ℕ) (is : List Interface) (head : List ℕ) (old mid : Option (List ℕ)) (new : Option (List Need)) (e : ContainerEvent) → Consumes old mid head
     → PassesNeed e (option_map (needs left c count is) (behind head mid)) new → PassesNeed e (option_map (needs left c count is) old) new
 next_passes left c count is head None mid new e h p = passes_unknown e new
 next_passes left c count is head (Some xs) None new e h p = absurd h
 next_passes left c count is head (Some xs) (Some ms) new e h p = subst (λ it. PassesNeed e (Some (needs left c count is it)) new) (sym h) p
 
-pub blocks_pass : (count : ℕ) (is : List Interface) (head : List ℕ) (old mid : Option (List ℕ)) (new : Option (List Need)) (e : Event) → count ≡ 0 → is ≡ [] → length head ≡ 12 → is_section head ≡ true
+pub blocks_pass : (count : ℕ) (is : List Interface) (head : List ℕ) (old mid : Option (List ℕ)) (new : Option (List Need)) (e : ContainerEvent) → count ≡ 0 → is ≡ [] → length head ≡ 12 → is_section head ≡ true
     → Consumes old mid head → PassesNeed e (option_map (needs most_records (Blocks Big) count is) (behind head mid)) new → PassesNeed e (option_map (needs_in Unbegun 0 []) old) new
 blocks_pass count is head None mid new e z i l s h p = passes_unknown e new
 blocks_pass count is head (Some xs) None new e z i l s h p = absurd h
@@ -89,7 +89,7 @@ blocks_pass count is head (Some xs) (Some ms) new e z i l s h p =
     ∙ sym (ap (λ b. if b then needs most_records (Blocks Big) 0 [] xs else classic_needs xs) begins) in
     subst (λ it. PassesNeed e (Some it) new) same p
 
-pub classic_passes : (count : ℕ) (is : List Interface) (head : List ℕ) (old mid new : Option (List ℕ)) (format : Format) → count ≡ 0 → is ≡ [] → length head ≡ 12 → is_section head ≡ false
+pub classic_passes : (count : ℕ) (is : List Interface) (head : List ℕ) (old mid new : Option (List ℕ)) (format : ClassicFormat) → count ≡ 0 → is ≡ [] → length head ≡ 12 → is_section head ≡ false
     → Consumes old mid head → BeginsClassic (behind head mid) new (Ok format)
     → PassesNeed event.Section (option_map (needs_in Unbegun 0 []) old) (option_map (needs most_records (Classic format) count is) new)
 classic_passes count is head None mid new format z i l s h b = tt

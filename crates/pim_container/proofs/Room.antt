@@ -1,21 +1,21 @@
 -- What memory was refused for.
 use Rattle.std.proofs.Common.{◌≡◌, ℕ, ◌<◌, ◌⊎◌, true, false, List, [], ◌++◌, length, Option, Some, None, Result, Ok, Err, IfSome, ap, sym, ◌∙◌, subst, arith, inl, inr}
 use Rattle.std.specs.Io.KnownBytes.{Consumes}
-use Rattle.pim_container.specs.declared.link.Endianness.TheVariants.{Big}
-use Rattle.pim_container.specs.declared.fault.Fault.{Fault}
-use Rattle.pim_container.specs.declared.fault.Fault.TheVariants as fault
+use Rattle.pim_container.specs.declared.link.BlockEndianness.TheVariants.{Big}
+use Rattle.pim_container.specs.declared.fault.ContainerFault.{ContainerFault}
+use Rattle.pim_container.specs.declared.fault.ContainerFault.TheVariants as fault
 use Rattle.pim_container.specs.declared.container.Container.{Container}
 use Rattle.pim_container.specs.declared.container.Container.TheVariants.{Blocks}
 use Rattle.pim_container.specs.Block.{is_section}
 use Rattle.pim_container.specs.Pieces.{head_length, head_faults, piece_of, piece_length, container_after}
 use Rattle.pim_container.specs.Next.{IsOfBytes, OnMemory, Describes, NeedsMemory, NeedsToBegin, FillsAfter, behind}
-use Rattle.pim_container.specs.Room.{LacksRoom, length_named, DescribesFirst}
+use Rattle.pim_container.specs.Room.{LacksRoom, stated_length, DescribesFirst}
 use Rattle.pim_container.proofs.Whole.{head_is, whole}
 use Rattle.pim_container.proofs.Beginnings.{section_front}
 use Rattle.pim_container.proofs.Named.{named_ok}
 
 -- a fault of a part is a fault of the whole
-pub memory_passed : (A B : Type 0) (f : Fault) (P Q : Type 0) → (P → Q) → OnMemory {A = A} (Err f) P → OnMemory {A = B} (Err f) Q
+pub memory_passed : (A B : Type 0) (f : ContainerFault) (P Q : Type 0) → (P → Q) → OnMemory {A = A} (Err f) P → OnMemory {A = B} (Err f) Q
 memory_passed A B fault.Memory P Q h p = h p
 memory_passed A B fault.Magic P Q h p = tt
 memory_passed A B (fault.LinkType n) P Q h p = tt
@@ -26,11 +26,11 @@ memory_passed A B fault.Time P Q h p = tt
 memory_passed A B fault.Read P Q h p = tt
 memory_passed A B fault.Failed P Q h p = tt
 
-pub memory_of : {A : Type 0} (r : Result A Fault) (P Q : Type 0) → (P → Q) → OnMemory r P → OnMemory r Q
+pub memory_of : {A : Type 0} (r : Result A ContainerFault) (P Q : Type 0) → (P → Q) → OnMemory r P → OnMemory r Q
 memory_of (Ok value) P Q h p = tt
 memory_of {A = A} (Err f) P Q h p = memory_passed A A f P Q h p
 
-pub memory_not : (A : Type 0) (f : Fault) (P : Type 0) → IsOfBytes f → OnMemory {A = A} (Err f) P
+pub memory_not : (A : Type 0) (f : ContainerFault) (P : Type 0) → IsOfBytes f → OnMemory {A = A} (Err f) P
 memory_not A fault.Memory P h = absurd h
 memory_not A fault.Magic P h = tt
 memory_not A (fault.LinkType n) P h = tt
@@ -77,7 +77,7 @@ classic_memory capacity (Some xs) (Some ms) head l s e m = inr (ap is_section e 
 
 -- ---- the room of the buffer and the list
 
-memory_by : (A B C : Type 0) (f : Fault) (P Q R : Type 0) → (P → Q → R) → OnMemory {A = A} (Err f) P → OnMemory {A = B} (Err f) Q → OnMemory {A = C} (Err f) R
+memory_by : (A B C : Type 0) (f : ContainerFault) (P Q R : Type 0) → (P → Q → R) → OnMemory {A = A} (Err f) P → OnMemory {A = B} (Err f) Q → OnMemory {A = C} (Err f) R
 memory_by A B C fault.Memory P Q R h p q = h p q
 memory_by A B C fault.Magic P Q R h p q = tt
 memory_by A B C (fault.LinkType n) P Q R h p q = tt
@@ -88,7 +88,7 @@ memory_by A B C fault.Time P Q R h p q = tt
 memory_by A B C fault.Read P Q R h p q = tt
 memory_by A B C fault.Failed P Q R h p q = tt
 
-pub lacks_known : (capacity size : ℕ) (c : Container) (head : List ℕ) → head_faults c head ≡ [] → size ≡ piece_length c head → capacity < size → LacksRoom capacity (Some (length_named c head))
+pub lacks_known : (capacity size : ℕ) (c : Container) (head : List ℕ) → head_faults c head ≡ [] → size ≡ piece_length c head → capacity < size → LacksRoom capacity (Some (stated_length c head))
 lacks_known capacity size c head none e less = subst (λ it. LacksRoom capacity (Some it)) (sym (named_ok c head size none e)) less
 
 pub described_first : (size : ℕ) (c c' : Container) (head bytes : List ℕ) (old new : Option (List ℕ)) → length head ≡ head_length c → head_faults c head ≡ [] → c' ≡ container_after c head
@@ -99,6 +99,6 @@ described_first size c c' head bytes (Some xs) (Some ys) l none k e fills d =
     let w = whole c [] head bytes xs ys l none (fills.0 ∙ e) fills.2 in
     subst (λ it. Describes it (piece_of c (head ++ xs))) (k ∙ ap (container_after c) (sym (head_is c head xs l))) (subst (λ it. Describes c' it) (sym w.1) d)
 
-pub asks_place : (A B : Type 0) (f : Fault) (describes full lacks described : Type 0) → (describes → described) → OnMemory {A = A} (Err f) describes → OnMemory {A = A} (Err f) full
+pub asks_place : (A B : Type 0) (f : ContainerFault) (describes full lacks described : Type 0) → (describes → described) → OnMemory {A = A} (Err f) describes → OnMemory {A = A} (Err f) full
     → OnMemory {A = B} (Err f) (lacks ⊎ (full × described))
 asks_place A B f describes full lacks described h d m = memory_by A A B f describes full (lacks ⊎ (full × described)) (λ x y. inr (y, h x)) d m

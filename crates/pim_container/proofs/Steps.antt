@@ -3,15 +3,15 @@ use Rattle.std.proofs.Common.{◌≡◌, ◌≢◌, ℕ, zero, suc, ◌+◌, ◌
 use Rattle.std.specs.Option.{option_map}
 use Rattle.std.proofs.lemmas.List.{length-append}
 use Rattle.pim_device.specs.Device.{top_count}
-use Rattle.pim_container.specs.declared.fault.Fault.{Fault}
-use Rattle.pim_container.specs.declared.fault.Fault.TheVariants as fault
-use Rattle.pim_container.specs.declared.event.Event.{Event}
-use Rattle.pim_container.specs.declared.event.Event.TheVariants as event
+use Rattle.pim_container.specs.declared.fault.ContainerFault.{ContainerFault}
+use Rattle.pim_container.specs.declared.fault.ContainerFault.TheVariants as fault
+use Rattle.pim_container.specs.declared.event.ContainerEvent.{ContainerEvent}
+use Rattle.pim_container.specs.declared.event.ContainerEvent.TheVariants as event
 use Rattle.pim_container.specs.declared.interface.Interface.{Interface}
 use Rattle.pim_container.specs.declared.container.Container.{Container}
-use Rattle.pim_container.specs.declared.piece.Found.{Found}
-use Rattle.pim_container.specs.declared.reader.Step.{Step}
-use Rattle.pim_container.specs.Told.{Told, ended, event_seen}
+use Rattle.pim_container.specs.declared.piece.FoundPiece.{FoundPiece}
+use Rattle.pim_container.specs.declared.reader.ReaderStep.{ReaderStep}
+use Rattle.pim_container.specs.EventSeen.{EventSeen, ended, event_seen}
 use Rattle.pim_container.specs.declared.container.Container.TheVariants.{Classic, Blocks}
 use Rattle.pim_container.specs.Pieces.{head_length, Answer, pieces, judge_piece, unless_fault, head_of, piece_of, after_piece, container_after, interfaces_after}
 use Rattle.pim_container.specs.Next.{IsNext, IsRefusal, CountsReads, TakesPiece, in_front, behind}
@@ -38,32 +38,32 @@ rest_of left c is bytes =
     pieces left (container_after c (head_of c bytes)) (interfaces_after (container_after c (head_of c bytes)) is (piece_of c bytes)) (after_piece c bytes)
 
 pieces_step : (left : ℕ) (c : Container) (is : List Interface) (bytes : List ℕ) → 0 < left → 0 < length bytes
-    → pieces left c is bytes ≡ unless_fault (judge_piece c is bytes) (λ told. Ok told ∷ rest_of (left - 1) c is bytes)
+    → pieces left c is bytes ≡ unless_fault (judge_piece c is bytes) (λ reported. Ok reported ∷ rest_of (left - 1) c is bytes)
 unfolding pieces rest_of
 pieces_step zero c is bytes e h = absurd (omega arith)
 pieces_step (suc left) c is [] e h = absurd (omega arith)
 pieces_step (suc left) c is (b ∷ bs) e h =
     let one : left ≡ suc left - 1 = omega arith in
     let bytes : List ℕ = b ∷ bs in
-    ap (λ n. unless_fault (judge_piece c is bytes) (λ told. Ok told ∷ rest_of n c is bytes)) one
+    ap (λ n. unless_fault (judge_piece c is bytes) (λ reported. Ok reported ∷ rest_of n c is bytes)) one
 
-pub at_fault : (left : ℕ) (c : Container) (is : List Interface) (bytes : List ℕ) (f : Fault) → 0 < left → 0 < length bytes → judge_piece c is bytes ≡ Err f
+pub at_fault : (left : ℕ) (c : Container) (is : List Interface) (bytes : List ℕ) (f : ContainerFault) → 0 < left → 0 < length bytes → judge_piece c is bytes ≡ Err f
     → pieces left c is bytes ≡ Err f ∷ []
 at_fault left c is bytes f some there e =
-    pieces_step left c is bytes some there ∙ ap (λ r. unless_fault r (λ told. Ok told ∷ rest_of (left - 1) c is bytes)) e
+    pieces_step left c is bytes some there ∙ ap (λ r. unless_fault r (λ reported. Ok reported ∷ rest_of (left - 1) c is bytes)) e
 
-pub told : (left : ℕ) (c c' : Container) (is is' : List Interface) (bytes later : List ℕ) (t : Told) → 0 < left → 0 < length bytes → judge_piece c is bytes ≡ Ok t
+pub reported : (left : ℕ) (c c' : Container) (is is' : List Interface) (bytes later : List ℕ) (t : EventSeen) → 0 < left → 0 < length bytes → judge_piece c is bytes ≡ Ok t
     → c' ≡ container_after c (head_of c bytes) → is' ≡ interfaces_after c' is (piece_of c bytes) → later ≡ after_piece c bytes
     → pieces left c is bytes ≡ Ok t ∷ pieces (left - 1) c' is' later
 unfolding rest_of
-told left c c' is is' bytes later t some there e k i l =
+reported left c c' is is' bytes later t some there e k i l =
     pieces_step left c is bytes some there
     ∙ ap (λ r. unless_fault r (λ t'. Ok t' ∷ rest_of (left - 1) c is bytes)) e
     ∙ ap (λ r. Ok t ∷ pieces (left - 1) r (interfaces_after r is (piece_of c bytes)) (after_piece c bytes)) (sym k)
     ∙ ap (λ r. Ok t ∷ pieces (left - 1) c' r (after_piece c bytes)) (sym i)
     ∙ ap (λ r. Ok t ∷ pieces (left - 1) c' is' r) (sym l)
 
-in_front_event : (bytes : List ℕ) (e : Event) (later : List Answer) → e ≢ event.End → in_front (Ok (event_seen bytes e)) later ≡ Ok (event_seen bytes e) ∷ later
+in_front_event : (bytes : List ℕ) (e : ContainerEvent) (later : List Answer) → e ≢ event.End → in_front (Ok (event_seen bytes e)) later ≡ Ok (event_seen bytes e) ∷ later
 in_front_event bytes (event.Packet millis origin ip) later h = refl
 in_front_event bytes (event.Skipped millis why) later h = refl
 in_front_event bytes event.Untimed later h = refl
@@ -75,22 +75,22 @@ in_front_event bytes event.End later h = absurd (h refl)
 longer : (head rest : List ℕ) → 0 < length head → 0 < length (head ++ rest)
 longer head rest h = omega (arith, length-append head rest)
 
-pub found_known : (left : ℕ) (c : Container) (is is' : List Interface) (head bytes : List ℕ) (old new : Option (List ℕ)) (found : Found) → 0 < left → 0 < length head
+pub found_known : (left : ℕ) (c : Container) (is is' : List Interface) (head bytes : List ℕ) (old new : Option (List ℕ)) (found : FoundPiece) → 0 < left → 0 < length head
     → found.event ≢ event.End → TakesPiece c is (behind head old) new is' bytes (Ok found)
     → IsNext (option_map (pieces left c is) (behind head old)) (Ok (event_seen bytes found.event)) (option_map (pieces (left - 1) found.container is') new)
 found_known left c is is' head bytes None new found some there h t = tt
 found_known left c is is' head bytes (Some xs) None found some there h t = absurd t
 found_known left c is is' head bytes (Some xs) (Some ys) found some there h t =
-    told left c found.container is is' (head ++ xs) ys (event_seen bytes found.event) some (longer head xs there) t.0 t.1 t.2 t.3
+    reported left c found.container is is' (head ++ xs) ys (event_seen bytes found.event) some (longer head xs there) t.0 t.1 t.2 t.3
     ∙ sym (in_front_event bytes found.event (pieces (left - 1) found.container is' ys) h)
 
 -- a failed read
-pub failed : (n n' : ℕ) → n' ≡ min (n + 1) top_count → IsRefusal {A = Step} n n' (Err fault.Read)
+pub failed : (n n' : ℕ) → n' ≡ min (n + 1) top_count → IsRefusal {A = ReaderStep} n n' (Err fault.Read)
 failed n n' e = omega arith
 
-pub fault_known : (left : ℕ) (c : Container) (is is' : List Interface) (head bytes : List ℕ) (old new : Option (List ℕ)) (f : Fault) (n n' : ℕ) (after : List ℕ → List Answer) → 0 < left → 0 < length head
-    → TakesPiece c is (behind head old) new is' bytes (Err f) → CountsReads {A = Found} ⊥ n n' (Err f)
-    → IsRefusal {A = Step} n n' (Err f) ⊎ IsNext (option_map (pieces left c is) (behind head old)) (Err f) (option_map after new)
+pub fault_known : (left : ℕ) (c : Container) (is is' : List Interface) (head bytes : List ℕ) (old new : Option (List ℕ)) (f : ContainerFault) (n n' : ℕ) (after : List ℕ → List Answer) → 0 < left → 0 < length head
+    → TakesPiece c is (behind head old) new is' bytes (Err f) → CountsReads {A = FoundPiece} ⊥ n n' (Err f)
+    → IsRefusal {A = ReaderStep} n n' (Err f) ⊎ IsNext (option_map (pieces left c is) (behind head old)) (Err f) (option_map after new)
 fault_known left c is is' head bytes None new f n n' after some there t k = inr tt
 fault_known left c is is' head bytes (Some xs) None f n n' after some there t k = absurd t
 fault_known left c is is' head bytes (Some xs) (Some ys) fault.Read n n' after some there t (inl e) = inl (failed n n' e)

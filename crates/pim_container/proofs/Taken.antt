@@ -3,20 +3,20 @@ use Rattle.std.proofs.Common.{◌≡◌, ℕ, ◌+◌, ◌-◌, ◌<◌, ◌≤�
 use Rattle.std.specs.Io.KnownBytes.{Consumes, IsAtEnd}
 use Rattle.std.proofs.lemmas.List.{drop_at, drop_all, drop_min, drop-drop, length-append, length-drop, length-take-le}
 use Rattle.pim_device.specs.Device.{ConsumesAtMost}
-use Rattle.pim_container.specs.declared.link.Endianness.TheVariants.{Big}
-use Rattle.pim_container.specs.declared.fault.Fault.{Fault}
-use Rattle.pim_container.specs.declared.fault.Fault.TheVariants as fault
+use Rattle.pim_container.specs.declared.link.BlockEndianness.TheVariants.{Big}
+use Rattle.pim_container.specs.declared.fault.ContainerFault.{ContainerFault}
+use Rattle.pim_container.specs.declared.fault.ContainerFault.TheVariants as fault
 use Rattle.pim_container.specs.declared.container.Container.{Container}
 use Rattle.pim_container.specs.declared.container.Container.TheVariants.{Blocks}
-use Rattle.pim_container.specs.declared.reader.State.{State}
-use Rattle.pim_container.specs.declared.reader.State.TheVariants.{Unbegun, Pieces}
-use Rattle.pim_container.specs.declared.reader.Step.{Step}
-use Rattle.pim_container.specs.declared.piece.Found.{Found}
+use Rattle.pim_container.specs.declared.reader.ReaderState.{ReaderState}
+use Rattle.pim_container.specs.declared.reader.ReaderState.TheVariants.{Unbegun, Pieces}
+use Rattle.pim_container.specs.declared.reader.ReaderStep.{ReaderStep}
+use Rattle.pim_container.specs.declared.piece.FoundPiece.{FoundPiece}
 use Rattle.pim_addr.specs.Faults.{judged}
 use Rattle.pim_container.specs.Block.{is_section}
 use Rattle.pim_container.specs.Pieces.{head_length, piece_length, head_faults, extent_of}
 use Rattle.pim_container.specs.Next.{behind}
-use Rattle.pim_container.specs.Room.{length_named, next_named, first_named, named_in, head_in, taken_by, Loses, Takes, TakesNext}
+use Rattle.pim_container.specs.Room.{stated_length, next_length, first_length, length_in, head_in, taken_by, Loses, Takes, TakesNext}
 use Rattle.pim_container.proofs.Named.{named_ok, named_none, next_least, first_least, next_is, first_is, classic_is}
 
 -- ---- bytes that were taken
@@ -100,7 +100,7 @@ rest_lost k got head rest (Some xs) (Some ys) n b l e =
 
 -- ---- the result beside them
 
-pub takes_fault : (A : Type 0) (k : ℕ) (f : Fault) (old new : Option (List ℕ)) → Loses k old new → Takes {A = A} k (Err f) old new
+pub takes_fault : (A : Type 0) (k : ℕ) (f : ContainerFault) (old new : Option (List ℕ)) → Loses k old new → Takes {A = A} k (Err f) old new
 takes_fault A k fault.Read old new h = loses_most k old new h
 takes_fault A k fault.Memory old new h = loses_most k old new h
 takes_fault A k fault.Magic old new h = h
@@ -111,12 +111,12 @@ takes_fault A k fault.Block old new h = h
 takes_fault A k fault.Time old new h = h
 takes_fault A k fault.Failed old new h = h
 
-pub takes_result : {A : Type 0} (k : ℕ) (r : Result A Fault) (old new : Option (List ℕ)) → Loses k old new → Takes k r old new
+pub takes_result : {A : Type 0} (k : ℕ) (r : Result A ContainerFault) (old new : Option (List ℕ)) → Loses k old new → Takes k r old new
 takes_result k (Ok value) old new h = h
 takes_result {A = A} k (Err f) old new h = takes_fault A k f old new h
 
 -- the same fault of a part and of the whole
-pub takes_passed : (A B : Type 0) (k : ℕ) (f : Fault) (old new : Option (List ℕ)) → Takes {A = A} k (Err f) old new → Takes {A = B} k (Err f) old new
+pub takes_passed : (A B : Type 0) (k : ℕ) (f : ContainerFault) (old new : Option (List ℕ)) → Takes {A = A} k (Err f) old new → Takes {A = B} k (Err f) old new
 takes_passed A B k fault.Read old new h = h
 takes_passed A B k fault.Memory old new h = h
 takes_passed A B k fault.Magic old new h = h
@@ -127,78 +127,78 @@ takes_passed A B k fault.Block old new h = h
 takes_passed A B k fault.Time old new h = h
 takes_passed A B k fault.Failed old new h = h
 
-pub next_passed : (A B : Type 0) (state : State) (f : Fault) (old new : Option (List ℕ)) → TakesNext {A = A} state (Err f) old new → TakesNext {A = B} state (Err f) old new
+pub next_passed : (A B : Type 0) (state : ReaderState) (f : ContainerFault) (old new : Option (List ℕ)) → TakesNext {A = A} state (Err f) old new → TakesNext {A = B} state (Err f) old new
 next_passed A B state f None new h = tt
-next_passed A B state f (Some xs) new h = takes_passed A B (taken_by (head_in state) (named_in state xs)) f (Some xs) new h
+next_passed A B state f (Some xs) new h = takes_passed A B (taken_by (head_in state) (length_in state xs)) f (Some xs) new h
 
 -- ---- the next piece
 
-pub next_failed : (left : ℕ) (c : Container) (k : ℕ) (old new : Option (List ℕ)) → k ≤ head_length c → ConsumesAtMost k old new → TakesNext {A = Step} (Pieces c left) (Err fault.Read) old new
+pub next_failed : (left : ℕ) (c : Container) (k : ℕ) (old new : Option (List ℕ)) → k ≤ head_length c → ConsumesAtMost k old new → TakesNext {A = ReaderStep} (Pieces c left) (Err fault.Read) old new
 next_failed left c k None new l h = tt
-next_failed left c k (Some xs) new l h = most_more k (taken_by (head_length c) (next_named left c xs)) (Some xs) new (omega (arith, l, next_least left c xs)) h
+next_failed left c k (Some xs) new l h = most_more k (taken_by (head_length c) (next_length left c xs)) (Some xs) new (omega (arith, l, next_least left c xs)) h
 
-pub next_lost : (left : ℕ) (c : Container) (got : ℕ) (h : List ℕ) (old new : Option (List ℕ)) (r : Result Step Fault) → got ≤ head_length c → got ≤ length h → Consumes old new (take got h) → IsAtEnd new
+pub next_lost : (left : ℕ) (c : Container) (got : ℕ) (h : List ℕ) (old new : Option (List ℕ)) (r : Result ReaderStep ContainerFault) → got ≤ head_length c → got ≤ length h → Consumes old new (take got h) → IsAtEnd new
     → TakesNext (Pieces c left) r old new
 next_lost left c got h None new r b l e d = tt
 next_lost left c got h (Some xs) new r b l e d =
-    let k = taken_by (head_length c) (next_named left c xs) in
+    let k = taken_by (head_length c) (next_length left c xs) in
     takes_result k r (Some xs) new (all_lost k got h (Some xs) new (omega (arith, b, next_least left c xs)) l e d)
 
-pub next_taken : (left : ℕ) (c : Container) (head : List ℕ) (old mid new : Option (List ℕ)) (r : Result Step Fault) → 0 < left → length head ≡ head_length c → Consumes old mid head
-    → Takes (taken_by (length head) (length_named c head)) r (behind head mid) new → TakesNext (Pieces c left) r old new
+pub next_taken : (left : ℕ) (c : Container) (head : List ℕ) (old mid new : Option (List ℕ)) (r : Result ReaderStep ContainerFault) → 0 < left → length head ≡ head_length c → Consumes old mid head
+    → Takes (taken_by (length head) (stated_length c head)) r (behind head mid) new → TakesNext (Pieces c left) r old new
 next_taken left c head None mid new r some l e t = tt
 next_taken left c head (Some xs) None new r some l e t = absurd e
 next_taken left c head (Some xs) (Some ms) new r some l e t =
-    let k : taken_by (length head) (length_named c head) ≡ taken_by (head_length c) (next_named left c xs) =
-    ap (λ n. taken_by n (length_named c head)) l ∙ ap (taken_by (head_length c)) (sym (next_is left c head ms xs some l e)) in
-    subst (λ n. Takes n r (Some xs) new) k (subst (λ it. Takes (taken_by (length head) (length_named c head)) r (Some it) new) (sym e) t)
+    let k : taken_by (length head) (stated_length c head) ≡ taken_by (head_length c) (next_length left c xs) =
+    ap (λ n. taken_by n (stated_length c head)) l ∙ ap (taken_by (head_length c)) (sym (next_is left c head ms xs some l e)) in
+    subst (λ n. Takes n r (Some xs) new) k (subst (λ it. Takes (taken_by (length head) (stated_length c head)) r (Some it) new) (sym e) t)
 
 -- ---- the beginning of a file
 
-pub first_failed : (k : ℕ) (old new : Option (List ℕ)) → k ≤ 12 → ConsumesAtMost k old new → TakesNext {A = Step} Unbegun (Err fault.Read) old new
+pub first_failed : (k : ℕ) (old new : Option (List ℕ)) → k ≤ 12 → ConsumesAtMost k old new → TakesNext {A = ReaderStep} Unbegun (Err fault.Read) old new
 first_failed k None new l h = tt
-first_failed k (Some xs) new l h = most_more k (taken_by 12 (first_named xs)) (Some xs) new (omega (arith, l, first_least xs)) h
+first_failed k (Some xs) new l h = most_more k (taken_by 12 (first_length xs)) (Some xs) new (omega (arith, l, first_least xs)) h
 
-pub first_lost : (got : ℕ) (h : List ℕ) (old new : Option (List ℕ)) (r : Result Step Fault) → got ≤ 12 → got ≤ length h → Consumes old new (take got h) → IsAtEnd new → TakesNext Unbegun r old new
+pub first_lost : (got : ℕ) (h : List ℕ) (old new : Option (List ℕ)) (r : Result ReaderStep ContainerFault) → got ≤ 12 → got ≤ length h → Consumes old new (take got h) → IsAtEnd new → TakesNext Unbegun r old new
 first_lost got h None new r b l e d = tt
 first_lost got h (Some xs) new r b l e d =
-    let k = taken_by 12 (first_named xs) in
+    let k = taken_by 12 (first_length xs) in
     takes_result k r (Some xs) new (all_lost k got h (Some xs) new (omega (arith, b, first_least xs)) l e d)
 
-pub blocks_taken : (head : List ℕ) (old mid new : Option (List ℕ)) (r : Result Step Fault) → length head ≡ 12 → is_section head ≡ true → Consumes old mid head
-    → Takes (taken_by (length head) (length_named (Blocks Big) head)) r (behind head mid) new → TakesNext Unbegun r old new
+pub blocks_taken : (head : List ℕ) (old mid new : Option (List ℕ)) (r : Result ReaderStep ContainerFault) → length head ≡ 12 → is_section head ≡ true → Consumes old mid head
+    → Takes (taken_by (length head) (stated_length (Blocks Big) head)) r (behind head mid) new → TakesNext Unbegun r old new
 blocks_taken head None mid new r l s e t = tt
 blocks_taken head (Some xs) None new r l s e t = absurd e
 blocks_taken head (Some xs) (Some ms) new r l s e t =
-    let k : taken_by (length head) (length_named (Blocks Big) head) ≡ taken_by 12 (first_named xs) =
-    ap (λ n. taken_by n (length_named (Blocks Big) head)) l ∙ ap (taken_by 12) (sym (first_is head ms xs l s e)) in
-    subst (λ n. Takes n r (Some xs) new) k (subst (λ it. Takes (taken_by (length head) (length_named (Blocks Big) head)) r (Some it) new) (sym e) t)
+    let k : taken_by (length head) (stated_length (Blocks Big) head) ≡ taken_by 12 (first_length xs) =
+    ap (λ n. taken_by n (stated_length (Blocks Big) head)) l ∙ ap (taken_by 12) (sym (first_is head ms xs l s e)) in
+    subst (λ n. Takes n r (Some xs) new) k (subst (λ it. Takes (taken_by (length head) (stated_length (Blocks Big) head)) r (Some it) new) (sym e) t)
 
-pub classic_taken : (head : List ℕ) (old mid new : Option (List ℕ)) (r : Result Step Fault) → length head ≡ 12 → is_section head ≡ false → Consumes old mid head
+pub classic_taken : (head : List ℕ) (old mid new : Option (List ℕ)) (r : Result ReaderStep ContainerFault) → length head ≡ 12 → is_section head ≡ false → Consumes old mid head
     → Takes 24 r (behind head mid) new → TakesNext Unbegun r old new
 classic_taken head None mid new r l s e t = tt
 classic_taken head (Some xs) None new r l s e t = absurd e
 classic_taken head (Some xs) (Some ms) new r l s e t =
-    let k : 24 ≡ taken_by 12 (first_named xs) = ap (taken_by 12) (sym (classic_is head ms xs l s e)) in
+    let k : 24 ≡ taken_by 12 (first_length xs) = ap (taken_by 12) (sym (classic_is head ms xs l s e)) in
     subst (λ n. Takes n r (Some xs) new) k (subst (λ it. Takes 24 r (Some it) new) (sym e) t)
 
 -- ---- a piece after its head
 
-pub head_refused : (c : Container) (head : List ℕ) (old : Option (List ℕ)) (f : Fault) → judged (head_faults c head) (extent_of c head) ≡ Err f
-    → Takes {A = Found} (taken_by (length head) (length_named c head)) (Err f) (behind head old) old
+pub head_refused : (c : Container) (head : List ℕ) (old : Option (List ℕ)) (f : ContainerFault) → judged (head_faults c head) (extent_of c head) ≡ Err f
+    → Takes {A = FoundPiece} (taken_by (length head) (stated_length c head)) (Err f) (behind head old) old
 head_refused c head old f e =
-    let none : length_named c head ≡ None = named_none (head_faults c head) (extent_of c head) f (piece_length c head) e in
-    subst (λ it. Takes {A = Found} (taken_by (length head) it) (Err f) (behind head old) old) (sym none)
-    (takes_fault Found (length head) f (behind head old) old (head_lost head old))
+    let none : stated_length c head ≡ None = named_none (head_faults c head) (extent_of c head) f (piece_length c head) e in
+    subst (λ it. Takes {A = FoundPiece} (taken_by (length head) it) (Err f) (behind head old) old) (sym none)
+    (takes_fault FoundPiece (length head) f (behind head old) old (head_lost head old))
 
-pub rest_refused : (c : Container) (head : List ℕ) (size : ℕ) (old new : Option (List ℕ)) (f : Fault) → head_faults c head ≡ [] → size ≡ piece_length c head
-    → Takes {A = Unit {0}} size (Err f) (behind head old) new → Takes {A = Found} (taken_by (length head) (length_named c head)) (Err f) (behind head old) new
+pub rest_refused : (c : Container) (head : List ℕ) (size : ℕ) (old new : Option (List ℕ)) (f : ContainerFault) → head_faults c head ≡ [] → size ≡ piece_length c head
+    → Takes {A = Unit {0}} size (Err f) (behind head old) new → Takes {A = FoundPiece} (taken_by (length head) (stated_length c head)) (Err f) (behind head old) new
 rest_refused c head size old new f none e t =
-    subst (λ it. Takes {A = Found} (taken_by (length head) it) (Err f) (behind head old) new) (sym (named_ok c head size none e))
-    (takes_passed (Unit {0}) Found size f (behind head old) new t)
+    subst (λ it. Takes {A = FoundPiece} (taken_by (length head) it) (Err f) (behind head old) new) (sym (named_ok c head size none e))
+    (takes_passed (Unit {0}) FoundPiece size f (behind head old) new t)
 
-pub piece_lost : (c : Container) (head : List ℕ) (size : ℕ) (old new : Option (List ℕ)) (r : Result Found Fault) → head_faults c head ≡ [] → size ≡ piece_length c head
-    → Loses size (behind head old) new → Takes (taken_by (length head) (length_named c head)) r (behind head old) new
+pub piece_lost : (c : Container) (head : List ℕ) (size : ℕ) (old new : Option (List ℕ)) (r : Result FoundPiece ContainerFault) → head_faults c head ≡ [] → size ≡ piece_length c head
+    → Loses size (behind head old) new → Takes (taken_by (length head) (stated_length c head)) r (behind head old) new
 piece_lost c head size old new r none e t =
     subst (λ it. Takes (taken_by (length head) it) r (behind head old) new) (sym (named_ok c head size none e))
     (takes_result size r (behind head old) new t)

@@ -5,23 +5,23 @@ use Rattle.std.proofs.lemmas.List.{take_at, drop_at, length-append}
 use Rattle.std.proofs.lemmas.Grind.{common_steps}
 use Rattle.byteorder.specs.Endian.{big_number, little_number}
 use Rattle.pim_addr.specs.Faults.{fault_if, judged}
-use Rattle.pim_container.specs.declared.link.Endianness.{Endianness}
-use Rattle.pim_container.specs.declared.link.Endianness.TheVariants.{Big, Little}
-use Rattle.pim_container.specs.declared.fault.Fault.{Fault}
-use Rattle.pim_container.specs.declared.fault.Fault.TheVariants as fault
-use Rattle.pim_container.specs.declared.event.Event.{Event}
+use Rattle.pim_container.specs.declared.link.BlockEndianness.{BlockEndianness}
+use Rattle.pim_container.specs.declared.link.BlockEndianness.TheVariants.{Big, Little}
+use Rattle.pim_container.specs.declared.fault.ContainerFault.{ContainerFault}
+use Rattle.pim_container.specs.declared.fault.ContainerFault.TheVariants as fault
+use Rattle.pim_container.specs.declared.event.ContainerEvent.{ContainerEvent}
 use Rattle.pim_container.specs.declared.interface.Interface.{Interface}
 use Rattle.pim_container.specs.declared.container.Container.{Container}
 use Rattle.pim_container.specs.declared.container.Container.TheVariants.{Classic, Blocks}
 use Rattle.pim_container.specs.declared.container.Extent.{Extent}
-use Rattle.pim_container.specs.declared.piece.Found.{Found}
+use Rattle.pim_container.specs.declared.piece.FoundPiece.{FoundPiece}
 use Rattle.pim_container.specs.Link.{number}
-use Rattle.pim_container.specs.Told.{event_seen}
+use Rattle.pim_container.specs.EventSeen.{event_seen}
 use Rattle.pim_container.specs.Block as block
 use Rattle.pim_container.specs.Classic as classic
 use Rattle.pim_capture.specs.Capture.{most_captured}
-use Rattle.pim_container.specs.declared.classic.Format.{Format}
-use Rattle.pim_container.specs.Pieces.{head_length, piece_length, head_faults, extent_of, container_after, piece_told, head_of, piece_of, after_piece, judge_piece, unless_faults, piece_faults, interfaces_after}
+use Rattle.pim_container.specs.declared.classic.ClassicFormat.{ClassicFormat}
+use Rattle.pim_container.specs.Pieces.{head_length, piece_length, head_faults, extent_of, container_after, piece_event, head_of, piece_of, after_piece, judge_piece, unless_faults, piece_faults, interfaces_after}
 use Rattle.pim_container.specs.Next.{IsPiece, FillsAfter, TakesPiece, behind}
 
 -- ---- the head
@@ -41,11 +41,11 @@ faults_are c head xs l =
 
 -- ---- the judgment of its head
 
-first_of : {A B : Type 0} (faults others : List Fault) (value : A) (f : Fault) (r : Result B Fault) → judged faults value ≡ Err f → unless_faults (faults ++ others) r ≡ Err f
+first_of : {A B : Type 0} (faults others : List ContainerFault) (value : A) (f : ContainerFault) (r : Result B ContainerFault) → judged faults value ≡ Err f → unless_faults (faults ++ others) r ≡ Err f
 first_of [] others value f r e = absurd (false≢true (sym (ap is_ok e)))
 first_of (g ∷ faults) others value f r e = grind (arith, common_steps)
 
-none_of : {A : Type 0} (faults : List Fault) (value value' : A) → judged faults value ≡ Ok value' → (faults ≡ []) × (value ≡ value')
+none_of : {A : Type 0} (faults : List ContainerFault) (value value' : A) → judged faults value ≡ Ok value' → (faults ≡ []) × (value ≡ value')
 none_of [] value value' e = grind (arith, common_steps)
 none_of (g ∷ faults) value value' e = absurd (false≢true (ap is_ok e))
 
@@ -56,7 +56,7 @@ extent_is c head extent e =
     (n.0, sym (ap (λ it. it.container) n.1), sym (ap (λ it. it.length) n.1))
 
 -- a fault of the piece is that of the call
-as_fault : (c : Container) (is is' : List Interface) (bytes xs ys : List ℕ) (f : Fault) → judge_piece c is xs ≡ Err f → TakesPiece c is (Some xs) (Some ys) is' bytes (Err f)
+as_fault : (c : Container) (is is' : List Interface) (bytes xs ys : List ℕ) (f : ContainerFault) → judge_piece c is xs ≡ Err f → TakesPiece c is (Some xs) (Some ys) is' bytes (Err f)
 as_fault c is is' bytes xs ys fault.Magic e = e
 as_fault c is is' bytes xs ys (fault.LinkType n) e = e
 as_fault c is is' bytes xs ys fault.Truncated e = e
@@ -67,27 +67,27 @@ as_fault c is is' bytes xs ys fault.Read e = tt
 as_fault c is is' bytes xs ys fault.Memory e = tt
 as_fault c is is' bytes xs ys fault.Failed e = e
 
-pub head_fault_known : (c : Container) (is is' : List Interface) (head bytes : List ℕ) (old : Option (List ℕ)) (f : Fault) → length head ≡ head_length c
+pub head_fault_known : (c : Container) (is is' : List Interface) (head bytes : List ℕ) (old : Option (List ℕ)) (f : ContainerFault) → length head ≡ head_length c
     → judged (head_faults c head) (extent_of c head) ≡ Err f → TakesPiece c is (behind head old) old is' bytes (Err f)
 head_fault_known c is is' head bytes None f l e = tt
 head_fault_known c is is' head bytes (Some xs) f l e =
-    let told = piece_told (container_after c (head_of c (head ++ xs))) is (piece_of c (head ++ xs)) in
+    let reported = piece_event (container_after c (head_of c (head ++ xs))) is (piece_of c (head ++ xs)) in
     as_fault c is is' bytes (head ++ xs) xs f
-    (ap (λ faults. unless_faults faults told) (faults_are c head xs l)
-    ∙ first_of (head_faults c head) (fault_if (nat_lt (length (head ++ xs)) (piece_length c head)) fault.Truncated) (extent_of c head) f told e)
+    (ap (λ faults. unless_faults faults reported) (faults_are c head xs l)
+    ∙ first_of (head_faults c head) (fault_if (nat_lt (length (head ++ xs)) (piece_length c head)) fault.Truncated) (extent_of c head) f reported e)
 
 -- ---- its bytes aren't whole
 
 cut : (c : Container) (is : List Interface) (head xs : List ℕ) → length head ≡ head_length c → head_faults c head ≡ [] → length (head ++ xs) < piece_length c head
     → judge_piece c is (head ++ xs) ≡ Err fault.Truncated
 cut c is head xs l none short =
-    let told = piece_told (container_after c (head_of c (head ++ xs))) is (piece_of c (head ++ xs)) in
+    let reported = piece_event (container_after c (head_of c (head ++ xs))) is (piece_of c (head ++ xs)) in
     let test : nat_lt (length (head ++ xs)) (piece_length c head) ≡ true = grind (arith, common_steps) in
-    ap (λ faults. unless_faults faults told) (faults_are c head xs l)
-    ∙ ap (λ faults. unless_faults (faults ++ fault_if (nat_lt (length (head ++ xs)) (piece_length c head)) fault.Truncated) told) none
-    ∙ ap (λ b. unless_faults (fault_if b fault.Truncated) told) test
+    ap (λ faults. unless_faults faults reported) (faults_are c head xs l)
+    ∙ ap (λ faults. unless_faults (faults ++ fault_if (nat_lt (length (head ++ xs)) (piece_length c head)) fault.Truncated) reported) none
+    ∙ ap (λ b. unless_faults (fault_if b fault.Truncated) reported) test
 
-pub rest_fault_known : (c : Container) (is is' : List Interface) (head bytes : List ℕ) (size : ℕ) (old new : Option (List ℕ)) (f : Fault) → length head ≡ head_length c
+pub rest_fault_known : (c : Container) (is is' : List Interface) (head bytes : List ℕ) (size : ℕ) (old new : Option (List ℕ)) (f : ContainerFault) → length head ≡ head_length c
     → head_faults c head ≡ [] → size ≡ piece_length c head → FillsAfter head size old new bytes (Err f) → TakesPiece c is (behind head old) new is' bytes (Err f)
 rest_fault_known c is is' head bytes size None new f l none e fills = tt
 rest_fault_known c is is' head bytes size (Some xs) None f l none e fills = absurd fills
@@ -106,52 +106,52 @@ rest_fault_known c is is' head bytes size (Some xs) (Some ys) fault.Failed l non
 -- its judgment, its bytes, and those after it
 pub whole : (c : Container) (is : List Interface) (head bytes xs ys : List ℕ) → length head ≡ head_length c → head_faults c head ≡ []
     → length bytes ≡ piece_length c head → head ++ xs ≡ bytes ++ ys
-    → (judge_piece c is (head ++ xs) ≡ piece_told (container_after c head) is bytes) × (piece_of c (head ++ xs) ≡ bytes) × (after_piece c (head ++ xs) ≡ ys)
+    → (judge_piece c is (head ++ xs) ≡ piece_event (container_after c head) is bytes) × (piece_of c (head ++ xs) ≡ bytes) × (after_piece c (head ++ xs) ≡ ys)
 whole c is head bytes xs ys l none size e =
     let n : length (head ++ xs) ≡ length bytes + length ys = ap length e ∙ length-append bytes ys in
     let test : nat_lt (length (head ++ xs)) (piece_length c head) ≡ false = grind (arith, common_steps) in
-    let told = piece_told (container_after c (head_of c (head ++ xs))) is (piece_of c (head ++ xs)) in
+    let reported = piece_event (container_after c (head_of c (head ++ xs))) is (piece_of c (head ++ xs)) in
     let h = head_is c head xs l in
     let same : piece_of c (head ++ xs) ≡ bytes =
     ap (λ it. take (piece_length c it) (head ++ xs)) h ∙ ap (take (piece_length c head)) e ∙ take_at bytes ys (piece_length c head) size in
     let after : after_piece c (head ++ xs) ≡ ys =
     ap (λ it. drop (piece_length c it) (head ++ xs)) h ∙ ap (drop (piece_length c head)) e ∙ drop_at bytes ys (piece_length c head) size in
-    let judged : judge_piece c is (head ++ xs) ≡ piece_told (container_after c head) is bytes =
-    ap (λ faults. unless_faults faults told) (faults_are c head xs l)
-    ∙ ap (λ faults. unless_faults (faults ++ fault_if (nat_lt (length (head ++ xs)) (piece_length c head)) fault.Truncated) told) none
-    ∙ ap (λ b. unless_faults (fault_if b fault.Truncated) told) test
-    ∙ ap (λ it. piece_told (container_after c it) is (piece_of c (head ++ xs))) h
-    ∙ ap (piece_told (container_after c head) is) same in
+    let judged : judge_piece c is (head ++ xs) ≡ piece_event (container_after c head) is bytes =
+    ap (λ faults. unless_faults faults reported) (faults_are c head xs l)
+    ∙ ap (λ faults. unless_faults (faults ++ fault_if (nat_lt (length (head ++ xs)) (piece_length c head)) fault.Truncated) reported) none
+    ∙ ap (λ b. unless_faults (fault_if b fault.Truncated) reported) test
+    ∙ ap (λ it. piece_event (container_after c it) is (piece_of c (head ++ xs))) h
+    ∙ ap (piece_event (container_after c head) is) same in
     (judged, same, after)
 
-fault_of : Result Event Fault → Fault
+fault_of : Result ContainerEvent ContainerFault → ContainerFault
 fault_of (Ok event) = fault.Memory
 fault_of (Err fault) = fault
 
 -- the fault of a whole piece
-pub told_fault_known : (c c' : Container) (is is' : List Interface) (head bytes bytes' : List ℕ) (size : ℕ) (old new : Option (List ℕ)) (f : Fault) → length head ≡ head_length c
-    → head_faults c head ≡ [] → c' ≡ container_after c head → size ≡ piece_length c head → FillsAfter head size old new bytes (Ok tt) → (◌≡◌ {A = Result Event Fault} (Err f) (Err fault.Memory)) ⊎ (piece_told c' is bytes ≡ Err f)
+pub told_fault_known : (c c' : Container) (is is' : List Interface) (head bytes bytes' : List ℕ) (size : ℕ) (old new : Option (List ℕ)) (f : ContainerFault) → length head ≡ head_length c
+    → head_faults c head ≡ [] → c' ≡ container_after c head → size ≡ piece_length c head → FillsAfter head size old new bytes (Ok tt) → (◌≡◌ {A = Result ContainerEvent ContainerFault} (Err f) (Err fault.Memory)) ⊎ (piece_event c' is bytes ≡ Err f)
     → TakesPiece c is (behind head old) new is' bytes' (Err f)
 unfolding fault_of
-told_fault_known c c' is is' head bytes bytes' size None new f l none k e fills told = tt
-told_fault_known c c' is is' head bytes bytes' size (Some xs) None f l none k e fills told = absurd fills.2
+told_fault_known c c' is is' head bytes bytes' size None new f l none k e fills reported = tt
+told_fault_known c c' is is' head bytes bytes' size (Some xs) None f l none k e fills reported = absurd fills.2
 told_fault_known c c' is is' head bytes bytes' size (Some xs) (Some ys) f l none k e fills (inl memory) =
     subst (λ it. TakesPiece c is (Some (head ++ xs)) (Some ys) is' bytes' (Err it)) (sym (ap fault_of memory)) tt
-told_fault_known c c' is is' head bytes bytes' size (Some xs) (Some ys) f l none k e fills (inr told) =
+told_fault_known c c' is is' head bytes bytes' size (Some xs) (Some ys) f l none k e fills (inr reported) =
     let w = whole c is head bytes xs ys l none (fills.0 ∙ e) fills.2 in
-    as_fault c is is' bytes' (head ++ xs) ys f (w.0 ∙ ap (λ it. piece_told it is bytes) (sym k) ∙ told)
+    as_fault c is is' bytes' (head ++ xs) ys f (w.0 ∙ ap (λ it. piece_event it is bytes) (sym k) ∙ reported)
 
 -- what a whole piece gives
-pub told_known : (c : Container) (is is' : List Interface) (head bytes bytes' : List ℕ) (size : ℕ) (old new : Option (List ℕ)) (found : Found) → length head ≡ head_length c
+pub told_known : (c : Container) (is is' : List Interface) (head bytes bytes' : List ℕ) (size : ℕ) (old new : Option (List ℕ)) (found : FoundPiece) → length head ≡ head_length c
     → head_faults c head ≡ [] → found.container ≡ container_after c head → size ≡ piece_length c head → FillsAfter head size old new bytes (Ok tt)
-    → (◌≡◌ {A = Result Event Fault} (Ok found.event) (Err fault.Memory)) ⊎ (piece_told found.container is bytes ≡ Ok (event_seen bytes' found.event)) → is' ≡ interfaces_after found.container is bytes
+    → (◌≡◌ {A = Result ContainerEvent ContainerFault} (Ok found.event) (Err fault.Memory)) ⊎ (piece_event found.container is bytes ≡ Ok (event_seen bytes' found.event)) → is' ≡ interfaces_after found.container is bytes
     → TakesPiece c is (behind head old) new is' bytes' (Ok found)
-told_known c is is' head bytes bytes' size None new found l none k e fills told i = tt
-told_known c is is' head bytes bytes' size (Some xs) None found l none k e fills told i = absurd fills.2
+told_known c is is' head bytes bytes' size None new found l none k e fills reported i = tt
+told_known c is is' head bytes bytes' size (Some xs) None found l none k e fills reported i = absurd fills.2
 told_known c is is' head bytes bytes' size (Some xs) (Some ys) found l none k e fills (inl memory) i = absurd (false≢true (sym (ap is_ok memory)))
-told_known c is is' head bytes bytes' size (Some xs) (Some ys) found l none k e fills (inr told) i =
+told_known c is is' head bytes bytes' size (Some xs) (Some ys) found l none k e fills (inr reported) i =
     let w = whole c is head bytes xs ys l none (fills.0 ∙ e) fills.2 in (
-      w.0 ∙ ap (λ it. piece_told it is bytes) (sym k) ∙ told,
+      w.0 ∙ ap (λ it. piece_event it is bytes) (sym k) ∙ reported,
       k ∙ ap (container_after c) (sym (head_is c head xs l)),
       i ∙ ap (interfaces_after found.container is) (sym w.1),
       sym w.2,
@@ -159,7 +159,7 @@ told_known c is is' head bytes bytes' size (Some xs) (Some ys) found l none k e 
 
 -- ---- it is as long as its head says
 
-is_nil : List Fault → Bool
+is_nil : List ContainerFault → Bool
 is_nil [] = true
 is_nil (f ∷ fs) = false
 
@@ -177,7 +177,7 @@ little_front (a ∷ b ∷ []) = refl
 little_front (a ∷ b ∷ d ∷ []) = refl
 little_front (a ∷ b ∷ d ∷ e ∷ xs) = refl
 
-front : (order : Endianness) (xs : List ℕ) → number order 4 (take 12 xs) ≡ number order 4 xs
+front : (order : BlockEndianness) (xs : List ℕ) → number order 4 (take 12 xs) ≡ number order 4 xs
 front Big xs = big_front xs
 front Little xs = little_front xs
 
@@ -194,7 +194,7 @@ no_less size least b e = grind (arith, common_steps)
 no_more : (size most : ℕ) → nat_lt most size ≡ false → size ≤ most
 no_more size most e = grind (arith, common_steps)
 
-least_is : (order : Endianness) (head : List ℕ) → block.head_faults order head ≡ []
+least_is : (order : BlockEndianness) (head : List ℕ) → block.head_faults order head ≡ []
     → (block.least_block (block.block_type (block.order_of order head) head) ≤ block.block_length (block.order_of order head) head)
     × (block.block_length (block.order_of order head) head ≤ block.most_block)
 least_is order head none =
@@ -228,7 +228,7 @@ head_le (Blocks order) head none =
     let least = least_is order head none in
     omega (arith, least.0, least_least (block.block_type (block.order_of order head) head))
 
-captured_most : (format : Format) (head : List ℕ) (b : Bool) → nat_lt most_captured (classic.captured_length format head) ≡ b → fault_if b fault.TooLong ≡ [] → classic.captured_length format head ≤ most_captured
+captured_most : (format : ClassicFormat) (head : List ℕ) (b : Bool) → nat_lt most_captured (classic.captured_length format head) ≡ b → fault_if b fault.TooLong ≡ [] → classic.captured_length format head ≤ most_captured
 unfolding is_nil
 captured_most format head true e none = absurd (false≢true (ap is_nil none))
 captured_most format head false e none = no_more (classic.captured_length format head) most_captured e

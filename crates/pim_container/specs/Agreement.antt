@@ -13,39 +13,39 @@ use Rattle.pim_capture.specs.declared.vlan.Vlan.{Vlan}
 use Rattle.pim_capture.specs.Frame.{is_tagged}
 use Rattle.pim_capture.specs.Header as header
 use Rattle.pim_capture.specs.Capture as capture
-use Rattle.pim_container.specs.declared.fault.Fault.{Fault}
-use Rattle.pim_container.specs.declared.fault.Fault.TheVariants as fault
+use Rattle.pim_container.specs.declared.fault.ContainerFault.{ContainerFault}
+use Rattle.pim_container.specs.declared.fault.ContainerFault.TheVariants as fault
 use Rattle.pim_container.specs.declared.event.Origin.{Origin}
 use Rattle.pim_container.specs.Link.{is_tag}
-use Rattle.pim_container.specs.Told.{Told, packet, skipped, section, ended}
+use Rattle.pim_container.specs.EventSeen.{EventSeen, packet, skipped, section, ended}
 use Rattle.pim_container.specs.Block.{is_section}
 use Rattle.pim_container.specs.Pieces.{Answer, answers}
 
 -- A result is a packet or a skipped frame of this time.
-abbrev pub IsAt : ℕ → Told → Type 0
+abbrev pub IsAt : ℕ → EventSeen → Type 0
 IsAt millis (packet millis' origin datagram) = millis' ≡ millis
 IsAt millis (skipped millis' why) = millis' ≡ millis
 IsAt millis _ = ⊥
 
 -- A result of `pim_capture` and one of this crate agree. Only a frame that is not IP for
 -- `pim_capture`, as one with two tags, may give another result of the same time.
-abbrev pub SameTold : capture.Told → Told → Type 0
-SameTold (capture.packet millis frame datagram) (packet millis' origin datagram') =
+abbrev pub SameEvent : capture.EventSeen → EventSeen → Type 0
+SameEvent (capture.packet millis frame datagram) (packet millis' origin datagram') =
     (millis' ≡ millis) × (datagram' ≡ datagram)
-SameTold (capture.packet millis frame datagram) _ = ⊥
-SameTold (capture.skipped millis NotIp) told = IsAt millis told
-SameTold (capture.skipped millis why) told = told ≡ skipped millis why
-SameTold capture.ended told = told ≡ ended
+SameEvent (capture.packet millis frame datagram) _ = ⊥
+SameEvent (capture.skipped millis NotIp) reported = IsAt millis reported
+SameEvent (capture.skipped millis why) reported = reported ≡ skipped millis why
+SameEvent capture.ended reported = reported ≡ ended
 
 -- Two faults of records agree.
-abbrev pub SameFault : CaptureFault → Fault → Type 0
+abbrev pub SameFault : CaptureFault → ContainerFault → Type 0
 SameFault theirs.Truncated other = other ≡ fault.Truncated
 SameFault theirs.TooLong other = other ≡ fault.TooLong
 SameFault theirs.Read other = other ≡ fault.Read
 SameFault _ other = ⊥
 
 abbrev pub SameAnswer : capture.Answer → Answer → Type 0
-SameAnswer (Ok one) (Ok other) = SameTold one other
+SameAnswer (Ok one) (Ok other) = SameEvent one other
 SameAnswer (Err one) (Err other) = SameFault one other
 SameAnswer _ _ = ⊥
 
@@ -68,8 +68,8 @@ AgreesOnClassic = (bytes : List ℕ) (format : Format) → is_section bytes ≡ 
 
 -- ---- files without further tags
 
--- An Ethernet frame has another tag than one of 802.1Q: where `pim_capture` reads the type of what a
--- frame carries, there is the type of a tag.
+-- An Ethernet frame has another tag than one of 802.1Q: where `pim_capture` reads the type of what
+-- a frame carries, there is the type of a tag.
 abbrev pub has_further_tag : layer_type.Link → List ℕ → Bool
 has_further_tag layer.Ethernet frame = is_tag (big_number 2 (drop (if is_tagged frame then 16 else 12) frame))
 has_further_tag layer.Raw frame = false
@@ -91,16 +91,16 @@ lacks_further_tags (suc left) format bytes =
 abbrev pub of_vlan : Vlan → Origin
 of_vlan vlan = record { interface = 0; name = None; index = 0; vlan = vlan; is_copy = false }
 
--- A result of `pim_capture` and one of this crate are the same, but for what only one of them says of
--- a packet: the bytes of its record, and its VLAN.
-abbrev pub ExactTold : capture.Told → Told → Type 0
-ExactTold (capture.packet millis frame datagram) told =
-    (vlan : Vlan) × (told ≡ packet millis (of_vlan vlan) datagram)
-ExactTold (capture.skipped millis why) told = told ≡ skipped millis why
-ExactTold capture.ended told = told ≡ ended
+-- A result of `pim_capture` and one of this crate are the same, but for what only one of them says
+-- of a packet: the bytes of its record, and its VLAN.
+abbrev pub ExactEvent : capture.EventSeen → EventSeen → Type 0
+ExactEvent (capture.packet millis frame datagram) reported =
+    (vlan : Vlan) × (reported ≡ packet millis (of_vlan vlan) datagram)
+ExactEvent (capture.skipped millis why) reported = reported ≡ skipped millis why
+ExactEvent capture.ended reported = reported ≡ ended
 
 abbrev pub ExactAnswer : capture.Answer → Answer → Type 0
-ExactAnswer (Ok one) (Ok other) = ExactTold one other
+ExactAnswer (Ok one) (Ok other) = ExactEvent one other
 ExactAnswer (Err one) (Err other) = SameFault one other
 ExactAnswer _ _ = ⊥
 

@@ -5,16 +5,16 @@ use Rattle.std.specs.Prelude.{nat_lt, slice_range, Option, None, Some, Result, O
 use Rattle.std.specs.List.{slice_get}
 use Rattle.byteorder.specs.Endian.{big_number}
 use Rattle.pim_addr.specs.Faults.{fault_if}
-use Rattle.pim_container.specs.declared.link.Endianness.{Endianness}
-use Rattle.pim_container.specs.declared.link.Endianness.TheVariants.{Big, Little}
-use Rattle.pim_container.specs.declared.fault.Fault.{Fault}
-use Rattle.pim_container.specs.declared.fault.Fault.TheVariants as fault
-use Rattle.pim_container.specs.declared.block.Head.{Head}
+use Rattle.pim_container.specs.declared.link.BlockEndianness.{BlockEndianness}
+use Rattle.pim_container.specs.declared.link.BlockEndianness.TheVariants.{Big, Little}
+use Rattle.pim_container.specs.declared.fault.ContainerFault.{ContainerFault}
+use Rattle.pim_container.specs.declared.fault.ContainerFault.TheVariants as fault
+use Rattle.pim_container.specs.declared.block.BlockHead.{BlockHead}
 use Rattle.pim_container.specs.declared.block.Captured.{Captured}
 use Rattle.pim_container.specs.declared.interface.Interface.{Interface}
 use Rattle.pim_container.specs.declared.interface.Settings.{Settings}
 use Rattle.pim_container.specs.Link.{number}
-use Rattle.pim_container.specs.Told.{Told, untimed, section, described, passed, frame_told}
+use Rattle.pim_container.specs.EventSeen.{EventSeen, untimed, section, described, passed, frame_event}
 use Rattle.pim_container.specs.Interface.{settings_of, interface_of, moment_of}
 
 -- ---- the head of a block
@@ -30,18 +30,18 @@ order_magic = 0x1a2b3c4d
 abbrev pub is_section : List ℕ → Bool
 is_section block = big_number 4 block == section_type
 
-abbrev pub has_order : Endianness → List ℕ → Bool
+abbrev pub has_order : BlockEndianness → List ℕ → Bool
 has_order order block = number order 4 (drop 8 block) == order_magic
 
 -- The byte order of a block: a section header names it for its section, up to the next one.
-abbrev pub order_of : Endianness → List ℕ → Endianness
+abbrev pub order_of : BlockEndianness → List ℕ → BlockEndianness
 order_of before block = if is_section block then (if has_order Big block then Big else Little) else before
 
-abbrev pub block_type : Endianness → List ℕ → ℕ
+abbrev pub block_type : BlockEndianness → List ℕ → ℕ
 block_type order block = number order 4 block
 
 -- The length of a block, with all of itself.
-abbrev pub block_length : Endianness → List ℕ → ℕ
+abbrev pub block_length : BlockEndianness → List ℕ → ℕ
 block_length order block = number order 4 (drop 4 block)
 
 -- The greatest length of a block that is read.
@@ -57,7 +57,7 @@ least_block type =
     else (if type == 3 then 16 else 12)))
 
 -- What is wrong with the first 12 bytes of a block, in a section of this byte order.
-abbrev pub head_faults : Endianness → List ℕ → List Fault
+abbrev pub head_faults : BlockEndianness → List ℕ → List ContainerFault
 head_faults before head =
     fault_if (is_section head && not (has_order Big head) && not (has_order Little head)) fault.Magic
     ++ fault_if (nat_lt (block_length (order_of before head) head) (least_block (block_type (order_of before head) head))
@@ -65,37 +65,37 @@ head_faults before head =
     ++ fault_if (nat_lt most_block (block_length (order_of before head) head)) fault.TooLong
 
 -- The byte order of a block, or the fault of a section header that names none.
-abbrev pub order_named : Endianness → List ℕ → Result Endianness Fault
-order_named before block =
+abbrev pub stated_order : BlockEndianness → List ℕ → Result BlockEndianness ContainerFault
+stated_order before block =
     if is_section block && not (has_order Big block) && not (has_order Little block) then Err fault.Magic
     else Ok (order_of before block)
 
 -- What the head of a block says.
-abbrev pub head_said : Endianness → List ℕ → Head
+abbrev pub head_said : BlockEndianness → List ℕ → BlockHead
 head_said before head =
     record { order = order_of before head; length = block_length (order_of before head) head }
 
 -- The length at the end of a block is another one than that at its head.
-abbrev pub is_unequal : Endianness → List ℕ → Bool
+abbrev pub is_unequal : BlockEndianness → List ℕ → Bool
 is_unequal order block = not (number order 4 (drop (length block - 4) block) == length block)
 
 -- ---- packets
 
 -- The number of a packet's interface: of four bytes, or of two in the obsolete packet block.
-abbrev pub interface_number : Endianness → List ℕ → ℕ
+abbrev pub interface_number : BlockEndianness → List ℕ → ℕ
 interface_number order block =
     if block_type order block == 2 then number order 2 (drop 8 block) else number order 4 (drop 8 block)
 
 -- The time stamp: its high half, then its low half.
-abbrev pub stamp_of : Endianness → List ℕ → ℕ
+abbrev pub stamp_of : BlockEndianness → List ℕ → ℕ
 stamp_of order block = number order 4 (drop 12 block) * 2 ^ 32 + number order 4 (drop 16 block)
 
-abbrev pub captured_length : Endianness → List ℕ → ℕ
+abbrev pub captured_length : BlockEndianness → List ℕ → ℕ
 captured_length order block = number order 4 (drop 20 block)
 
 -- When and on which interface the packet was captured, and where its captured bytes end in the
 -- block.
-abbrev pub captured_at : Option ℕ → Interface → Endianness → List ℕ → Result Captured Fault
+abbrev pub captured_at : Option ℕ → Interface → BlockEndianness → List ℕ → Result Captured ContainerFault
 captured_at None interface order block = Err fault.Time
 captured_at (Some millis) interface order block = Ok (record {
   millis = millis;
@@ -106,7 +106,7 @@ captured_at (Some millis) interface order block = Ok (record {
 })
 
 -- The capture of the packet on its interface. `None` is an interface that isn't described.
-abbrev pub captured_on : Option Interface → Endianness → List ℕ → Result Captured Fault
+abbrev pub captured_on : Option Interface → BlockEndianness → List ℕ → Result Captured ContainerFault
 captured_on None order block = Err fault.Block
 captured_on (Some interface) order block =
     if nat_lt (length block) (32 + captured_length order block) then Err fault.Block
@@ -114,14 +114,14 @@ captured_on (Some interface) order block =
 
 -- What a packet block with this capture gives. Padding, options and the last length follow the
 -- captured bytes.
-abbrev pub packet_told : Result Captured Fault → List ℕ → Result Told Fault
-packet_told (Ok captured) block =
-    Ok (frame_told captured.millis captured.interface captured.name captured.link (drop 28 (take captured.end block)))
-packet_told (Err fault) block = Err fault
+abbrev pub packet_event : Result Captured ContainerFault → List ℕ → Result EventSeen ContainerFault
+packet_event (Ok captured) block =
+    Ok (frame_event captured.millis captured.interface captured.name captured.link (drop 28 (take captured.end block)))
+packet_event (Err fault) block = Err fault
 
-abbrev pub packet_block : Endianness → List Interface → List ℕ → Result Told Fault
+abbrev pub packet_block : BlockEndianness → List Interface → List ℕ → Result EventSeen ContainerFault
 packet_block order interfaces block =
-    packet_told (captured_on (slice_get interfaces (interface_number order block)) order block) block
+    packet_event (captured_on (slice_get interfaces (interface_number order block)) order block) block
 
 -- ---- other blocks
 
@@ -134,21 +134,21 @@ abbrev pub name_of : List ℕ → Settings → List ℕ
 name_of block settings = slice_range block settings.name_at settings.name_end
 
 -- An interface description gives the interface's name.
-abbrev pub interface_block : Option Settings → List ℕ → Result Told Fault
+abbrev pub interface_block : Option Settings → List ℕ → Result EventSeen ContainerFault
 interface_block None block = Err fault.Block
 interface_block (Some settings) block = Ok (described (name_of block settings))
 
--- Blocks of this type have no time that is read, but a number among the packets of a file, as tshark
--- counts them: simple packets, entries of a journal, events of sysdig (three types), and custom
--- blocks (two types).
+-- Blocks of this type have no time that is read, but a number among the packets of a file, as
+-- tshark counts them: simple packets, entries of a journal, events of sysdig (three types), and
+-- custom blocks (two types).
 abbrev pub is_untimed : ℕ → Bool
 is_untimed type =
     type == 3 || type == 9 || type == 0x204 || type == 0x216 || type == 0x221 || type == 0xbad || type == 0x40000bad
 
 -- A section header, an interface description, a packet and an obsolete packet, a block without a
 -- time, or a block that is passed over.
-abbrev pub block_told : Endianness → List Interface → List ℕ → Result Told Fault
-block_told order interfaces block =
+abbrev pub block_event : BlockEndianness → List Interface → List ℕ → Result EventSeen ContainerFault
+block_event order interfaces block =
     if is_unequal order block then Err fault.Block
     else (if block_type order block == section_type then Ok section
     else (if block_type order block == 1 then interface_block (settings_of order (without_end block)) block
@@ -157,12 +157,12 @@ block_told order interfaces block =
     else (if is_untimed (block_type order block) then Ok untimed else Ok passed))))
 
 -- The interfaces of the section with a further one.
-abbrev pub with_interface : List Interface → Option Settings → Endianness → List ℕ → List Interface
+abbrev pub with_interface : List Interface → Option Settings → BlockEndianness → List ℕ → List Interface
 with_interface interfaces None order block = interfaces
 with_interface interfaces (Some settings) order block = interfaces ++ interface_of order block settings ∷ []
 
 -- The interfaces of the section after a block: a section begins with none.
-abbrev pub interfaces_after : Endianness → List Interface → List ℕ → List Interface
+abbrev pub interfaces_after : BlockEndianness → List Interface → List ℕ → List Interface
 interfaces_after order interfaces block =
     if block_type order block == section_type then []
     else (if block_type order block == 1

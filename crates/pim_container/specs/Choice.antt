@@ -21,8 +21,8 @@ choice_of chooser = chooser.choice
 abbrev pub first_of : Chooser → Option Origin
 first_of chooser = chooser.first
 
--- The number by which the interface of a packet is chosen: its index in a cooked header of version 2,
--- otherwise its number in the section of a pcapng file.
+-- The number by which the interface of a packet is chosen: its index in a cooked header of version
+-- 2, otherwise its number in the section of a pcapng file.
 abbrev pub number_of : Origin → ℕ
 number_of origin = if origin.index == 0 then origin.interface else origin.index
 
@@ -66,8 +66,8 @@ mixed_numbers first origin =
     ++ fault_if (not (first.interface == origin.interface)) (Numbers first.interface origin.interface)
     ++ mixed_indexes first origin
 
--- They are of two interfaces, where this choice leaves that open. A chosen name leaves open the index
--- in a cooked header, since a capture of all interfaces has one name.
+-- They are of two interfaces, where this choice leaves that open. A chosen name leaves open the
+-- index in a cooked header, since a capture of all interfaces has one name.
 abbrev pub mixed_interfaces : Option InterfaceChoice → Origin → Origin → List Mixed
 mixed_interfaces None first origin = mixed_names first.name origin.name ++ mixed_numbers first origin
 mixed_interfaces (Some (Number number)) first origin = []
@@ -77,7 +77,8 @@ mixed_interfaces (Some (Name name)) first origin = mixed_indexes first origin
 abbrev pub mixed_vlans : Origin → Origin → List Mixed
 mixed_vlans first origin = fault_if (not (is_same_vlan first.vlan origin.vlan)) (Vlans first.vlan origin.vlan)
 
--- What is mixed in two packets of these origins, where none is chosen: first interfaces, then VLANs.
+-- What is mixed in two packets of these origins, where none is chosen: first interfaces, then
+-- VLANs.
 abbrev pub mixed : Choice → Origin → Origin → List Mixed
 mixed choice first origin =
     mixed_interfaces choice.interface first origin

@@ -1,13 +1,13 @@
--- An interface of a pcapng section (draft-ietf-opsawg-pcapng, 4.2): its link, and of its options the
--- name (if_name), the resolution (if_tsresol) and the offset (if_tsoffset) of its times.
+-- An interface of a pcapng section (draft-ietf-opsawg-pcapng, 4.2): its link, and of its options
+-- the name (if_name), the resolution (if_tsresol) and the offset (if_tsoffset) of its times.
 use Rattle.std.specs.Prelude.{◌≤◌, ℕ, zero, suc, ◌+◌, ◌-◌, ◌*◌, ◌/◌, ◌^◌, Bool, ◌&&◌, ◌||◌, ◌==◌, not, List, length, drop}
 use Rattle.std.specs.Prelude.{nat_lt, slice_index, slice_range, Option, None, Some, if◌then◌else◌}
-use Rattle.pim_container.specs.declared.link.Endianness.{Endianness}
+use Rattle.pim_container.specs.declared.link.BlockEndianness.{BlockEndianness}
 use Rattle.pim_container.specs.declared.interface.Settings.{Settings}
 use Rattle.pim_container.specs.declared.interface.Interface.{Interface}
 use Rattle.pim_capture.specs.Names.{name_of}
 use Rattle.pim_container.specs.Link.{number, link_of}
-use Rattle.pim_container.specs.Told.{latest_moment}
+use Rattle.pim_container.specs.EventSeen.{latest_moment}
 
 -- ---- options: a code and a length of two bytes each, the value, and padding to four bytes
 
@@ -15,23 +15,24 @@ use Rattle.pim_container.specs.Told.{latest_moment}
 abbrev pub padded : ℕ → ℕ
 padded size = (size + 3) / 4 * 4
 
-abbrev pub option_code : Endianness → ℕ → List ℕ → ℕ
+abbrev pub option_code : BlockEndianness → ℕ → List ℕ → ℕ
 option_code order at bytes = number order 2 (drop at bytes)
 
-abbrev pub option_size : Endianness → ℕ → List ℕ → ℕ
+abbrev pub option_size : BlockEndianness → ℕ → List ℕ → ℕ
 option_size order at bytes = number order 2 (drop (at + 2) bytes)
 
 -- The place after the option at the place `at`.
-abbrev pub option_end : Endianness → ℕ → List ℕ → ℕ
+abbrev pub option_end : BlockEndianness → ℕ → List ℕ → ℕ
 option_end order at bytes = at + 4 + padded (option_size order at bytes)
 
--- What is known before the first option: times count microseconds since 1970, and the name is empty.
+-- What is known before the first option: times count microseconds since 1970, and the name is
+-- empty.
 abbrev pub no_settings : Settings
 no_settings = record { resolution = 6; offset = 0; name_at = 0; name_end = 0 }
 
 -- The settings after the option at the place `at`. One with another code or an unknown length has
 -- no effect; a later option replaces an earlier one.
-abbrev pub settings_with : Endianness → Settings → ℕ → List ℕ → Settings
+abbrev pub settings_with : BlockEndianness → Settings → ℕ → List ℕ → Settings
 settings_with order settings at bytes =
     if option_code order at bytes == 2
     then record {
@@ -58,7 +59,7 @@ settings_with order settings at bytes =
 
 -- The settings after the options from the place `at` on. Code 0 or the end of the bytes ends them.
 -- `None` if one is cut. At most `left` options are read; the bytes have no more.
-unfoldable pub settings_from : ℕ → Endianness → Settings → ℕ → List ℕ → Option Settings
+unfoldable pub settings_from : ℕ → BlockEndianness → Settings → ℕ → List ℕ → Option Settings
 settings_from zero order settings at bytes = Some settings
 settings_from (suc left) order settings at bytes =
     if nat_lt (length bytes) (at + 4) || option_code order at bytes == 0 then Some settings
@@ -66,12 +67,12 @@ settings_from (suc left) order settings at bytes =
     else settings_from left order (settings_with order settings at bytes) (option_end order at bytes) bytes)
 
 -- The settings of an interface description block without its last length. Its options begin at 16.
-abbrev pub settings_of : Endianness → List ℕ → Option Settings
+abbrev pub settings_of : BlockEndianness → List ℕ → Option Settings
 settings_of order bytes = settings_from (length bytes) order no_settings 16 bytes
 
 -- The interface of an interface description block with these settings. A text that is no name names
 -- nothing.
-abbrev pub interface_of : Endianness → List ℕ → Settings → Interface
+abbrev pub interface_of : BlockEndianness → List ℕ → Settings → Interface
 interface_of order block settings = record {
   link = link_of order (number order 2 (drop 8 block));
   resolution = settings.resolution;

@@ -1,5 +1,5 @@
 pub mod Link
-pub mod Told
+pub mod EventSeen
 pub mod Interface
 pub mod Block
 pub mod Classic

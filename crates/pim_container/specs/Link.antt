@@ -1,6 +1,6 @@
 -- Where the IP packet of a captured frame begins, or why there is none. Restates the headers of the
--- link types of pcap files: Ethernet, Linux cooked capture and its second version, BSD loopback, and
--- IP without a link layer; and the tags of IEEE 802.1Q and 802.1ad.
+-- link types of pcap files: Ethernet, Linux cooked capture and its second version, BSD loopback,
+-- and IP without a link layer; and the tags of IEEE 802.1Q and 802.1ad.
 use Rattle.std.specs.Prelude.{ℕ, ◌+◌, ◌%◌, Bool, false, ◌&&◌, ◌||◌, ◌==◌, not, List, length, drop, slice_index, nat_lt}
 use Rattle.std.specs.Prelude.{Option, None, Some, Result, Ok, Err, if◌then◌else◌}
 use Rattle.byteorder.specs.Endian.{big_number, little_number}
@@ -9,16 +9,16 @@ use Rattle.pim_addr.specs.declared.family.AddressFamily.TheVariants.{Ipv4, Ipv6}
 use Rattle.pim_capture.specs.declared.event.Why.{Why}
 use Rattle.pim_capture.specs.declared.event.Why.TheVariants.{Cut, NotIp}
 use Rattle.pim_capture.specs.Frame.{ethernet_family, raw_family, version}
-use Rattle.pim_container.specs.declared.link.Endianness.{Endianness}
-use Rattle.pim_container.specs.declared.link.Endianness.TheVariants.{Big, Little}
-use Rattle.pim_container.specs.declared.link.Link.{Link}
-use Rattle.pim_container.specs.declared.link.Link.TheVariants as link
+use Rattle.pim_container.specs.declared.link.BlockEndianness.{BlockEndianness}
+use Rattle.pim_container.specs.declared.link.BlockEndianness.TheVariants.{Big, Little}
+use Rattle.pim_container.specs.declared.link.LinkLayer.{LinkLayer}
+use Rattle.pim_container.specs.declared.link.LinkLayer.TheVariants as link
 use Rattle.pim_capture.specs.declared.vlan.Vlan.{Vlan}
 use Rattle.pim_container.specs.declared.tags.Carried.{Carried}
-use Rattle.pim_container.specs.declared.place.Place.{Place}
+use Rattle.pim_container.specs.declared.place.PacketPlace.{PacketPlace}
 
 -- The number in the first `size` bytes, in this byte order.
-abbrev pub number : Endianness → ℕ → List ℕ → ℕ
+abbrev pub number : BlockEndianness → ℕ → List ℕ → ℕ
 number Big size bytes = big_number size bytes
 number Little size bytes = little_number size bytes
 
@@ -26,7 +26,7 @@ number Little size bytes = little_number size bytes
 
 -- What a frame begins with, by the link type of its file or interface. Systems number raw IP
 -- differently. A BSD loopback header has the byte order of the file, or that of the network.
-abbrev pub link_of : Endianness → ℕ → Option Link
+abbrev pub link_of : BlockEndianness → ℕ → Option LinkLayer
 link_of order type =
     if type == 1 then Some link.Ethernet
     else (if type == 101 || type == 12 || type == 14 then Some link.Raw
@@ -52,8 +52,8 @@ second_type bytes = big_number 2 (drop 2 bytes)
 abbrev pub tag_vlan : List ℕ → ℕ
 tag_vlan tag = big_number 2 tag % 4096
 
--- A VLAN of one tag inside another, outer one first. A tag of VLAN 0 has only a priority, and counts
--- as no tag.
+-- A VLAN of one tag inside another, outer one first. A tag of VLAN 0 has only a priority, and
+-- counts as no tag.
 abbrev pub stacked : ℕ → ℕ → Vlan
 stacked outer inner =
     if outer == 0 then record { outer = inner; inner = 0 } else record { outer = outer; inner = inner }
@@ -91,7 +91,7 @@ carried type at frame =
 -- ---- the place of the IP packet
 
 -- The length of the link layer's header without tags, in bytes.
-abbrev pub link_length : Link → ℕ
+abbrev pub link_length : LinkLayer → ℕ
 link_length link.Ethernet = 14
 link_length link.Raw = 0
 link_length link.Ipv4 = 0
@@ -101,7 +101,7 @@ link_length link.CookedV2 = 20
 link_length (link.Loopback order) = 4
 
 -- The Ethernet type in a link layer's header.
-abbrev pub first_type : Link → List ℕ → ℕ
+abbrev pub first_type : LinkLayer → List ℕ → ℕ
 first_type link.Cooked frame = big_number 2 (drop 14 frame)
 first_type link.CookedV2 frame = big_number 2 frame
 first_type _ frame = big_number 2 (drop 12 frame)
@@ -114,13 +114,13 @@ abbrev pub is_copied : ℕ → ℕ → Bool
 is_copied packet_type device_type = packet_type == 5 || packet_type == 4 && device_type == 772
 
 -- A cooked header says that the packet is a copy.
-abbrev pub is_copy : Link → List ℕ → Bool
+abbrev pub is_copy : LinkLayer → List ℕ → Bool
 is_copy link.Cooked frame = is_copied (big_number 2 frame) (big_number 2 (drop 2 frame))
 is_copy link.CookedV2 frame = is_copied (slice_index frame 10) (big_number 2 (drop 8 frame))
 is_copy _ frame = false
 
 -- The index of the interface in the header of cooked version 2.
-abbrev pub index_of : Link → List ℕ → ℕ
+abbrev pub index_of : LinkLayer → List ℕ → ℕ
 index_of link.CookedV2 frame = big_number 4 (drop 4 frame)
 index_of _ frame = 0
 
@@ -137,24 +137,24 @@ family_or (Some family) other = Some family
 family_or None other = other
 
 -- The place of a packet of this family, where the link layer has no tags.
-abbrev pub untagged_place : Option AddressFamily → ℕ → Result Place Why
+abbrev pub untagged_place : Option AddressFamily → ℕ → Result PacketPlace Why
 untagged_place None at = Err NotIp
 untagged_place (Some family) at =
     Ok (record { family = family; at = at; vlan = stacked 0 0; index = 0; is_copy = false })
 
 -- The place of a packet of this family after what carries it.
-abbrev pub place_in : Option AddressFamily → Carried → ℕ → Bool → Result Place Why
+abbrev pub place_in : Option AddressFamily → Carried → ℕ → Bool → Result PacketPlace Why
 place_in None carrier index is_copy = Err NotIp
 place_in (Some family) carrier index is_copy =
     Ok (record { family = family; at = carrier.at; vlan = carrier.vlan; index = index; is_copy = is_copy })
 
 -- The place of the packet that an Ethernet type names.
-abbrev pub typed_place : Option Carried → ℕ → Bool → Result Place Why
+abbrev pub typed_place : Option Carried → ℕ → Bool → Result PacketPlace Why
 typed_place None index is_copy = Err Cut
 typed_place (Some carrier) index is_copy = place_in (ethernet_family carrier.type_number) carrier index is_copy
 
 -- The place of the packet in a frame whose link layer's header is whole.
-abbrev pub whole_place : Link → List ℕ → Result Place Why
+abbrev pub whole_place : LinkLayer → List ℕ → Result PacketPlace Why
 whole_place link.Raw frame = if length frame == 0 then Err Cut else untagged_place (raw_family (version frame)) 0
 whole_place link.Ipv4 frame = untagged_place (Some Ipv4) 0
 whole_place link.Ipv6 frame = untagged_place (Some Ipv6) 0
@@ -164,5 +164,5 @@ whole_place layer frame =
     typed_place (carried (first_type layer frame) (link_length layer) frame) (index_of layer frame) (is_copy layer frame)
 
 -- The place of the IP packet in a frame, or the first reason why there is none.
-abbrev pub place_of : Link → List ℕ → Result Place Why
+abbrev pub place_of : LinkLayer → List ℕ → Result PacketPlace Why
 place_of layer frame = if nat_lt (length frame) (link_length layer) then Err Cut else whole_place layer frame

@@ -5,15 +5,15 @@ use Rattle.std.specs.Prelude.{ℕ, zero, suc, ◌+◌, Bool, true, false, List, 
 use Rattle.std.specs.Prelude.{Result, Ok, Err, if◌then◌else◌}
 use Rattle.pim_addr.specs.Faults.{fault_if}
 use Rattle.pim_capture.specs.Capture.{most_records}
-use Rattle.pim_container.specs.declared.link.Endianness.TheVariants.{Big}
-use Rattle.pim_container.specs.declared.fault.Fault.{Fault}
-use Rattle.pim_container.specs.declared.fault.Fault.TheVariants as fault
+use Rattle.pim_container.specs.declared.link.BlockEndianness.TheVariants.{Big}
+use Rattle.pim_container.specs.declared.fault.ContainerFault.{ContainerFault}
+use Rattle.pim_container.specs.declared.fault.ContainerFault.TheVariants as fault
 use Rattle.pim_container.specs.declared.interface.Interface.{Interface}
-use Rattle.pim_container.specs.declared.classic.Format.{Format}
+use Rattle.pim_container.specs.declared.classic.ClassicFormat.{ClassicFormat}
 use Rattle.pim_container.specs.declared.container.Container.{Container}
 use Rattle.pim_container.specs.declared.container.Extent.{Extent}
 use Rattle.pim_container.specs.declared.container.Container.TheVariants.{Classic, Blocks}
-use Rattle.pim_container.specs.Told.{Told, section, ended}
+use Rattle.pim_container.specs.EventSeen.{EventSeen, section, ended}
 use Rattle.pim_container.specs.Block as block
 use Rattle.pim_container.specs.Classic as classic
 
@@ -28,7 +28,7 @@ piece_length (Classic format) head = 16 + classic.captured_length format head
 piece_length (Blocks order) head = block.block_length (block.order_of order head) head
 
 -- What is wrong with the head of a piece.
-abbrev pub head_faults : Container → List ℕ → List Fault
+abbrev pub head_faults : Container → List ℕ → List ContainerFault
 head_faults (Classic format) head = classic.head_faults format head
 head_faults (Blocks order) head = block.head_faults order head
 
@@ -43,9 +43,9 @@ extent_of container head =
     record { container = container_after container head; length = piece_length container head }
 
 -- What a whole piece gives, in a container in whose byte order it is written.
-abbrev pub piece_told : Container → List Interface → List ℕ → Result Told Fault
-piece_told (Classic format) interfaces piece = Ok (classic.record_told format piece)
-piece_told (Blocks order) interfaces piece = block.block_told order interfaces piece
+abbrev pub piece_event : Container → List Interface → List ℕ → Result EventSeen ContainerFault
+piece_event (Classic format) interfaces piece = Ok (classic.record_event format piece)
+piece_event (Blocks order) interfaces piece = block.block_event order interfaces piece
 
 -- The interfaces that are described after a piece.
 abbrev pub interfaces_after : Container → List Interface → List ℕ → List Interface
@@ -56,7 +56,7 @@ interfaces_after (Blocks order) interfaces piece = block.interfaces_after order 
 
 -- One result of a capture.
 abbrev pub Answer : Type 0
-Answer = Result Told Fault
+Answer = Result EventSeen ContainerFault
 
 -- The head of the first piece, as far as it is there.
 abbrev pub head_of : Container → List ℕ → List ℕ
@@ -72,14 +72,14 @@ after_piece container bytes = drop (piece_length container (head_of container by
 
 -- What is wrong with the extent of the first piece: its head isn't whole; the head; or its bytes
 -- aren't whole. The first fault counts.
-abbrev pub piece_faults : Container → List ℕ → List Fault
+abbrev pub piece_faults : Container → List ℕ → List ContainerFault
 piece_faults container bytes =
     if nat_lt (length bytes) (head_length container) then fault.Truncated ∷ [] else
     head_faults container (head_of container bytes)
     ++ fault_if (nat_lt (length bytes) (piece_length container (head_of container bytes))) fault.Truncated
 
 -- The first fault, or this result where there is none.
-abbrev pub unless_faults : {A : Type 0} → List Fault → Result A Fault → Result A Fault
+abbrev pub unless_faults : {A : Type 0} → List ContainerFault → Result A ContainerFault → Result A ContainerFault
 unless_faults [] result = result
 unless_faults (fault ∷ others) result = Err fault
 
@@ -87,10 +87,10 @@ unless_faults (fault ∷ others) result = Err fault
 abbrev pub judge_piece : Container → List Interface → List ℕ → Answer
 judge_piece container interfaces bytes =
     unless_faults (piece_faults container bytes)
-    (piece_told (container_after container (head_of container bytes)) interfaces (piece_of container bytes))
+    (piece_event (container_after container (head_of container bytes)) interfaces (piece_of container bytes))
 
 -- The results that follow from a value. A fault is the last result.
-abbrev pub unless_fault : {A : Type 0} → Result A Fault → (A → List Answer) → List Answer
+abbrev pub unless_fault : {A : Type 0} → Result A ContainerFault → (A → List Answer) → List Answer
 unless_fault (Ok value) answers = answers value
 unless_fault (Err fault) answers = Err fault ∷ []
 
@@ -105,12 +105,12 @@ pieces zero container interfaces bytes = (if is_empty bytes then Ok ended else E
 pieces (suc left) container interfaces bytes =
     if is_empty bytes then Ok ended ∷ [] else
     unless_fault (judge_piece container interfaces bytes)
-    (λ told. Ok told ∷ pieces left (container_after container (head_of container bytes))
+    (λ reported. Ok reported ∷ pieces left (container_after container (head_of container bytes))
     (interfaces_after (container_after container (head_of container bytes)) interfaces (piece_of container bytes))
     (after_piece container bytes))
 
 -- The format of a classic file that begins with these bytes, or the first fault.
-abbrev pub judge_beginning : List ℕ → Result Format Fault
+abbrev pub judge_beginning : List ℕ → Result ClassicFormat ContainerFault
 judge_beginning bytes =
     if nat_lt (length bytes) 24 then Err fault.Truncated else classic.judge_header (take 24 bytes)
 

@@ -5,19 +5,19 @@ use Rattle.std.specs.Prelude.{Option, Some, None, Result, Ok, Err, IsSomeAnd, If
 use Rattle.std.specs.Option.{option_map}
 use Rattle.pim_device.specs.Device.{ConsumesAtMost}
 use Rattle.pim_capture.specs.Capture.{most_records}
-use Rattle.pim_container.specs.declared.link.Endianness.TheVariants.{Big}
-use Rattle.pim_container.specs.declared.fault.Fault.{Fault}
-use Rattle.pim_container.specs.declared.fault.Fault.TheVariants as fault
-use Rattle.pim_container.specs.declared.event.Event.{Event}
-use Rattle.pim_container.specs.declared.event.Event.TheVariants as event
+use Rattle.pim_container.specs.declared.link.BlockEndianness.TheVariants.{Big}
+use Rattle.pim_container.specs.declared.fault.ContainerFault.{ContainerFault}
+use Rattle.pim_container.specs.declared.fault.ContainerFault.TheVariants as fault
+use Rattle.pim_container.specs.declared.event.ContainerEvent.{ContainerEvent}
+use Rattle.pim_container.specs.declared.event.ContainerEvent.TheVariants as event
 use Rattle.pim_container.specs.declared.container.Container.{Container}
 use Rattle.pim_container.specs.declared.container.Container.TheVariants.{Classic, Blocks}
-use Rattle.pim_container.specs.declared.reader.State.{State}
-use Rattle.pim_container.specs.declared.reader.State.TheVariants.{Unbegun, Pieces, Ended, Failed}
+use Rattle.pim_container.specs.declared.reader.ReaderState.{ReaderState}
+use Rattle.pim_container.specs.declared.reader.ReaderState.TheVariants.{Unbegun, Pieces, Ended, Failed}
 use Rattle.pim_container.specs.declared.reader.Reader.{Reader}
 use Rattle.pim_container.specs.declared.interface.Interface.{Interface}
-use Rattle.pim_container.specs.declared.classic.Format.{Format}
-use Rattle.pim_container.specs.Told.{section, described, passed}
+use Rattle.pim_container.specs.declared.classic.ClassicFormat.{ClassicFormat}
+use Rattle.pim_container.specs.EventSeen.{section, described, passed}
 use Rattle.pim_container.specs.Block.{most_block, is_section, block_type}
 use Rattle.pim_container.specs.Pieces.{Answer, head_length, piece_length, head_faults, head_of, piece_of, after_piece}
 use Rattle.pim_container.specs.Pieces.{container_after, interfaces_after, judge_piece, judge_beginning}
@@ -26,42 +26,42 @@ use Rattle.pim_container.specs.Next.{Describes}
 -- ---- the length of the next piece
 
 -- This length, if there are no faults.
-abbrev pub unless_any : List Fault → ℕ → Option ℕ
+abbrev pub unless_any : List ContainerFault → ℕ → Option ℕ
 unless_any [] size = Some size
 unless_any (fault ∷ others) size = None
 
 -- The length that the head of a piece names, if the head has no fault.
-abbrev pub length_named : Container → List ℕ → Option ℕ
-length_named container head = unless_any (head_faults container head) (piece_length container head)
+abbrev pub stated_length : Container → List ℕ → Option ℕ
+stated_length container head = unless_any (head_faults container head) (piece_length container head)
 
--- The length of the first of these pieces, if one more may be read, and its head is whole and has no
--- fault.
-abbrev pub next_named : ℕ → Container → List ℕ → Option ℕ
-next_named left container bytes =
+-- The length of the first of these pieces, if one more may be read, and its head is whole and has
+-- no fault.
+abbrev pub next_length : ℕ → Container → List ℕ → Option ℕ
+next_length left container bytes =
     if left == 0 || nat_lt (length bytes) (head_length container) then None
-    else length_named container (head_of container bytes)
+    else stated_length container (head_of container bytes)
 
 -- The length of what a file begins with: a section header, or the header of a classic file.
-abbrev pub first_named : List ℕ → Option ℕ
-first_named bytes =
-    if is_section bytes then next_named most_records (Blocks Big) bytes
+abbrev pub first_length : List ℕ → Option ℕ
+first_length bytes =
+    if is_section bytes then next_length most_records (Blocks Big) bytes
     else (if nat_lt (length bytes) 12 then None else Some 24)
 
 -- The length of the next piece in this state.
-abbrev pub named_in : State → List ℕ → Option ℕ
-named_in Unbegun bytes = first_named bytes
-named_in (Pieces container left) bytes = next_named left container bytes
-named_in Ended bytes = None
-named_in Failed bytes = None
+abbrev pub length_in : ReaderState → List ℕ → Option ℕ
+length_in Unbegun bytes = first_length bytes
+length_in (Pieces container left) bytes = next_length left container bytes
+length_in Ended bytes = None
+length_in Failed bytes = None
 
 -- The length of the next piece, if the bytes of the device are known.
 abbrev pub named : {R : Type 0} → (R → Option (List ℕ)) → Reader R → Option (Option ℕ)
-named remaining reader = option_map (named_in reader.state) (remaining reader.device)
+named remaining reader = option_map (length_in reader.state) (remaining reader.device)
 
 -- ---- the bytes that are taken
 
 -- The length of the head that is read first in this state.
-abbrev pub head_in : State → ℕ
+abbrev pub head_in : ReaderState → ℕ
 head_in Unbegun = 12
 head_in (Pieces container left) = head_length container
 head_in Ended = 0
@@ -79,19 +79,20 @@ Loses size (Some xs) None = ⊥
 Loses size (Some xs) (Some ys) = ys ≡ drop size xs
 
 -- The same. Where a read failed or memory was refused, it may be fewer.
-abbrev pub Takes : {A : Type 0} → ℕ → Result A Fault → Option (List ℕ) → Option (List ℕ) → Type 0
+abbrev pub Takes : {A : Type 0} → ℕ → Result A ContainerFault → Option (List ℕ) → Option (List ℕ) → Type 0
 Takes size (Err fault.Read) old new = ConsumesAtMost size old new
 Takes size (Err fault.Memory) old new = ConsumesAtMost size old new
 Takes size _ old new = Loses size old new
 
--- A call in this state took the next piece of known bytes, or its head alone if that names no length.
-abbrev pub TakesNext : {A : Type 0} → State → Result A Fault → Option (List ℕ) → Option (List ℕ) → Type 0
+-- A call in this state took the next piece of known bytes, or its head alone if that names no
+-- length.
+abbrev pub TakesNext : {A : Type 0} → ReaderState → Result A ContainerFault → Option (List ℕ) → Option (List ℕ) → Type 0
 TakesNext state result None new = ⊤
 TakesNext state result (Some bytes) new =
-    Takes (taken_by (head_in state) (named_in state bytes)) result (Some bytes) new
+    Takes (taken_by (head_in state) (length_in state bytes)) result (Some bytes) new
 
 -- After the end and after a fault the device stays as it was.
-abbrev pub IsUnread : {R : Type 0} → State → R → R → Type 0
+abbrev pub IsUnread : {R : Type 0} → ReaderState → R → R → Type 0
 IsUnread Ended old new = new ≡ old
 IsUnread Failed old new = new ≡ old
 IsUnread _ old new = ⊤
@@ -103,8 +104,8 @@ abbrev pub GrowsBy : Option ℕ → ℕ → ℕ → Type 0
 GrowsBy None old new = new ≡ old
 GrowsBy (Some size) old new = (new ≡ old) ⊎ (new ≡ max old size)
 
--- The capacity stays, or grows to exactly the length of the next piece. If the bytes aren't known, it
--- grows to the limit at most.
+-- The capacity stays, or grows to exactly the length of the next piece. If the bytes aren't known,
+-- it grows to the limit at most.
 abbrev pub GrowsFor : Option (Option ℕ) → ℕ → ℕ → Type 0
 GrowsFor None old new = (old ≤ new) × (new ≤ max old most_block)
 GrowsFor (Some size) old new = GrowsBy size old new
@@ -118,7 +119,7 @@ LacksRoom capacity (Some size) = IsSomeAnd size (λ length. capacity < length)
 -- ---- the list of interfaces
 
 -- How many interfaces of the section are described. Nothing is, before the file begins.
-abbrev pub count_in : State → ℕ → ℕ
+abbrev pub count_in : ReaderState → ℕ → ℕ
 count_in (Pieces container left) count = count
 count_in _ count = 0
 
@@ -132,13 +133,13 @@ list_room reader = vec_capacity reader.interfaces
 
 -- The list grows only for an interface that is described after as many as it has room for: to twice
 -- as many, and by four at least.
-abbrev pub GrowsList : Event → ℕ → ℕ → ℕ → Type 0
+abbrev pub GrowsList : ContainerEvent → ℕ → ℕ → ℕ → Type 0
 GrowsList (event.Interface name) count old new =
     ((count < old) × (new ≡ old)) ⊎ ((old ≤ count) × (new ≡ count + max count 4))
 GrowsList _ count old new = new ≡ old
 
 -- After an interface is described, there is one more; a section begins with none.
-abbrev pub CountsList : Event → ℕ → ℕ → Type 0
+abbrev pub CountsList : ContainerEvent → ℕ → ℕ → Type 0
 CountsList event.Section count new = new ≡ 0
 CountsList (event.Interface name) count new = new ≡ count + 1
 CountsList event.End count new = ⊤
@@ -150,7 +151,7 @@ DescribesFirst container bytes =
     Describes (container_after container (head_of container bytes)) (piece_of container bytes)
 
 -- The next piece describes an interface in this state.
-abbrev pub DescribesNext : State → List ℕ → Type 0
+abbrev pub DescribesNext : ReaderState → List ℕ → Type 0
 DescribesNext Unbegun bytes = (is_section bytes ≡ true) × DescribesFirst (Blocks Big) bytes
 DescribesNext (Pieces container left) bytes = (0 < left) × DescribesFirst container bytes
 DescribesNext Ended bytes = ⊥
@@ -163,8 +164,8 @@ LacksPlace remaining reader =
 
 -- ---- the pieces up to the next record
 
--- What a piece needs: room for its length, if its head names one; and if it describes an interface, a
--- place in the list after those that were described before it.
+-- What a piece needs: room for its length, if its head names one; and if it describes an interface,
+-- a place in the list after those that were described before it.
 pub record Need : Type 0 where
   pub size : Option ℕ
   pub describes : Bool
@@ -183,13 +184,13 @@ describes (Blocks order) piece = block_type order piece == 1
 -- What the first of these pieces needs, where so many interfaces are described.
 abbrev pub first_need : ℕ → Container → ℕ → List ℕ → Need
 first_need left container count bytes = record {
-  size = next_named left container bytes;
+  size = next_length left container bytes;
   describes = describes (container_after container (head_of container bytes)) (piece_of container bytes);
   count = count;
 }
 
--- What follows a piece with this result, by the number of interfaces that are then described. Nothing
--- does after a record, the end or a fault.
+-- What follows a piece with this result, by the number of interfaces that are then described.
+-- Nothing does after a record, the end or a fault.
 abbrev pub unless_record : ℕ → Answer → (ℕ → List Need) → List Need
 unless_record count (Ok section) later = later 0
 unless_record count (Ok (described name)) later = later (count + 1)
@@ -208,10 +209,10 @@ needs (suc left) container count interfaces bytes =
 
 -- The header of a classic file needs its length.
 abbrev pub header_need : List ℕ → Need
-header_need bytes = record { size = first_named bytes; describes = false; count = 0 }
+header_need bytes = record { size = first_length bytes; describes = false; count = 0 }
 
 -- What follows the header of a classic file with this format.
-abbrev pub after_header : Result Format Fault → (Format → List Need) → List Need
+abbrev pub after_header : Result ClassicFormat ContainerFault → (ClassicFormat → List Need) → List Need
 after_header (Ok format) later = later format
 after_header (Err fault) later = []
 
@@ -221,7 +222,7 @@ classic_needs bytes = header_need bytes ∷ after_header (judge_beginning bytes)
     (λ format. needs most_records (Classic format) 0 [] (drop 24 bytes))
 
 -- The same in this state.
-abbrev pub needs_in : State → ℕ → List Interface → List ℕ → List Need
+abbrev pub needs_in : ReaderState → ℕ → List Interface → List ℕ → List Need
 needs_in Unbegun count interfaces bytes =
     if is_section bytes then needs most_records (Blocks Big) 0 [] bytes else classic_needs bytes
 needs_in (Pieces container left) count interfaces bytes = needs left container count interfaces bytes
@@ -234,7 +235,7 @@ needs_of remaining reader =
     option_map (needs_in reader.state (vec_len reader.interfaces) reader.interfaces.items) (remaining reader.device)
 
 -- After an event that is no record, the needs of the other pieces are left.
-abbrev pub PassesNeed : Event → Option (List Need) → Option (List Need) → Type 0
+abbrev pub PassesNeed : ContainerEvent → Option (List Need) → Option (List Need) → Type 0
 PassesNeed event.Section old new = IfSome old (λ needs. new ≡ Some (drop 1 needs))
 PassesNeed (event.Interface name) old new = IfSome old (λ needs. new ≡ Some (drop 1 needs))
 PassesNeed event.Passed old new = IfSome old (λ needs. new ≡ Some (drop 1 needs))

@@ -3,23 +3,23 @@
 ghost use Rattle.std.specs.Prelude.{◌≡◌, ◌≢◌, ◌+◌, ◌≤◌, length, take, IfOk, Some, Err, ◌⊎◌};
 ghost use Rattle.std.specs.Prelude.{◌<◌, ◌∷◌, ◌++◌, [], max, OnOk, OnErr, vec_len, vec_capacity};
 ghost use Rattle.pim_addr.specs.Faults.{Answers, judged};
-ghost use Rattle.pim_container.specs.Block.{is_section, order_named, least_block, head_faults};
+ghost use Rattle.pim_container.specs.Block.{is_section, stated_order, least_block, head_faults};
 ghost use Rattle.pim_container.specs.Block.{head_said};
 ghost use Rattle.std.specs.List.{slice_get};
 ghost use Rattle.pim_container.specs.Block.{is_unequal, block_type, interface_number, stamp_of};
 ghost use Rattle.pim_container.specs.Block.{captured_length};
 ghost use Rattle.pim_container.specs.Block.{captured_on, packet_block, interface_block};
-ghost use Rattle.pim_container.specs.Block.{without_end, block_told, is_untimed};
+ghost use Rattle.pim_container.specs.Block.{without_end, block_event, is_untimed};
 ghost use Rattle.pim_container.specs.Block.{interfaces_after, with_interface};
 ghost use Rattle.pim_container.specs.Interface.{settings_of, interface_of, HasName};
-ghost use Rattle.pim_container.specs.Told.{latest_moment, event_seen, EventLiesIn, IsBy};
+ghost use Rattle.pim_container.specs.EventSeen.{latest_moment, event_seen, EventLiesIn, IsBy};
 ghost use Rattle.pim_container.specs.Next.{OnMemory};
 ghost use Rattle.pim_container.specs.Room.{GrowsList, CountsList};
 
-use crate::event::Event;
-use crate::fault::Fault;
+use crate::event::ContainerEvent;
+use crate::fault::ContainerFault;
 use crate::interface::{Interface, Settings, moment_of, settings_of};
-use crate::link::{Endianness, Link, link_of};
+use crate::link::{BlockEndianness, LinkLayer, link_of};
 use crate::packet::event_of;
 use pim_capture::InterfaceName;
 use std::alloc::AllocError;
@@ -47,9 +47,9 @@ const MOST_BLOCK: u32 = 16_777_216;
 
 /// What the head of a block says.
 #[derive(Clone, Copy, Debug, PartialEq, Eq)]
-pub struct Head {
+pub struct BlockHead {
     /// The byte order of its section.
-    pub order: Endianness,
+    pub order: BlockEndianness,
     /// Its length, with all of itself.
     pub length: usize,
 }
@@ -64,7 +64,7 @@ pub struct Captured {
     /// The name of that interface.
     pub name: Option<InterfaceName>,
     /// What its frame begins with. `None` for a link type that isn't read.
-    pub link: Option<Link>,
+    pub link: Option<LinkLayer>,
     /// The index after its frame in the block.
     pub end: usize,
 }
@@ -74,27 +74,27 @@ pub fn is_section(block: &[u8]) -> bool
     requires { 4 ≤ length block.now }
     ensures { result ≡ is_section block.now }
 {
-    Endianness::Big.read_u32_at(block, 0) == SECTION
+    BlockEndianness::Big.read_u32_at(block, 0) == SECTION
 }
 
 /// The byte order of a block, in a section of this byte order before it.
 ///
 /// # Errors
 /// `Magic` for a section header without a known byte order.
-fn order_of(before: Endianness, head: &[u8]) -> Result<Endianness, Fault>
+fn order_of(before: BlockEndianness, head: &[u8]) -> Result<BlockEndianness, ContainerFault>
     requires { 12 ≤ length head.now }
-    ensures { Answers (λ order. order) result (order_named before head.now) }
+    ensures { Answers (λ order. order) result (stated_order before head.now) }
 {
     if !is_section(head) {
         return Ok(before);
     }
-    if Endianness::Big.read_u32_at(head, 8) == ORDER_MAGIC {
-        return Ok(Endianness::Big);
+    if BlockEndianness::Big.read_u32_at(head, 8) == ORDER_MAGIC {
+        return Ok(BlockEndianness::Big);
     }
-    if Endianness::Little.read_u32_at(head, 8) == ORDER_MAGIC {
-        return Ok(Endianness::Little);
+    if BlockEndianness::Little.read_u32_at(head, 8) == ORDER_MAGIC {
+        return Ok(BlockEndianness::Little);
     }
-    Err(Fault::Magic)
+    Err(ContainerFault::Magic)
 }
 
 /// The length of a block of this type without options, names and bytes of a packet.
@@ -114,7 +114,7 @@ fn least_block(block_type: u32) -> u32
 ///
 /// # Errors
 /// `Magic`, `Block` or `TooLong`, in this order.
-pub fn read_head(before: Endianness, head: &[u8]) -> Result<Head, Fault>
+pub fn read_head(before: BlockEndianness, head: &[u8]) -> Result<BlockHead, ContainerFault>
     requires { 12 ≤ length head.now }
     ensures { Answers (λ it. it) result
         (judged (head_faults before head.now) (head_said before head.now)) }
@@ -122,12 +122,12 @@ pub fn read_head(before: Endianness, head: &[u8]) -> Result<Head, Fault>
     let order = order_of(before, head)?;
     let length = order.read_u32_at(head, 4);
     if length < least_block(order.read_u32_at(head, 0)) || length % 4 != 0 {
-        return Err(Fault::Block);
+        return Err(ContainerFault::Block);
     }
     if length > MOST_BLOCK {
-        return Err(Fault::TooLong);
+        return Err(ContainerFault::TooLong);
     }
-    Ok(Head {
+    Ok(BlockHead {
         order,
         length: length as usize,
     })
@@ -145,7 +145,7 @@ fn is_untimed(block_type: u32) -> bool
 }
 
 /// Whether the length at the end of a block is another one than its own.
-fn is_unequal(order: Endianness, block: &[u8]) -> bool
+fn is_unequal(order: BlockEndianness, block: &[u8]) -> bool
     requires least { 12 ≤ length block.now }
     ensures { result ≡ is_unequal order block.now }
 {
@@ -153,7 +153,7 @@ fn is_unequal(order: Endianness, block: &[u8]) -> bool
 }
 
 /// The number of the interface of a packet block.
-fn interface_number(order: Endianness, block: &[u8]) -> u32
+fn interface_number(order: BlockEndianness, block: &[u8]) -> u32
     requires { 12 ≤ length block.now }
     ensures { result ≡ interface_number order block.now }
 {
@@ -165,7 +165,7 @@ fn interface_number(order: Endianness, block: &[u8]) -> u32
 }
 
 /// The time stamp of a packet block.
-fn stamp_of(order: Endianness, block: &[u8]) -> u64
+fn stamp_of(order: BlockEndianness, block: &[u8]) -> u64
     requires { 32 ≤ length block.now }
     ensures { result ≡ stamp_of order block.now }
 {
@@ -175,21 +175,25 @@ fn stamp_of(order: Endianness, block: &[u8]) -> u64
 }
 
 /// The capture of the packet of a block on its interface.
-fn captured_on(interface: Interface, order: Endianness, block: &[u8]) -> Result<Captured, Fault>
+fn captured_on(
+    interface: Interface,
+    order: BlockEndianness,
+    block: &[u8],
+) -> Result<Captured, ContainerFault>
     requires { 32 ≤ length block.now }
     ensures answer { Answers (λ it. it) result (captured_on (Some interface) order block.now) }
     ensures moment { IfOk result (λ captured. captured.millis ≤ latest_moment) }
     ensures start { IfOk result (λ captured. 28 ≤ captured.end) }
     ensures end { IfOk result (λ captured. captured.end ≤ length block.now) }
-    ensures not_read { result ≢ Err Fault.Read }
-    ensures not_memory { result ≢ Err Fault.Memory }
+    ensures not_read { result ≢ Err ContainerFault.Read }
+    ensures not_memory { result ≢ Err ContainerFault.Memory }
 {
     let captured_length = order.read_u32_at(block, 20) as usize;
     if block.len() < 32 + captured_length {
-        return Err(Fault::Block);
+        return Err(ContainerFault::Block);
     }
     let Some(millis) = moment_of(interface, stamp_of(order, block)) else {
-        return Err(Fault::Time);
+        return Err(ContainerFault::Time);
     };
     Ok(Captured {
         millis,
@@ -201,25 +205,25 @@ fn captured_on(interface: Interface, order: Endianness, block: &[u8]) -> Result<
 }
 
 /// The event of a packet block. The buffer then ends with the captured bytes.
-fn tell_packet(
-    order: Endianness,
+fn read_packet(
+    order: BlockEndianness,
     interfaces: &[Interface],
     buffer: &mut Vec<u8>,
-) -> Result<Event, Fault>
+) -> Result<ContainerEvent, ContainerFault>
     requires { 32 ≤ vec_len buffer.now }
     ensures answer { Answers (event_seen buffer.new.items) result
         (packet_block order interfaces.now buffer.old.items) }
     ensures ranges { IfOk result (EventLiesIn buffer.new.items) }
     ensures moment { IfOk result (IsBy latest_moment) }
-    ensures record { IfOk result (λ event. event ≢ Event.End) }
-    ensures not_read { result ≢ Err Fault.Read }
-    ensures not_memory { result ≢ Err Fault.Memory }
+    ensures record { IfOk result (λ event. event ≢ ContainerEvent.End) }
+    ensures not_read { result ≢ Err ContainerFault.Read }
+    ensures not_memory { result ≢ Err ContainerFault.Memory }
     ensures length { vec_len buffer.new ≤ vec_len buffer.old }
     ensures capacity { vec_capacity buffer.new ≡ vec_capacity buffer.old }
 {
     let number = interface_number(order, buffer.as_slice());
     let Some(interface) = interfaces.get(number as usize) else {
-        return Err(Fault::Block);
+        return Err(ContainerFault::Block);
     };
     let captured = captured_on(*interface, order, buffer.as_slice())?;
     buffer.truncate(captured.end);
@@ -234,7 +238,7 @@ fn tell_packet(
 }
 
 /// The interface that a block describes, with these settings.
-fn interface_of(order: Endianness, block: &[u8], settings: Settings) -> Interface
+fn interface_of(order: BlockEndianness, block: &[u8], settings: Settings) -> Interface
     requires least { 20 ≤ length block.now }
     requires name { HasName block.now settings }
     ensures { result ≡ interface_of order block.now settings }
@@ -268,22 +272,22 @@ fn add(interfaces: &mut Vec<Interface>, interface: Interface) -> Result<(), Allo
 }
 
 /// The event of an interface description. The interface is added to those of the section.
-fn tell_interface(
-    order: Endianness,
+fn read_interface(
+    order: BlockEndianness,
     interfaces: &mut Vec<Interface>,
     block: &[u8],
-) -> Result<Event, Fault>
+) -> Result<ContainerEvent, ContainerFault>
     requires least { 20 ≤ length block.now }
     requires most { length block.now ≤ 16777216 }
-    ensures answer { (result ≡ Err Fault.Memory) ⊎ Answers (event_seen block.now) result
+    ensures answer { (result ≡ Err ContainerFault.Memory) ⊎ Answers (event_seen block.now) result
         (interface_block (settings_of order (without_end block.now)) block.now) }
     ensures interfaces { IfOk result (λ _. interfaces.new.items
         ≡ with_interface interfaces.old.items (settings_of order (without_end block.now)) order
         block.now) }
     ensures ranges { IfOk result (EventLiesIn block.now) }
     ensures moment { IfOk result (IsBy latest_moment) }
-    ensures record { IfOk result (λ event. event ≢ Event.End) }
-    ensures not_read { result ≢ Err Fault.Read }
+    ensures record { IfOk result (λ event. event ≢ ContainerEvent.End) }
+    ensures not_read { result ≢ Err ContainerFault.Read }
     ensures full { OnMemory result (vec_capacity interfaces.old ≤ vec_len interfaces.old) }
     ensures list { IfOk result (λ event. GrowsList event (vec_len interfaces.old)
         (vec_capacity interfaces.old) (vec_capacity interfaces.new)) }
@@ -294,30 +298,31 @@ fn tell_interface(
 {
     let (front, _) = block.split_at(block.len() - 4);
     let Some(settings) = settings_of(order, front) else {
-        return Err(Fault::Block);
+        return Err(ContainerFault::Block);
     };
     add(interfaces, interface_of(order, block, settings))?;
-    Ok(Event::Interface {
+    Ok(ContainerEvent::Interface {
         name: settings.name_at..settings.name_end,
     })
 }
 
 /// The event of a whole block in the buffer. Interfaces are added or, by a new section, removed.
-pub fn tell_block(
-    order: Endianness,
+pub fn read_block(
+    order: BlockEndianness,
     interfaces: &mut Vec<Interface>,
     buffer: &mut Vec<u8>,
-) -> Result<Event, Fault>
+) -> Result<ContainerEvent, ContainerFault>
     requires least { least_block (block_type order buffer.now.items) ≤ vec_len buffer.now }
     requires most { vec_len buffer.now ≤ 16777216 }
-    ensures answer { (result ≡ Err Fault.Memory) ⊎ Answers (event_seen buffer.new.items) result
-        (block_told order interfaces.old.items buffer.old.items) }
+    ensures answer { (result ≡ Err ContainerFault.Memory)
+        ⊎ Answers (event_seen buffer.new.items) result
+        (block_event order interfaces.old.items buffer.old.items) }
     ensures interfaces { IfOk result (λ _. interfaces.new.items
         ≡ interfaces_after order interfaces.old.items buffer.old.items) }
     ensures ranges { IfOk result (EventLiesIn buffer.new.items) }
     ensures moment { IfOk result (IsBy latest_moment) }
-    ensures record { IfOk result (λ event. event ≢ Event.End) }
-    ensures not_read { result ≢ Err Fault.Read }
+    ensures record { IfOk result (λ event. event ≢ ContainerEvent.End) }
+    ensures not_read { result ≢ Err ContainerFault.Read }
     ensures memory { OnMemory result (block_type order buffer.old.items ≡ 1) }
     ensures full { OnMemory result (vec_capacity interfaces.old ≤ vec_len interfaces.old) }
     ensures list { IfOk result (λ event. GrowsList event (vec_len interfaces.old)
@@ -330,16 +335,16 @@ pub fn tell_block(
     ensures capacity { vec_capacity buffer.new ≡ vec_capacity buffer.old }
 {
     if is_unequal(order, buffer.as_slice()) {
-        return Err(Fault::Block);
+        return Err(ContainerFault::Block);
     }
     match order.read_u32_at(buffer.as_slice(), 0) {
         SECTION => {
             interfaces.clear();
-            Ok(Event::Section)
+            Ok(ContainerEvent::Section)
         }
-        INTERFACE => tell_interface(order, interfaces, buffer.as_slice()),
-        OBSOLETE_PACKET | ENHANCED_PACKET => tell_packet(order, interfaces.as_slice(), buffer),
-        other if is_untimed(other) => Ok(Event::Untimed),
-        _ => Ok(Event::Passed),
+        INTERFACE => read_interface(order, interfaces, buffer.as_slice()),
+        OBSOLETE_PACKET | ENHANCED_PACKET => read_packet(order, interfaces.as_slice(), buffer),
+        other if is_untimed(other) => Ok(ContainerEvent::Untimed),
+        _ => Ok(ContainerEvent::Passed),
     }
 }

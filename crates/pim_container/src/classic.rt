@@ -4,18 +4,19 @@ ghost use Rattle.std.specs.Prelude.{◌≡◌, ◌≢◌, ◌+◌, ◌≤◌, le
 ghost use Rattle.pim_addr.specs.Faults.{Answers, judged};
 ghost use Rattle.pim_container.specs.Classic.{is_magic, file_order, format_with, link_type};
 ghost use Rattle.pim_container.specs.Classic.{judge_header};
-ghost use Rattle.pim_container.specs.Classic.{captured_length, head_faults, millis_of, record_told};
+ghost use Rattle.pim_container.specs.Classic.{captured_length, head_faults, millis_of};
+ghost use Rattle.pim_container.specs.Classic.{record_event};
 ghost use Rattle.pim_container.specs.Link.{link_of};
-ghost use Rattle.pim_container.specs.Told.{event_seen, EventLiesIn, IsBy, latest_moment};
+ghost use Rattle.pim_container.specs.EventSeen.{event_seen, EventLiesIn, IsBy, latest_moment};
 
-use crate::event::Event;
-use crate::fault::Fault;
-use crate::link::{Endianness, Link, link_of};
+use crate::event::ContainerEvent;
+use crate::fault::ContainerFault;
+use crate::link::{BlockEndianness, LinkLayer, link_of};
 use crate::packet::event_of;
 
 /// The unit of the fraction of a record's time.
 #[derive(Clone, Copy, Debug, PartialEq, Eq)]
-pub enum Resolution {
+pub enum ClassicResolution {
     /// Millionths of a second.
     Microseconds,
     /// Billionths of a second.
@@ -24,13 +25,13 @@ pub enum Resolution {
 
 /// What the header of a classic file says of its records.
 #[derive(Clone, Copy, Debug, PartialEq, Eq)]
-pub struct Format {
+pub struct ClassicFormat {
     /// The byte order of all numbers in the file.
-    pub order: Endianness,
+    pub order: BlockEndianness,
     /// The unit of the fractions of its times.
-    pub resolution: Resolution,
+    pub resolution: ClassicResolution,
     /// What the frames begin with.
-    pub link: Link,
+    pub link: LinkLayer,
 }
 
 /// The magic of a file whose fractions count microseconds.
@@ -43,7 +44,7 @@ const NANOSECONDS_MAGIC: u32 = 0xa1b2_3c4d;
 const MOST_CAPTURED: u32 = 262_144;
 
 /// Whether a file begins with a magic in this byte order.
-fn is_magic(order: Endianness, header: &[u8]) -> bool
+fn is_magic(order: BlockEndianness, header: &[u8]) -> bool
     requires { 4 ≤ length header.now }
     ensures { result ≡ is_magic order header.now }
 {
@@ -52,24 +53,24 @@ fn is_magic(order: Endianness, header: &[u8]) -> bool
 }
 
 /// The format of a file with this byte order and link word.
-fn format_in(order: Endianness, header: &[u8]) -> Result<Format, Fault>
+fn format_in(order: BlockEndianness, header: &[u8]) -> Result<ClassicFormat, ContainerFault>
     requires whole { 24 ≤ length header.now }
     requires order { order ≡ file_order header.now }
     ensures answer { Answers (λ format. format) result
         (format_with header.now (link_of order (link_type header.now))) }
-    ensures not_read { result ≢ Err Fault.Read }
-    ensures not_memory { result ≢ Err Fault.Memory }
+    ensures not_read { result ≢ Err ContainerFault.Read }
+    ensures not_memory { result ≢ Err ContainerFault.Memory }
 {
     let number = (order.read_u32_at(header, 20) & 0xffff) as u16;
     let Some(link) = link_of(order, number) else {
-        return Err(Fault::LinkType(number));
+        return Err(ContainerFault::LinkType(number));
     };
     let resolution = if order.read_u32_at(header, 0) == NANOSECONDS_MAGIC {
-        Resolution::Nanoseconds
+        ClassicResolution::Nanoseconds
     } else {
-        Resolution::Microseconds
+        ClassicResolution::Microseconds
     };
-    Ok(Format {
+    Ok(ClassicFormat {
         order,
         resolution,
         link,
@@ -80,39 +81,39 @@ fn format_in(order: Endianness, header: &[u8]) -> Result<Format, Fault>
 ///
 /// # Errors
 /// `Magic` or `LinkType`, in this order.
-pub fn read_header(header: &[u8]) -> Result<Format, Fault>
+pub fn read_header(header: &[u8]) -> Result<ClassicFormat, ContainerFault>
     requires { 24 ≤ length header.now }
     ensures answer { Answers (λ format. format) result (judge_header header.now) }
-    ensures not_read { result ≢ Err Fault.Read }
-    ensures not_memory { result ≢ Err Fault.Memory }
+    ensures not_read { result ≢ Err ContainerFault.Read }
+    ensures not_memory { result ≢ Err ContainerFault.Memory }
 {
-    if is_magic(Endianness::Big, header) {
-        return format_in(Endianness::Big, header);
+    if is_magic(BlockEndianness::Big, header) {
+        return format_in(BlockEndianness::Big, header);
     }
-    if is_magic(Endianness::Little, header) {
-        return format_in(Endianness::Little, header);
+    if is_magic(BlockEndianness::Little, header) {
+        return format_in(BlockEndianness::Little, header);
     }
-    Err(Fault::Magic)
+    Err(ContainerFault::Magic)
 }
 
 /// The length of the record with this head of 16 bytes.
 ///
 /// # Errors
 /// `TooLong` if its captured length is above 262,144.
-pub fn record_length(format: Format, head: &[u8]) -> Result<usize, Fault>
+pub fn record_length(format: ClassicFormat, head: &[u8]) -> Result<usize, ContainerFault>
     requires { 16 ≤ length head.now }
     ensures { Answers (λ size. size) result
         (judged (head_faults format head.now) (16 + captured_length format head.now)) }
 {
     let captured = format.order.read_u32_at(head, 8);
     if captured > MOST_CAPTURED {
-        return Err(Fault::TooLong);
+        return Err(ContainerFault::TooLong);
     }
     Ok(16 + captured as usize)
 }
 
 /// The time of a record, in milliseconds since 1970.
-fn millis_of(format: Format, record: &[u8]) -> u64
+fn millis_of(format: ClassicFormat, record: &[u8]) -> u64
     requires { 8 ≤ length record.now }
     ensures value { result ≡ millis_of format record.now }
     ensures bound { result ≤ latest_moment }
@@ -120,19 +121,19 @@ fn millis_of(format: Format, record: &[u8]) -> u64
     let seconds = format.order.read_u32_at(record, 0);
     let fraction = format.order.read_u32_at(record, 4);
     let per_millisecond = match format.resolution {
-        Resolution::Microseconds => 1_000,
-        Resolution::Nanoseconds => 1_000_000,
+        ClassicResolution::Microseconds => 1_000,
+        ClassicResolution::Nanoseconds => 1_000_000,
     };
     u64::from(seconds) * 1_000 + u64::from(fraction / per_millisecond)
 }
 
 /// The event of a whole record.
-pub fn tell_record(format: Format, record: &[u8]) -> Event
+pub fn read_record(format: ClassicFormat, record: &[u8]) -> ContainerEvent
     requires { 16 ≤ length record.now }
-    ensures event { event_seen record.now result ≡ record_told format record.now }
+    ensures event { event_seen record.now result ≡ record_event format record.now }
     ensures ranges { EventLiesIn record.now result }
     ensures moment { IsBy latest_moment result }
-    ensures record { result ≢ Event.End }
+    ensures record { result ≢ ContainerEvent.End }
 {
     let millis = millis_of(format, record);
     event_of(millis, 0, None, Some(format.link), record, 16)

@@ -3,27 +3,27 @@
 ghost use Rattle.std.specs.Prelude.{◌≡◌, ◌≤◌, ◌⊎◌, length, IfOk, IfErr, Err, ◌≢◌, vec_len};
 ghost use Rattle.std.specs.Prelude.{OnErr, vec_capacity};
 ghost use Rattle.pim_addr.specs.Faults.{Answers, judged};
-ghost use Rattle.pim_container.specs.Pieces.{head_length, head_faults, extent_of, piece_told};
+ghost use Rattle.pim_container.specs.Pieces.{head_length, head_faults, extent_of, piece_event};
 ghost use Rattle.pim_container.specs.Pieces.{interfaces_after};
 ghost use Rattle.pim_container.specs.Block.{most_block};
 ghost use Rattle.pim_container.specs.Next.{IsPiece, IsOfBytes, OnMemory, Describes};
 ghost use Rattle.pim_container.specs.Room.{GrowsList, CountsList};
-ghost use Rattle.pim_container.specs.Told.{event_seen, EventLiesIn, IsBy, latest_moment};
+ghost use Rattle.pim_container.specs.EventSeen.{event_seen, EventLiesIn, IsBy, latest_moment};
 
-use crate::block::{read_head, tell_block};
-use crate::classic::{Format, record_length, tell_record};
-use crate::event::Event;
-use crate::fault::Fault;
+use crate::block::{read_block, read_head};
+use crate::classic::{ClassicFormat, read_record, record_length};
+use crate::event::ContainerEvent;
+use crate::fault::ContainerFault;
 use crate::interface::Interface;
-use crate::link::Endianness;
+use crate::link::BlockEndianness;
 
 /// How the pieces of a file are written: its records or blocks.
 #[derive(Clone, Copy, Debug, PartialEq, Eq)]
 pub enum Container {
     /// Records of a classic file with this format.
-    Classic(Format),
+    Classic(ClassicFormat),
     /// Blocks of a pcapng section of this byte order.
-    Blocks(Endianness),
+    Blocks(BlockEndianness),
 }
 
 /// What the head of a piece says.
@@ -51,7 +51,7 @@ impl Container {
     ///
     /// # Errors
     /// `Magic`, `Block` or `TooLong`, in this order.
-    pub fn extent_of(self, head: &[u8]) -> Result<Extent, Fault>
+    pub fn extent_of(self, head: &[u8]) -> Result<Extent, ContainerFault>
         requires { head_length self ≤ length head.now }
         ensures answer { Answers (λ it. it) result
             (judged (head_faults self head.now) (extent_of self head.now)) }
@@ -76,16 +76,21 @@ impl Container {
 
     /// The event of a whole piece in the buffer. Interfaces are added or, by a new section,
     /// removed.
-    pub fn tell(self, interfaces: &mut Vec<Interface>, buffer: &mut Vec<u8>) -> Result<Event, Fault>
+    pub fn read_piece(
+        self,
+        interfaces: &mut Vec<Interface>,
+        buffer: &mut Vec<u8>,
+    ) -> Result<ContainerEvent, ContainerFault>
         requires { IsPiece self buffer.now.items }
-        ensures answer { (result ≡ Err Fault.Memory) ⊎ Answers (event_seen buffer.new.items) result
-            (piece_told self interfaces.old.items buffer.old.items) }
+        ensures answer { (result ≡ Err ContainerFault.Memory)
+            ⊎ Answers (event_seen buffer.new.items) result
+            (piece_event self interfaces.old.items buffer.old.items) }
         ensures interfaces { IfOk result (λ _. interfaces.new.items
             ≡ interfaces_after self interfaces.old.items buffer.old.items) }
         ensures ranges { IfOk result (EventLiesIn buffer.new.items) }
         ensures moment { IfOk result (IsBy latest_moment) }
-        ensures record { IfOk result (λ event. event ≢ Event.End) }
-        ensures not_read { result ≢ Err Fault.Read }
+        ensures record { IfOk result (λ event. event ≢ ContainerEvent.End) }
+        ensures not_read { result ≢ Err ContainerFault.Read }
         ensures memory { OnMemory result (Describes self buffer.old.items) }
         ensures full { OnMemory result (vec_capacity interfaces.old ≤ vec_len interfaces.old) }
         ensures list { IfOk result (λ event. GrowsList event (vec_len interfaces.old)
@@ -98,8 +103,8 @@ impl Container {
         ensures capacity { vec_capacity buffer.new ≡ vec_capacity buffer.old }
     {
         match self {
-            Container::Classic(format) => Ok(tell_record(format, buffer.as_slice())),
-            Container::Blocks(order) => tell_block(order, interfaces, buffer),
+            Container::Classic(format) => Ok(read_record(format, buffer.as_slice())),
+            Container::Blocks(order) => read_block(order, interfaces, buffer),
         }
     }
 }

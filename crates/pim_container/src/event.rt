@@ -21,7 +21,7 @@ pub struct Origin {
 
 /// What a record or a block of a capture holds.
 #[derive(Clone, Debug, PartialEq, Eq, Drop)]
-pub enum Event {
+pub enum ContainerEvent {
     /// A PIM packet. The buffer holds its bytes.
     Packet {
         /// The time of capture, in milliseconds since 1970.

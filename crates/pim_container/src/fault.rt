@@ -1,7 +1,7 @@
 //! The faults of a capture.
 
 ghost use Rattle.std.specs.Prelude.{◌≡◌};
-ghost use Rattle.pim_container.specs.declared.fault.Fault.TheVariants.{Read, Memory};
+ghost use Rattle.pim_container.specs.declared.fault.ContainerFault.TheVariants.{Read, Memory};
 
 use pim_addr::Failed;
 use std::alloc::AllocError;
@@ -9,7 +9,7 @@ use thiserror::Error;
 
 /// Why a capture can't be read any further. Every later call returns `Failed`.
 #[derive(Clone, Copy, Debug, PartialEq, Eq, Error)]
-pub enum Fault {
+pub enum ContainerFault {
     /// It begins with the magic of neither container, or a section with no known byte order.
     #[error("magic")]
     Magic,
@@ -41,18 +41,18 @@ pub enum Fault {
     Failed,
 }
 
-impl From<Failed> for Fault {
+impl From<Failed> for ContainerFault {
     ghost from_gives = { λ _ fault. fault ≡ Read };
 
-    fn from(_failed: Failed) -> Fault {
-        Fault::Read
+    fn from(_failed: Failed) -> ContainerFault {
+        ContainerFault::Read
     }
 }
 
-impl From<AllocError> for Fault {
+impl From<AllocError> for ContainerFault {
     ghost from_gives = { λ _ fault. fault ≡ Memory };
 
-    fn from(_error: AllocError) -> Fault {
-        Fault::Memory
+    fn from(_error: AllocError) -> ContainerFault {
+        ContainerFault::Memory
     }
 }

@@ -4,9 +4,9 @@ ghost use Rattle.std.specs.Prelude.{◌≡◌, ◌+◌, ◌*◌, ◌^◌, ◌<�
 ghost use Rattle.pim_container.specs.Interface.{option_code, option_size, option_end};
 ghost use Rattle.pim_container.specs.Interface.{settings_with, settings_of, HasName};
 ghost use Rattle.pim_container.specs.Interface.{stamp_millis, moved, moment_of};
-ghost use Rattle.pim_container.specs.Told.{latest_moment};
+ghost use Rattle.pim_container.specs.EventSeen.{latest_moment};
 
-use crate::link::{Endianness, Link};
+use crate::link::{BlockEndianness, LinkLayer};
 use pim_capture::InterfaceName;
 
 /// What the options of an interface description say.
@@ -26,7 +26,7 @@ pub struct Settings {
 #[derive(Clone, Copy, Debug, PartialEq, Eq)]
 pub struct Interface {
     /// What its frames begin with. `None` for a link type that isn't read.
-    pub link: Option<Link>,
+    pub link: Option<LinkLayer>,
     /// if_tsresol.
     pub resolution: u8,
     /// if_tsoffset.
@@ -39,7 +39,7 @@ pub struct Interface {
 const LATEST_MOMENT: u128 = 4_294_971_589_967;
 
 /// The settings after the option at the index `at`.
-fn settings_with(order: Endianness, settings: Settings, at: usize, bytes: &[u8]) -> Settings
+fn settings_with(order: BlockEndianness, settings: Settings, at: usize, bytes: &[u8]) -> Settings
     requires whole { option_end order at bytes.now ≤ length bytes.now }
     requires size { length bytes.now ≤ 16777216 }
     requires name { HasName bytes.now settings }
@@ -68,7 +68,7 @@ fn settings_with(order: Endianness, settings: Settings, at: usize, bytes: &[u8])
 
 /// The settings of an interface description block without its last length. `None` if one of its
 /// options is cut.
-pub fn settings_of(order: Endianness, bytes: &[u8]) -> Option<Settings>
+pub fn settings_of(order: BlockEndianness, bytes: &[u8]) -> Option<Settings>
     requires { length bytes.now ≤ 16777216 }
     ensures value { result ≡ settings_of order bytes.now }
     ensures name { IfSome result (HasName bytes.now) }

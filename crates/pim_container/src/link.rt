@@ -7,14 +7,14 @@ use byteorder::{BigEndian, ByteOrder, LittleEndian};
 
 /// The byte order of the numbers of a file or a section.
 #[derive(Clone, Copy, Debug, PartialEq, Eq)]
-pub enum Endianness {
+pub enum BlockEndianness {
     /// The highest byte first.
     Big,
     /// The lowest byte first.
     Little,
 }
 
-impl Endianness {
+impl BlockEndianness {
     /// The 16-bit number at the index `at`.
     pub fn read_u16_at(self, bytes: &[u8], at: usize) -> u16
         requires { at + 2 ≤ length bytes.now }
@@ -22,8 +22,8 @@ impl Endianness {
     {
         let (_, rest) = bytes.split_at(at);
         match self {
-            Endianness::Big => BigEndian::read_u16(rest),
-            Endianness::Little => LittleEndian::read_u16(rest),
+            BlockEndianness::Big => BigEndian::read_u16(rest),
+            BlockEndianness::Little => LittleEndian::read_u16(rest),
         }
     }
 
@@ -34,8 +34,8 @@ impl Endianness {
     {
         let (_, rest) = bytes.split_at(at);
         match self {
-            Endianness::Big => BigEndian::read_u32(rest),
-            Endianness::Little => LittleEndian::read_u32(rest),
+            BlockEndianness::Big => BigEndian::read_u32(rest),
+            BlockEndianness::Little => LittleEndian::read_u32(rest),
         }
     }
 
@@ -46,15 +46,15 @@ impl Endianness {
     {
         let (_, rest) = bytes.split_at(at);
         match self {
-            Endianness::Big => BigEndian::read_u64(rest),
-            Endianness::Little => LittleEndian::read_u64(rest),
+            BlockEndianness::Big => BigEndian::read_u64(rest),
+            BlockEndianness::Little => LittleEndian::read_u64(rest),
         }
     }
 }
 
 /// What a frame begins with.
 #[derive(Clone, Copy, Debug, PartialEq, Eq)]
-pub enum Link {
+pub enum LinkLayer {
     /// An Ethernet header (link type 1).
     Ethernet,
     /// An IP header of either version (link types 101, 12 and 14).
@@ -68,22 +68,22 @@ pub enum Link {
     /// The header of its second version (link type 276).
     CookedV2,
     /// A BSD loopback header in this byte order or in that of the network (link types 0 and 108).
-    Loopback(Endianness),
+    Loopback(BlockEndianness),
 }
 
 /// The link of a link type, in a file of this byte order. `None` if it is another one.
-pub fn link_of(order: Endianness, number: u16) -> Option<Link>
+pub fn link_of(order: BlockEndianness, number: u16) -> Option<LinkLayer>
     ensures { result ≡ link_of order number }
 {
     match number {
-        1 => Some(Link::Ethernet),
-        12 | 14 | 101 => Some(Link::Raw),
-        228 => Some(Link::Ipv4),
-        229 => Some(Link::Ipv6),
-        113 => Some(Link::Cooked),
-        276 => Some(Link::CookedV2),
-        0 => Some(Link::Loopback(order)),
-        108 => Some(Link::Loopback(Endianness::Big)),
+        1 => Some(LinkLayer::Ethernet),
+        12 | 14 | 101 => Some(LinkLayer::Raw),
+        228 => Some(LinkLayer::Ipv4),
+        229 => Some(LinkLayer::Ipv6),
+        113 => Some(LinkLayer::Cooked),
+        276 => Some(LinkLayer::CookedV2),
+        0 => Some(LinkLayer::Loopback(order)),
+        108 => Some(LinkLayer::Loopback(BlockEndianness::Big)),
         _ => None,
     }
 }

@@ -1,10 +1,10 @@
 //! The event of a frame.
 
 ghost use Rattle.std.specs.Prelude.{◌≡◌, ◌≢◌, ◌≤◌, length, drop};
-ghost use Rattle.pim_container.specs.Told.{event_seen, EventLiesIn, IsBy, frame_told};
+ghost use Rattle.pim_container.specs.EventSeen.{event_seen, EventLiesIn, IsBy, frame_event};
 
-use crate::event::{Event, Origin};
-use crate::link::Link;
+use crate::event::{ContainerEvent, Origin};
+use crate::link::LinkLayer;
 use crate::place::place_of;
 use pim_capture::{InterfaceName, Why, judge_packet};
 
@@ -13,19 +13,19 @@ pub fn event_of(
     millis: u64,
     interface: u32,
     name: Option<InterfaceName>,
-    link: Option<Link>,
+    link: Option<LinkLayer>,
     bytes: &[u8],
     start: usize,
-) -> Event
+) -> ContainerEvent
     requires { start ≤ length bytes.now }
     ensures event { event_seen bytes.now result
-        ≡ frame_told millis interface name link (drop start bytes.now) }
+        ≡ frame_event millis interface name link (drop start bytes.now) }
     ensures ranges { EventLiesIn bytes.now result }
     ensures moment { IsBy millis result }
-    ensures record { result ≢ Event.End }
+    ensures record { result ≢ ContainerEvent.End }
 {
     let Some(link) = link else {
-        return Event::Skipped {
+        return ContainerEvent::Skipped {
             millis,
             why: Why::LinkType,
         };
@@ -33,11 +33,11 @@ pub fn event_of(
     let (_, frame) = bytes.split_at(start);
     let place = match place_of(link, frame) {
         Ok(place) => place,
-        Err(why) => return Event::Skipped { millis, why },
+        Err(why) => return ContainerEvent::Skipped { millis, why },
     };
     let ip = match judge_packet(place.family, bytes, start + place.at) {
         Ok(ip) => ip,
-        Err(why) => return Event::Skipped { millis, why },
+        Err(why) => return ContainerEvent::Skipped { millis, why },
     };
     let origin = Origin {
         interface,
@@ -46,5 +46,5 @@ pub fn event_of(
         vlan: place.vlan,
         is_copy: place.is_copy,
     };
-    Event::Packet { millis, origin, ip }
+    ContainerEvent::Packet { millis, origin, ip }
 }

@@ -9,24 +9,24 @@ ghost use Rattle.pim_container.specs.Pieces.{head_length};
 ghost use Rattle.pim_container.specs.Block.{most_block};
 ghost use Rattle.pim_container.specs.Next.{FillsAfter, TakesPiece, CountsReads, behind};
 ghost use Rattle.pim_container.specs.Next.{OnMemory, NeedsMemory};
-ghost use Rattle.pim_container.specs.Room.{length_named, taken_by, Takes, GrowsBy, LacksRoom};
+ghost use Rattle.pim_container.specs.Room.{stated_length, taken_by, Takes, GrowsBy, LacksRoom};
 ghost use Rattle.pim_container.specs.Room.{GrowsList, CountsList, DescribesFirst};
-ghost use Rattle.pim_container.specs.Told.{EventLiesIn, IsBy, latest_moment};
+ghost use Rattle.pim_container.specs.EventSeen.{EventLiesIn, IsBy, latest_moment};
 
 use crate::container::Container;
-use crate::event::Event;
-use crate::fault::Fault;
+use crate::event::ContainerEvent;
+use crate::fault::ContainerFault;
 use crate::interface::Interface;
 use pim_addr::{Feed, read_up_to};
 use std::alloc::AllocError;
 
 /// What a piece gives.
 #[derive(Clone, Debug, PartialEq, Eq, Drop)]
-pub struct Found {
+pub struct FoundPiece {
     /// How the pieces after it are written.
     pub container: Container,
     /// Its event.
-    pub event: Event,
+    pub event: ContainerEvent,
 }
 
 /// Sets the length of the buffer. It grows only if its capacity is less, and then to exactly this
@@ -53,7 +53,7 @@ pub fn read_after<R: Feed>(
     head: &[u8],
     size: usize,
     buffer: &mut Vec<u8>,
-) -> Result<(), Fault>
+) -> Result<(), ContainerFault>
     requires { length head.now ≤ size }
     ensures answer { FillsAfter head.now size (R.remaining device.old) (R.remaining device.new)
         buffer.new.items result }
@@ -70,7 +70,7 @@ pub fn read_after<R: Feed>(
     front.copy_from_slice(head);
     let got = read_up_to(device, rest)?;
     if got < size - head.len() {
-        return Err(Fault::Truncated);
+        return Err(ContainerFault::Truncated);
     }
     Ok(())
 }
@@ -82,7 +82,7 @@ pub fn take_piece<R: Feed>(
     head: &[u8],
     interfaces: &mut Vec<Interface>,
     buffer: &mut Vec<u8>,
-) -> Result<Found, Fault>
+) -> Result<FoundPiece, ContainerFault>
     requires { length head.now ≡ head_length container }
     ensures answer { TakesPiece container interfaces.old.items
         (behind head.now (R.remaining device.old)) (R.remaining device.new) interfaces.new.items
@@ -90,17 +90,17 @@ pub fn take_piece<R: Feed>(
     ensures reads { CountsReads ⊥ (R.failures device.old) (R.failures device.new) result }
     ensures ranges { IfOk result (λ found. EventLiesIn buffer.new.items found.event) }
     ensures moment { IfOk result (λ found. IsBy latest_moment found.event) }
-    ensures record { IfOk result (λ found. found.event ≢ Event.End) }
+    ensures record { IfOk result (λ found. found.event ≢ ContainerEvent.End) }
     ensures memory { OnMemory result (IfSome (behind head.now (R.remaining device.old))
         (NeedsMemory (vec_capacity buffer.old) container)) }
     ensures length { vec_len buffer.new ≤ max (vec_len buffer.old) most_block }
     ensures capacity { vec_capacity buffer.new ≤ max (vec_capacity buffer.old) most_block }
-    ensures grows { GrowsBy (length_named container head.now) (vec_capacity buffer.old)
+    ensures grows { GrowsBy (stated_length container head.now) (vec_capacity buffer.old)
         (vec_capacity buffer.new) }
-    ensures taken { Takes (taken_by (length head.now) (length_named container head.now)) result
+    ensures taken { Takes (taken_by (length head.now) (stated_length container head.now)) result
         (behind head.now (R.remaining device.old)) (R.remaining device.new) }
     ensures asked { OnMemory result
-        (LacksRoom (vec_capacity buffer.old) (Some (length_named container head.now))
+        (LacksRoom (vec_capacity buffer.old) (Some (stated_length container head.now))
         ⊎ ((vec_capacity interfaces.old ≤ vec_len interfaces.old)
         × IfSome (behind head.now (R.remaining device.old)) (DescribesFirst container))) }
     ensures list { IfOk result (λ found. GrowsList found.event (vec_len interfaces.old)
@@ -112,8 +112,8 @@ pub fn take_piece<R: Feed>(
 {
     let extent = container.extent_of(head)?;
     read_after(device, head, extent.length, buffer)?;
-    let event = extent.container.tell(interfaces, buffer)?;
-    Ok(Found {
+    let event = extent.container.read_piece(interfaces, buffer)?;
+    Ok(FoundPiece {
         container: extent.container,
         event,
     })

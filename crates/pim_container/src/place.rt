@@ -5,16 +5,16 @@ ghost use Rattle.pim_container.specs.Link.{number, socket_family, family_or, unt
 ghost use Rattle.pim_container.specs.Link.{place_in, typed_place, is_copied};
 ghost use Rattle.pim_container.specs.Link.{whole_place, place_of, carried};
 ghost use Rattle.pim_capture.specs.Frame.{ethernet_family, raw_family, version};
-ghost use Rattle.pim_container.specs.declared.link.Link.TheVariants as link;
+ghost use Rattle.pim_container.specs.declared.link.LinkLayer.TheVariants as link;
 
-use crate::link::{Endianness, Link};
+use crate::link::{BlockEndianness, LinkLayer};
 use crate::tags::{Carried, after_tags, stacked};
 use pim_addr::AddressFamily;
 use pim_capture::{Vlan, Why};
 
 /// Where the IP packet of a frame begins, and on which link it was captured.
 #[derive(Clone, Copy, Debug, PartialEq, Eq)]
-pub struct Place {
+pub struct PacketPlace {
     /// The address family of the packet.
     pub family: AddressFamily,
     /// The index of its first byte in the frame.
@@ -61,13 +61,13 @@ fn socket_family(number: u32) -> Option<AddressFamily>
 }
 
 /// The place of a packet of this family without tags.
-fn untagged_place(family: Option<AddressFamily>, at: usize) -> Result<Place, Why>
+fn untagged_place(family: Option<AddressFamily>, at: usize) -> Result<PacketPlace, Why>
     ensures { result ≡ untagged_place family at }
 {
     let Some(family) = family else {
         return Err(Why::NotIp);
     };
-    Ok(Place {
+    Ok(PacketPlace {
         family,
         at,
         vlan: stacked(0, 0),
@@ -77,7 +77,7 @@ fn untagged_place(family: Option<AddressFamily>, at: usize) -> Result<Place, Why
 }
 
 /// The place of the packet that an Ethernet type names.
-fn typed_place(carrier: Option<Carried>, index: u32, is_copy: bool) -> Result<Place, Why>
+fn typed_place(carrier: Option<Carried>, index: u32, is_copy: bool) -> Result<PacketPlace, Why>
     ensures place { result ≡ typed_place carrier index is_copy }
     ensures at { IfSome carrier (λ it. IfOk result (λ place. place.at ≡ it.at)) }
 {
@@ -87,7 +87,7 @@ fn typed_place(carrier: Option<Carried>, index: u32, is_copy: bool) -> Result<Pl
     let Some(family) = ethernet_family(carrier.type_number) else {
         return Err(Why::NotIp);
     };
-    Ok(Place {
+    Ok(PacketPlace {
         family,
         at: carrier.at,
         vlan: carrier.vlan,
@@ -104,48 +104,48 @@ fn is_copied(packet_type: u16, device_type: u16) -> bool
 }
 
 /// The place of the packet in an Ethernet frame.
-fn ethernet_place(frame: &[u8]) -> Result<Place, Why>
+fn ethernet_place(frame: &[u8]) -> Result<PacketPlace, Why>
     ensures place { result ≡ place_of link.Ethernet frame.now }
     ensures within { IfOk result (λ place. place.at ≤ length frame.now) }
 {
     if frame.len() < 14 {
         return Err(Why::Cut);
     }
-    let type_number = Endianness::Big.read_u16_at(frame, 12);
+    let type_number = BlockEndianness::Big.read_u16_at(frame, 12);
     typed_place(after_tags(type_number, 14, frame), 0, false)
 }
 
 /// The place of the packet in a frame of a Linux cooked capture.
-fn cooked_place(frame: &[u8]) -> Result<Place, Why>
+fn cooked_place(frame: &[u8]) -> Result<PacketPlace, Why>
     ensures place { result ≡ place_of link.Cooked frame.now }
     ensures within { IfOk result (λ place. place.at ≤ length frame.now) }
 {
     if frame.len() < 16 {
         return Err(Why::Cut);
     }
-    let type_number = Endianness::Big.read_u16_at(frame, 14);
-    let packet_type = Endianness::Big.read_u16_at(frame, 0);
-    let is_copy = is_copied(packet_type, Endianness::Big.read_u16_at(frame, 2));
+    let type_number = BlockEndianness::Big.read_u16_at(frame, 14);
+    let packet_type = BlockEndianness::Big.read_u16_at(frame, 0);
+    let is_copy = is_copied(packet_type, BlockEndianness::Big.read_u16_at(frame, 2));
     typed_place(after_tags(type_number, 16, frame), 0, is_copy)
 }
 
 /// The place of the packet in a frame of a Linux cooked capture of version 2.
-fn cooked_v2_place(frame: &[u8]) -> Result<Place, Why>
+fn cooked_v2_place(frame: &[u8]) -> Result<PacketPlace, Why>
     ensures place { result ≡ place_of link.CookedV2 frame.now }
     ensures within { IfOk result (λ place. place.at ≤ length frame.now) }
 {
     if frame.len() < 20 {
         return Err(Why::Cut);
     }
-    let type_number = Endianness::Big.read_u16_at(frame, 0);
-    let index = Endianness::Big.read_u32_at(frame, 4);
-    let device_type = Endianness::Big.read_u16_at(frame, 8);
+    let type_number = BlockEndianness::Big.read_u16_at(frame, 0);
+    let index = BlockEndianness::Big.read_u32_at(frame, 4);
+    let device_type = BlockEndianness::Big.read_u16_at(frame, 8);
     let is_copy = is_copied(u16::from(frame[10]), device_type);
     typed_place(after_tags(type_number, 20, frame), index, is_copy)
 }
 
 /// The place of the packet in a frame of a BSD loopback.
-fn loopback_place(order: Endianness, frame: &[u8]) -> Result<Place, Why>
+fn loopback_place(order: BlockEndianness, frame: &[u8]) -> Result<PacketPlace, Why>
     ensures place { result ≡ place_of (link.Loopback order) frame.now }
     ensures within { IfOk result (λ place. place.at ≤ length frame.now) }
 {
@@ -154,13 +154,13 @@ fn loopback_place(order: Endianness, frame: &[u8]) -> Result<Place, Why>
     }
     let family = match socket_family(order.read_u32_at(frame, 0)) {
         Some(family) => Some(family),
-        None => socket_family(Endianness::Big.read_u32_at(frame, 0)),
+        None => socket_family(BlockEndianness::Big.read_u32_at(frame, 0)),
     };
     untagged_place(family, 4)
 }
 
 /// The place of the packet in a frame without a link layer.
-fn raw_place(frame: &[u8]) -> Result<Place, Why>
+fn raw_place(frame: &[u8]) -> Result<PacketPlace, Why>
     ensures place { result ≡ place_of link.Raw frame.now }
     ensures within { IfOk result (λ place. place.at ≤ length frame.now) }
 {
@@ -171,17 +171,17 @@ fn raw_place(frame: &[u8]) -> Result<Place, Why>
 }
 
 /// The place of the IP packet in a frame, or the first reason why there is none.
-pub fn place_of(link: Link, frame: &[u8]) -> Result<Place, Why>
+pub fn place_of(link: LinkLayer, frame: &[u8]) -> Result<PacketPlace, Why>
     ensures place { result ≡ place_of link frame.now }
     ensures within { IfOk result (λ place. place.at ≤ length frame.now) }
 {
     match link {
-        Link::Ethernet => ethernet_place(frame),
-        Link::Raw => raw_place(frame),
-        Link::Ipv4 => untagged_place(Some(AddressFamily::Ipv4), 0),
-        Link::Ipv6 => untagged_place(Some(AddressFamily::Ipv6), 0),
-        Link::Cooked => cooked_place(frame),
-        Link::CookedV2 => cooked_v2_place(frame),
-        Link::Loopback(order) => loopback_place(order, frame),
+        LinkLayer::Ethernet => ethernet_place(frame),
+        LinkLayer::Raw => raw_place(frame),
+        LinkLayer::Ipv4 => untagged_place(Some(AddressFamily::Ipv4), 0),
+        LinkLayer::Ipv6 => untagged_place(Some(AddressFamily::Ipv6), 0),
+        LinkLayer::Cooked => cooked_place(frame),
+        LinkLayer::CookedV2 => cooked_v2_place(frame),
+        LinkLayer::Loopback(order) => loopback_place(order, frame),
     }
 }

@@ -3,28 +3,29 @@
 ghost use Rattle.std.specs.Prelude.{◌≡◌, ◌<◌, ◌≤◌, ◌⊎◌, [], length, IfOk, Ok, max, vec_len};
 ghost use Rattle.std.specs.Prelude.{IfSome, Some, OnErr, vec_capacity};
 ghost use Rattle.std.specs.Option.{option_map};
-ghost use Rattle.pim_container.specs.declared.reader.State.TheVariants.{Unbegun, Pieces};
+ghost use Rattle.pim_container.specs.declared.reader.ReaderState.TheVariants.{Unbegun, Pieces};
 ghost use Rattle.pim_container.specs.Block.{most_block};
 ghost use Rattle.pim_container.specs.Pieces.{answers, pieces, head_length};
 ghost use Rattle.pim_container.specs.Next.{coming, seen, device_of, state_of, IsNext, IsRefusal};
 ghost use Rattle.pim_container.specs.Next.{CountsReads};
-ghost use Rattle.pim_container.specs.Next.{pieces_left, IsRepeated, StaysOver, Tells, behind};
+ghost use Rattle.pim_container.specs.Next.{pieces_left, IsRepeated, StaysOver, Reads, behind};
 ghost use Rattle.pim_container.specs.Next.{BeginsClassic, OnMemory, NeedsMemory, NeedsToBegin};
 ghost use Rattle.pim_container.specs.Next.{NeedsNext};
-ghost use Rattle.pim_container.specs.Room.{length_named, next_named, first_named, named, taken_by};
+ghost use Rattle.pim_container.specs.Room.{stated_length, next_length, first_length, named};
+ghost use Rattle.pim_container.specs.Room.{taken_by};
 ghost use Rattle.pim_container.specs.Room.{Takes, TakesNext, IsUnread, GrowsBy, GrowsFor};
 ghost use Rattle.pim_container.specs.Room.{LacksRoom, LacksPlace, GrowsList, CountsList, list_room};
 ghost use Rattle.pim_container.specs.Room.{described_by, count_in, DescribesFirst, DescribesNext};
 ghost use Rattle.pim_container.specs.Room.{needs, needs_in, needs_of, PassesNeed};
-ghost use Rattle.pim_container.specs.Told.{EventLiesIn, IsBy, latest_moment};
+ghost use Rattle.pim_container.specs.EventSeen.{EventLiesIn, IsBy, latest_moment};
 
 use crate::block::is_section;
-use crate::classic::{Format, read_header};
+use crate::classic::{ClassicFormat, read_header};
 use crate::container::Container;
-use crate::event::Event;
-use crate::fault::Fault;
+use crate::event::ContainerEvent;
+use crate::fault::ContainerFault;
 use crate::interface::Interface;
-use crate::link::Endianness;
+use crate::link::BlockEndianness;
 use crate::piece::{read_after, take_piece};
 use pim_addr::{Feed, read_up_to};
 use std::alloc::Global;
@@ -35,7 +36,7 @@ const MOST_PIECES: u32 = 4_294_967_295;
 
 /// How far a file was read.
 #[derive(Clone, Copy, Debug)]
-pub enum State {
+pub enum ReaderState {
     /// Nothing was read.
     Unbegun,
     /// Its beginning, and none or some pieces, were read.
@@ -55,15 +56,15 @@ pub enum State {
 #[derive(Debug, Drop)]
 pub struct Reader<R> {
     device: R,
-    state: State,
+    state: ReaderState,
     interfaces: Vec<Interface>,
 }
 
 /// An event, and the state after it.
 #[derive(Debug, Drop)]
-struct Step {
-    state: State,
-    event: Event,
+struct ReaderStep {
+    state: ReaderState,
+    event: ContainerEvent,
 }
 
 /// Reads the piece of which this head was read.
@@ -74,10 +75,10 @@ fn go_on<R: Feed>(
     head: &[u8],
     interfaces: &mut Vec<Interface>,
     buffer: &mut Vec<u8>,
-) -> Result<Step, Fault>
+) -> Result<ReaderStep, ContainerFault>
     requires head { length head.now ≡ head_length container }
     requires left { 0 < left }
-    ensures answer { Tells (R.failures device.old) (R.failures device.new)
+    ensures answer { Reads (R.failures device.old) (R.failures device.new)
         (option_map (pieces left container interfaces.old.items)
         (behind head.now (R.remaining device.old)))
         (R.remaining device.new) interfaces.new.items buffer.new.items result }
@@ -85,17 +86,18 @@ fn go_on<R: Feed>(
     ensures ranges { IfOk result (λ step. EventLiesIn buffer.new.items step.event) }
     ensures moment { IfOk result (λ step. IsBy latest_moment step.event) }
     ensures over { IfOk result (λ step. StaysOver (Ok step.event) step.state) }
-    ensures fewer { IfOk result (λ step. step.event ≡ Event.End ⊎ pieces_left step.state < left) }
+    ensures fewer { IfOk result
+        (λ step. step.event ≡ ContainerEvent.End ⊎ pieces_left step.state < left) }
     ensures memory { OnMemory result (IfSome (behind head.now (R.remaining device.old))
         (NeedsMemory (vec_capacity buffer.old) container)) }
     ensures length { vec_len buffer.new ≤ max (vec_len buffer.old) most_block }
     ensures capacity { vec_capacity buffer.new ≤ max (vec_capacity buffer.old) most_block }
-    ensures grows { GrowsBy (length_named container head.now) (vec_capacity buffer.old)
+    ensures grows { GrowsBy (stated_length container head.now) (vec_capacity buffer.old)
         (vec_capacity buffer.new) }
-    ensures taken { Takes (taken_by (length head.now) (length_named container head.now)) result
+    ensures taken { Takes (taken_by (length head.now) (stated_length container head.now)) result
         (behind head.now (R.remaining device.old)) (R.remaining device.new) }
     ensures asked { OnMemory result
-        (LacksRoom (vec_capacity buffer.old) (Some (length_named container head.now))
+        (LacksRoom (vec_capacity buffer.old) (Some (stated_length container head.now))
         ⊎ ((vec_capacity interfaces.old ≤ vec_len interfaces.old)
         × IfSome (behind head.now (R.remaining device.old)) (DescribesFirst container))) }
     ensures list { IfOk result (λ step. GrowsList step.event (vec_len interfaces.old)
@@ -111,8 +113,8 @@ fn go_on<R: Feed>(
         (vec_capacity interfaces.new ≡ vec_capacity interfaces.old) }
 {
     let found = take_piece(device, container, head, interfaces, buffer)?;
-    Ok(Step {
-        state: State::Pieces {
+    Ok(ReaderStep {
+        state: ReaderState::Pieces {
             container: found.container,
             left: left - 1,
         },
@@ -125,7 +127,7 @@ fn begin_classic<R: Feed>(
     device: &mut R,
     head: &[u8],
     buffer: &mut Vec<u8>,
-) -> Result<Format, Fault>
+) -> Result<ClassicFormat, ContainerFault>
     requires { length head.now ≡ 12 }
     ensures answer { BeginsClassic (behind head.now (R.remaining device.old))
         (R.remaining device.new) result }
@@ -146,8 +148,8 @@ fn begin<R: Feed>(
     device: &mut R,
     interfaces: &mut Vec<Interface>,
     buffer: &mut Vec<u8>,
-) -> Result<Step, Fault>
-    ensures answer { Tells (R.failures device.old) (R.failures device.new)
+) -> Result<ReaderStep, ContainerFault>
+    ensures answer { Reads (R.failures device.old) (R.failures device.new)
         (option_map answers (R.remaining device.old))
         (R.remaining device.new) interfaces.new.items buffer.new.items result }
     ensures reads { CountsReads ⊥ (R.failures device.old) (R.failures device.new) result }
@@ -155,16 +157,16 @@ fn begin<R: Feed>(
     ensures moment { IfOk result (λ step. IsBy latest_moment step.event) }
     ensures over { IfOk result (λ step. StaysOver (Ok step.event) step.state) }
     ensures fewer { IfOk result (λ step.
-        step.event ≡ Event.End ⊎ pieces_left step.state < 4294967296) }
+        step.event ≡ ContainerEvent.End ⊎ pieces_left step.state < 4294967296) }
     ensures memory { OnMemory result (IfSome (R.remaining device.old)
         (NeedsToBegin (vec_capacity buffer.old))) }
     ensures length { vec_len buffer.new ≤ max (vec_len buffer.old) most_block }
     ensures capacity { vec_capacity buffer.new ≤ max (vec_capacity buffer.old) most_block }
-    ensures grows { GrowsFor (option_map first_named (R.remaining device.old))
+    ensures grows { GrowsFor (option_map first_length (R.remaining device.old))
         (vec_capacity buffer.old) (vec_capacity buffer.new) }
     ensures taken { TakesNext Unbegun result (R.remaining device.old) (R.remaining device.new) }
     ensures asked { OnMemory result (LacksRoom (vec_capacity buffer.old)
-        (option_map first_named (R.remaining device.old))
+        (option_map first_length (R.remaining device.old))
         ⊎ ((vec_capacity interfaces.old ≤ 0)
         × IfSome (R.remaining device.old) (DescribesNext Unbegun))) }
     ensures list { IfOk result (λ step. GrowsList step.event 0 (vec_capacity interfaces.old)
@@ -182,19 +184,19 @@ fn begin<R: Feed>(
     let mut head = [0; 12];
     let got = read_up_to(device, &mut head)?;
     if got < 12 {
-        return Err(Fault::Truncated);
+        return Err(ContainerFault::Truncated);
     }
     if is_section(&head) {
-        let blocks = Container::Blocks(Endianness::Big);
+        let blocks = Container::Blocks(BlockEndianness::Big);
         return go_on(device, blocks, MOST_PIECES, &head, interfaces, buffer);
     }
     let format = begin_classic(device, &head, buffer)?;
-    Ok(Step {
-        state: State::Pieces {
+    Ok(ReaderStep {
+        state: ReaderState::Pieces {
             container: Container::Classic(format),
             left: MOST_PIECES,
         },
-        event: Event::Section,
+        event: ContainerEvent::Section,
     })
 }
 
@@ -205,25 +207,26 @@ fn next_piece<R: Feed>(
     left: u32,
     interfaces: &mut Vec<Interface>,
     buffer: &mut Vec<u8>,
-) -> Result<Step, Fault>
-    ensures answer { Tells (R.failures device.old) (R.failures device.new)
+) -> Result<ReaderStep, ContainerFault>
+    ensures answer { Reads (R.failures device.old) (R.failures device.new)
         (option_map (pieces left container interfaces.old.items) (R.remaining device.old))
         (R.remaining device.new) interfaces.new.items buffer.new.items result }
     ensures reads { CountsReads (left ≡ 0) (R.failures device.old) (R.failures device.new) result }
     ensures ranges { IfOk result (λ step. EventLiesIn buffer.new.items step.event) }
     ensures moment { IfOk result (λ step. IsBy latest_moment step.event) }
     ensures over { IfOk result (λ step. StaysOver (Ok step.event) step.state) }
-    ensures fewer { IfOk result (λ step. step.event ≡ Event.End ⊎ pieces_left step.state < left) }
+    ensures fewer { IfOk result
+        (λ step. step.event ≡ ContainerEvent.End ⊎ pieces_left step.state < left) }
     ensures memory { OnMemory result (IfSome (R.remaining device.old)
         (NeedsMemory (vec_capacity buffer.old) container)) }
     ensures length { vec_len buffer.new ≤ max (vec_len buffer.old) most_block }
     ensures capacity { vec_capacity buffer.new ≤ max (vec_capacity buffer.old) most_block }
-    ensures grows { GrowsFor (option_map (next_named left container) (R.remaining device.old))
+    ensures grows { GrowsFor (option_map (next_length left container) (R.remaining device.old))
         (vec_capacity buffer.old) (vec_capacity buffer.new) }
     ensures taken { TakesNext (Pieces container left) result (R.remaining device.old)
         (R.remaining device.new) }
     ensures asked { OnMemory result (LacksRoom (vec_capacity buffer.old)
-        (option_map (next_named left container) (R.remaining device.old))
+        (option_map (next_length left container) (R.remaining device.old))
         ⊎ ((vec_capacity interfaces.old ≤ vec_len interfaces.old)
         × IfSome (R.remaining device.old) (DescribesNext (Pieces container left)))) }
     ensures list { IfOk result (λ step. GrowsList step.event (vec_len interfaces.old)
@@ -242,16 +245,16 @@ fn next_piece<R: Feed>(
     let (head, _) = first.split_at_mut(container.head_length());
     let got = read_up_to(device, head)?;
     if got == 0 {
-        return Ok(Step {
-            state: State::Ended,
-            event: Event::End,
+        return Ok(ReaderStep {
+            state: ReaderState::Ended,
+            event: ContainerEvent::End,
         });
     }
     if left == 0 {
-        return Err(Fault::Read);
+        return Err(ContainerFault::Read);
     }
     if got < head.len() {
-        return Err(Fault::Truncated);
+        return Err(ContainerFault::Truncated);
     }
     go_on(device, container, left, head, interfaces, buffer)
 }
@@ -268,7 +271,7 @@ impl<R: Feed> Reader<R> {
     {
         Reader {
             device,
-            state: State::Unbegun,
+            state: ReaderState::Unbegun,
             interfaces: Vec::new(alloc),
         }
     }
@@ -285,14 +288,14 @@ impl<R: Feed> Reader<R> {
             ≡ option_map (needs_in Unbegun 0 []) (R.remaining device.old) }
     {
         swap(&mut self.device, device);
-        self.state = State::Unbegun;
+        self.state = ReaderState::Unbegun;
     }
 
     /// Reads the next event. After a packet the buffer holds its bytes.
     ///
     /// # Errors
     /// The first fault of the bytes, a failed read, or refused memory. Later calls return `Failed`.
-    pub fn next(&mut self, buffer: &mut Vec<u8>) -> Result<Event, Fault>
+    pub fn next(&mut self, buffer: &mut Vec<u8>) -> Result<ContainerEvent, ContainerFault>
         // Where the bytes of the device are known, the results are those of the file, in order.
         ensures answer { IsRefusal (R.failures (device_of self.old))
             (R.failures (device_of self.new)) result
@@ -301,7 +304,7 @@ impl<R: Feed> Reader<R> {
         ensures reads { CountsReads (pieces_left (state_of self.old) ≡ 0)
             (R.failures (device_of self.old)) (R.failures (device_of self.new)) result }
         // Each event but the end leaves fewer pieces to read.
-        ensures fewer { IfOk result (λ event. event ≡ Event.End
+        ensures fewer { IfOk result (λ event. event ≡ ContainerEvent.End
             ⊎ pieces_left (state_of self.new) < pieces_left (state_of self.old)) }
         ensures ranges { IfOk result (EventLiesIn buffer.new.items) }
         ensures moment { IfOk result (IsBy latest_moment) }
@@ -334,21 +337,21 @@ impl<R: Feed> Reader<R> {
         ensures over { StaysOver result (state_of self.new) }
     {
         let state = self.state;
-        self.state = State::Failed;
+        self.state = ReaderState::Failed;
         let step = match state {
-            State::Unbegun => begin(&mut self.device, &mut self.interfaces, buffer)?,
-            State::Pieces { container, left } => next_piece(
+            ReaderState::Unbegun => begin(&mut self.device, &mut self.interfaces, buffer)?,
+            ReaderState::Pieces { container, left } => next_piece(
                 &mut self.device,
                 container,
                 left,
                 &mut self.interfaces,
                 buffer,
             )?,
-            State::Ended => Step {
-                state: State::Ended,
-                event: Event::End,
+            ReaderState::Ended => ReaderStep {
+                state: ReaderState::Ended,
+                event: ContainerEvent::End,
             },
-            State::Failed => return Err(Fault::Failed),
+            ReaderState::Failed => return Err(ContainerFault::Failed),
         };
         self.state = step.state;
         Ok(step.event)

@@ -3,7 +3,7 @@
 ghost use Rattle.std.specs.Prelude.{◌≡◌, ◌+◌, ◌≤◌, length, drop, IfSome};
 ghost use Rattle.pim_container.specs.Link.{is_tag, tag_vlan, stacked, after_two, tagged, carried};
 
-use crate::link::Endianness;
+use crate::link::BlockEndianness;
 use pim_capture::Vlan;
 
 /// What a frame carries after its tags.
@@ -43,7 +43,7 @@ fn tag_vlan(bytes: &[u8], at: usize) -> u16
     requires { at + 2 ≤ length bytes.now }
     ensures { result ≡ tag_vlan (drop at bytes.now) }
 {
-    Endianness::Big.read_u16_at(bytes, at) % 4096
+    BlockEndianness::Big.read_u16_at(bytes, at) % 4096
 }
 
 /// What two tags carry, whose bytes begin at the index `at` of a frame.
@@ -55,7 +55,7 @@ fn after_two(at: usize, bytes: &[u8]) -> Carried
     let outer = tag_vlan(bytes, 0);
     let inner = tag_vlan(bytes, 4);
     Carried {
-        type_number: Endianness::Big.read_u16_at(bytes, 6),
+        type_number: BlockEndianness::Big.read_u16_at(bytes, 6),
         at: at + 8,
         vlan: stacked(outer, inner),
     }
@@ -71,7 +71,7 @@ fn tagged(at: usize, bytes: &[u8]) -> Option<Carried>
     if bytes.len() < 4 {
         return None;
     }
-    let second_type = Endianness::Big.read_u16_at(bytes, 2);
+    let second_type = BlockEndianness::Big.read_u16_at(bytes, 2);
     if !is_tag(second_type) {
         return Some(Carried {
             type_number: second_type,

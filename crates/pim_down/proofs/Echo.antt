@@ -96,18 +96,18 @@ Named state answer after = IsAscending state.records → (port : ℕ) (group : L
 
 named_now : (state : Downstream) (port : ℕ) (group : List ℕ) (what : What (List ℕ)) (records : List (Record (List ℕ))) → fired state.records ≡ Some (Echo port group what, records) → IsAscending state.records → IsEchoOf (record { port = port; group = group; what = what }) state (with_records state records)
 named_now state port group what records f a =
-    let told = told_by state.records records port group what f in
-    let held = told.held in
-    let is = told_of held port group what told.echo in
+    let reported = told_by state.records records port group what f in
+    let held = reported.held in
+    let is = told_of held port group what reported.echo in
     let kind = echoes_several held.key.what (had_several held.machine.pending) is.0 in
-    let hit = first_hit ppt_due (λ (h : Record (List ℕ)). on_ppt h.key.what h.machine) state.records held a told.first in
+    let hit = first_hit ppt_due (λ (h : Record (List ℕ)). on_ppt h.key.what h.machine) state.records held a reported.first in
     let zero : 0 ≡ state.moment - state.moment = omega arith in
     subst (λ (k : Key (List ℕ)). IsEchoOf k state (with_records state records)) is.1 (record {
       machine = held.machine;
       held = hit.stood;
       timer = timer_by held.machine.pending hit.is_due kind.1 ∙ ap (λ n. Some (record { ends_in = n; several = true })) zero;
       echoes = kind.0;
-      gone = ap (machine_at held.key) (sym told.left) ∙ hit.stands ∙ gone_by held.key.what held.machine kind.0;
+      gone = ap (machine_at held.key) (sym reported.left) ∙ hit.stands ∙ gone_by held.key.what held.machine kind.0;
     })
 
 same_answer : (port : ℕ) (group : List ℕ) (what : What (List ℕ)) (p : ℕ) (g : List ℕ) (w : What (List ℕ)) → Echo port group what ≡ Echo p g w → ◌≡◌ {A = Key (List ℕ)} (record { port = port; group = group; what = what }) (record { port = p; group = g; what = w })

@@ -28,7 +28,7 @@ pass_more moment state next after answer timers none moved runs = record { turns
 
 pub fire_echo : (moment : ℕ) (state after : Downstream) (answer : Step (List ℕ)) → is_some (fired state.records) ≡ true → turn moment state ≡ echoes answer after → RunsFiring moment state answer after 1
 unfolding run_within fires_within
-fire_echo moment state after answer some told = record { turns = 1; within = rw told refl; fires = rw (some, told) refl }
+fire_echo moment state after answer some reported = record { turns = 1; within = rw reported refl; fires = rw (some, reported) refl }
 
 rest_here : (moment : ℕ) (state : Downstream) → is_some (fired state.records) ≡ false → turn moment state ≡ rests → RunsFiring moment state Reached state 0
 unfolding run_within fires_within
@@ -73,8 +73,8 @@ module _ {A : Type 0} (bytes_of : A → List ℕ) where
       let moved : turn moment (downstream_at bytes_of ports limit now records) ≡ moves (downstream_at bytes_of ports limit now left) = rw e refl in
       fire_more moment (downstream_at bytes_of ports limit now records) (downstream_at bytes_of ports limit now left) after answer timers (ap is_some e) moved runs
   goes_fired now records left (Echo port group what) e = λ ports limit moment.
-      let told : turn moment (downstream_at bytes_of ports limit now records) ≡ echoes (Echo port group what) (downstream_at bytes_of ports limit now left) = rw e refl in
-      fire_echo moment (downstream_at bytes_of ports limit now records) (downstream_at bytes_of ports limit now left) (Echo port group what) (ap is_some e) told
+      let reported : turn moment (downstream_at bytes_of ports limit now records) ≡ echoes (Echo port group what) (downstream_at bytes_of ports limit now left) = rw e refl in
+      fire_echo moment (downstream_at bytes_of ports limit now records) (downstream_at bytes_of ports limit now left) (Echo port group what) (ap is_some e) reported
 
   -- the jump to the first end, which is no later than the last moment
   pub arrive : (ports limit moment start now to last e : ℕ) (records : List (Held A)) (answer : Step (List ℕ)) (after : Downstream) (timers : ℕ) → start ≤ now → last ≡ max start moment → e ≤ last → to ≡ max now e → first_end (records_seen bytes_of records) ≡ Some e → RunsFiring moment (downstream_at bytes_of ports limit to records) answer after timers → RunsFiring moment (downstream_at bytes_of ports limit now records) answer after timers

@@ -57,8 +57,8 @@ pub fired_by_firing : (records : List (Record (List ℕ))) → fired records ≡
 unfolding fired firing
 fired_by_firing records = told_ppt records (first_due ppt_due records)
 
-pub fired_with : (records after : List (Record (List ℕ))) (told : Firing (List ℕ)) → firing records ≡ Some (told, after) → fired records ≡ Some (step_of told, after)
-fired_with records after told e = fired_by_firing records ∙ ap (option_map said_of) e
+pub fired_with : (records after : List (Record (List ℕ))) (reported : Firing (List ℕ)) → firing records ≡ Some (reported, after) → fired records ≡ Some (step_of reported, after)
+fired_with records after reported e = fired_by_firing records ∙ ap (option_map said_of) e
 
 module _ {A : Type 0} (bytes_of : A → List ℕ) (now : ℕ) where
   shown_is : (records : List (Held A)) → shown bytes_of now records ≡ map (λ (held : Held A). record_after now (record_seen bytes_of held)) records
@@ -72,13 +72,13 @@ module _ {A : Type 0} (bytes_of : A → List ℕ) (now : ℕ) where
       ∙ (λ k. sym (take-map (record_after now) i records) k ++ (map (record_after now) middle ++ sym (drop-map (record_after now) (i + 1) records) k))
 
   -- the first due prune-pending timer fires
-  pub firing_pending : (records new : List (Held A)) (place : ℕ) (told : Firing (List ℕ)) (d : Held A) →
+  pub firing_pending : (records new : List (Held A)) (place : ℕ) (reported : Firing (List ℕ)) (d : Held A) →
       position (λ (held : Held A). ppt_due (record_after now (record_seen bytes_of held))) records ≡ Some place →
-      told ≡ ppt_fires (record_after now (record_seen bytes_of (get_or records place d))) →
+      reported ≡ ppt_fires (record_after now (record_seen bytes_of (get_or records place d))) →
       records_seen bytes_of new ≡ take place (records_seen bytes_of records) ++ (after_ppt (record_seen bytes_of (get_or records place d)) ++ drop (place + 1) (records_seen bytes_of records)) →
-      firing (shown bytes_of now records) ≡ Some (told, shown bytes_of now new)
+      firing (shown bytes_of now records) ≡ Some (reported, shown bytes_of now new)
   unfolding firing
-  firing_pending records new place told d found is left =
+  firing_pending records new place reported d found is left =
       let here = position-Some (λ (held : Held A). ppt_due (record_after now (record_seen bytes_of held))) records place d found in
       let held = record_seen bytes_of (get_or records place d) in
       let same = shown_is records in
@@ -97,14 +97,14 @@ module _ {A : Type 0} (bytes_of : A → List ℕ) (now : ℕ) where
       ap (first_due due) (shown_is records) ∙ first_due_none (λ (r : Held A). record_after now (record_seen bytes_of r)) due records (position_none (λ (held : Held A). due (record_after now (record_seen bytes_of held))) records none)
 
   -- no prune-pending timer is due, and the first due expiry timer fires
-  pub firing_expiry : (records new : List (Held A)) (place : ℕ) (told : Firing (List ℕ)) (d : Held A) →
+  pub firing_expiry : (records new : List (Held A)) (place : ℕ) (reported : Firing (List ℕ)) (d : Held A) →
       position (λ (held : Held A). ppt_due (record_after now (record_seen bytes_of held))) records ≡ None →
       position (λ (held : Held A). et_due (record_after now (record_seen bytes_of held))) records ≡ Some place →
-      told ≡ et_fires (record_after now (record_seen bytes_of (get_or records place d))) →
+      reported ≡ et_fires (record_after now (record_seen bytes_of (get_or records place d))) →
       new ≡ remove records place →
-      firing (shown bytes_of now records) ≡ Some (told, shown bytes_of now new)
+      firing (shown bytes_of now records) ≡ Some (reported, shown bytes_of now new)
   unfolding firing
-  firing_expiry records new place told d none found is removed =
+  firing_expiry records new place reported d none found is removed =
       let here = position-Some (λ (held : Held A). et_due (record_after now (record_seen bytes_of held))) records place d found in
       let held = record_seen bytes_of (get_or records place d) in
       let same = shown_is records in

@@ -1,5 +1,5 @@
 -- Time keeps the machines sound.
-use Rattle.pim_down.proofs.Words.{◌≡◌, ℕ, zero, suc, ◌+◌, ◌≤◌, Bool, true, false, cond, List, [], ◌∷◌, ◌++◌, Option, Some, None, option_map, map, ltb, refl, sym, ap, subst, ◌∙◌, arith, ltb-true, AllByRecursion, AddressFamily, Held, What, Star, Source, Rpt, Key, Machine, Record, Step, Reached, Echo, same_key, IsBelow, IsAscending, machine_at, recorded, count_on, state_of_machine, state_of, downstream_at, Downstream, record_after, machine_after, tick, on_ppt, after_et, after_ppt, et_due, ppt_due, first_due, with_first, fire_et, fire_ppt, fired, echo_of, Outcome, rests, moves, echoes, with_records, told, turn_by, turn, run_on, run_within, Runs, is_temporary, IsSettled, IsReal, IsSound, records_seen, shown}
+use Rattle.pim_down.proofs.Words.{◌≡◌, ℕ, zero, suc, ◌+◌, ◌≤◌, Bool, true, false, cond, List, [], ◌∷◌, ◌++◌, Option, Some, None, option_map, map, ltb, refl, sym, ap, subst, ◌∙◌, arith, ltb-true, AllByRecursion, AddressFamily, Held, What, Star, Source, Rpt, Key, Machine, Record, Step, Reached, Echo, same_key, IsBelow, IsAscending, machine_at, recorded, count_on, state_of_machine, state_of, downstream_at, Downstream, record_after, machine_after, tick, on_ppt, after_et, after_ppt, et_due, ppt_due, first_due, with_first, fire_et, fire_ppt, fired, echo_of, Outcome, rests, moves, echoes, with_records, reported, turn_by, turn, run_on, run_within, Runs, is_temporary, IsSettled, IsReal, IsSound, records_seen, shown}
 use Rattle.pim_down.proofs.Real.{real_later, real_ppt}
 use Rattle.pim_down.proofs.Map.{IsBelow-recorded, IsAscending-recorded}
 
@@ -138,7 +138,7 @@ SoundThen family rests = Unit {0}
 SoundThen family (moves next) = IsSound family next
 SoundThen family (echoes echo next) = IsSound family next
 
-sound_told : (family : AddressFamily) (answer : Step (List ℕ)) (next : Downstream) → IsSound family next → SoundThen family (told answer next)
+sound_told : (family : AddressFamily) (answer : Step (List ℕ)) (next : Downstream) → IsSound family next → SoundThen family (reported answer next)
 sound_told family Reached next sound = sound
 sound_told family (Echo port group what) next sound = sound
 

@@ -73,5 +73,5 @@ same_back a b e = ap is_eq (key_total.antisymm b a) ∙ reversed (key_cmp a b) �
     reversed Equal = refl
     reversed Greater = refl
 
-pub told_apart : (a b : Key (List ℕ)) → ((key_cmp a b ≡ Equal) ↔ (a ≡ b)) × ((same_key a b ≡ true) ↔ (a ≡ b))
-told_apart a b = ((equal_keys a b, λ e. subst (λ (k : Key (List ℕ)). key_cmp a k ≡ Equal) e (key_itself a)), (same_keys a b, λ e. subst (λ (k : Key (List ℕ)). same_key a k ≡ true) e (same_itself a)))
+pub distinct_keys : (a b : Key (List ℕ)) → ((key_cmp a b ≡ Equal) ↔ (a ≡ b)) × ((same_key a b ≡ true) ↔ (a ≡ b))
+distinct_keys a b = ((equal_keys a b, λ e. subst (λ (k : Key (List ℕ)). key_cmp a k ≡ Equal) e (key_itself a)), (same_keys a b, λ e. subst (λ (k : Key (List ℕ)). same_key a k ≡ true) e (same_itself a)))

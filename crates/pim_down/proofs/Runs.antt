@@ -33,8 +33,8 @@ turned moment state =
 
 -- ---- induction on runs
 
-pair_of : (told answer : Step (List ℕ)) (end after : Downstream) → ◌≡◌ {A = Answer} (Some (told, end)) (Some (answer, after)) → ◌≡◌ {A = Step (List ℕ) × Downstream} (told, end) (answer, after)
-pair_of told answer end after e = cc
+pair_of : (reported answer : Step (List ℕ)) (end after : Downstream) → ◌≡◌ {A = Answer} (Some (reported, end)) (Some (answer, after)) → ◌≡◌ {A = Step (List ℕ) × Downstream} (reported, end) (answer, after)
+pair_of reported answer end after e = cc
 
 no_run : (answer : Step (List ℕ)) (after : Downstream) → ◌≡◌ {A = Answer} None (Some (answer, after)) → ⊥
 no_run answer after e = cc

@@ -1,5 +1,5 @@
 -- A Join(*,G) that comes again within a message: which (S,G,rpt) machines it leaves as they are.
-use Rattle.pim_down.proofs.Words.{◌≡◌, ℕ, Bool, true, false, cond, ◌&&◌, ◌||◌, ◌⊎◌, inl, inr, List, [], ◌∷◌, ◌++◌, Option, Some, None, map, eqb, refl, sym, ap, subst, ◌∙◌, pointwise, same_text, list_any, false≢true, eq-eqb, take-append-drop, Entry, What, Star, Source, Rpt, Key, State, Join, PrunePending, Prune, PruneTmp, PrunePendingTmp, Machine, Record, same_key, Start, on_star_join, star_join_in, IsAscending, machine_at, changed, each_changed, Event, is_rpt, is_star, is_star_join, is_rpt_on, is_rpt_of, on_own, on_rpts, key_of, effect, act, entry_of_what, entry_named, StayButNamed, WouldStandAt, what_seen, Stays, StayBut, AllStay, rpt_key, is_prune_of, is_pruned_by}
+use Rattle.pim_down.proofs.Words.{◌≡◌, ℕ, Bool, true, false, cond, ◌&&◌, ◌||◌, ◌⊎◌, inl, inr, List, [], ◌∷◌, ◌++◌, Option, Some, None, map, eqb, refl, sym, ap, subst, ◌∙◌, pointwise, same_text, list_any, false≢true, eq-eqb, take-append-drop, Entry, What, Star, Source, Rpt, Key, State, Join, PrunePending, Prune, PruneTmp, PrunePendingTmp, Machine, Record, same_key, Start, on_star_join, star_join_in, IsAscending, machine_at, changed, each_changed, Event, is_rpt, is_star, is_star_join, is_rpt_on, is_rpt_of, on_own, on_rpts, key_of, effect, act, entry_of_what, entry_of_event, StayButListed, WouldStandAt, what_seen, Stays, StayBut, AllStay, rpt_key, is_prune_of, is_pruned_by}
 use Rattle.pim_jp.specs.declared.entry.Entry.TheVariants as entry
 use Rattle.pim_down.proofs.Order.{same_keys, same_back}
 use Rattle.pim_down.proofs.Map.{IsAscending-changed, IsAscending-each_changed, at_changed, at_other_changed, at_each_changed}
@@ -97,7 +97,7 @@ rpt_apart port group what key other rpt = by (same_key (record { port = port; gr
 -- ---- an event of a list of its own
 
 -- an event that doesn't name the machine leaves it so
-pub unnamed_stays : (port : ℕ) (start : Start) (group : List ℕ) (event : Event) (key : Key (List ℕ)) (held : Option Machine) → is_rpt_of port group key ≡ true → is_prune_of port group key (entry_named event) ≡ false → Stays held → Stays (effect port start event key held)
+pub unnamed_stays : (port : ℕ) (start : Start) (group : List ℕ) (event : Event) (key : Key (List ℕ)) (held : Option Machine) → is_rpt_of port group key ≡ true → is_prune_of port group key (entry_of_event event) ≡ false → Stays held → Stays (effect port start event key held)
 unnamed_stays port start group event key held is out stays =
     effect_stays port start event key held (rpt_of port group key is) (λ j. by (same_key (key_of port event) key) refl) stays
   where
@@ -124,20 +124,20 @@ any_last test (first ∷ entries) this e =
     let more = any_last test entries this (right_of (test first) (list_any test (entries ++ this ∷ [])) e) in
     (none_of (test first) (list_any test entries) (left_of (test first) (list_any test (entries ++ this ∷ [])) e) more.0, more.1)
 
-named_last : (events : List Event) (event : Event) → map entry_named (events ++ event ∷ []) ≡ map entry_named events ++ entry_named event ∷ []
+named_last : (events : List Event) (event : Event) → map entry_of_event (events ++ event ∷ []) ≡ map entry_of_event events ++ entry_of_event event ∷ []
 named_last [] event = refl
-named_last (first ∷ events) event = ap (λ (es : List (Entry (List ℕ))). entry_named first ∷ es) (named_last events event)
+named_last (first ∷ events) event = ap (λ (es : List (Entry (List ℕ))). entry_of_event first ∷ es) (named_last events event)
 
 module _ (port : ℕ) (start : Start) (event : Event) (records : List (Record (List ℕ))) (ascending : IsAscending records) where
   -- one more event has acted
-  pub stay_more : (group : List ℕ) (events : List Event) → StayButNamed port group events records → StayButNamed port group (events ++ event ∷ []) (act port start event records)
+  pub stay_more : (group : List ℕ) (events : List Event) → StayButListed port group events records → StayButListed port group (events ++ event ∷ []) (act port start event records)
   stay_more group events stay key is out =
-      let parts = any_last (is_prune_of port group key) (map entry_named events) (entry_named event) (subst (λ (es : List (Entry (List ℕ))). list_any (is_prune_of port group key) es ≡ false) (named_last events event) out) in
+      let parts = any_last (is_prune_of port group key) (map entry_of_event events) (entry_of_event event) (subst (λ (es : List (Entry (List ℕ))). list_any (is_prune_of port group key) es ≡ false) (named_last events event) out) in
       subst Stays (sym (at_act port start event records ascending key))
       (unnamed_stays port start group event key (machine_at key records) is parts.1 (stay key is parts.0))
 
   -- a Join(*,G) has acted
-  pub stay_none : is_star_join event ≡ true → StayButNamed port event.group [] (act port start event records)
+  pub stay_none : is_star_join event ≡ true → StayButListed port event.group [] (act port start event records)
   stay_none star key is out = met_act port start event records ascending star key is refl
 
 -- ---- a Join(*,G) at its own machine

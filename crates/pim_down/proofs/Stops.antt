@@ -15,10 +15,10 @@ module _ {A : Type 0} (bytes_of : A → List ℕ) (ports limit moment now : ℕ)
   start = downstream_at bytes_of ports limit now records
 
   -- the first timer fires at its end
-  pub fires_at : (ends : ℕ) (left : List (Held A)) (told : Firing (List ℕ)) → now ≤ ends → ends ≤ max now moment → first_end (records_seen bytes_of records) ≡ Some ends →
-      firing (shown bytes_of ends records) ≡ Some (told, shown bytes_of ends left) →
-      FiresTo moment start (Some told) (downstream_at bytes_of ports limit ends left)
-  fires_at ends left told from by first fires =
+  pub fires_at : (ends : ℕ) (left : List (Held A)) (reported : Firing (List ℕ)) → now ≤ ends → ends ≤ max now moment → first_end (records_seen bytes_of records) ≡ Some ends →
+      firing (shown bytes_of ends records) ≡ Some (reported, shown bytes_of ends left) →
+      FiresTo moment start (Some reported) (downstream_at bytes_of ports limit ends left)
+  fires_at ends left reported from by first fires =
       let n : now + (ends - now) ≡ ends = omega (arith, from) in
       let there : ticks (ends - now) start ≡ downstream_at bytes_of ports limit ends records =
       ticks_shown bytes_of ports limit (ends - now) now records ∙ ap (λ (m : ℕ). downstream_at bytes_of ports limit m records) n in (
@@ -38,32 +38,32 @@ module _ {A : Type 0} (bytes_of : A → List ℕ) (ports limit moment now : ℕ)
 
 -- ---- one firing
 
-pair_after : (told said : Firing (List ℕ)) (end after : Downstream) → ◌≡◌ {A = Left} (Some (told, end)) (Some (said, after)) → ◌≡◌ {A = Firing (List ℕ) × Downstream} (told, end) (said, after)
-pair_after told said end after e = cc
+pair_after : (reported said : Firing (List ℕ)) (end after : Downstream) → ◌≡◌ {A = Left} (Some (reported, end)) (Some (said, after)) → ◌≡◌ {A = Firing (List ℕ) × Downstream} (reported, end) (said, after)
+pair_after reported said end after e = cc
 
 no_firing : (said : Firing (List ℕ)) (after : Downstream) → ◌≡◌ {A = Left} None (Some (said, after)) → ⊥
 no_firing said after e = cc
 
 -- the timer that fires in a state, and the records that it leaves
-pub left_by : (state after : Downstream) (told : Firing (List ℕ)) → firing_in state ≡ Some (told, after) →
-    (records : List (Record (List ℕ))) × (firing state.records ≡ Some (told, records)) × (with_records state records ≡ after)
-left_by state after told e = by (firing state.records) refl e
+pub left_by : (state after : Downstream) (reported : Firing (List ℕ)) → firing_in state ≡ Some (reported, after) →
+    (records : List (Record (List ℕ))) × (firing state.records ≡ Some (reported, records)) × (with_records state records ≡ after)
+left_by state after reported e = by (firing state.records) refl e
   where
-    by : (o : Option (Firing (List ℕ) × List (Record (List ℕ)))) → firing state.records ≡ o → fired_in state o ≡ Some (told, after) →
-        (records : List (Record (List ℕ))) × (firing state.records ≡ Some (told, records)) × (with_records state records ≡ after)
-    by None is f = absurd (no_firing told after f)
+    by : (o : Option (Firing (List ℕ) × List (Record (List ℕ)))) → firing state.records ≡ o → fired_in state o ≡ Some (reported, after) →
+        (records : List (Record (List ℕ))) × (firing state.records ≡ Some (reported, records)) × (with_records state records ≡ after)
+    by None is f = absurd (no_firing reported after f)
     by (Some (said, records)) is f =
-        let pairs = pair_after said told (with_records state records) after f in (
+        let pairs = pair_after said reported (with_records state records) after f in (
           records,
           is ∙ ap (λ (x : Firing (List ℕ) × Downstream). Some (x.0, records)) pairs,
           ap (λ (x : Firing (List ℕ) × Downstream). x.1) pairs,
         )
 
 -- something is due where a timer fires
-pub due_at_firing : (state after : Downstream) (told : Firing (List ℕ)) → firing_in state ≡ Some (told, after) → is_some (fired state.records) ≡ true
-due_at_firing state after told e =
-    let left = left_by state after told e in
-    ap is_some (fired_with state.records left.0 told left.1)
+pub due_at_firing : (state after : Downstream) (reported : Firing (List ℕ)) → firing_in state ≡ Some (reported, after) → is_some (fired state.records) ≡ true
+due_at_firing state after reported e =
+    let left = left_by state after reported e in
+    ap is_some (fired_with state.records left.0 reported left.1)
 
 -- ---- soundness
 
@@ -71,18 +71,18 @@ sound_ticks : (family : AddressFamily) (k : ℕ) (state : Downstream) → state.
 sound_ticks family k state small sound =
     subst (IsSound family) (sym (ticks_is k state)) (sound_kept family state (state.moment + k) _ small (kept_later k state.records) sound)
 
-sound_firing : (family : AddressFamily) (state after : Downstream) (told : Firing (List ℕ)) → firing_in state ≡ Some (told, after) → IsSound family state → IsSound family after
-sound_firing family state after told e sound =
-    let left = left_by state after told e in
-    subst (IsSound family) left.2 (sound_kept family state state.moment left.0 sound.moment (kept_fired state.records left.0 (step_of told) (fired_with state.records left.0 told left.1)) sound)
+sound_firing : (family : AddressFamily) (state after : Downstream) (reported : Firing (List ℕ)) → firing_in state ≡ Some (reported, after) → IsSound family state → IsSound family after
+sound_firing family state after reported e sound =
+    let left = left_by state after reported e in
+    subst (IsSound family) left.2 (sound_kept family state state.moment left.0 sound.moment (kept_fired state.records left.0 (step_of reported) (fired_with state.records left.0 reported left.1)) sound)
 
 pub sound_fires : (family : AddressFamily) (moment : ℕ) (state after : Downstream) (o : Option (Firing (List ℕ))) → moment ≤ 1000000000000000 → IsSound family state → FiresTo moment state o after → IsSound family after
 sound_fires family moment state after None small sound (quiet, is) =
     let now = sound.moment in
     subst (IsSound family) (sym is) (sound_ticks family (moment - state.moment) state (omega (arith, small, now)) sound)
-sound_fires family moment state after (Some told) small sound (by, quiet, fires) =
+sound_fires family moment state after (Some reported) small sound (by, quiet, fires) =
     let now = sound.moment in
-    sound_firing family (ticks (after.moment - state.moment) state) after told fires
+    sound_firing family (ticks (after.moment - state.moment) state) after reported fires
     (sound_ticks family (after.moment - state.moment) state (omega (arith, small, now, by)) sound)
 
 -- ---- a run of `Time` is a chain of them
@@ -104,71 +104,71 @@ none_runs moment state next (quiet, is) =
     (quiet_runs k moment state (ticks k state) Reached (λ j h. quiet j (omega (arith, h))) (λ some. omega (arith, some))
     (run_rest moment (ticks k state) (turn_rests moment (ticks k state) (quiet k (omega arith)) (omega (arith, there)))))
 
-turn_echo : (moment : ℕ) (state : Downstream) (told : Firing (List ℕ)) (records : List (Record (List ℕ))) → fired state.records ≡ Some (step_of told, records) → told.echo ≡ true → turn moment state ≡ echoes (step_of told) (with_records state records)
+turn_echo : (moment : ℕ) (state : Downstream) (reported : Firing (List ℕ)) (records : List (Record (List ℕ))) → fired state.records ≡ Some (step_of reported, records) → reported.echo ≡ true → turn moment state ≡ echoes (step_of reported) (with_records state records)
 unfolding turn
-turn_echo moment state told records e is = rw (e, is) refl
+turn_echo moment state reported records e is = rw (e, is) refl
 
-turn_fires : (moment : ℕ) (state : Downstream) (told : Firing (List ℕ)) (records : List (Record (List ℕ))) → fired state.records ≡ Some (step_of told, records) → told.echo ≡ false → turn moment state ≡ moves (with_records state records)
+turn_fires : (moment : ℕ) (state : Downstream) (reported : Firing (List ℕ)) (records : List (Record (List ℕ))) → fired state.records ≡ Some (step_of reported, records) → reported.echo ≡ false → turn moment state ≡ moves (with_records state records)
 unfolding turn
-turn_fires moment state told records e is = rw (e, is) refl
+turn_fires moment state reported records e is = rw (e, is) refl
 
-module _ (moment : ℕ) (state next : Downstream) (told : Firing (List ℕ)) (fires : FiresTo moment state (Some told) next) where
+module _ (moment : ℕ) (state next : Downstream) (reported : Firing (List ℕ)) (fires : FiresTo moment state (Some reported) next) where
   abbrev there : Downstream
   there = ticks (next.moment - state.moment) state
 
   onward : (after : Downstream) (answer : Step (List ℕ)) → Runs moment there answer after → Runs moment state answer after
   onward after answer runs = quiet_runs (next.moment - state.moment) moment state after answer fires.1 (λ some. omega (arith, some, fires.0)) runs
 
-  echo_runs : told.echo ≡ true → Runs moment state (step_of told) next
+  echo_runs : reported.echo ≡ true → Runs moment state (step_of reported) next
   echo_runs is =
-      let left = left_by there next told fires.2 in
-      onward next (step_of told)
-      (subst (Runs moment there (step_of told)) left.2
-      (run_echo moment there (with_records there left.0) (step_of told) (turn_echo moment there told left.0 (fired_with there.records left.0 told left.1) is)))
+      let left = left_by there next reported fires.2 in
+      onward next (step_of reported)
+      (subst (Runs moment there (step_of reported)) left.2
+      (run_echo moment there (with_records there left.0) (step_of reported) (turn_echo moment there reported left.0 (fired_with there.records left.0 reported left.1) is)))
 
-  fire_runs : (after : Downstream) (answer : Step (List ℕ)) → told.echo ≡ false → Runs moment next answer after → Runs moment state answer after
+  fire_runs : (after : Downstream) (answer : Step (List ℕ)) → reported.echo ≡ false → Runs moment next answer after → Runs moment state answer after
   fire_runs after answer is runs =
-      let left = left_by there next told fires.2 in
+      let left = left_by there next reported fires.2 in
       onward after answer
-      (run_more moment there (with_records there left.0) after answer (turn_fires moment there told left.0 (fired_with there.records left.0 told left.1) is)
+      (run_more moment there (with_records there left.0) after answer (turn_fires moment there reported left.0 (fired_with there.records left.0 reported left.1) is)
       (subst (λ s. Runs moment s answer after) (sym left.2) runs))
 
 pub chain_runs : RunIsAChainOfFirings
 chain_runs moment state next = (
   none_runs moment state next,
-  λ told is fires. echo_runs moment state next told fires is,
-  λ told after answer is fires runs. fire_runs moment state next told fires after answer is runs,
+  λ reported is fires. echo_runs moment state next reported fires is,
+  λ reported after answer is fires runs. fire_runs moment state next reported fires after answer is runs,
 )
 
 -- ---- there is one such end
 
 abbrev Fired : Downstream → ℕ → Firing (List ℕ) → Downstream → Type 0
-Fired state k told after = IsQuietFor k state × (firing_in (ticks k state) ≡ Some (told, after))
+Fired state k reported after = IsQuietFor k state × (firing_in (ticks k state) ≡ Some (reported, after))
 
-same_time : (state after other : Downstream) (told said : Firing (List ℕ)) (j k : ℕ) → Fired state j told after → Fired state k said other → k ≤ j
-same_time state after other told said j k a b =
+same_time : (state after other : Downstream) (reported said : Firing (List ℕ)) (j k : ℕ) → Fired state j reported after → Fired state k said other → k ≤ j
+same_time state after other reported said j k a b =
     elim (ltb j k) as (λ t. ltb j k ≡ t → k ≤ j) [
-      | true ↦ λ e. absurd (false≢true (sym (b.0 j (ltb-true j k e)) ∙ due_at_firing (ticks j state) after told a.1))
+      | true ↦ λ e. absurd (false≢true (sym (b.0 j (ltb-true j k e)) ∙ due_at_firing (ticks j state) after reported a.1))
       | false ↦ λ e. ltb-false j k e
     ] refl
 
-same_end : (state after other : Downstream) (told said : Firing (List ℕ)) (j k : ℕ) → Fired state j told after → Fired state k said other → (told ≡ said) × (after ≡ other)
-same_end state after other told said j k a b =
-    let less = same_time state after other told said j k a b in
-    let more = same_time state other after said told k j b a in
+same_end : (state after other : Downstream) (reported said : Firing (List ℕ)) (j k : ℕ) → Fired state j reported after → Fired state k said other → (reported ≡ said) × (after ≡ other)
+same_end state after other reported said j k a b =
+    let less = same_time state after other reported said j k a b in
+    let more = same_time state other after said reported k j b a in
     let same : k ≡ j = omega (arith, less, more) in
-    let pairs = pair_after told said after other (sym a.1 ∙ subst (λ n. firing_in (ticks n state) ≡ Some (said, other)) same b.1) in
+    let pairs = pair_after reported said after other (sym a.1 ∙ subst (λ n. firing_in (ticks n state) ≡ Some (said, other)) same b.1) in
     (ap (λ (x : Firing (List ℕ) × Downstream). x.0) pairs, ap (λ (x : Firing (List ℕ) × Downstream). x.1) pairs)
 
-none_or_fired : (moment : ℕ) (state after other : Downstream) (told : Firing (List ℕ)) → FiresTo moment state None other → FiresTo moment state (Some told) after → ⊥
-none_or_fired moment state after other told none fires =
+none_or_fired : (moment : ℕ) (state after other : Downstream) (reported : Firing (List ℕ)) → FiresTo moment state None other → FiresTo moment state (Some reported) after → ⊥
+none_or_fired moment state after other reported none fires =
     let within = fires.0 in
-    false≢true (sym (none.0 (after.moment - state.moment) (omega (arith, within))) ∙ due_at_firing (ticks (after.moment - state.moment) state) after told fires.2)
+    false≢true (sym (none.0 (after.moment - state.moment) (omega (arith, within))) ∙ due_at_firing (ticks (after.moment - state.moment) state) after reported fires.2)
 
 pub fires_once : FiringHasOneEnd
 fires_once moment state after other None None a b = (refl, a.1 ∙ sym b.1)
 fires_once moment state after other None (Some said) a b = absurd (none_or_fired moment state other after said a b)
-fires_once moment state after other (Some told) None a b = absurd (none_or_fired moment state after other told b a)
-fires_once moment state after other (Some told) (Some said) a b =
-    let same = same_end state after other told said (after.moment - state.moment) (other.moment - state.moment) (a.1, a.2) (b.1, b.2) in
+fires_once moment state after other (Some reported) None a b = absurd (none_or_fired moment state after other reported b a)
+fires_once moment state after other (Some reported) (Some said) a b =
+    let same = same_end state after other reported said (after.moment - state.moment) (other.moment - state.moment) (a.1, a.2) (b.1, b.2) in
     (ap Some same.0, same.1)

@@ -1,6 +1,6 @@
 -- The machine of milliseconds: jumps over the milliseconds in which nothing fires, runs one after another, and that a
 -- run has one end.
-use Rattle.pim_down.proofs.Words.{◌≡◌, ℕ, zero, suc, ◌+◌, ◌-◌, ◌<◌, ◌≤◌, Bool, true, false, cond, ◌||◌, List, [], ◌∷◌, Option, Some, None, map, ltb, leb, eqb, min, refl, sym, ap, subst, ◌∙◌, arith, is_some, false≢true, true≢false, lt-ltb, le-ltb, ltb-true, nat_tests, What, Pending, Machine, Record, Step, Echo, Reached, Downstream, expiry_after, pending_after, machine_after, record_after, tick, expiry_due, pending_due, et_due, ppt_due, after_ppt, echo_of, first_due, with_first, fire_et, fired, Outcome, rests, moves, echoes, with_records, told, turn, run_on, run_within, Runs, ticks, sooner, pending_end, first_end, ends_by}
+use Rattle.pim_down.proofs.Words.{◌≡◌, ℕ, zero, suc, ◌+◌, ◌-◌, ◌<◌, ◌≤◌, Bool, true, false, cond, ◌||◌, List, [], ◌∷◌, Option, Some, None, map, ltb, leb, eqb, min, refl, sym, ap, subst, ◌∙◌, arith, is_some, false≢true, true≢false, lt-ltb, le-ltb, ltb-true, nat_tests, What, Pending, Machine, Record, Step, Echo, Reached, Downstream, expiry_after, pending_after, machine_after, record_after, tick, expiry_due, pending_due, et_due, ppt_due, after_ppt, echo_of, first_due, with_first, fire_et, fired, Outcome, rests, moves, echoes, with_records, reported, turn, run_on, run_within, Runs, ticks, sooner, pending_end, first_end, ends_by}
 
 -- ---- milliseconds add up
 
@@ -138,7 +138,7 @@ run_more moment state next after answer moved runs = record { turns = suc runs.t
 
 pub run_echo : (moment : ℕ) (state after : Downstream) (answer : Step (List ℕ)) → turn moment state ≡ echoes answer after → Runs moment state answer after
 unfolding run_within
-run_echo moment state after answer told = record { turns = 1; within = rw told refl }
+run_echo moment state after answer reported = record { turns = 1; within = rw reported refl }
 
 pub run_rest : (moment : ℕ) (state : Downstream) → turn moment state ≡ rests → Runs moment state Reached state
 unfolding run_within
@@ -229,7 +229,7 @@ one_within zero m moment state x y e f = cc
 one_within (suc n) zero moment state x y e f = cc
 one_within (suc n) (suc m) moment state x y e f = one_by (turn moment state) moment n m state x y (λ next. one_within n m moment next x y) e f
 
-pub runs_once : (moment : ℕ) (state after other : Downstream) (answer told : Step (List ℕ)) → Runs moment state answer after → Runs moment state told other → (answer ≡ told) × (after ≡ other)
-runs_once moment state after other answer told first second =
-    let same = one_within first.turns second.turns moment state (answer, after) (told, other) first.within second.within in
+pub runs_once : (moment : ℕ) (state after other : Downstream) (answer reported : Step (List ℕ)) → Runs moment state answer after → Runs moment state reported other → (answer ≡ reported) × (after ≡ other)
+runs_once moment state after other answer reported first second =
+    let same = one_within first.turns second.turns moment state (answer, after) (reported, other) first.within second.within in
     (ap (λ (x : Step (List ℕ) × Downstream). x.0) same, ap (λ (x : Step (List ℕ) × Downstream). x.1) same)

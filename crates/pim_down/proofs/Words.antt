@@ -72,8 +72,8 @@ pub use Rattle.pim_down.specs.Key.{address_cmp, rank, same_key, source_of}
 unfoldable pub use Rattle.pim_down.specs.Key.{key_cmp, what_cmp}
 pub use Rattle.pim_addr.specs.Routes.{rp_of}
 pub use Rattle.pim_down.specs.Laws.{FiringHasOneEnd, RunIsAChainOfFirings, said_of}
-pub use Rattle.pim_down.specs.Ordered.{AreAlike, IsLast, StarsComeFirst, StayButNamed, comes_before_by_source}
-pub use Rattle.pim_down.specs.Ordered.{entry_named, entry_of_what, is_of_rpts_of, source_key_of, source_or_star}
+pub use Rattle.pim_down.specs.Ordered.{AreAlike, IsLast, StarsComeFirst, StayButListed, comes_before_by_source}
+pub use Rattle.pim_down.specs.Ordered.{entry_of_event, entry_of_what, is_of_rpts_of, source_key_of, source_or_star}
 unfoldable pub use Rattle.pim_down.specs.Ordered.{ComeFirstBehind}
 pub use Rattle.pim_down.specs.Places.{StandsAt, WouldStandAt, is_below}
 pub use Rattle.pim_down.specs.PutOff.{alarm_at, put_off}
@@ -103,7 +103,7 @@ pub use Rattle.pim_down.specs.Time.{Downstream, HasRun, IsEchoOf, IsNextDue, IsQ
 pub use Rattle.pim_down.specs.Time.{after_et, after_ppt, after_silence, echo_of, echoes, echoes_at, et_due}
 pub use Rattle.pim_down.specs.Time.{expiry_after, expiry_due, fire_et, fire_ppt, had_several, is_due_after}
 pub use Rattle.pim_down.specs.Time.{machine_after, moves, on_ppt, pending_after, pending_due, ppt_due, record_after}
-pub use Rattle.pim_down.specs.Time.{rests, run_on, settled_at, tick, told, turn_by, with_records}
+pub use Rattle.pim_down.specs.Time.{rests, run_on, settled_at, tick, reported, turn_by, with_records}
 unfoldable pub use Rattle.pim_down.specs.Time.{fired, fires_within, first_due, run_within, ticks, turn, with_first}
 pub use Rattle.pim_down.specs.declared.machines.event.Timing.{Timing}
 pub use Rattle.pim_down.specs.declared.machines.fault.HearFault.{HearFault}

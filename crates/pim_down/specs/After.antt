@@ -51,7 +51,7 @@ next_machine left = next_in_group left.behind.port left.behind.group left.behind
 -- walk is unchanged.
 abbrev pub left_behind : MachinesLeft → Option (Record (List ℕ)) → MachinesLeft
 left_behind left None = left
-left_behind left (Some told) = record { records = left.records; behind = told.key }
+left_behind left (Some reported) = record { records = left.records; behind = reported.key }
 
 -- ---- which keys a search passes over
 

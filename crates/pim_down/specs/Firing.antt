@@ -62,8 +62,8 @@ abbrev pub firing_in : Downstream → Option (Firing (List ℕ) × Downstream)
 firing_in state = fired_in state (firing state.records)
 
 -- The run from a state up to a moment, or until one timer fires. An earlier moment counts as the
--- present one. `None`: time passes up to the moment, and no timer is due by then. Otherwise no timer
--- is due before the moment of `after`, which is no later, and there this timer fires.
+-- present one. `None`: time passes up to the moment, and no timer is due by then. Otherwise no
+-- timer is due before the moment of `after`, which is no later, and there this timer fires.
 abbrev pub FiresTo : ℕ → Downstream → Option (Firing (List ℕ)) → Downstream → Type 0
 FiresTo moment state None after =
     IsQuietFor (moment - state.moment + 1) state × (after ≡ ticks (moment - state.moment) state)

@@ -1,5 +1,5 @@
 -- Laws of the definitions: what they mean together. Each is proved, as the `ensures` of a function
--- of `src/machines/laws.rt`.
+-- of `src/laws.rt`.
 use Rattle.std.specs.Prelude.{◌≡◌, ◌≢◌, ◌<◌, ◌≤◌, ◌↔◌, ℕ, ◌-◌, max, true, false}
 use Rattle.std.specs.Prelude.{List, map, Option, Some, None, option_map}
 use Rattle.std.specs.declared.cmp.Ordering.TheVariants.{Equal}
@@ -48,8 +48,8 @@ RunGoesOn = (earlier later : ℕ) (state middle after : Downstream) (answer : St
 
 -- All runs from a state up to a moment have the same step and the same state at their end.
 abbrev pub RunHasOneEnd : Type 0
-RunHasOneEnd = (moment : ℕ) (state after other : Downstream) (answer told : Step (List ℕ)) →
-    Runs moment state answer after → Runs moment state told other → (answer ≡ told) × (after ≡ other)
+RunHasOneEnd = (moment : ℕ) (state after other : Downstream) (answer reported : Step (List ℕ)) →
+    Runs moment state answer after → Runs moment state reported other → (answer ≡ reported) × (after ≡ other)
 
 -- An event does to the machine at each key what `effect` says.
 abbrev pub EventActsAtEachKey : Type 0
@@ -116,8 +116,8 @@ EchoNamesAMachine = (moment : ℕ) (state after : Downstream) (port : ℕ) (grou
     IsEchoOf (record { port = port; group = group; what = what }) state after
 
 -- Two keys compare as equal exactly if they are the same key.
-abbrev pub KeysAreToldApart : Type 0
-KeysAreToldApart = (a b : Key (List ℕ)) → ((key_cmp a b ≡ Equal) ↔ (a ≡ b)) × ((same_key a b ≡ true) ↔ (a ≡ b))
+abbrev pub KeysAreDistinct : Type 0
+KeysAreDistinct = (a b : Key (List ℕ)) → ((key_cmp a b ≡ Equal) ↔ (a ≡ b)) × ((same_key a b ≡ true) ↔ (a ≡ b))
 
 -- End of Message does to the machine at each key what `at_end` says.
 abbrev pub EndActsAtEachKey : Type 0
@@ -139,7 +139,7 @@ HearingLeavesOtherPorts =
 
 -- What a run reports of a firing, and the records that it leaves.
 abbrev pub said_of : Firing (List ℕ) × List (Record (List ℕ)) → Step (List ℕ) × List (Record (List ℕ))
-said_of (told, records) = (step_of told, records)
+said_of (reported, records) = (step_of reported, records)
 
 -- `fired` is the same step as `firing`, with less said of it.
 abbrev pub FiringSaysMore : Type 0
@@ -151,13 +151,13 @@ FiringSaysMore = (records : List (Record (List ℕ))) → fired records ≡ opti
 abbrev pub RunIsAChainOfFirings : Type 0
 RunIsAChainOfFirings = (moment : ℕ) (state next : Downstream) →
     (FiresTo moment state None next → Runs moment state Reached next)
-    × ((told : Firing (List ℕ)) → told.echo ≡ true → FiresTo moment state (Some told) next →
-    Runs moment state (step_of told) next)
-    × ((told : Firing (List ℕ)) (after : Downstream) (answer : Step (List ℕ)) → told.echo ≡ false →
-    FiresTo moment state (Some told) next → Runs moment next answer after → Runs moment state answer after)
+    × ((reported : Firing (List ℕ)) → reported.echo ≡ true → FiresTo moment state (Some reported) next →
+    Runs moment state (step_of reported) next)
+    × ((reported : Firing (List ℕ)) (after : Downstream) (answer : Step (List ℕ)) → reported.echo ≡ false →
+    FiresTo moment state (Some reported) next → Runs moment next answer after → Runs moment state answer after)
 
 -- All runs from a state up to a moment that stop at the first timer have the same firing and the
 -- same state at their end.
 abbrev pub FiringHasOneEnd : Type 0
-FiringHasOneEnd = (moment : ℕ) (state after other : Downstream) (told said : Option (Firing (List ℕ))) →
-    FiresTo moment state told after → FiresTo moment state said other → (told ≡ said) × (after ≡ other)
+FiringHasOneEnd = (moment : ℕ) (state after other : Downstream) (reported said : Option (Firing (List ℕ))) →
+    FiresTo moment state reported after → FiresTo moment state said other → (reported ≡ said) × (after ≡ other)

@@ -1,6 +1,6 @@
 -- The definitions that contracts of `pim_down` cite. `Key`, `Tables`, `Records`, `Hearing`,
--- `After`, `Time`, `Firing`, `Heard` and `Sound` give the meaning of public calls. The other modules
--- serve private steps, the view of code values, and laws.
+-- `After`, `Time`, `Firing`, `Heard` and `Sound` give the meaning of public calls. The other
+-- modules serve private steps, the view of code values, and laws.
 pub mod Key
 pub mod Tables
 pub mod Records

@@ -69,14 +69,14 @@ entry_of_what (Source source) = entry.Source source
 entry_of_what (Rpt source) = entry.Rpt source
 
 -- An entry that names the event's machine. Its RP is left empty.
-abbrev pub entry_named : Event → Entry (List ℕ)
-entry_named event = entry_of_what event.what
+abbrev pub entry_of_event : Event → Entry (List ℕ)
+entry_of_event event = entry_of_what event.what
 
 -- A Join(*,G) would change no (S,G,rpt) machine of the group on the port, except those that these
 -- events name.
-abbrev pub StayButNamed : ℕ → List ℕ → List Event → List (Record (List ℕ)) → Type 0
-StayButNamed port group events records =
-    StayBut port group (λ key. is_pruned_by port group (map entry_named events) key) records
+abbrev pub StayButListed : ℕ → List ℕ → List Event → List (Record (List ℕ)) → Type 0
+StayButListed port group events records =
+    StayBut port group (λ key. is_pruned_by port group (map entry_of_event events) key) records
 
 -- What is noted of the last Join(*,G) among the first `count` events is right. If it notes a group,
 -- another Join(*,G) of this group would change only machines that the events since then name.
@@ -84,4 +84,4 @@ abbrev pub IsLast : {A : Type 0} → (A → List ℕ) → ℕ → List (EventOf 
 IsLast {A} bytes_of port events count last records =
     (last.behind ≤ count)
     × ((group : A) → last.group ≡ Some group →
-    StayButNamed port (bytes_of group) (map (event_seen bytes_of) (drop last.behind (take count events))) records)
+    StayButListed port (bytes_of group) (map (event_seen bytes_of) (drop last.behind (take count events))) records)

@@ -154,8 +154,8 @@ pub record AlarmList : Type 0 where
   pub capacity : ℕ
 
 -- The invariant of a store: the two lists have exactly the timers of the records, of which there
--- are at most `space`. If `space` isn't 0, each list has room for timers of `space` records, and for
--- one more.
+-- are at most `space`. If `space` isn't 0, each list has room for timers of `space` records, and
+-- for one more.
 pub record IsTimed {A : Type 0} (bytes_of : A → List ℕ) (rows : Listed (Held A)) (pending expiry : AlarmList) (space : ℕ) :
     Type 0 where
   pub prunes : pending.alarms ≡ map alarm_of (numbered PendingTimer (numbers rows) (records_seen bytes_of rows.items))

@@ -63,8 +63,8 @@ module _ {A : Type 0} (bytes_of : A → List ℕ) where
   key_at port group what = record { port = port; group = bytes_of group; what = what_seen what }
 
   -- A returned record, with its addresses as lists of bytes.
-  abbrev pub told_seen : Record A → Record (List ℕ)
-  told_seen told = record { key = key_seen told.key; machine = told.machine }
+  abbrev pub record_of_seen : Record A → Record (List ℕ)
+  record_of_seen reported = record { key = key_seen reported.key; machine = reported.machine }
 
   -- How a run ended, with addresses as lists of bytes.
   abbrev pub step_seen : Step A → Step (List ℕ)
@@ -74,7 +74,7 @@ module _ {A : Type 0} (bytes_of : A → List ℕ) where
   -- A timer that fired, with addresses as lists of bytes.
   abbrev pub firing_seen : Firing A → Firing (List ℕ)
   firing_seen fired =
-      record { timer = fired.timer; before = told_seen fired.before; after = fired.after; echo = fired.echo }
+      record { timer = fired.timer; before = record_of_seen fired.before; after = fired.after; echo = fired.echo }
 
   -- Records with their deadlines as countdowns from the moment 0.
   abbrev pub records_seen : List (Held A) → List (Record (List ℕ))

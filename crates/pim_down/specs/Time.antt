@@ -155,15 +155,15 @@ with_records state records =
     record { ports = state.ports; limit = state.limit; moment = state.moment; records = records }
 
 -- The turn in which a timer fired: a PruneEcho stops the run.
-abbrev pub told : Step (List ℕ) → Downstream → Outcome
-told Reached state = moves state
-told (Echo port group what) state = echoes (Echo port group what) state
+abbrev pub reported : Step (List ℕ) → Downstream → Outcome
+reported Reached state = moves state
+reported (Echo port group what) state = echoes (Echo port group what) state
 
 -- A turn, by the timer that fires, if one is due. Otherwise a millisecond passes, unless the moment
 -- is reached.
 abbrev pub turn_by : ℕ → Downstream → Option (Step (List ℕ) × List (Record (List ℕ))) → Outcome
 turn_by moment state None = if nat_lt state.moment moment then moves (tick state) else rests
-turn_by moment state (Some (answer, records)) = told answer (with_records state records)
+turn_by moment state (Some (answer, records)) = reported answer (with_records state records)
 
 -- One turn of the run up to a moment.
 unfoldable pub turn : ℕ → Downstream → Outcome

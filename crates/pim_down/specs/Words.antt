@@ -21,7 +21,7 @@ unfoldable pub use Rattle.pim_down.specs.Hearing.{act_all, count_new}
 pub use Rattle.pim_down.specs.Key.{address_cmp}
 unfoldable pub use Rattle.pim_down.specs.Key.{key_cmp, what_cmp}
 pub use Rattle.pim_addr.specs.Routes.{rp_of}
-pub use Rattle.pim_down.specs.Ordered.{AreAlike, IsLast, StarsComeFirst, StayButNamed, comes_before}
+pub use Rattle.pim_down.specs.Ordered.{AreAlike, IsLast, StarsComeFirst, StayButListed, comes_before}
 pub use Rattle.pim_down.specs.Ordered.{comes_before_by_source, is_of_rpts_of, source_key_of, source_or_star}
 unfoldable pub use Rattle.pim_down.specs.PutOff.{put_off_from, with_run}
 pub use Rattle.pim_down.specs.Records.{is_on, recorded, state_of, state_of_machine}
@@ -32,7 +32,7 @@ pub use Rattle.pim_down.specs.Schedule.{AreKnown, IsFirstBy, IsLookedAt, Numbere
 pub use Rattle.pim_down.specs.Schedule.{deadline_seen, first_in, sooner_of, with_its}
 unfoldable pub use Rattle.pim_down.specs.Schedule.{timers_of}
 pub use Rattle.pim_down.specs.Seen.{event_seen, events_seen, firing_seen, key_at, key_seen, machine_seen, record_seen}
-pub use Rattle.pim_down.specs.Seen.{records_seen, shown, start_seen, step_seen, timed_seen, told_seen, waiting_seen}
+pub use Rattle.pim_down.specs.Seen.{records_seen, shown, start_seen, step_seen, timed_seen, record_of_seen, waiting_seen}
 pub use Rattle.pim_down.specs.Seen.{what_seen}
 pub use Rattle.pim_down.specs.Sound.{IsSound, is_temporary}
 unfoldable pub use Rattle.pim_down.specs.Sound.{IsSettled}

@@ -5,6 +5,5 @@ pub(crate) mod event;
 pub(crate) mod fault;
 pub(crate) mod held;
 pub(crate) mod key;
-pub(crate) mod laws;
 pub(crate) mod machine;
 pub(crate) mod step;

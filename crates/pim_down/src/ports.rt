@@ -5,7 +5,8 @@ ghost use Rattle.pim_down.specs.Words.{filter, Reached, rpt_count_on, state_of, 
 ghost use Rattle.pim_down.specs.Words.{count_on, heard, needed_for, new_for, IsWithin};
 ghost use Rattle.pim_down.specs.Words.{MayWantMemory, OthersStay, Downstream, Runs, RunsLooking};
 ghost use Rattle.pim_down.specs.Words.{IsNextDue, FiresTo, rp_of, key_at, what_seen, step_seen};
-ghost use Rattle.pim_down.specs.Words.{firing_seen, told_seen, group_after, next_in_group, IsSound};
+ghost use Rattle.pim_down.specs.Words.{firing_seen, record_of_seen, group_after, next_in_group};
+ghost use Rattle.pim_down.specs.Words.{IsSound};
 
 use crate::hearing::hear::start_at;
 use crate::hearing::message::hear_message;
@@ -239,7 +240,7 @@ impl<F: Family> Ports<F> {
         group: F::Addr,
         what: What<F::Addr>,
     ) -> Option<Record<F::Addr>>
-        ensures { option_map (told_seen F.bytes_of) result
+        ensures { option_map (record_of_seen F.bytes_of) result
             ≡ next_in_group port (F.bytes_of group) (what_seen F.bytes_of what) self.now.records }
     {
         let (next, _near) = self.record_after_near(port, group, what, Near::UNKNOWN);
@@ -255,7 +256,7 @@ impl<F: Family> Ports<F> {
         what: What<F::Addr>,
         near: Near,
     ) -> (Option<Record<F::Addr>>, Near)
-        ensures { option_map (told_seen F.bytes_of) result.0
+        ensures { option_map (record_of_seen F.bytes_of) result.0
             ≡ next_in_group port (F.bytes_of group) (what_seen F.bytes_of what) self.now.records }
     {
         let mut left = self.machines_after_near(port, group, what, near);
@@ -350,7 +351,8 @@ impl<F: Family> Ports<F> {
     /// with the moment. There is one for each timer that fires, and at most one more.
     pub fn run_counted(&mut self, moment: u64) -> (Step<F::Addr>, u64)
         requires { moment ≤ 1000000000000000 }
-        ensures run { RunsLooking moment self.old (step_seen F.bytes_of result.0) self.new result.1 }
+        ensures run { RunsLooking moment self.old
+            (step_seen F.bytes_of result.0) self.new result.1 }
         ensures ports { self.new.ports ≡ self.old.ports }
         ensures limit { self.new.limit ≡ self.old.limit }
         ensures later { self.old.moment ≤ self.new.moment }

@@ -14,15 +14,15 @@ use Rattle.pim_down.specs.declared.machines.machine.Record.{Record}
 use Rattle.pim_down.specs.declared.machines.machine.State.{State}
 use Rattle.pim_down.specs.Hearing.{rpt_count_on}
 use Rattle.pim_down.specs.Key.{address_cmp, source_of}
-use Rattle.pim_down.specs.Laws.{KeysAreToldApart}
+use Rattle.pim_down.specs.Laws.{KeysAreDistinct}
 use Rattle.pim_down.specs.Records.{machine_at}
 use Rattle.pim_down.specs.Sound.{IsSound, IsReal}
 use Rattle.pim_down.specs.Time.{Downstream}
-use Rattle.pim_form.specs.Asked.{IsAskedForm}
+use Rattle.pim_form.specs.Demanded.{IsDemandedForm}
 use Rattle.pim_form.specs.NormalForm.{GroupForm, most_exceptions, is_listed, same_address}
 use Rattle.pim_form.specs.Rows.{exceptions_of}
 use Rattle.pim_form.specs.Settled.{group_in}
-use Rattle.pim_form.specs.Toward.{via_in, via_rp, is_neighbour}
+use Rattle.pim_form.specs.Toward.{via_of, star_rpf_neighbour, is_neighbour}
 use Rattle.pim_form.specs.Wants.{is_pruned, some_below, state_on, wants, wants_on}
 use Rattle.pim_form.specs.declared.tree.Tree.TheVariants.{Shared}
 use Rattle.pim_emit.specs.Least.{IsLeast}
@@ -64,28 +64,28 @@ pub of_first : (state : Downstream) (group : List ℕ) (port : ℕ) (first : Opt
 of_first state group port first rpts same are = subst (λ (f : Option ℕ). AreRpts state group f rpts) (sym same) are
 
 -- the neighbour that is asked for a star is told from the upstream
-pub is_reached : (family : AddressFamily) (table : RouteTable) (neighbour group : List ℕ) (upstream : Option (List ℕ)) (answer : Bool) → upstream ≡ via_rp (via_in family table) (rp_of family table group)
-    → answer ≡ is_neighbour neighbour upstream → answer ≡ is_neighbour neighbour (via_rp (via_in family table) (rp_of family table group))
+pub is_reached : (family : AddressFamily) (table : RouteTable) (neighbour group : List ℕ) (upstream : Option (List ℕ)) (answer : Bool) → upstream ≡ star_rpf_neighbour (via_of family table) (rp_of family table group)
+    → answer ≡ is_neighbour neighbour upstream → answer ≡ is_neighbour neighbour (star_rpf_neighbour (via_of family table) (rp_of family table group))
 is_reached family table neighbour group upstream answer is answers = answers ∙ ap (λ a. is_neighbour neighbour a) is
 
-module _ (family : AddressFamily) (table : RouteTable) (neighbour : List ℕ) (state : Downstream) (form : List GroupForm) (asked : IsAskedForm family table neighbour state form)
+module _ (family : AddressFamily) (table : RouteTable) (neighbour : List ℕ) (state : Downstream) (form : List GroupForm) (demand : IsDemandedForm family table neighbour state form)
     (group : List ℕ) (is_group : IsGroupAddress family group) where
   abbrev reached : Bool
-  reached = is_neighbour neighbour (via_rp (via_in family table) (rp_of family table group))
+  reached = is_neighbour neighbour (star_rpf_neighbour (via_of family table) (rp_of family table group))
 
   -- where some port has (*,G), there is a star if the RP is reached
   pub star_if_reached : (first : Option ℕ) (answer : Bool) → IsSomeBelow state.ports (is_starred state group) first → is_some first ≡ true → answer ≡ reached → answer ≡ is_some (star_of group form)
   star_if_reached None answer none some is = absurd (false≢true some)
   star_if_reached (Some port) answer starred some is =
-      is ∙ sym ((asked.groups group is_group).star ∙ ap (λ b. b && reached) (found_below (is_starred state group) state.ports port starred.0 starred.1))
+      is ∙ sym ((demand.groups group is_group).star ∙ ap (λ b. b && reached) (found_below (is_starred state group) state.ports port starred.0 starred.1))
 
   -- a group that has a star has it on some port
   pub some_port_has_star : (first : Option ℕ) → IsFirstBelow state.ports (is_starred state group) first → is_some (star_of group form) ≡ true → first ≡ None → ⊥
-  some_port_has_star None none star is = false≢true (sym ((asked.groups group is_group).star ∙ ap (λ b. b && reached) none) ∙ star)
+  some_port_has_star None none star is = false≢true (sym ((demand.groups group is_group).star ∙ ap (λ b. b && reached) none) ∙ star)
   some_port_has_star (Some port) first star is = cc
 
   lists : HasLists family (group_in group form)
-  lists = lists_of family group form asked.is.normal.groups
+  lists = lists_of family group form demand.is.normal.groups
 
   -- ---- how many exceptions there are
 
@@ -107,7 +107,7 @@ module _ (family : AddressFamily) (table : RouteTable) (neighbour : List ℕ) (s
       above_all low (exceptions_in group form)
       (all_listed (IsSourceAddress family) (λ source. address_cmp low source ≡ Less) (exceptions_in group form) lists.exceptions (λ source valid listed. below source valid))
 
-  module _ (apart : KeysAreToldApart) (sound : IsSound family state) (star : is_some (star_of group form) ≡ true) (port : ℕ) (below : port < state.ports) (starred : is_starred state group port ≡ true) where
+  module _ (apart : KeysAreDistinct) (sound : IsSound family state) (star : is_some (star_of group form) ≡ true) (port : ℕ) (below : port < state.ports) (starred : is_starred state group port ≡ true) where
     -- what the code looks for
     abbrev pub IsLeastRpt : Option (List ℕ) → Option (List ℕ) → Type 0
     IsLeastRpt bound least = IsLeast (over bound (has_rpt state port group)) least
@@ -123,7 +123,7 @@ module _ (family : AddressFamily) (table : RouteTable) (neighbour : List ℕ) (s
         any_at apart (λ (key : Key (List ℕ)). same_address source (source_of key.what)) (key_of port group (Rpt source)) held.0 state.records held.1 (same_itself source)
 
     listed_unless_wanted : (source : List ℕ) → IsSourceAddress family source → is_listed source (exceptions_in group form) ≡ not (wants state source group Shared)
-    listed_unless_wanted source valid = (asked.groups group is_group).exceptions star source valid
+    listed_unless_wanted source valid = (demand.groups group is_group).exceptions star source valid
 
     -- an exception is pruned on the port, since that has the star
     pruned : (source : List ℕ) → wants state source group Shared ≡ false → has_rpt state port group source ≡ true
@@ -169,11 +169,11 @@ module _ (family : AddressFamily) (table : RouteTable) (neighbour : List ℕ) (s
   bare_of_all most None bare = omega arith
   bare_of_all most (Some exceptions) bare = absurd cc
 
-  pub few_on_all : KeysAreToldApart → IsSound family state → (most : ℕ) → ((port : ℕ) → port < state.ports → rpt_count_on port state.records ≤ most) → length (exceptions_in group form) ≤ most
+  pub few_on_all : KeysAreDistinct → IsSound family state → (most : ℕ) → ((port : ℕ) → port < state.ports → rpt_count_on port state.records ≤ most) → length (exceptions_in group form) ≤ most
   few_on_all apart sound most all =
       by_test (is_some (star_of group form))
       (λ star.
-      let starred = (and_parts (some_below state.ports (is_starred state group)) reached (sym (asked.groups group is_group).star ∙ star)).0 in
+      let starred = (and_parts (some_below state.ports (is_starred state group)) reached (sym (demand.groups group is_group).star ∙ star)).0 in
       let found = which_below (is_starred state group) state.ports starred in
       omega (arith, few_by_rpts apart sound star found.0 found.1 found.2, all found.0 found.1))
       (λ bare. bare_of_all most (star_of group form) bare)

@@ -12,14 +12,14 @@ use Rattle.pim_down.specs.declared.machines.key.What.{What}
 use Rattle.pim_down.specs.declared.machines.key.What.TheVariants.{Star, Source}
 use Rattle.pim_down.specs.declared.machines.machine.Machine.{Machine}
 use Rattle.pim_down.specs.declared.machines.machine.Record.{Record}
-use Rattle.pim_down.specs.Laws.{KeysAreToldApart}
+use Rattle.pim_down.specs.Laws.{KeysAreDistinct}
 use Rattle.pim_down.specs.Records.{machine_at, is_on}
 use Rattle.pim_down.specs.Sound.{IsSound, IsReal}
 use Rattle.pim_down.specs.Time.{Downstream}
-use Rattle.pim_form.specs.Asked.{IsAskedForm}
+use Rattle.pim_form.specs.Demanded.{IsDemandedForm}
 use Rattle.pim_form.specs.NormalForm.{GroupForm, IsNormalGroup, groups_of, is_empty, is_listed, same_address}
 use Rattle.pim_form.specs.Settled.{group_in}
-use Rattle.pim_form.specs.Toward.{via_in, via_rp, is_neighbour}
+use Rattle.pim_form.specs.Toward.{via_of, star_rpf_neighbour, is_neighbour}
 use Rattle.pim_form.specs.Wants.{state_on, some_below}
 use Rattle.pim_emit.specs.Least.{IsLeast}
 use Rattle.pim_emit.specs.Left.{next_above, star_of, sources_in}
@@ -80,8 +80,8 @@ groups_are : (family : AddressFamily) (form : List GroupForm) → AllByRecursion
 groups_are family [] all = tt
 groups_are family (this ∷ form) all = (all.0.group, groups_are family form all.1)
 
-module _ (apart : KeysAreToldApart) (family : AddressFamily) (table : RouteTable) (neighbour : List ℕ) (state : Downstream) (sound : IsSound family state)
-    (form : List GroupForm) (asked : IsAskedForm family table neighbour state form) where
+module _ (apart : KeysAreDistinct) (family : AddressFamily) (table : RouteTable) (neighbour : List ℕ) (state : Downstream) (sound : IsSound family state)
+    (form : List GroupForm) (demand : IsDemandedForm family table neighbour state form) where
   abbrev is_held : List ℕ → Bool
   is_held group = some_below state.ports (has_group state group)
 
@@ -116,33 +116,33 @@ module _ (apart : KeysAreToldApart) (family : AddressFamily) (table : RouteTable
 
   -- ---- the groups of the form
 
-  told : (group : List ℕ) → is_listed group (groups_of form) ≡ has_something group form
-  told group = listed_group family group form asked.is.normal.groups ∙ some_told (group_in group form).star (group_in group form).sources
+  reported : (group : List ℕ) → is_listed group (groups_of form) ≡ has_something group form
+  reported group = listed_group family group form demand.is.normal.groups ∙ some_told (group_in group form).star (group_in group form).sources
 
   -- each of them has a record on some port
   starred_is_held : (group : List ℕ) → IsGroupAddress family group → is_some (star_of group form) ≡ true → is_held group ≡ true
   starred_is_held group of_family some =
-      let wanted = (and_parts (some_below state.ports (is_starred state group)) (is_neighbour neighbour (via_rp (via_in family table) (rp_of family table group)))
-      (sym (asked.groups group of_family).star ∙ some)).0 in
+      let wanted = (and_parts (some_below state.ports (is_starred state group)) (is_neighbour neighbour (star_rpf_neighbour (via_of family table) (rp_of family table group)))
+      (sym (demand.groups group of_family).star ∙ some)).0 in
       let port = which_below (is_starred state group) state.ports wanted in
       let held = told_state (machine_at (key_of port.0 group Star) state.records) (joined_is_some (state_on state.records port.0 group Star) port.2) in
       held_by group Star held.0 port.0 port.1 held.1
 
   sourced_is_held : (group : List ℕ) → IsGroupAddress family group → is_some (next_above None (sources_in group form)) ≡ true → is_held group ≡ true
   sourced_is_held group of_family some =
-      let source = first_listed (IsSourceAddress family) (sources_in group form) (lists_of family group form asked.is.normal.groups).sources some in
-      let wanted = (and_parts (some_below state.ports (is_source_joined state group source.0)) (is_neighbour neighbour (via_in family table source.0))
-      (sym ((asked.groups group of_family).sources source.0 source.1) ∙ source.2)).0 in
+      let source = first_listed (IsSourceAddress family) (sources_in group form) (lists_of family group form demand.is.normal.groups).sources some in
+      let wanted = (and_parts (some_below state.ports (is_source_joined state group source.0)) (is_neighbour neighbour (via_of family table source.0))
+      (sym ((demand.groups group of_family).sources source.0 source.1) ∙ source.2)).0 in
       let port = which_below (is_source_joined state group source.0) state.ports wanted in
       let held = told_state (machine_at (key_of port.0 group (Source source.0)) state.records) (joined_is_some (state_on state.records port.0 group (Source source.0)) port.2) in
       held_by group (Source source.0) held.0 port.0 port.1 held.1
 
   all_held : AllPass is_held (groups_of form)
-  all_held = all_listed (IsGroupAddress family) (λ group. is_held group ≡ true) (groups_of form) (groups_are family form asked.is.normal.groups)
+  all_held = all_listed (IsGroupAddress family) (λ group. is_held group ≡ true) (groups_of form) (groups_are family form demand.is.normal.groups)
       (λ group of_family listed.
       by_test (is_some (star_of group form))
       (λ e. starred_is_held group of_family e)
-      (λ e. sourced_is_held group of_family (subst (λ b. b || is_some (next_above None (sources_in group form)) ≡ true) e (sym (told group) ∙ listed))))
+      (λ e. sourced_is_held group of_family (subst (λ b. b || is_some (next_above None (sources_in group form)) ≡ true) e (sym (reported group) ∙ listed))))
 
   -- ---- what the least tells
 
@@ -154,12 +154,12 @@ module _ (apart : KeysAreToldApart) (family : AddressFamily) (table : RouteTable
 
   pub something_next : (bound : Option (List ℕ)) (group : List ℕ) (answer : Bool) → IsLeastGroup bound (Some group) → answer ≡ has_something group form → answer ≡ true → next_above bound (groups_of form) ≡ Some group
   something_next bound group answer is answers some =
-      listed_next is_held bound group (groups_of form) all_held asked.is.normal.ascending (least_held bound (Some group) is) (told group ∙ sym answers ∙ some)
+      listed_next is_held bound group (groups_of form) all_held demand.is.normal.ascending (least_held bound (Some group) is) (reported group ∙ sym answers ∙ some)
 
   pub nothing_passed : (bound : Option (List ℕ)) (group : List ℕ) (answer : Bool) → IsLeastGroup bound (Some group) → answer ≡ has_something group form → answer ≡ false
       → next_above bound (groups_of form) ≡ next_above (Some group) (groups_of form)
   nothing_passed bound group answer is answers none =
-      unlisted_passed is_held bound group (groups_of form) all_held (least_held bound (Some group) is) (told group ∙ sym answers ∙ none)
+      unlisted_passed is_held bound group (groups_of form) all_held (least_held bound (Some group) is) (reported group ∙ sym answers ∙ none)
 
   pub fewer_groups : (bound : Option (List ℕ)) (group : List ℕ) → IsLeastGroup bound (Some group)
       → count_above (λ (held : Record (List ℕ)). held.key.group) (Some group) state.records < count_above (λ (held : Record (List ℕ)). held.key.group) bound state.records

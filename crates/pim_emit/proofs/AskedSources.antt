@@ -12,15 +12,15 @@ use Rattle.pim_down.specs.declared.machines.key.Key.{Key}
 use Rattle.pim_down.specs.declared.machines.key.What.TheVariants.{Source}
 use Rattle.pim_down.specs.declared.machines.machine.Record.{Record}
 use Rattle.pim_down.specs.Key.{source_of}
-use Rattle.pim_down.specs.Laws.{KeysAreToldApart}
+use Rattle.pim_down.specs.Laws.{KeysAreDistinct}
 use Rattle.pim_down.specs.Records.{machine_at}
 use Rattle.pim_down.specs.Sound.{IsSound, IsReal}
 use Rattle.pim_down.specs.Time.{Downstream}
-use Rattle.pim_form.specs.Asked.{IsAskedForm, AskedFormIsAsked, asked_form}
+use Rattle.pim_form.specs.Demanded.{IsDemandedForm, DemandedFormIsDemanded, demanded_form}
 use Rattle.pim_form.specs.NormalForm.{GroupForm, IsNormalGroup, AreAscending, AreExceptions, most_exceptions, same_address, is_listed}
 use Rattle.pim_form.specs.Rows.{exceptions_of}
 use Rattle.pim_form.specs.Settled.{group_in, unwanted}
-use Rattle.pim_form.specs.Toward.{via_in, is_neighbour}
+use Rattle.pim_form.specs.Toward.{via_of, is_neighbour}
 use Rattle.pim_form.specs.Wants.{state_on, some_below}
 use Rattle.pim_emit.specs.Least.{IsLeast}
 use Rattle.pim_emit.specs.Left.{next_above, sources_in}
@@ -73,9 +73,9 @@ pub lists_of : (family : AddressFamily) (group : List ℕ) (form : List GroupFor
 lists_of family group form all = group_in_holds (HasLists family) group form (no_lists family group) (all_normal_lists family form all)
 
 -- the form that is seen of what is asked for
-pub asked_as_seen : (law : AskedFormIsAsked) (family : AddressFamily) (table : RouteTable) (neighbour : List ℕ) (state : Downstream) (form : List GroupForm) → IsSound family state
-    → asked_form family table neighbour state ≡ form → IsAskedForm family table neighbour state form
-asked_as_seen law family table neighbour state form sound seen = subst (λ (f : List GroupForm). IsAskedForm family table neighbour state f) seen (law family table neighbour state sound)
+pub asked_as_seen : (law : DemandedFormIsDemanded) (family : AddressFamily) (table : RouteTable) (neighbour : List ℕ) (state : Downstream) (form : List GroupForm) → IsSound family state
+    → demanded_form family table neighbour state ≡ form → IsDemandedForm family table neighbour state form
+asked_as_seen law family table neighbour state form sound seen = subst (λ (f : List GroupForm). IsDemandedForm family table neighbour state f) seen (law family table neighbour state sound)
 
 -- a list on which an address above the bound stands has a first one above it
 listed_is_some : (bound : Option (List ℕ)) (address : List ℕ) (addresses : List (List ℕ)) → is_above bound address ≡ true → is_listed address addresses ≡ true → is_some (next_above bound addresses) ≡ true
@@ -88,12 +88,12 @@ listed_is_some bound address (first ∷ addresses) over listed =
     (λ other. listed_is_some bound address addresses over (subst (λ b. b || list_any (same_address address) addresses ≡ true) other listed))))
 
 -- whether a source is reached, as a test of its upstream tells
-pub is_via : (family : AddressFamily) (table : RouteTable) (neighbour source : List ℕ) (upstream : Option (List ℕ)) (answer told : Bool) → upstream ≡ via_in family table source
-    → answer ≡ is_neighbour neighbour upstream → answer ≡ told → is_neighbour neighbour (via_in family table source) ≡ told
-is_via family table neighbour source upstream answer told is answers tells = sym (ap (λ a. is_neighbour neighbour a) is) ∙ sym answers ∙ tells
+pub is_via : (family : AddressFamily) (table : RouteTable) (neighbour source : List ℕ) (upstream : Option (List ℕ)) (answer reported : Bool) → upstream ≡ via_of family table source
+    → answer ≡ is_neighbour neighbour upstream → answer ≡ reported → is_neighbour neighbour (via_of family table source) ≡ reported
+is_via family table neighbour source upstream answer reported is answers tells = sym (ap (λ a. is_neighbour neighbour a) is) ∙ sym answers ∙ tells
 
-module _ (apart : KeysAreToldApart) (family : AddressFamily) (table : RouteTable) (neighbour : List ℕ) (state : Downstream) (sound : IsSound family state)
-    (form : List GroupForm) (asked : IsAskedForm family table neighbour state form) (group : List ℕ) (is_group : IsGroupAddress family group) where
+module _ (apart : KeysAreDistinct) (family : AddressFamily) (table : RouteTable) (neighbour : List ℕ) (state : Downstream) (sound : IsSound family state)
+    (form : List GroupForm) (demand : IsDemandedForm family table neighbour state form) (group : List ℕ) (is_group : IsGroupAddress family group) where
   abbrev wanted : List ℕ → Bool
   wanted source = some_below state.ports (is_source_joined state group source)
 
@@ -118,16 +118,16 @@ module _ (apart : KeysAreToldApart) (family : AddressFamily) (table : RouteTable
       let held = told_state (machine_at (key_of port.0 group (Source source)) state.records) (joined_is_some (state_on state.records port.0 group (Source source)) port.2) in
       any_at apart (λ (key : Key (List ℕ)). same_address source (source_of key.what)) (key_of port.0 group (Source source)) held.0 state.records held.1 (same_itself source)
 
-  listed_if_reached : (source : List ℕ) → wanted source ≡ true → is_listed source (sources_in group form) ≡ is_neighbour neighbour (via_in family table source)
+  listed_if_reached : (source : List ℕ) → wanted source ≡ true → is_listed source (sources_in group form) ≡ is_neighbour neighbour (via_of family table source)
   listed_if_reached source is =
-      (asked.groups group is_group).sources source (has_source source is) ∙ ap (λ b. b && is_neighbour neighbour (via_in family table source)) is
+      (demand.groups group is_group).sources source (has_source source is) ∙ ap (λ b. b && is_neighbour neighbour (via_of family table source)) is
 
   lists : HasLists family (group_in group form)
-  lists = lists_of family group form asked.is.normal.groups
+  lists = lists_of family group form demand.is.normal.groups
 
   all_wanted : AllPass wanted (sources_in group form)
   all_wanted = all_listed (IsSourceAddress family) (λ source. wanted source ≡ true) (sources_in group form) lists.sources
-      (λ source is listed. (and_parts (wanted source) (is_neighbour neighbour (via_in family table source)) (sym ((asked.groups group is_group).sources source is) ∙ listed)).0)
+      (λ source is listed. (and_parts (wanted source) (is_neighbour neighbour (via_of family table source)) (sym ((demand.groups group is_group).sources source is) ∙ listed)).0)
 
   found_wanted : (bound : Option (List ℕ)) (source : List ℕ) → IsLeastSource bound (Some source) → wanted source ≡ true
   found_wanted bound source is = (and_parts (is_above bound source) (wanted source) (least_wanted bound (Some source) is).0).1
@@ -135,12 +135,12 @@ module _ (apart : KeysAreToldApart) (family : AddressFamily) (table : RouteTable
   pub no_source_left : (bound : Option (List ℕ)) → IsLeastSource bound None → next_above bound (sources_in group form) ≡ None
   no_source_left bound is = none_left wanted bound (sources_in group form) all_wanted (least_wanted bound None is)
 
-  pub reached_next : (bound : Option (List ℕ)) (source : List ℕ) → IsLeastSource bound (Some source) → is_neighbour neighbour (via_in family table source) ≡ true
+  pub reached_next : (bound : Option (List ℕ)) (source : List ℕ) → IsLeastSource bound (Some source) → is_neighbour neighbour (via_of family table source) ≡ true
       → next_above bound (sources_in group form) ≡ Some source
   reached_next bound source is reached =
       listed_next wanted bound source (sources_in group form) all_wanted lists.ascending (least_wanted bound (Some source) is) (listed_if_reached source (found_wanted bound source is) ∙ reached)
 
-  pub unreached_passed : (bound : Option (List ℕ)) (source : List ℕ) → IsLeastSource bound (Some source) → is_neighbour neighbour (via_in family table source) ≡ false
+  pub unreached_passed : (bound : Option (List ℕ)) (source : List ℕ) → IsLeastSource bound (Some source) → is_neighbour neighbour (via_of family table source) ≡ false
       → next_above bound (sources_in group form) ≡ next_above (Some source) (sources_in group form)
   unreached_passed bound source is unreached =
       unlisted_passed wanted bound source (sources_in group form) all_wanted (least_wanted bound (Some source) is) (listed_if_reached source (found_wanted bound source is) ∙ unreached)
@@ -153,7 +153,7 @@ module _ (apart : KeysAreToldApart) (family : AddressFamily) (table : RouteTable
 
   -- where a source above the bound that some port has joined is reached, the group has one
   pub reached_is_some : (bound : Option (List ℕ)) (port : ℕ) (source : List ℕ) → port < state.ports → IsLeast (λ source. is_above bound source && is_source_joined state group source port) (Some source)
-      → is_neighbour neighbour (via_in family table source) ≡ true → is_some (next_above bound (sources_in group form)) ≡ true
+      → is_neighbour neighbour (via_of family table source) ≡ true → is_some (next_above bound (sources_in group form)) ≡ true
   reached_is_some bound port source below is reached =
       let passes = and_parts (is_above bound source) (is_source_joined state group source port) is.0 in
       listed_is_some bound source (sources_in group form) passes.0

@@ -9,7 +9,7 @@ use Rattle.std.proofs.lemmas.List.{append-nil, map-append}
 use Rattle.pim_addr.specs.declared.family.AddressFamily.{AddressFamily}
 use Rattle.pim_addr.specs.declared.family.AddressFamily.TheVariants.{Ipv4, Ipv6}
 use Rattle.pim_down.specs.Key.{address_cmp}
-use Rattle.pim_form.specs.Asked.{GroupsAreCounted}
+use Rattle.pim_form.specs.Demanded.{GroupsAreCounted}
 use Rattle.pim_form.specs.NormalForm.{GroupForm, AreAscending, groups_of, is_empty}
 use Rattle.pim_form.specs.Rows.{exceptions_of}
 use Rattle.pim_form.specs.Units.{WantUnit, star_unit, source_unit, star_units, group_units, units_of, run_entries, run_groups, run_size, empty_set_size, entry_size}

@@ -15,8 +15,8 @@ use Rattle.pim_down.specs.After.{is_above}
 use Rattle.pim_down.specs.Key.{address_cmp}
 use Rattle.pim_jp.specs.declared.entry.Entry.TheVariants.{Source, Rpt}
 use Rattle.pim_jp.specs.Canonical.{canonical_set, canonical_set_length}
-use Rattle.pim_form.specs.Asked.{GroupsAreCounted}
-use Rattle.pim_form.specs.Messages.{star_entries, excepted_entries, told_set}
+use Rattle.pim_form.specs.Demanded.{GroupsAreCounted}
+use Rattle.pim_form.specs.Messages.{star_entries, excepted_entries, written_set}
 use Rattle.pim_form.specs.NormalForm.{GroupForm, IsNormal, IsNormalGroup, AreExceptions, is_empty, same_address, most_exceptions}
 use Rattle.pim_form.specs.Packing.{StopsBefore}
 use Rattle.pim_form.specs.Rows.{exceptions_of}
@@ -26,12 +26,12 @@ use Rattle.pim_emit.specs.declared.draft.Draft.{Draft}
 use Rattle.pim_emit.specs.declared.piece.Piece.{Piece}
 use Rattle.pim_emit.specs.declared.position.Position.{Position}
 use Rattle.pim_emit.specs.declared.position.Position.TheVariants.{Within, Behind}
-use Rattle.pim_emit.specs.declared.set.ToldSources.{ToldSources}
-use Rattle.pim_emit.specs.Asking.{Asking}
+use Rattle.pim_emit.specs.declared.set.WrittenSources.{WrittenSources}
+use Rattle.pim_emit.specs.DemandSeen.{DemandSeen}
 use Rattle.pim_addr.specs.Routes.{rp_of}
 use Rattle.pim_emit.specs.Drafts.{IsDraft, message_size, body_start}
 use Rattle.pim_emit.specs.Left.{IsPiece, IsPosition, above, next_above, groups_above, left_at, is_past, star_of, sources_in, piece_form}
-use Rattle.pim_emit.specs.Sets.{AreTold, cut_piece, set_size}
+use Rattle.pim_emit.specs.Sets.{AreWritten, cut_piece, set_size}
 use Rattle.pim_emit.proofs.Above.{by_test, above_none, kept_here, dropped_here, found_later}
 use Rattle.pim_emit.proofs.Addresses.{same_is, lt_less, less_trans}
 use Rattle.pim_emit.proofs.DraftSizes.{IsSome, AreBefore, HasRoom, entries_of_star, units_more, entries_more, groups_more, all_append, ascending_more, size_more, stops_before_group, stops_before_source}
@@ -89,11 +89,11 @@ none_left bound sources found = by (next_above bound sources) refl found
     by (Some a) e none = absurd (false≢true (sym none))
 
 -- where fewer were told than might be, none is left
-pub all_told : (piece : Piece (List ℕ)) (form : List GroupForm) (most : ℕ) (told : ToldSources (List ℕ)) → AreTold piece form most told → (told.count ≡ most → ⊥) → is_some (next_above told.last (sources_in piece.group form)) ≡ false
-all_told piece form most told are fewer =
+pub all_told : (piece : Piece (List ℕ)) (form : List GroupForm) (most : ℕ) (reported : WrittenSources (List ℕ)) → AreWritten piece form most reported → (reported.count ≡ most → ⊥) → is_some (next_above reported.last (sources_in piece.group form)) ≡ false
+all_told piece form most reported are fewer =
     let sources = (piece_form piece form).sources in
-    let all : length sources ≤ told.count = omega (arith, are.count, fewer) in
-    ap is_some (none_first (is_above told.last) (sources_in piece.group form) (are.left ∙ drop_all told.count sources all))
+    let all : length sources ≤ reported.count = omega (arith, are.count, fewer) in
+    ap is_some (none_first (is_above reported.last) (sources_in piece.group form) (are.left ∙ drop_all reported.count sources all))
   where
     none_first : {A : Type 0} (test : A → Bool) (xs : List A) → filter test xs ≡ [] → find test xs ≡ None
     none_first test [] none = refl
@@ -145,8 +145,8 @@ min_full most size count is less =
     let both : count + 1 ≤ min most size = le-min (omega arith) (omega arith) in
     absurd (omega arith))
 
-pub told_at_most : (piece : Piece (List ℕ)) (form : List GroupForm) (most : ℕ) (told : ToldSources (List ℕ)) → AreTold piece form most told → told.count ≤ most
-told_at_most piece form most told are = omega (arith, are.count, min-le_left most (length (piece_form piece form).sources))
+pub told_at_most : (piece : Piece (List ℕ)) (form : List GroupForm) (most : ℕ) (reported : WrittenSources (List ℕ)) → AreWritten piece form most reported → reported.count ≤ most
+told_at_most piece form most reported are = omega (arith, are.count, min-le_left most (length (piece_form piece form).sources))
 
 room_and_more : (family : AddressFamily) (room : ℕ) → room ≤ room * entry_size family
 room_and_more Ipv4 room = omega arith
@@ -206,14 +206,14 @@ before_behind part this group before past =
 abbrev pub full : Draft (List ℕ) → Draft (List ℕ)
 full draft = record { position = draft.position; groups = draft.groups; end = draft.end; is_full = true }
 
-module _ (family : AddressFamily) (budget : ℕ) (asking : Asking) (begun : Position (List ℕ)) (draft : Draft (List ℕ)) (bytes : List ℕ) (made : IsDraft family budget asking begun draft bytes) where
+module _ (family : AddressFamily) (budget : ℕ) (demand_seen : DemandSeen) (begun : Position (List ℕ)) (draft : Draft (List ℕ)) (bytes : List ℕ) (made : IsDraft family budget demand_seen begun draft bytes) where
   pub begins_within : body_start family ≤ draft.end
   begins_within = omega (arith, body_start_is family, made.end)
 
-  filled : StopsBefore family budget (units_of made.part) (units_of (left_at draft.position asking.form)) → IsDraft family budget asking begun (full draft) bytes
+  filled : StopsBefore family budget (units_of made.part) (units_of (left_at draft.position demand_seen.form)) → IsDraft family budget demand_seen begun (full draft) bytes
   filled stops = record {
     part = made.part;
-    told = made.told;
+    reported = made.reported;
     position = made.position;
     ascending = made.ascending;
     some = made.some;
@@ -237,44 +237,44 @@ module _ (family : AddressFamily) (budget : ℕ) (asking : Asking) (begun : Posi
       let few : draft.groups < 255 = omega (arith, has.1, made.groups) in
       omega (arith, (rooms count some).1 (few, within))
 
-  module _ (counted : GroupsAreCounted) (goes : draft.is_full ≡ false) (piece : Piece (List ℕ)) (is : IsPiece family draft.position asking.form piece) (room : ℕ) (rooms : IsRoom room) where
+  module _ (counted : GroupsAreCounted) (goes : draft.is_full ≡ false) (piece : Piece (List ℕ)) (is : IsPiece family draft.position demand_seen.form piece) (room : ℕ) (rooms : IsRoom room) where
     abbrev this : GroupForm
-    this = piece_form piece asking.form
+    this = piece_form piece demand_seen.form
 
     before : AreBefore piece.group made.part
     before = made.goes_on goes piece.group is.past
 
-    pub filled_before : room < 1 + length (exceptions_of this.star) → IsDraft family budget asking begun (full draft) bytes
+    pub filled_before : room < 1 + length (exceptions_of this.star) → IsDraft family budget demand_seen begun (full draft) bytes
     filled_before less =
-        let stop = stops_before_group counted family budget made.part made.ascending made.some this (units_of (groups_above (Some piece.group) asking.form)) before is.some
+        let stop = stops_before_group counted family budget made.part made.ascending made.some this (units_of (groups_above (Some piece.group) demand_seen.form)) before is.some
         (no_room room (1 + length (exceptions_of this.star)) rooms (omega arith) less) in
         filled (subst (StopsBefore family budget (units_of made.part)) (sym is.units) stop)
 
     module _ (stars exceptions : ℕ) (is_stars : stars ≡ from_bool piece.starred) (counts : exceptions ≡ length (exceptions_of this.star)) (some : 1 ≤ room) (star : stars + exceptions ≤ room)
-        (told : ToldSources (List ℕ)) (are : AreTold piece asking.form (room - (stars + exceptions)) told) where
+        (reported : WrittenSources (List ℕ)) (are : AreWritten piece demand_seen.form (room - (stars + exceptions)) reported) where
       abbrev cut : GroupForm
-      cut = cut_piece told.count piece asking.form
+      cut = cut_piece reported.count piece demand_seen.form
 
       abbrev part : List GroupForm
       part = made.part ++ cut ∷ []
 
       abbrev entries : ℕ
-      entries = stars + told.count + exceptions
+      entries = stars + reported.count + exceptions
 
       star_counts : entries_of_star cut.star ≡ stars + exceptions
-      star_counts = omega (arith, entries_of_piece piece.starred (star_of piece.group asking.form) is.star, counts, is_stars)
+      star_counts = omega (arith, entries_of_piece piece.starred (star_of piece.group demand_seen.form) is.star, counts, is_stars)
 
-      few_told : told.count ≤ room - (stars + exceptions)
+      few_told : reported.count ≤ room - (stars + exceptions)
       few_told = omega (arith, are.count, min-le_left (room - (stars + exceptions)) (length this.sources))
 
       few_entries : entries ≤ room
       few_entries = omega (arith, few_told, star)
 
-      told_length : length cut.sources ≡ told.count
-      told_length = length-take-le told.count this.sources (omega (arith, are.count, min-le_right (room - (stars + exceptions)) (length this.sources)))
+      told_length : length cut.sources ≡ reported.count
+      told_length = length-take-le reported.count this.sources (omega (arith, are.count, min-le_right (room - (stars + exceptions)) (length this.sources)))
 
       is_cut_some : IsSome cut
-      is_cut_some = cut_some this.star this.sources (room - (stars + exceptions)) told.count is.some are.count (λ none. omega (arith, none, star_counts, some))
+      is_cut_some = cut_some this.star this.sources (room - (stars + exceptions)) reported.count is.some are.count (λ none. omega (arith, none, star_counts, some))
 
       some_told : 1 ≤ entries
       some_told = omega (arith, some_entries cut.star cut.sources is_cut_some, star_counts, told_length)
@@ -285,58 +285,58 @@ module _ (family : AddressFamily) (budget : ℕ) (asking : Asking) (begun : Posi
       room_told : (draft.groups < 255) × (draft.end + empty_set_size family + entries * entry_size family ≤ budget)
       room_told = (rooms entries some_told).0 few_entries
 
-      pub ends_within : draft.end + canonical_set_length family (stars + told.count) exceptions ≤ budget
-      ends_within = omega (arith, set_length_is family (stars + told.count) exceptions, room_told.1)
+      pub ends_within : draft.end + canonical_set_length family (stars + reported.count) exceptions ≤ budget
+      ends_within = omega (arith, set_length_is family (stars + reported.count) exceptions, room_told.1)
 
-      end_is : draft.end + canonical_set_length family (stars + told.count) exceptions ≡ message_size family (length part) (run_entries (units_of part))
+      end_is : draft.end + canonical_set_length family (stars + reported.count) exceptions ≡ message_size family (length part) (run_entries (units_of part))
       end_is =
           let size = size_more family (length made.part) (run_entries (units_of made.part)) entries in
           let counted_entries : run_entries (units_of part) ≡ run_entries (units_of made.part) + entries = entries_more made.part cut ∙ ap (λ (n : ℕ). run_entries (units_of made.part) + n) entries_told in
-          let ends : draft.end + canonical_set_length family (stars + told.count) exceptions ≡ message_size family (length made.part + 1) (run_entries (units_of made.part) + entries) =
-          omega (arith, set_length_is family (stars + told.count) exceptions, size, made.end) in
+          let ends : draft.end + canonical_set_length family (stars + reported.count) exceptions ≡ message_size family (length made.part + 1) (run_entries (units_of made.part) + entries) =
+          omega (arith, set_length_is family (stars + reported.count) exceptions, size, made.end) in
           ends ∙ ap (λ (n : ℕ). message_size family n (run_entries (units_of made.part) + entries)) (sym (groups_more made.part cut))
           ∙ ap (λ (n : ℕ). message_size family (length part) n) (sym counted_entries)
 
-      module _ (rp : piece.starred ≡ true → is_some (rp_of family asking.table piece.group) ≡ true) (front set : List ℕ) (is_front : front ≡ take draft.end bytes) (long : draft.end ≤ length bytes)
-          (size : ℕ) (sized : size ≡ canonical_set_length family (stars + told.count) exceptions)
-          (written : take (set_size family (rp_of family asking.table) cut) set ≡ canonical_set family (told_set (rp_of family asking.table) cut)) where
-        joined_counts : length (told_set (rp_of family asking.table) cut).joined ≡ stars + told.count
+      module _ (rp : piece.starred ≡ true → is_some (rp_of family demand_seen.table piece.group) ≡ true) (front set : List ℕ) (is_front : front ≡ take draft.end bytes) (long : draft.end ≤ length bytes)
+          (size : ℕ) (sized : size ≡ canonical_set_length family (stars + reported.count) exceptions)
+          (written : take (set_size family (rp_of family demand_seen.table) cut) set ≡ canonical_set family (written_set (rp_of family demand_seen.table) cut)) where
+        joined_counts : length (written_set (rp_of family demand_seen.table) cut).joined ≡ stars + reported.count
         joined_counts =
-            let counted_stars = stars_of_set (rp_of family asking.table piece.group) piece.starred (star_of piece.group asking.form) is.star rp in
+            let counted_stars = stars_of_set (rp_of family demand_seen.table piece.group) piece.starred (star_of piece.group demand_seen.form) is.star rp in
             let sources = length-map cut.sources (λ source. Source source) in
-            length-append (star_entries (rp_of family asking.table piece.group) cut.star) (map (λ source. Source source) cut.sources) ∙ omega (arith, counted_stars, is_stars, sources, told_length)
+            length-append (star_entries (rp_of family demand_seen.table piece.group) cut.star) (map (λ source. Source source) cut.sources) ∙ omega (arith, counted_stars, is_stars, sources, told_length)
 
-        pruned_counts : length (told_set (rp_of family asking.table) cut).pruned ≡ exceptions
+        pruned_counts : length (written_set (rp_of family demand_seen.table) cut).pruned ≡ exceptions
         pruned_counts = pruned_of_set cut.star ∙ sym counts
 
-        size_is : size ≡ set_size family (rp_of family asking.table) cut
+        size_is : size ≡ set_size family (rp_of family demand_seen.table) cut
         size_is = sized ∙ ap (λ (n : ℕ). canonical_set_length family n exceptions) (sym joined_counts)
-            ∙ ap (λ (n : ℕ). canonical_set_length family (length (told_set (rp_of family asking.table) cut).joined) n) (sym pruned_counts)
+            ∙ ap (λ (n : ℕ). canonical_set_length family (length (written_set (rp_of family demand_seen.table) cut).joined) n) (sym pruned_counts)
 
-        sets_are : drop (body_start family) (take (draft.end + size) (front ++ set)) ≡ flat_map (canonical_set family) (map (told_set (rp_of family asking.table)) part)
+        sets_are : drop (body_start family) (take (draft.end + size) (front ++ set)) ≡ flat_map (canonical_set family) (map (written_set (rp_of family demand_seen.table)) part)
         sets_are =
             let long_front : length front ≡ draft.end = ap length is_front ∙ length-take-le draft.end bytes long in
-            let this_set : take size set ≡ canonical_set family (told_set (rp_of family asking.table) cut) = ap (λ (n : ℕ). take n set) size_is ∙ written in
+            let this_set : take size set ≡ canonical_set family (written_set (rp_of family demand_seen.table) cut) = ap (λ (n : ℕ). take n set) size_is ∙ written in
             let starts : body_start family ≤ length front = omega (arith, long_front, begins_within) in
             ap (λ (n : ℕ). drop (body_start family) (take (n + size) (front ++ set))) (sym long_front)
             ∙ ap (drop (body_start family)) (take-append-add front set size ∙ ap (λ (l : List ℕ). front ++ l) this_set)
-            ∙ drop-append-le (body_start family) front (canonical_set family (told_set (rp_of family asking.table) cut)) starts
-            ∙ ap (λ (l : List ℕ). drop (body_start family) l ++ canonical_set family (told_set (rp_of family asking.table) cut)) is_front
-            ∙ ap (λ (l : List ℕ). l ++ canonical_set family (told_set (rp_of family asking.table) cut)) made.sets
-            ∙ ap (λ (l : List ℕ). flat_map (canonical_set family) (map (told_set (rp_of family asking.table)) made.part) ++ l) (sym (append-nil (canonical_set family (told_set (rp_of family asking.table) cut))))
-            ∙ sym (flat_map-append (canonical_set family) (map (told_set (rp_of family asking.table)) made.part) (told_set (rp_of family asking.table) cut ∷ []))
-            ∙ ap (flat_map (canonical_set family)) (sym (map-append (told_set (rp_of family asking.table)) made.part (cut ∷ [])))
+            ∙ drop-append-le (body_start family) front (canonical_set family (written_set (rp_of family demand_seen.table) cut)) starts
+            ∙ ap (λ (l : List ℕ). drop (body_start family) l ++ canonical_set family (written_set (rp_of family demand_seen.table) cut)) is_front
+            ∙ ap (λ (l : List ℕ). l ++ canonical_set family (written_set (rp_of family demand_seen.table) cut)) made.sets
+            ∙ ap (λ (l : List ℕ). flat_map (canonical_set family) (map (written_set (rp_of family demand_seen.table)) made.part) ++ l) (sym (append-nil (canonical_set family (written_set (rp_of family demand_seen.table) cut))))
+            ∙ sym (flat_map-append (canonical_set family) (map (written_set (rp_of family demand_seen.table)) made.part) (written_set (rp_of family demand_seen.table) cut ∷ []))
+            ∙ ap (flat_map (canonical_set family)) (sym (map-append (written_set (rp_of family demand_seen.table)) made.part (cut ∷ [])))
 
         -- the step, to a place behind what is told
-        to_place : (position : Position (List ℕ)) (is_full : Bool) → group_units this ++ units_of (groups_above (Some piece.group) asking.form) ≡ group_units cut ++ units_of (left_at position asking.form)
+        to_place : (position : Position (List ℕ)) (is_full : Bool) → group_units this ++ units_of (groups_above (Some piece.group) demand_seen.form) ≡ group_units cut ++ units_of (left_at position demand_seen.form)
             → IsPosition family position
             → (is_full ≡ false → (group : List ℕ) → is_past position group ≡ true → AreBefore group part)
-            → (is_full ≡ true → StopsBefore family budget (units_of part) (units_of (left_at position asking.form)))
-            → IsDraft family budget asking begun (record { position = position; groups = draft.groups + 1; end = draft.end + size; is_full = is_full }) (front ++ set)
+            → (is_full ≡ true → StopsBefore family budget (units_of part) (units_of (left_at position demand_seen.form)))
+            → IsDraft family budget demand_seen begun (record { position = position; groups = draft.groups + 1; end = draft.end + size; is_full = is_full }) (front ++ set)
         to_place position is_full units is_position goes_on stops = record {
           part = part;
-          told = made.told ∙ ap (λ (l : List WantUnit). units_of made.part ++ l) (is.units ∙ units) ∙ sym (append_assoc (units_of made.part) (group_units cut) (units_of (left_at position asking.form)))
-              ∙ ap (λ (l : List WantUnit). l ++ units_of (left_at position asking.form)) (sym (units_more made.part cut));
+          reported = made.reported ∙ ap (λ (l : List WantUnit). units_of made.part ++ l) (is.units ∙ units) ∙ sym (append_assoc (units_of made.part) (group_units cut) (units_of (left_at position demand_seen.form)))
+              ∙ ap (λ (l : List WantUnit). l ++ units_of (left_at position demand_seen.form)) (sym (units_more made.part cut));
           position = is_position;
           ascending = ascending_more made.part cut made.ascending before;
           some = all_append IsSome made.part (cut ∷ []) made.some (is_cut_some, tt);
@@ -349,28 +349,28 @@ module _ (family : AddressFamily) (budget : ℕ) (asking : Asking) (begun : Posi
           stops = stops;
         }
 
-        pub to_behind : above told.last (sources_in piece.group asking.form) ≡ []
-            → IsDraft family budget asking begun (record { position = Behind piece.group; groups = draft.groups + 1; end = draft.end + size; is_full = draft.is_full }) (front ++ set)
+        pub to_behind : above reported.last (sources_in piece.group demand_seen.form) ≡ []
+            → IsDraft family budget demand_seen begun (record { position = Behind piece.group; groups = draft.groups + 1; end = draft.end + size; is_full = draft.is_full }) (front ++ set)
         to_behind none =
-            let units : group_units this ++ units_of (groups_above (Some piece.group) asking.form) ≡ group_units cut ++ units_of (groups_above (Some piece.group) asking.form) =
-            cut_units this told.count (units_of (groups_above (Some piece.group) asking.form))
-            ∙ ap (λ (sources : List (List ℕ)). group_units cut ++ (map (source_unit piece.group) sources ++ units_of (groups_above (Some piece.group) asking.form))) (sym are.left ∙ none) in
+            let units : group_units this ++ units_of (groups_above (Some piece.group) demand_seen.form) ≡ group_units cut ++ units_of (groups_above (Some piece.group) demand_seen.form) =
+            cut_units this reported.count (units_of (groups_above (Some piece.group) demand_seen.form))
+            ∙ ap (λ (sources : List (List ℕ)). group_units cut ++ (map (source_unit piece.group) sources ++ units_of (groups_above (Some piece.group) demand_seen.form))) (sym are.left ∙ none) in
             to_place (Behind piece.group) draft.is_full units tt (λ goes group past. before_behind made.part cut group before past) (λ is_full. absurd (false≢true (sym goes ∙ is_full)))
 
-        pub to_within : HasFirst (above told.last (sources_in piece.group asking.form))
-            → IsDraft family budget asking begun (record { position = Within piece.group told.last; groups = draft.groups + 1; end = draft.end + size; is_full = true }) (front ++ set)
+        pub to_within : HasFirst (above reported.last (sources_in piece.group demand_seen.form))
+            → IsDraft family budget demand_seen begun (record { position = Within piece.group reported.last; groups = draft.groups + 1; end = draft.end + size; is_full = true }) (front ++ set)
         to_within first =
-            let behind = units_of (groups_above (Some piece.group) asking.form) in
-            let left : units_of (left_at (Within piece.group told.last) asking.form) ≡ map (source_unit piece.group) (above told.last (sources_in piece.group asking.form)) ++ behind = left_units family piece.group told.last asking.form in
-            let units : group_units this ++ behind ≡ group_units cut ++ units_of (left_at (Within piece.group told.last) asking.form) =
-            cut_units this told.count behind
+            let behind = units_of (groups_above (Some piece.group) demand_seen.form) in
+            let left : units_of (left_at (Within piece.group reported.last) demand_seen.form) ≡ map (source_unit piece.group) (above reported.last (sources_in piece.group demand_seen.form)) ++ behind = left_units family piece.group reported.last demand_seen.form in
+            let units : group_units this ++ behind ≡ group_units cut ++ units_of (left_at (Within piece.group reported.last) demand_seen.form) =
+            cut_units this reported.count behind
             ∙ ap (λ (sources : List (List ℕ)). group_units cut ++ (map (source_unit piece.group) sources ++ behind)) (sym are.left)
             ∙ ap (λ (l : List WantUnit). group_units cut ++ l) (sym left) in
-            let next : units_of (left_at (Within piece.group told.last) asking.form) ≡ source_unit piece.group first.head ∷ (map (source_unit piece.group) first.tail ++ behind) =
+            let next : units_of (left_at (Within piece.group reported.last) demand_seen.form) ≡ source_unit piece.group first.head ∷ (map (source_unit piece.group) first.tail ++ behind) =
             left ∙ ap (λ (sources : List (List ℕ)). map (source_unit piece.group) sources ++ behind) first.is in
-            let more : length (drop told.count this.sources) ≡ suc (length first.tail) = ap length (sym are.left ∙ first.is) in
-            let less : told.count < length this.sources = omega (arith, more, length-drop told.count this.sources) in
-            let most : room - (stars + exceptions) ≤ told.count = min_full (room - (stars + exceptions)) (length this.sources) told.count are.count less in
+            let more : length (drop reported.count this.sources) ≡ suc (length first.tail) = ap length (sym are.left ∙ first.is) in
+            let less : reported.count < length this.sources = omega (arith, more, length-drop reported.count this.sources) in
+            let most : room - (stars + exceptions) ≤ reported.count = min_full (room - (stars + exceptions)) (length this.sources) reported.count are.count less in
             let stop = stops_before_source counted family budget made.part made.ascending made.some cut first.head (map (source_unit piece.group) first.tail ++ behind) before is_cut_some
             (no_room room (entries_of_star cut.star + (length cut.sources + 1)) rooms (omega (arith, entries_told, some_told)) (omega (arith, star_counts, told_length, most, star))) in
-            to_place (Within piece.group told.last) true units is.group (λ goes_on. absurd (false≢true (sym goes_on))) (λ is_full. subst (StopsBefore family budget (units_of part)) (sym next) stop)
+            to_place (Within piece.group reported.last) true units is.group (λ goes_on. absurd (false≢true (sym goes_on))) (λ is_full. subst (StopsBefore family budget (units_of part)) (sym next) stop)

@@ -11,7 +11,7 @@ use Rattle.pim_down.specs.declared.machines.machine.Record.{Record}
 use Rattle.pim_down.specs.After.{is_above}
 use Rattle.pim_down.specs.Hearing.{is_rpt_on, rpt_count_on}
 use Rattle.pim_down.specs.Key.{address_cmp, source_of}
-use Rattle.pim_down.specs.Laws.{KeysAreToldApart}
+use Rattle.pim_down.specs.Laws.{KeysAreDistinct}
 use Rattle.pim_down.specs.Records.{machine_at}
 use Rattle.pim_down.specs.Time.{Downstream}
 use Rattle.pim_form.specs.NormalForm.{AreAscending, same_address}
@@ -56,7 +56,7 @@ above_nothing : (xs : List (List ℕ)) → AllPass (is_above None) xs
 above_nothing [] = tt
 above_nothing (x ∷ xs) = (refl, above_nothing xs)
 
-module _ (apart : KeysAreToldApart) (state : Downstream) (port : ℕ) (group : List ℕ) where
+module _ (apart : KeysAreDistinct) (state : Downstream) (port : ℕ) (group : List ℕ) where
   abbrev source : Record (List ℕ) → List ℕ
   source held = source_of held.key.what
 

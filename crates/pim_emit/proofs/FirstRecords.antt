@@ -9,7 +9,7 @@ use Rattle.pim_down.specs.declared.machines.key.Key.{Key}
 use Rattle.pim_down.specs.declared.machines.machine.Machine.{Machine}
 use Rattle.pim_down.specs.declared.machines.machine.Record.{Record}
 use Rattle.pim_down.specs.Key.{rank, source_of, what_cmp, key_cmp, same_key}
-use Rattle.pim_down.specs.Laws.{KeysAreToldApart}
+use Rattle.pim_down.specs.Laws.{KeysAreDistinct}
 use Rattle.pim_down.specs.Records.{IsBelow, IsAscending, machine_at}
 use Rattle.pim_emit.proofs.Addresses.{itself}
 use Rattle.pim_emit.proofs.Above.{found_here, found_later, some_found, by_test}
@@ -19,7 +19,7 @@ unfolding key_cmp what_cmp
 key_itself key =
     rw (tied_itself nat_cmp_total key.port, itself key.group, tied_itself nat_cmp_total (rank key.what)) (itself (source_of key.what))
 
-module _ (apart : KeysAreToldApart) where
+module _ (apart : KeysAreDistinct) where
   -- ---- the machine of a key
 
   below_at : (low key : Key (List ℕ)) (machine : Machine) (records : List (Record (List ℕ))) → IsBelow low records → machine_at key records ≡ Some machine → key_cmp low key ≡ Less

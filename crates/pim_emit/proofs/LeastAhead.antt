@@ -9,7 +9,7 @@ use Rattle.pim_down.specs.After.{is_above}
 use Rattle.pim_down.specs.Key.{address_cmp}
 use Rattle.pim_down.specs.Time.{Downstream}
 use Rattle.pim_form.specs.Wants.{some_below}
-use Rattle.pim_emit.specs.Ahead.{is_this, IsNextOn, IsNextSource, SourceAhead, its_source, AreNext, LeastSeen, source_told, IsLeastBelow, AreLeastBelow}
+use Rattle.pim_emit.specs.Ahead.{is_this, IsNextOn, IsNextSource, SourceAhead, its_source, AreNext, LeastSeen, source_of_least, IsLeastBelow, AreLeastBelow}
 use Rattle.pim_emit.specs.Machines.{is_source_joined}
 use Rattle.pim_emit.proofs.Above.{by_test}
 use Rattle.pim_emit.proofs.Addresses.{equal_is, itself, same_is, back}
@@ -104,7 +104,7 @@ module _ (state : Downstream) (group : List ℕ) (bound : Option (List ℕ)) (ne
   is_up_to least source port (Some next) is up_to comes = up_to_trans least next source up_to (is.1 source comes)
 
   -- the least of what comes next on each port comes next of all
-  pub least_is_next : (least : Option LeastSeen) → AreLeastBelow state.ports nexts least → IsNextSource state group bound (source_told least)
+  pub least_is_next : (least : Option LeastSeen) → AreLeastBelow state.ports nexts least → IsNextSource state group bound (source_of_least least)
   least_is_next None none = λ source.
       by_test (some_below state.ports (comes_on source))
       (λ e.

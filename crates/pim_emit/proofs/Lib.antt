@@ -21,7 +21,7 @@ pub mod Writing
 pub mod SetWritten
 pub mod Pieces
 pub mod Gone
-pub mod Telling
+pub mod Action
 pub mod DraftSizes
 pub mod DraftSteps
 pub mod TooBigSteps

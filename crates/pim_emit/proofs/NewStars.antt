@@ -95,8 +95,8 @@ module _ (family : AddressFamily) (budget : ℕ) (last : List GroupForm) where
       at_first group is rest = by (star_fits family budget it.group it.star) refl (sym (ap big next.first) ∙ is)
         where
           by : (b : Bool) → star_fits family budget it.group it.star ≡ b → cond b (big those) (Some it.group) ≡ Some group → IsNextBig bound group
-          by true fits told = later fits group (rest told)
-          by false large told =
+          by true fits reported = later fits group (rest reported)
+          by false large reported =
               let same : first ≡ group = (let e : it.group ≡ group = cc in sym next.named ∙ e) in
               subst (λ (g : List ℕ). IsNextBig bound g) same (here large)
 
@@ -110,7 +110,7 @@ module _ (family : AddressFamily) (budget : ℕ) (last : List GroupForm) where
         by [] short clash = some_isnt_none group clash
         by (first ∷ groups) short clash = omega (arith, short)
     search_on (suc most) bound group within is =
-        on (next_above bound (groups_of form)) refl (λ first found told. search_on most (Some first) group (omega (arith, within, fewer_groups bound form ascending first found)) told)
+        on (next_above bound (groups_of form)) refl (λ first found reported. search_on most (Some first) group (omega (arith, within, fewer_groups bound form ascending first found)) reported)
       where
         on : (next : Option (List ℕ)) → next_above bound (groups_of form) ≡ next
             → ((first : List ℕ) → next_above bound (groups_of form) ≡ Some first → big (groups_above (Some first) form) ≡ Some group → IsNextBig (Some first) group)

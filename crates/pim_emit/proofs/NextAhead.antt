@@ -11,7 +11,7 @@ use Rattle.pim_down.specs.Key.{address_cmp}
 use Rattle.pim_down.specs.Sound.{IsSound}
 use Rattle.pim_down.specs.Time.{Downstream}
 use Rattle.pim_form.specs.Wants.{some_below}
-use Rattle.pim_emit.specs.Ahead.{is_this, IsNextOn, IsNextSource, SourceAhead, its_source, IsAheadOn, AreNext, TellsNext}
+use Rattle.pim_emit.specs.Ahead.{is_this, IsNextOn, IsNextSource, SourceAhead, its_source, IsAheadOn, AreNext, FindsNext}
 use Rattle.pim_emit.specs.Machines.{is_source_joined}
 use Rattle.pim_emit.proofs.Addresses.{lt_less, above_less, le_above}
 use Rattle.pim_emit.proofs.Above.{by_test}
@@ -77,11 +77,11 @@ with_left new source = record { source = source; left = new }
 
 -- behind what came next on the port comes next what its machines tell
 pub goes_on : (state : Downstream) (group : List ℕ) (port : ℕ) (bound : Option (List ℕ)) (family : AddressFamily) → IsSound family state → (ahead : SourceAhead) (new : MachinesLeft) (next : Option (List ℕ)) → IsAheadOn state group bound port (Some ahead)
-    → TellsNext family ahead.left new next → IsAheadOn state group (Some ahead.source) port (option_map (with_left new) next)
+    → FindsNext family ahead.left new next → IsAheadOn state group (Some ahead.source) port (option_map (with_left new) next)
 goes_on state group port bound family sound ahead new None was tells = record { next = (tells state port group (Some ahead.source) sound was.left).0; left = tt }
 goes_on state group port bound family sound ahead new (Some source) was tells =
-    let told = tells state port group (Some ahead.source) sound was.left in
-    record { next = told.0; left = told.1 }
+    let reported = tells state port group (Some ahead.source) sound was.left in
+    record { next = reported.0; left = reported.1 }
 
 -- where it comes next on one port alone, what comes next on the others comes next behind it
 pub passes_alone : (state : Downstream) (group : List ℕ) (bound : Option (List ℕ)) (passed : List ℕ) → IsNextSource state group bound (Some passed) → (nexts : List (Option SourceAhead)) (port : ℕ) (new : Option SourceAhead) → port < length nexts → AreNext state group bound nexts

@@ -16,9 +16,9 @@ use Rattle.pim_down.specs.declared.machines.machine.Record.{Record}
 use Rattle.pim_down.specs.declared.machines.machine.State.{State}
 use Rattle.pim_down.specs.declared.machines.machine.State.TheVariants.{Join, PrunePending, Prune, PruneTmp, PrunePendingTmp}
 use Rattle.pim_down.specs.Key.{address_cmp, what_cmp, key_cmp}
-use Rattle.pim_down.specs.Laws.{KeysAreToldApart}
+use Rattle.pim_down.specs.Laws.{KeysAreDistinct}
 use Rattle.pim_down.specs.Records.{IsAscending, machine_at, state_of_machine}
-use Rattle.pim_down.specs.Seen.{what_seen, told_seen}
+use Rattle.pim_down.specs.Seen.{what_seen, record_of_seen}
 use Rattle.pim_down.specs.Sound.{IsSound, IsReal, joined_or_pending}
 use Rattle.pim_down.specs.Time.{Downstream}
 use Rattle.pim_form.specs.Wants.{is_joined, state_on}
@@ -87,7 +87,7 @@ record IsKind (records : List (Record (List ℕ))) (port : ℕ) (group : List �
   tells : (a : List ℕ) → test a ≡ true → (machine : Machine) × (machine_at (key_of port group (kind a)) records ≡ Some machine)
   beyond : (this : What (List ℕ)) → ((a : List ℕ) → this ≡ kind a → ⊥) → is_lt (what_cmp what this) ≡ true → (a : List ℕ) → is_le (what_cmp this (kind a)) ≡ false
 
-module _ (apart : KeysAreToldApart) {records : List (Record (List ℕ))} {port : ℕ} {group : List ℕ} {what : What (List ℕ)} {bound : Option (List ℕ)} {kind : List ℕ → What (List ℕ)} {test : List ℕ → Bool}
+module _ (apart : KeysAreDistinct) {records : List (Record (List ℕ))} {port : ℕ} {group : List ℕ} {what : What (List ℕ)} {bound : Option (List ℕ)} {kind : List ℕ → What (List ℕ)} {test : List ℕ → Bool}
     (is : IsKind records port group what bound kind test) (up : IsAscending records) where
   abbrev over_bound : List ℕ → Bool
   over_bound a = is_above bound a && test a
@@ -160,7 +160,7 @@ pub joined_is_some : (state : Option State) → is_joined state ≡ true → is_
 joined_is_some None e = e
 joined_is_some (Some state) e = refl
 
-module _ (apart : KeysAreToldApart) (family : AddressFamily) (state : Downstream) (sound : IsSound family state) (port : ℕ) (group : List ℕ) where
+module _ (apart : KeysAreDistinct) (family : AddressFamily) (state : Downstream) (sound : IsSound family state) (port : ℕ) (group : List ℕ) where
   -- a source whose machine is held is joined
   source_is_joined : (source : List ℕ) (machine : Machine) → machine_at (key_of port group (Source source)) state.records ≡ Some machine → is_source_joined state group source port ≡ true
   source_is_joined source machine held =
@@ -190,12 +190,12 @@ module _ (apart : KeysAreToldApart) (family : AddressFamily) (state : Downstream
 -- ---- machines that are told one after another
 
 module _ (state : Downstream) (port : ℕ) (group : List ℕ) (what : What (List ℕ)) (old : MachinesLeft) (was : old ≡ machines_behind state port group what) where
-  pub told_next : {A : Type 0} (bytes_of : A → List ℕ) (result found : Option (Record A)) → option_map (told_seen bytes_of) result ≡ next_machine old → result ≡ found
-      → next_in_group port group what state.records ≡ option_map (told_seen bytes_of) found
-  told_next bytes_of result found told is = sym (ap next_machine was) ∙ sym told ∙ ap (option_map (told_seen bytes_of)) is
+  pub told_next : {A : Type 0} (bytes_of : A → List ℕ) (result found : Option (Record A)) → option_map (record_of_seen bytes_of) result ≡ next_machine old → result ≡ found
+      → next_in_group port group what state.records ≡ option_map (record_of_seen bytes_of) found
+  told_next bytes_of result found reported is = sym (ap next_machine was) ∙ sym reported ∙ ap (option_map (record_of_seen bytes_of)) is
 
   -- those behind the one that was told, of which the group and the port are these
-  pub left_of : KeysAreToldApart → (new : MachinesLeft) (found : Record (List ℕ)) (this : What (List ℕ)) → new ≡ left_behind old (next_machine old)
+  pub left_of : KeysAreDistinct → (new : MachinesLeft) (found : Record (List ℕ)) (this : What (List ℕ)) → new ≡ left_behind old (next_machine old)
       → next_in_group port group what state.records ≡ Some found → found.key.what ≡ this → new ≡ machines_behind state port group this
   left_of apart new found this left next is =
       let same : found.key ≡ key_of port group this = same_key_of port group what found.key (found_passes apart (after port group what) state.records found next) ∙ ap (λ w. key_of port group w) is in
@@ -220,7 +220,7 @@ after_rpts bound Star other less a = absurd (false≢true less)
 after_rpts bound (Source b) other less a = absurd (false≢true less)
 after_rpts bound (Rpt b) other less a = absurd (other b refl)
 
-module _ (apart : KeysAreToldApart) (family : AddressFamily) (state : Downstream) (sound : IsSound family state) (port : ℕ) (group bound : List ℕ) where
+module _ (apart : KeysAreDistinct) (family : AddressFamily) (state : Downstream) (sound : IsSound family state) (port : ℕ) (group bound : List ℕ) where
   rpts : IsKind state.records port group (Rpt bound) (Some bound) Rpt (has_rpt state port group)
   rpts = record {
     order = rpts_order;

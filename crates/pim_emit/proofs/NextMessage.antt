@@ -13,8 +13,8 @@ use Rattle.pim_frame.specs.Frame.{all_routers}
 use Rattle.pim_frame.specs.Seal.{IsSealed}
 use Rattle.pim_frame.specs.declared.frame.MessageType.TheVariants.{JoinPrune}
 use Rattle.pim_jp.specs.Canonical.{canonical_head, canonical}
-use Rattle.pim_form.specs.Asked.{GroupsAreCounted}
-use Rattle.pim_form.specs.Messages.{Writing, told_set, told_message}
+use Rattle.pim_form.specs.Demanded.{GroupsAreCounted}
+use Rattle.pim_form.specs.Messages.{Writing, written_set, written_message}
 use Rattle.pim_form.specs.NormalForm.{GroupForm, is_empty}
 use Rattle.pim_form.specs.Packing.{fits, IsNonempty, StopsBefore}
 use Rattle.pim_form.specs.TooBig.{star_fits, too_big}
@@ -22,7 +22,7 @@ use Rattle.pim_form.specs.Units.{WantUnit, star_unit, source_unit, star_units, u
 use Rattle.pim_emit.specs.declared.draft.Draft.{Draft}
 use Rattle.pim_emit.specs.declared.position.Position.{Position}
 use Rattle.pim_emit.specs.declared.position.Position.TheVariants.{Start, Within, Behind}
-use Rattle.pim_emit.specs.Asking.{Asking}
+use Rattle.pim_emit.specs.DemandSeen.{DemandSeen}
 use Rattle.pim_addr.specs.Routes.{rp_of}
 use Rattle.pim_emit.specs.Drafts.{body_start, message_size, IsDraft, IsMessage}
 use Rattle.pim_emit.specs.Left.{left_at, IsPosition}
@@ -43,12 +43,12 @@ begins_empty Ipv6 = refl
 no_sets : (n : ℕ) (bytes : List ℕ) → drop n (take n bytes) ≡ []
 no_sets n bytes = drop_all n (take n bytes) (omega (arith, length-take n bytes))
 
-pub draft_begins : (family : AddressFamily) (budget : ℕ) (asking : Asking) (position : Position (List ℕ)) (bytes : List ℕ) → IsPosition family position → 70 ≤ budget
-    → IsDraft family budget asking position (record { position = position; groups = 0; end = body_start family; is_full = false }) bytes
+pub draft_begins : (family : AddressFamily) (budget : ℕ) (demand_seen : DemandSeen) (position : Position (List ℕ)) (bytes : List ℕ) → IsPosition family position → 70 ≤ budget
+    → IsDraft family budget demand_seen position (record { position = position; groups = 0; end = body_start family; is_full = false }) bytes
 unfolding IsStrictlySortedBy
-draft_begins family budget asking position bytes is least = record {
+draft_begins family budget demand_seen position bytes is least = record {
   part = [];
-  told = refl;
+  reported = refl;
   position = is;
   ascending = tt;
   some = tt;
@@ -107,16 +107,16 @@ first_fits family budget counted least (this ∷ form) all first left is =
         let head : star_unit this.group exceptions ≡ first = cc in
         subst (λ (u : WantUnit). fits family budget (u ∷ []) ≡ true) head fit
 
-pub nothing_left : (family : AddressFamily) (budget : ℕ) (asking : Asking) (begun : Position (List ℕ)) (draft : Draft (List ℕ)) (bytes : List ℕ) → GroupsAreCounted → 70 ≤ budget
-    → too_big family budget asking.form ≡ None → IsDraft family budget asking begun draft bytes → draft.is_full ≡ true → draft.groups ≡ 0 → units_of (left_at begun asking.form) ≡ []
-nothing_left family budget asking begun draft bytes counted least fitting is full none =
-    is.told ∙ by is.part (units_of (left_at draft.position asking.form)) refl (is.stops full) (sym is.groups ∙ none)
+pub nothing_left : (family : AddressFamily) (budget : ℕ) (demand_seen : DemandSeen) (begun : Position (List ℕ)) (draft : Draft (List ℕ)) (bytes : List ℕ) → GroupsAreCounted → 70 ≤ budget
+    → too_big family budget demand_seen.form ≡ None → IsDraft family budget demand_seen begun draft bytes → draft.is_full ≡ true → draft.groups ≡ 0 → units_of (left_at begun demand_seen.form) ≡ []
+nothing_left family budget demand_seen begun draft bytes counted least fitting is full none =
+    is.reported ∙ by is.part (units_of (left_at draft.position demand_seen.form)) refl (is.stops full) (sym is.groups ∙ none)
   where
-    by : (part : List GroupForm) (left : List WantUnit) → units_of (left_at draft.position asking.form) ≡ left → StopsBefore family budget (units_of part) left → length part ≡ 0 → units_of part ++ left ≡ []
+    by : (part : List GroupForm) (left : List WantUnit) → units_of (left_at draft.position demand_seen.form) ≡ left → StopsBefore family budget (units_of part) left → length part ≡ 0 → units_of part ++ left ≡ []
     by [] [] e stops count = refl
     by [] (first ∷ left) e stops count =
-        absurd (false≢true (sym stops ∙ first_fits family budget counted least (left_at draft.position asking.form)
-        (left_fits family budget draft.position asking.form (all_fit family budget asking.form fitting)) first left e))
+        absurd (false≢true (sym stops ∙ first_fits family budget counted least (left_at draft.position demand_seen.form)
+        (left_fits family budget draft.position demand_seen.form (all_fit family budget demand_seen.form fitting)) first left e))
     by (this ∷ part) left e stops count = absurd (omega (arith, count))
 
 -- ---- a message with groups
@@ -130,18 +130,18 @@ nonempty (this ∷ part) some not_none = by this.star this.sources some.0
     by None (s ∷ sources) e = tt
     by (Some exceptions) sources e = tt
 
-pub message_made : (family : AddressFamily) (writing : Writing) (asking : Asking) (begun : Position (List ℕ)) (draft : Draft (List ℕ)) (bytes sealed : List ℕ) (sets : ℕ) → GroupsAreCounted
-    → IsDraft family writing.budget asking begun draft bytes → draft.is_full ≡ true → (draft.groups ≡ 0 → ⊥)
+pub message_made : (family : AddressFamily) (writing : Writing) (demand_seen : DemandSeen) (begun : Position (List ℕ)) (draft : Draft (List ℕ)) (bytes sealed : List ℕ) (sets : ℕ) → GroupsAreCounted
+    → IsDraft family writing.budget demand_seen begun draft bytes → draft.is_full ≡ true → (draft.groups ≡ 0 → ⊥)
     → sets ≡ draft.groups
     → IsSealed family writing.own (all_routers family) JoinPrune (canonical_head family writing.upstream sets writing.holdtime ++ drop (body_start family) (take draft.end bytes)) sealed
-    → IsMessage family writing asking begun draft.position sealed
-message_made family writing asking begun draft bytes sealed sets counted is full some sets_are seal =
-    let count : sets ≡ length (map (told_set (rp_of family asking.table)) is.part) = sets_are ∙ is.groups ∙ sym (length-map is.part (told_set (rp_of family asking.table))) in
-    let body : canonical_head family writing.upstream sets writing.holdtime ++ drop (body_start family) (take draft.end bytes) ≡ canonical family (told_message writing (rp_of family asking.table) is.part) =
+    → IsMessage family writing demand_seen begun draft.position sealed
+message_made family writing demand_seen begun draft bytes sealed sets counted is full some sets_are seal =
+    let count : sets ≡ length (map (written_set (rp_of family demand_seen.table)) is.part) = sets_are ∙ is.groups ∙ sym (length-map is.part (written_set (rp_of family demand_seen.table))) in
+    let body : canonical_head family writing.upstream sets writing.holdtime ++ drop (body_start family) (take draft.end bytes) ≡ canonical family (written_message writing (rp_of family demand_seen.table) is.part) =
     λ i. canonical_head family writing.upstream (count i) writing.holdtime ++ is.sets i in
     record {
       run = units_of is.part;
-      units = is.told;
+      units = is.reported;
       some = nonempty is.part is.some (λ none. some (is.groups ∙ none));
       fitting = fits_by counted family writing.budget is.part is.ascending is.some (omega (arith, is.end, is.within), omega (arith, is.groups, is.few));
       stops = is.stops full;

@@ -12,13 +12,13 @@ use Rattle.pim_addr.specs.Encoded.{group_length, source_length}
 use Rattle.pim_jp.specs.declared.entry.Entry.{Entry}
 use Rattle.pim_jp.specs.declared.entry.Entry.TheVariants.{Source, Rpt}
 use Rattle.pim_jp.specs.Canonical.{canonical_entry}
-use Rattle.pim_form.specs.Messages.{star_entries, excepted_entries, told_set}
+use Rattle.pim_form.specs.Messages.{star_entries, excepted_entries, written_set}
 use Rattle.pim_form.specs.NormalForm.{GroupForm}
 use Rattle.pim_form.specs.Rows.{exceptions_of}
 use Rattle.pim_emit.specs.declared.piece.Piece.{Piece}
-use Rattle.pim_emit.specs.declared.set.ToldSources.{ToldSources}
+use Rattle.pim_emit.specs.declared.set.WrittenSources.{WrittenSources}
 use Rattle.pim_emit.specs.Left.{piece_form}
-use Rattle.pim_emit.specs.Sets.{source_entries, exception_entries, set_entries, entry_count, set_size, cut_piece, AreTold}
+use Rattle.pim_emit.specs.Sets.{source_entries, exception_entries, set_entries, entry_count, set_size, cut_piece, AreWritten}
 
 joined_spelled : (family : AddressFamily) (entries : List (Entry (List ℕ))) (sources : List (List ℕ))
     → flat_map (canonical_entry family) (entries ++ map (λ source. Source source) sources) ≡ flat_map (canonical_entry family) entries ++ source_entries family sources
@@ -34,14 +34,14 @@ pub pruned_count : (star : Option (List (List ℕ))) → length (excepted_entrie
 pruned_count None = refl
 pruned_count (Some exceptions) = length-map exceptions (λ source. Rpt source)
 
-pub joined_count : (rps : List ℕ → Option (List ℕ)) (this : GroupForm) → length (told_set rps this).joined ≡ length (star_entries (rps this.group) this.star) + length this.sources
+pub joined_count : (rps : List ℕ → Option (List ℕ)) (this : GroupForm) → length (written_set rps this).joined ≡ length (star_entries (rps this.group) this.star) + length this.sources
 joined_count rps this =
     omega (arith, length-append (star_entries (rps this.group) this.star) (map (λ source. Source source) this.sources), length-map this.sources (λ source. Source source))
 
 -- as many sources are told as were counted
-pub told_count : (piece : Piece (List ℕ)) (form : List GroupForm) (most : ℕ) (told : ToldSources (List ℕ)) → AreTold piece form most told
-    → length (cut_piece told.count piece form).sources ≡ told.count
-told_count piece form most told are = omega (arith, are.count, length-take told.count (piece_form piece form).sources)
+pub told_count : (piece : Piece (List ℕ)) (form : List GroupForm) (most : ℕ) (reported : WrittenSources (List ℕ)) → AreWritten piece form most reported
+    → length (cut_piece reported.count piece form).sources ≡ reported.count
+told_count piece form most reported are = omega (arith, are.count, length-take reported.count (piece_form piece form).sources)
 
 module _ (family : AddressFamily) (rps : List ℕ → Option (List ℕ)) (this : GroupForm) (stars count size : ℕ) (first second third : List ℕ)
     (starred : stars ≡ length (star_entries (rps this.group) this.star)) (counted : length this.sources ≡ count)
@@ -71,17 +71,17 @@ all_exceptions false star e = absurd cc
 -- ---- the set
 
 pub set_written : (counted : ℕ → List ℕ) (family : AddressFamily) (rps : List ℕ → Option (List ℕ)) (this : GroupForm) (front entries : List ℕ) (joined pruned : ℕ)
-    → joined ≡ length (told_set rps this).joined → pruned ≡ length (told_set rps this).pruned
+    → joined ≡ length (written_set rps this).joined → pruned ≡ length (written_set rps this).pruned
     → length front ≡ group_length family + 4
     → front ≡ canonical_group family this.group ++ counted joined ++ counted pruned
     → take (entry_count family rps this * source_length family) entries ≡ set_entries family rps this
     → take (set_size family rps this) (front ++ entries)
-    ≡ canonical_group family this.group ++ counted (length (told_set rps this).joined) ++ counted (length (told_set rps this).pruned)
-    ++ flat_map (canonical_entry family) (told_set rps this).joined ++ flat_map (canonical_entry family) (told_set rps this).pruned
+    ≡ canonical_group family this.group ++ counted (length (written_set rps this).joined) ++ counted (length (written_set rps this).pruned)
+    ++ flat_map (canonical_entry family) (written_set rps this).joined ++ flat_map (canonical_entry family) (written_set rps this).pruned
 set_written counted family rps this front entries joined pruned joins prunes long is written =
     let size : set_size family rps this ≡ length front + entry_count family rps this * source_length family = grind (arith, long) in
     ap (λ n. take n (front ++ entries)) size ∙ take-append-add front entries (entry_count family rps this * source_length family)
     ∙ ap (λ bytes. front ++ bytes) written
     ∙ ap (λ bytes. bytes ++ set_entries family rps this) (is ∙ (λ i. canonical_group family this.group ++ counted (joins i) ++ counted (prunes i)))
-    ∙ sym (append_assoc (canonical_group family this.group ++ counted (length (told_set rps this).joined) ++ counted (length (told_set rps this).pruned))
-    (flat_map (canonical_entry family) (told_set rps this).joined) (flat_map (canonical_entry family) (told_set rps this).pruned))
+    ∙ sym (append_assoc (canonical_group family this.group ++ counted (length (written_set rps this).joined) ++ counted (length (written_set rps this).pruned))
+    (flat_map (canonical_entry family) (written_set rps this).joined) (flat_map (canonical_entry family) (written_set rps this).pruned))

@@ -5,7 +5,7 @@ use Rattle.std.specs.Option.{is_some}
 use Rattle.pim_addr.specs.Address.{IsGroupAddress}
 use Rattle.pim_addr.specs.declared.family.AddressFamily.{AddressFamily}
 use Rattle.pim_addr.specs.declared.family.AddressFamily.TheVariants.{Ipv4, Ipv6}
-use Rattle.pim_form.specs.Asked.{GroupsAreCounted}
+use Rattle.pim_form.specs.Demanded.{GroupsAreCounted}
 use Rattle.pim_form.specs.NormalForm.{GroupForm, AreAscending, IsNormal, IsNormalGroup, groups_of}
 use Rattle.pim_form.specs.Rows.{exceptions_of}
 use Rattle.pim_form.specs.Settled.{group_in}

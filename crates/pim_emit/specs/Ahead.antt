@@ -47,8 +47,8 @@ passed (Some source) = Source source
 
 -- If the old machines are those after a bound, then `next` is the least joined source above it, and
 -- the new machines are those after `next`.
-abbrev pub TellsNext : AddressFamily → MachinesLeft → MachinesLeft → Option (List ℕ) → Type 0
-TellsNext family old new next = (state : Downstream) (port : ℕ) (group : List ℕ) (bound : Option (List ℕ)) →
+abbrev pub FindsNext : AddressFamily → MachinesLeft → MachinesLeft → Option (List ℕ) → Type 0
+FindsNext family old new next = (state : Downstream) (port : ℕ) (group : List ℕ) (bound : Option (List ℕ)) →
     IsSound family state → old ≡ machines_behind state port group (passed bound) →
     IsNextOn state group bound port next × IfSome next (λ source. new ≡ machines_behind state port group (Source source))
 
@@ -94,8 +94,8 @@ abbrev pub least_seen : {A : Type 0} → (A → List ℕ) → LeastAhead A → L
 least_seen bytes_of least = record { source = bytes_of least.source; port = least.port; is_alone = least.is_alone }
 
 -- The least source, if one comes next.
-abbrev pub source_told : Option LeastSeen → Option (List ℕ)
-source_told least = option_map (λ (this : LeastSeen). this.source) least
+abbrev pub source_of_least : Option LeastSeen → Option (List ℕ)
+source_of_least least = option_map (λ (this : LeastSeen). this.source) least
 
 -- Of the sources that come next on the first `count` ports this is the least, and it comes next on
 -- its port. If it is alone, it comes next on no other of these ports.

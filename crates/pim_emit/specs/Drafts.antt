@@ -10,10 +10,10 @@ use Rattle.pim_jp.specs.Canonical.{canonical_set, canonical_head_length}
 use Rattle.pim_form.specs.NormalForm.{GroupForm, AreAscending, groups_of, is_empty}
 use Rattle.pim_form.specs.Units.{WantUnit, units_of, run_entries, empty_message_size, empty_set_size, entry_size}
 use Rattle.pim_form.specs.Packing.{fits, IsNonempty, StopsBefore}
-use Rattle.pim_form.specs.Messages.{Writing, TellsRun, told_set}
+use Rattle.pim_form.specs.Messages.{Writing, CarriesRun, written_set}
 use Rattle.pim_emit.specs.declared.position.Position.{Position}
 use Rattle.pim_emit.specs.declared.draft.Draft.{Draft}
-use Rattle.pim_emit.specs.Asking.{Asking}
+use Rattle.pim_emit.specs.DemandSeen.{DemandSeen}
 use Rattle.pim_addr.specs.Routes.{rp_of}
 use Rattle.pim_emit.specs.Left.{left_at, is_past, IsPosition, position_seen}
 
@@ -35,14 +35,14 @@ abbrev pub message_size : AddressFamily → ℕ → ℕ → ℕ
 message_size family groups entries =
     empty_message_size family + groups * empty_set_size family + entries * entry_size family
 
-module _ (family : AddressFamily) (budget : ℕ) (asking : Asking) where
+module _ (family : AddressFamily) (budget : ℕ) (demand_seen : DemandSeen) where
   -- The message began at the position `begun`. The units written are those of `part`, whose sets
   -- are in the buffer; the units after the draft's position are left. A full draft has no room for
   -- the next unit, or no unit is left.
   pub record IsDraft (begun : Position (List ℕ)) (draft : Draft (List ℕ)) (bytes : List ℕ) : Type 0 where
     pub part : List GroupForm
-    pub told : units_of (left_at begun asking.form)
-        ≡ units_of part ++ units_of (left_at draft.position asking.form)
+    pub reported : units_of (left_at begun demand_seen.form)
+        ≡ units_of part ++ units_of (left_at draft.position demand_seen.form)
     pub position : IsPosition family draft.position
     pub ascending : AreAscending (groups_of part)
     pub some : AllByRecursion (λ this. is_empty this.star this.sources ≡ false) part
@@ -51,11 +51,11 @@ module _ (family : AddressFamily) (budget : ℕ) (asking : Asking) where
     pub end : draft.end ≡ message_size family (length part) (run_entries (units_of part))
     pub within : draft.end ≤ budget
     pub sets : drop (body_start family) (take draft.end bytes)
-        ≡ flat_map (canonical_set family) (map (told_set (rp_of family asking.table)) part)
+        ≡ flat_map (canonical_set family) (map (written_set (rp_of family demand_seen.table)) part)
     pub goes_on : draft.is_full ≡ false → (group : List ℕ) → is_past draft.position group ≡ true →
         AllByRecursion (λ this. address_cmp this.group group ≡ Less) part
     pub stops : draft.is_full ≡ true →
-        StopsBefore family budget (units_of part) (units_of (left_at draft.position asking.form))
+        StopsBefore family budget (units_of part) (units_of (left_at draft.position demand_seen.form))
 
   -- The draft began at some position.
   pub record IsBegun (draft : Draft (List ℕ)) (bytes : List ℕ) : Type 0 where
@@ -65,23 +65,23 @@ module _ (family : AddressFamily) (budget : ℕ) (asking : Asking) where
   -- A count that falls with each step: the units that are left, and one until the draft is full.
   abbrev pub steps_left : Draft (List ℕ) → ℕ
   steps_left draft =
-      length (units_of (left_at draft.position asking.form)) + (if draft.is_full then 0 else 1)
+      length (units_of (left_at draft.position demand_seen.form)) + (if draft.is_full then 0 else 1)
 
 -- ---- the message that comes next
 
-module _ (family : AddressFamily) (writing : Writing) (asking : Asking) where
+module _ (family : AddressFamily) (writing : Writing) (demand_seen : DemandSeen) where
   -- These bytes are the Join/Prune message of the units between two positions: at least one, and as
   -- many as fit.
   pub record IsMessage (from to : Position (List ℕ)) (bytes : List ℕ) : Type 0 where
     pub run : List WantUnit
-    pub units : units_of (left_at from asking.form) ≡ run ++ units_of (left_at to asking.form)
+    pub units : units_of (left_at from demand_seen.form) ≡ run ++ units_of (left_at to demand_seen.form)
     pub some : IsNonempty run
     pub fitting : fits family writing.budget run ≡ true
-    pub stops : StopsBefore family writing.budget run (units_of (left_at to asking.form))
-    pub tells : TellsRun family writing (rp_of family asking.table) run bytes
+    pub stops : StopsBefore family writing.budget run (units_of (left_at to demand_seen.form))
+    pub tells : CarriesRun family writing (rp_of family demand_seen.table) run bytes
     pub position : IsPosition family to
 
   -- The message is at the front of the bytes, with this length; `None` if no unit is left.
   abbrev pub IsNext : Position (List ℕ) → Position (List ℕ) → List ℕ → Option ℕ → Type 0
-  IsNext from to bytes None = units_of (left_at from asking.form) ≡ []
+  IsNext from to bytes None = units_of (left_at from demand_seen.form) ≡ []
   IsNext from to bytes (Some length) = IsMessage from to (take length bytes)

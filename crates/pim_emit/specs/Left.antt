@@ -70,7 +70,7 @@ IsPosition family (Behind group) = Unit {0}
 abbrev pub is_past : Position (List ℕ) → List ℕ → Bool
 is_past Start group = true
 is_past (Within begun source) group = true
-is_past (Behind told) group = is_above (Some told) group
+is_past (Behind reported) group = is_above (Some reported) group
 
 -- ---- the next piece of a group
 

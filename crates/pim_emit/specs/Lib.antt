@@ -1,4 +1,4 @@
-pub mod Asking
+pub mod DemandSeen
 pub mod Least
 pub mod Machines
 pub mod Stars

@@ -6,7 +6,7 @@ use Rattle.pim_down.specs.Records.{is_on}
 use Rattle.pim_down.specs.Time.{Downstream}
 use Rattle.pim_form.specs.NormalForm.{same_address}
 use Rattle.pim_form.specs.Wants.{is_joined, state_on, some_below}
-use Rattle.pim_emit.specs.declared.machines.Held.{Held}
+use Rattle.pim_emit.specs.declared.machines.HeldMachine.{HeldMachine}
 
 -- Whether the port is in joins(*,G): it has (*,G) in Join or Prune-Pending (RFC 7761, 4.1).
 abbrev pub is_starred : Downstream → List ℕ → ℕ → Bool
@@ -31,5 +31,5 @@ IsSomeBelow count test None = some_below count test ≡ false
 IsSomeBelow count test (Some port) = (port < count) × (test port ≡ true)
 
 -- The source of an (S,G,rpt) machine, as its bytes.
-abbrev pub source_held : {A : Type 0} → (A → List ℕ) → Held A → List ℕ
+abbrev pub source_held : {A : Type 0} → (A → List ℕ) → HeldMachine A → List ℕ
 source_held bytes_of held = bytes_of held.source

@@ -4,10 +4,10 @@ use Rattle.std.specs.List.{flat_map}
 use Rattle.pim_addr.specs.declared.family.AddressFamily.{AddressFamily}
 use Rattle.pim_jp.specs.declared.entry.Entry.TheVariants.{Source, Rpt}
 use Rattle.pim_jp.specs.Canonical.{canonical_entry, canonical_set_length}
-use Rattle.pim_form.specs.Messages.{told_set}
+use Rattle.pim_form.specs.Messages.{written_set}
 use Rattle.pim_form.specs.NormalForm.{GroupForm}
 use Rattle.pim_emit.specs.declared.piece.Piece.{Piece}
-use Rattle.pim_emit.specs.declared.set.ToldSources.{ToldSources}
+use Rattle.pim_emit.specs.declared.set.WrittenSources.{WrittenSources}
 use Rattle.pim_emit.specs.Left.{above, sources_in, piece_form}
 
 -- ---- entries, one after the other
@@ -23,16 +23,16 @@ exception_entries family exceptions = flat_map (λ source. canonical_entry famil
 module _ (family : AddressFamily) (rps : List ℕ → Option (List ℕ)) (this : GroupForm) where
   -- The bytes of the entries of a set, the joined ones before the pruned ones.
   abbrev pub set_entries : List ℕ
-  set_entries = flat_map (canonical_entry family) (told_set rps this).joined
-      ++ flat_map (canonical_entry family) (told_set rps this).pruned
+  set_entries = flat_map (canonical_entry family) (written_set rps this).joined
+      ++ flat_map (canonical_entry family) (written_set rps this).pruned
 
   -- The number of entries of a set.
   abbrev pub entry_count : ℕ
-  entry_count = length (told_set rps this).joined + length (told_set rps this).pruned
+  entry_count = length (written_set rps this).joined + length (written_set rps this).pruned
 
   -- The size of a set, in bytes.
   abbrev pub set_size : ℕ
-  set_size = canonical_set_length family (length (told_set rps this).joined) (length (told_set rps this).pruned)
+  set_size = canonical_set_length family (length (written_set rps this).joined) (length (written_set rps this).pruned)
 
 -- ---- the part of a piece that is written
 
@@ -45,11 +45,11 @@ cut_piece count piece form = record {
 }
 
 -- All sources of the piece are written, or as many as `most`. Those after the last one are left.
-pub record AreTold (piece : Piece (List ℕ)) (form : List GroupForm) (most : ℕ) (told : ToldSources (List ℕ))
+pub record AreWritten (piece : Piece (List ℕ)) (form : List GroupForm) (most : ℕ) (reported : WrittenSources (List ℕ))
     : Type 0 where
-  pub count : told.count ≡ min most (length (piece_form piece form).sources)
-  pub left : above told.last (sources_in piece.group form) ≡ drop told.count (piece_form piece form).sources
+  pub count : reported.count ≡ min most (length (piece_form piece form).sources)
+  pub left : above reported.last (sources_in piece.group form) ≡ drop reported.count (piece_form piece form).sources
 
 -- What contracts see of the sources that are written.
-abbrev pub told_seen : {A : Type 0} → (A → List ℕ) → ToldSources A → ToldSources (List ℕ)
-told_seen bytes_of told = record { count = told.count; last = option_map bytes_of told.last }
+abbrev pub sources_seen : {A : Type 0} → (A → List ℕ) → WrittenSources A → WrittenSources (List ℕ)
+sources_seen bytes_of reported = record { count = reported.count; last = option_map bytes_of reported.last }

@@ -10,7 +10,8 @@ ghost use Rattle.pim_down.specs.Seen.{what_seen};
 ghost use Rattle.pim_form.specs.NormalForm.{same_address};
 ghost use Rattle.pim_emit.specs.Ahead.{passed, SourceAhead, its_source, IsAheadOn, IsNextOn};
 ghost use Rattle.pim_emit.specs.Ahead.{IsNextSource, AreNext};
-ghost use Rattle.pim_emit.specs.Ahead.{is_this, least_seen, source_told, AreLeastBelow, TellsNext};
+ghost use Rattle.pim_emit.specs.Ahead.{is_this, least_seen, source_of_least, AreLeastBelow};
+ghost use Rattle.pim_emit.specs.Ahead.{FindsNext};
 
 use crate::least::lesser;
 use crate::nearby::Nearby;
@@ -58,9 +59,9 @@ pub(crate) fn passed<F: Family>(bound: Option<F::Addr>) -> What<F::Addr>
 
 /// Takes the next of these machines, and returns its source if it is (S,G).
 fn next_source<F: Family>(left: &mut GroupMachines<'_, F>) -> Option<F::Addr>
-    ensures { TellsNext F.family left.old left.new (option_map F.bytes_of result) }
+    ensures { FindsNext F.family left.old left.new (option_map F.bytes_of result) }
 {
-    pim_down::keys_are_told_apart();
+    pim_down::laws::keys_are_distinct();
     match left.next_machine()?.key.what {
         What::Source(source) => Some(source),
         _ => None,
@@ -227,7 +228,8 @@ fn least_ahead<F: Family>(
     requires { ports.now.ports ≤ length nexts.now }
     ensures source { (group : List ℕ) (bound : Option (List ℕ))
         → AreNext ports.now group bound nexts.now →
-        IsNextSource ports.now group bound (source_told (option_map (least_seen F.bytes_of) result)) }
+        IsNextSource ports.now group bound
+        (source_of_least (option_map (least_seen F.bytes_of) result)) }
     ensures places { AreLeastBelow ports.now.ports nexts.now
         (option_map (least_seen F.bytes_of) result) }
 {

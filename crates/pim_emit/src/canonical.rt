@@ -3,9 +3,9 @@
 //! one.
 
 ghost use Rattle.std.specs.Prelude.{◌≡◌, ◌≤◌, length, option_map};
-ghost use Rattle.pim_emit.specs.Written.{IsWritten, IsTooBig, told_too_big, failures_told};
+ghost use Rattle.pim_emit.specs.Written.{IsWritten, IsTooBig, group_too_big, failures_of_write};
 
-use crate::asked::Asked;
+use crate::demand::UpstreamDemand;
 use crate::fault::WriteFault;
 use crate::message::{next_message, too_big};
 use crate::position::Position;
@@ -49,23 +49,23 @@ pub fn write_canonical<F: Family, D: Drain>(
     ensures written { IsWritten F.family writer.now routes.now ports.now
         (D.contents out.old) (D.contents out.new) result }
     ensures too_big { IsTooBig F.family writer.now routes.now ports.now
-        (option_map F.bytes_of (told_too_big result)) }
-    ensures failures { D.failures out.new ≡ failures_told (D.failures out.old) result }
+        (option_map F.bytes_of (group_too_big result)) }
+    ensures failures { D.failures out.new ≡ failures_of_write (D.failures out.old) result }
 {
     ports.is_sound();
     writer.is_writing();
-    pim_form::form_of_what_is_asked();
-    pim_form::first_run_is_told();
-    pim_form::one_list_of_messages();
-    pim_form::one_normal_form();
-    let asked = Asked::new(ports, routes, writer.upstream());
-    if let Some(group) = too_big::<F>(&asked, writer.budget()) {
+    pim_form::laws::form_of_demand_toward();
+    pim_form::laws::first_run_is_written();
+    pim_form::laws::one_list_of_messages();
+    pim_form::laws::one_normal_form();
+    let demand = UpstreamDemand::new(ports, routes, writer.upstream());
+    if let Some(group) = too_big::<F>(&demand, writer.budget()) {
         return Err(WriteFault::TooBig(group));
     }
     let mut position = Position::Start;
     let mut sent = 0;
     let mut count = 0;
-    while let Some(length) = next_message::<F>(&asked, writer, &mut position, buffer) {
+    while let Some(length) = next_message::<F>(&demand, writer, &mut position, buffer) {
         let (message, _) = buffer.split_at(length);
         let Ok(()) = send_framed(out, message, &mut sent) else {
             return Err(WriteFault::Output { sent });

@@ -2,12 +2,12 @@
 
 ghost use Rattle.std.specs.Prelude.{◌≡◌, ◌≢◌, ◌≤◌, [], None, Err, IfOk, OnOk, length, option_map};
 ghost use Rattle.pim_form.specs.Messages.{AreCanonical};
-ghost use Rattle.pim_form.specs.Refused.{told_too_big};
+ghost use Rattle.pim_form.specs.Refused.{group_too_big};
 ghost use Rattle.pim_form.specs.TooBig.{too_big};
 ghost use Rattle.pim_addr.specs.Routes.{rp_of};
-ghost use Rattle.pim_emit.specs.Written.{AskBy, IsTooBig};
+ghost use Rattle.pim_emit.specs.Written.{DemandBy, IsTooBig};
 
-use crate::asked::Asked;
+use crate::demand::UpstreamDemand;
 use crate::message::{next_message, too_big};
 use crate::position::Position;
 use pim_addr::{Family, Routes};
@@ -25,20 +25,20 @@ fn blank(alloc: Global, budget: usize) -> Result<Vec<u8>, AllocError>
 /// Keeps the messages one after another. Each is made in the buffer, whose length is at least the
 /// writer's budget.
 fn keep_all<F: Family>(
-    asked: &Asked<'_, F>,
+    demand: &UpstreamDemand<'_, F>,
     writer: &Writer<F>,
     buffer: &mut [u8],
     messages: &mut Messages,
 ) -> Result<(), AllocError>
     requires none { messages.old ≡ [] }
-    requires fits { too_big F.family writer.now.budget asked.now.form ≡ None }
+    requires fits { too_big F.family writer.now.budget demand.now.form ≡ None }
     requires room { writer.now.budget ≤ length buffer.old }
     ensures { OnOk result
-        (AreCanonical F.family writer.now (rp_of F.family asked.now.table) asked.now.form
+        (AreCanonical F.family writer.now (rp_of F.family demand.now.table) demand.now.form
         messages.new) }
 {
     let mut position = Position::Start;
-    while let Some(length) = next_message::<F>(asked, writer, &mut position, buffer) {
+    while let Some(length) = next_message::<F>(demand, writer, &mut position, buffer) {
         let (message, _) = buffer.split_at(length);
         let Ok(()) = messages.push(message) else {
             return Err(AllocError);
@@ -63,23 +63,23 @@ pub fn canonical_messages<F: Family>(
     writer: &Writer<F>,
     routes: &Routes<F>,
 ) -> Result<Messages, FormFault<F>>
-    ensures canonical { IfOk result (AskBy F.family writer.now routes.now ports.now) }
+    ensures canonical { IfOk result (DemandBy F.family writer.now routes.now ports.now) }
     ensures too_big { IsTooBig F.family writer.now routes.now ports.now
-        (option_map F.bytes_of (told_too_big result)) }
+        (option_map F.bytes_of (group_too_big result)) }
     ensures tables { result ≢ Err FormFault.Tables }
 {
     ports.is_sound();
     writer.is_writing();
-    pim_form::form_of_what_is_asked();
-    let asked = Asked::new(ports, routes, writer.upstream());
-    if let Some(group) = too_big::<F>(&asked, writer.budget()) {
+    pim_form::laws::form_of_demand_toward();
+    let demand = UpstreamDemand::new(ports, routes, writer.upstream());
+    if let Some(group) = too_big::<F>(&demand, writer.budget()) {
         return Err(FormFault::TooBig(group));
     }
     let Ok(mut buffer) = blank(alloc, writer.budget()) else {
         return Err(FormFault::Memory);
     };
     let mut messages = Messages::none(alloc);
-    let Ok(()) = keep_all::<F>(&asked, writer, &mut buffer, &mut messages) else {
+    let Ok(()) = keep_all::<F>(&demand, writer, &mut buffer, &mut messages) else {
         return Err(FormFault::Memory);
     };
     Ok(messages)

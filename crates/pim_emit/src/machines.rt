@@ -41,7 +41,7 @@ pub(crate) fn first_starred<F: Family>(ports: &Nearby<'_, F>, group: F::Addr) ->
 
 /// An (S,G,rpt) machine that is held on a port.
 #[derive(Clone, Copy)]
-pub(crate) struct Held<A> {
+pub(crate) struct HeldMachine<A> {
     /// Its source.
     pub(crate) source: A,
     /// Its state.

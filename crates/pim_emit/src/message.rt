@@ -13,8 +13,8 @@ ghost use Rattle.pim_form.specs.TooBig.{too_big};
 ghost use Rattle.pim_emit.specs.Drafts.{body_start, IsNext};
 ghost use Rattle.pim_emit.specs.Left.{IsPosition, groups_above, position_seen};
 
-use crate::asked::Asked;
-use crate::draft::{empty_draft, room, tell_next};
+use crate::demand::UpstreamDemand;
+use crate::draft::{empty_draft, room, write_next};
 use crate::position::Position;
 use pim_addr::Family;
 use pim_form::Writer;
@@ -23,23 +23,23 @@ use pim_form::Writer;
 /// message of this budget alone, if there is one. The groups are walked only if some port has
 /// enough (S,G,rpt) machines for a star that is too big.
 pub(crate) fn too_big_above<F: Family>(
-    asked: &Asked<'_, F>,
+    demand: &UpstreamDemand<'_, F>,
     budget: usize,
     bound: Option<F::Addr>,
 ) -> Option<F::Addr>
     requires { budget ≤ 65000 }
     ensures { option_map F.bytes_of result
-        ≡ too_big F.family budget (groups_above (option_map F.bytes_of bound) asked.now.form) }
+        ≡ too_big F.family budget (groups_above (option_map F.bytes_of bound) demand.now.form) }
 {
-    asked.is_normal();
-    pim_form::groups_are_counted();
+    demand.is_normal();
+    pim_form::laws::groups_are_counted();
     let room = room::<F>(&empty_draft::<F>(Position::Start), budget);
-    if asked.most_exceptions() < room {
+    if demand.most_exceptions() < room {
         return None;
     }
     let mut passed = bound;
-    while let Some(group) = asked.next_group(passed) {
-        if asked.has_star(group) && room <= asked.exception_count(group) {
+    while let Some(group) = demand.next_group(passed) {
+        if demand.has_star(group) && room <= demand.exception_count(group) {
             return Some(group);
         }
         passed = Some(group);
@@ -49,37 +49,37 @@ pub(crate) fn too_big_above<F: Family>(
 
 /// The least group of all whose star, with all its exceptions, doesn't fit a message of this budget
 /// alone, if there is one.
-pub(crate) fn too_big<F: Family>(asked: &Asked<'_, F>, budget: usize) -> Option<F::Addr>
+pub(crate) fn too_big<F: Family>(demand: &UpstreamDemand<'_, F>, budget: usize) -> Option<F::Addr>
     requires { budget ≤ 65000 }
-    ensures { option_map F.bytes_of result ≡ too_big F.family budget asked.now.form }
+    ensures { option_map F.bytes_of result ≡ too_big F.family budget demand.now.form }
 {
-    too_big_above::<F>(asked, budget, None)
+    too_big_above::<F>(demand, budget, None)
 }
 
 /// Writes the next message at the front of the buffer, whose length is at least the writer's
 /// budget. Returns the length of the message and moves the position after it; `None` if no unit is
 /// left.
 pub(crate) fn next_message<F: Family>(
-    asked: &Asked<'_, F>,
+    demand: &UpstreamDemand<'_, F>,
     writer: &Writer<F>,
     position: &mut Position<F::Addr>,
     buffer: &mut [u8],
 ) -> Option<usize>
     requires position { IsPosition F.family (position_seen F.bytes_of position.old) }
-    requires fits { too_big F.family writer.now.budget asked.now.form ≡ None }
+    requires fits { too_big F.family writer.now.budget demand.now.form ≡ None }
     requires room { writer.now.budget ≤ length buffer.old }
-    ensures next { IsNext F.family writer.now asked.now (position_seen F.bytes_of position.old)
+    ensures next { IsNext F.family writer.now demand.now (position_seen F.bytes_of position.old)
         (position_seen F.bytes_of position.new) buffer.new result }
     ensures within { IfSome result (λ size. size ≤ writer.now.budget) }
     ensures length { length buffer.new ≡ length buffer.old }
 {
     writer.is_writing();
-    asked.is_normal();
-    pim_form::groups_are_counted();
+    demand.is_normal();
+    pim_form::laws::groups_are_counted();
     let (bytes, _) = buffer.split_at_mut(writer.budget());
     let mut draft = empty_draft::<F>(*position);
     while !draft.is_full {
-        tell_next::<F>(asked, &mut draft, bytes);
+        write_next::<F>(demand, &mut draft, bytes);
     }
     if draft.groups == 0 {
         return None;

@@ -8,7 +8,7 @@ ghost use Rattle.pim_form.specs.TooBig.{too_big};
 ghost use Rattle.pim_emit.specs.Left.{HaveSameStars, star_of};
 ghost use Rattle.pim_emit.specs.Written.{IsTooBig, IsNewTooBig};
 
-use crate::asked::Asked;
+use crate::demand::UpstreamDemand;
 use crate::message::{too_big, too_big_above};
 use pim_addr::{Family, Routes};
 use pim_down::Ports;
@@ -36,19 +36,19 @@ fn has_star_in<F: Family>(left: &mut Groups<'_, F>, group: F::Addr) -> bool
 /// The least group of which `last` has no star and whose star, with all its exceptions, doesn't fit
 /// a message of this budget alone, if there is one.
 fn new_too_big<F: Family>(
-    asked: &Asked<'_, F>,
+    demand: &UpstreamDemand<'_, F>,
     budget: usize,
     last: &NormalForm<F>,
 ) -> Option<F::Addr>
     requires { budget ≤ 65000 }
     ensures { option_map F.bytes_of result ≡ too_big F.family budget
-        (filter (λ this. not (is_some (star_of this.group last.now))) asked.now.form) }
+        (filter (λ this. not (is_some (star_of this.group last.now))) demand.now.form) }
 {
-    asked.is_normal();
+    demand.is_normal();
     last.is_normal();
     let mut left = last.groups();
     let mut bound = None;
-    while let Some(group) = too_big_above::<F>(asked, budget, bound) {
+    while let Some(group) = too_big_above::<F>(demand, budget, bound) {
         if !has_star_in::<F>(&mut left, group) {
             return Some(group);
         }
@@ -70,9 +70,9 @@ pub fn star_too_big<F: Family>(
 {
     ports.is_sound();
     writer.is_writing();
-    pim_form::form_of_what_is_asked();
-    let asked = Asked::new(ports, routes, writer.upstream());
-    too_big::<F>(&asked, writer.budget())
+    pim_form::laws::form_of_demand_toward();
+    let demand = UpstreamDemand::new(ports, routes, writer.upstream());
+    too_big::<F>(&demand, writer.budget())
 }
 
 /// The same, of those groups alone of which the form `last` has no star. If `last` was announced to
@@ -89,7 +89,7 @@ pub fn new_star_too_big<F: Family>(
 {
     ports.is_sound();
     writer.is_writing();
-    pim_form::form_of_what_is_asked();
-    let asked = Asked::new(ports, routes, writer.upstream());
-    new_too_big::<F>(&asked, writer.budget(), last)
+    pim_form::laws::form_of_demand_toward();
+    let demand = UpstreamDemand::new(ports, routes, writer.upstream());
+    new_too_big::<F>(&demand, writer.budget(), last)
 }

@@ -3,7 +3,7 @@
 ghost use Rattle.std.specs.Prelude.{option_map};
 ghost use Rattle.pim_emit.specs.Left.{IsPosition, IsNextPiece, position_seen, piece_seen};
 
-use crate::asked::Asked;
+use crate::demand::UpstreamDemand;
 use crate::position::Position;
 use pim_addr::Family;
 
@@ -20,19 +20,19 @@ pub(crate) struct Piece<A> {
 
 /// The piece that comes next after this position; `None` if nothing is left.
 pub(crate) fn next_piece<F: Family>(
-    asked: &Asked<'_, F>,
+    demand: &UpstreamDemand<'_, F>,
     position: Position<F::Addr>,
 ) -> Option<Piece<F::Addr>>
     requires { IsPosition F.family (position_seen F.bytes_of position) }
-    ensures { IsNextPiece F.family (position_seen F.bytes_of position) asked.now.form
+    ensures { IsNextPiece F.family (position_seen F.bytes_of position) demand.now.form
         (option_map (piece_seen F.bytes_of) result) }
 {
-    asked.is_normal();
+    demand.is_normal();
     let bound = match position {
         Position::Start => None,
         Position::Behind(group) => Some(group),
         Position::Within(group, from) => {
-            if asked.has_source(group, from) {
+            if demand.has_source(group, from) {
                 return Some(Piece {
                     group,
                     starred: false,
@@ -42,10 +42,10 @@ pub(crate) fn next_piece<F: Family>(
             Some(group)
         }
     };
-    let group = asked.next_group(bound)?;
+    let group = demand.next_group(bound)?;
     Some(Piece {
         group,
-        starred: asked.has_star(group),
+        starred: demand.has_star(group),
         from: None,
     })
 }

@@ -12,7 +12,7 @@ ghost use Rattle.pim_emit.specs.Least.{IsLeast};
 ghost use Rattle.pim_emit.specs.Machines.{has_rpt, source_held};
 ghost use Rattle.pim_emit.specs.Rpts.{AreRptsOn, AreRpts};
 
-use crate::machines::{Held, lowest};
+use crate::machines::{HeldMachine, lowest};
 use crate::nearby::Nearby;
 use crate::stars::Stars;
 use pim_addr::Family;
@@ -66,7 +66,7 @@ pub(crate) fn rpts_of<'a, F: Family>(
 pub(crate) fn next_rpt<F: Family>(
     ports: &Nearby<'_, F>,
     rpts: &mut Rpts<'_, F>,
-) -> Option<Held<F::Addr>>
+) -> Option<HeldMachine<F::Addr>>
     ensures least { (port : ℕ) (group : List ℕ) → AreRptsOn ports.now port group rpts.old →
         IsLeast (λ source. is_above (Some rpts.old.bound) source
         && has_rpt ports.now port group source)
@@ -79,13 +79,13 @@ pub(crate) fn next_rpt<F: Family>(
     ensures bound { IfSome result (λ held. rpts.new.bound ≡ F.bytes_of held.source) }
 {
     ports.is_sound();
-    pim_down::keys_are_told_apart();
+    pim_down::laws::keys_are_distinct();
     let record = rpts.left.next_machine()?;
     let What::Rpt(source) = record.key.what else {
         return None;
     };
     rpts.bound = source;
-    Some(Held {
+    Some(HeldMachine {
         source,
         state: record.machine.state,
     })

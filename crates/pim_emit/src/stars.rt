@@ -9,7 +9,7 @@ ghost use Rattle.pim_emit.specs.Machines.{is_starred};
 ghost use Rattle.pim_emit.specs.Stars.{AreFlags, IsFirstBelow, AreStars};
 
 use crate::hints::PORTS;
-use crate::machines::{Held, is_starred};
+use crate::machines::{HeldMachine, is_starred};
 use crate::nearby::Nearby;
 use pim_addr::Family;
 use pim_down::What;
@@ -113,7 +113,7 @@ pub(crate) fn wants_shared<F: Family>(
     ports: &Nearby<'_, F>,
     stars: &Stars,
     first: usize,
-    held: &Held<F::Addr>,
+    held: &HeldMachine<F::Addr>,
     group: F::Addr,
 ) -> bool
     requires stars { AreStars ports.now (F.bytes_of group) stars.now }

@@ -1,5 +1,5 @@
--- The line of an event as JSON (RFC 8259): one object, without spaces. No text in it needs an escape: each is a
--- word, an address, a decimal, or the name of a port.
+-- The line of an event as JSON (RFC 8259): one object, without spaces. No text in it needs an
+-- escape: each is a word, an address, a decimal, or the name of a port.
 use Rattle.std.specs.Prelude.{ℕ, Bool, true, false, List, [], ◌++◌, Option, None, Some, codes, decimal}
 use Rattle.pim_addr.specs.declared.family.AddressFamily.{AddressFamily}
 use Rattle.pim_capture.specs.declared.event.Why.{Why}
@@ -17,7 +17,7 @@ use Rattle.pim_lines.specs.Pieces.{line, number_or}
 use Rattle.pim_report.specs.RecordLine.{time_left}
 use Rattle.pim_time.specs.Text.{seconds_text}
 use Rattle.pim_event_lines.specs.Counts.{joined_in, pruned_in}
-use Rattle.pim_events.specs.Events.{Happened, Judged, Occurrence, hello_taken, packet_judged, machine_changed}
+use Rattle.pim_events.specs.Events.{Happened, Judged, Occurrence, hello_heard, packet_judged, machine_changed}
 use Rattle.pim_events.specs.Events.{join_ignored, own_restart, record_skipped, neighbour_gone, timer_fired, run_ended}
 use Rattle.pim_events.specs.Parts.{state_in, pending_in}
 use Rattle.pim_lines.specs.ShortText.{short_text}
@@ -25,7 +25,7 @@ use Rattle.pim_event_lines.specs.TextLine.{state_text, name_of}
 use Rattle.pim_transitions.specs.declared.transition.By.{By}
 use Rattle.pim_transitions.specs.declared.transition.By.TheVariants as by
 use Rattle.pim_events.specs.declared.event.Cause.{Cause}
-use Rattle.pim_events.specs.declared.event.Ending.{Ending}
+use Rattle.pim_events.specs.declared.event.EndOfTrace.{EndOfTrace}
 use Rattle.pim_events.specs.declared.event.Fired.{Fired}
 use Rattle.pim_events.specs.declared.event.Greeting.{Greeting}
 use Rattle.pim_events.specs.declared.event.Ignored.{Ignored}
@@ -150,7 +150,7 @@ held_json records neighbours = codes "end\",\"records\":" ++ decimal records ++ 
     ++ decimal neighbours ++ codes ",\"skipped\":"
 
 -- `end`.
-abbrev pub ending_json : Ending → List ℕ
+abbrev pub ending_json : EndOfTrace → List ℕ
 ending_json ending = held_json ending.records ending.neighbours ++ line (counts_json ending.skipped ++ codes "}")
 
 -- The states before and after a message.
@@ -158,8 +158,8 @@ abbrev pub states_json : Option State → Option State → List ℕ
 states_json before after = codes ",\"was\":" ++ quoted (state_text before) ++ codes ",\"now\":"
     ++ quoted (state_text after)
 
--- The states before and after a message, the timers after it, the neighbours of the port, and what the message
--- overrides.
+-- The states before and after a message, the timers after it, the neighbours of the port, and what
+-- the message overrides.
 abbrev pub outcome_json : Transition (List ℕ) → List ℕ
 outcome_json change = line (states_json change.before (state_in change.after) ++ codes ",\"et\":"
     ++ expiry_json change.after ++ codes ",\"ppt\":" ++ pending_json change.after ++ codes ",\"neighbours\":"
@@ -247,7 +247,7 @@ module _ (family : AddressFamily) where
 
   -- What happened: the name of the event without its first quote, and the members after it.
   abbrev pub what_json : Happened → List ℕ
-  what_json (hello_taken hello) = hello_json hello
+  what_json (hello_heard hello) = hello_json hello
   what_json (packet_judged packet) = judged_json packet
   what_json (machine_changed change) = transition_json change
   what_json (join_ignored entry) = ignored_json entry

@@ -1,8 +1,8 @@
 -- The moments of events, in the three forms of `--time`.
 use Rattle.std.specs.Prelude.{ℕ, nat_lt, if◌then◌else◌, List, Option, None, Some, codes, decimal}
 use Rattle.pim_time.specs.Text.{date_text, seconds_text}
-use Rattle.pim_event_lines.specs.declared.moments.TimeForm.{TimeForm}
-use Rattle.pim_event_lines.specs.declared.moments.TimeForm.TheVariants.{Ms, Epoch, Utc}
+use Rattle.pim_time.specs.declared.form.TimeForm.{TimeForm}
+use Rattle.pim_time.specs.declared.form.TimeForm.TheVariants.{Ms, Epoch, Utc}
 
 -- The UTC date of a time; its seconds from the year 10000 on, which has five digits.
 abbrev pub utc_text : ℕ → List ℕ

@@ -18,14 +18,14 @@ use Rattle.pim_report.specs.PacketLine.{heard_words, verdict_words}
 use Rattle.pim_lines.specs.Pieces.{line, number_or}
 use Rattle.pim_report.specs.RecordLine.{state_name}
 use Rattle.pim_event_lines.specs.Counts.{joined_in, pruned_in}
-use Rattle.pim_events.specs.Events.{Happened, Judged, Occurrence, hello_taken, packet_judged, machine_changed}
+use Rattle.pim_events.specs.Events.{Happened, Judged, Occurrence, hello_heard, packet_judged, machine_changed}
 use Rattle.pim_events.specs.Events.{join_ignored, own_restart, record_skipped, neighbour_gone, timer_fired, run_ended}
 use Rattle.pim_event_lines.specs.Moments.{moment_text}
 use Rattle.pim_events.specs.Parts.{state_in, pending_in}
 use Rattle.pim_lines.specs.ShortText.{short_text}
 use Rattle.pim_transitions.specs.declared.transition.By.{By}
 use Rattle.pim_transitions.specs.declared.transition.By.TheVariants as by
-use Rattle.pim_events.specs.declared.event.Ending.{Ending}
+use Rattle.pim_events.specs.declared.event.EndOfTrace.{EndOfTrace}
 use Rattle.pim_events.specs.declared.event.Fired.{Fired}
 use Rattle.pim_events.specs.declared.event.Greeting.{Greeting}
 use Rattle.pim_events.specs.declared.event.Ignored.{Ignored}
@@ -38,7 +38,7 @@ use Rattle.pim_events.specs.declared.event.TimeOut.{TimeOut}
 use Rattle.pim_down.specs.declared.machines.step.Timer.{Timer}
 use Rattle.pim_down.specs.declared.machines.step.Timer.TheVariants.{PrunePending, Expiry}
 use Rattle.pim_events.specs.declared.event.Transition.{Transition}
-use Rattle.pim_event_lines.specs.declared.moments.TimeForm.{TimeForm}
+use Rattle.pim_time.specs.declared.form.TimeForm.{TimeForm}
 
 -- ---- words
 
@@ -145,7 +145,7 @@ abbrev pub held_text : ℕ → ℕ → List ℕ
 held_text records neighbours = codes "end: records " ++ decimal records ++ codes " neighbours " ++ decimal neighbours
 
 -- The end of the run.
-abbrev pub ending_line : Ending → List ℕ
+abbrev pub ending_line : EndOfTrace → List ℕ
 ending_line ending = held_text ending.records ending.neighbours ++ line (counts_text ending.skipped)
 
 -- The Generation ID of a Hello.
@@ -230,7 +230,8 @@ module _ (family : AddressFamily) where
       ++ codes " timed out; Hello #" ++ decimal over.frame ++ codes ", " ++ decimal (ms - over.ms)
       ++ codes " ms before; its joins stay until they expire")
 
-  -- A timer that fired, its machine, the states before and after, and whether an echo is to be sent.
+  -- A timer that fired, its machine, the states before and after, and whether an echo is to be
+  -- sent.
   abbrev pub effect_text : Fired (List ℕ) → List ℕ
   effect_text firing = timer_words firing.timer ++ machine_text firing.group firing.what ++ codes ": "
       ++ states_text (Some firing.before) firing.after ++ echo_text firing.timer firing.echo
@@ -246,7 +247,7 @@ module _ (family : AddressFamily) where
 
   -- What happened, at this moment.
   abbrev pub what_line : ℕ → Happened → List ℕ
-  what_line ms (hello_taken hello) = hello_line hello
+  what_line ms (hello_heard hello) = hello_line hello
   what_line ms (packet_judged packet) = judged_line packet
   what_line ms (machine_changed change) = transition_line change
   what_line ms (join_ignored entry) = ignored_line entry

@@ -16,7 +16,7 @@ use crate::words::{
 use itoa::Buffer;
 use pim_addr::{Drain, Failed, Family, write_all};
 use pim_down::What;
-use pim_events::{Ending, Fired, SkipCounts, TimeOut, Transition, state_in};
+use pim_events::{EndOfTrace, Fired, SkipCounts, TimeOut, Transition, state_in};
 use pim_lines::{ShortText, number_or, write_pieces};
 
 /// Writes the source of a machine, or `null`.
@@ -274,7 +274,7 @@ fn write_counts<W: Drain>(writer: &mut W, counts: SkipCounts) -> Result<(), Fail
 }
 
 /// Writes the members of the end of the run.
-pub(crate) fn write_ending_json<W: Drain>(writer: &mut W, ending: Ending) -> Result<(), Failed>
+pub(crate) fn write_ending_json<W: Drain>(writer: &mut W, ending: EndOfTrace) -> Result<(), Failed>
     ensures bytes { AppendsAll (W.contents writer.old) (W.contents writer.new) result
         (ending_json ending) }
     ensures count { W.failures writer.new ≡ failures_after (W.failures writer.old) result }

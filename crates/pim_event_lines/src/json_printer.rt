@@ -15,11 +15,11 @@ use crate::moments::Stamp;
 use crate::words::name_of;
 use itoa::Buffer;
 use pim_addr::{Drain, Failed, Family, write_all};
-use pim_events::{Event, Filter, Happening, Teller, is_shown};
+use pim_events::{EventWriter, Filter, Happening, TraceEvent, is_shown};
 use pim_lines::{Name, write_pieces};
 
 /// Writes the moment of an event and the time since 1970.
-fn write_time<F: Family, W: Drain>(writer: &mut W, event: &Event<'_, F>) -> Result<(), Failed>
+fn write_time<F: Family, W: Drain>(writer: &mut W, event: &TraceEvent<'_, F>) -> Result<(), Failed>
     ensures bytes { AppendsAll (W.contents writer.old) (W.contents writer.new) result
         (time_json (event_seen F.bytes_of event.now)) }
     ensures count { W.failures writer.new ≡ failures_after (W.failures writer.old) result }
@@ -43,7 +43,7 @@ fn write_time<F: Family, W: Drain>(writer: &mut W, event: &Event<'_, F>) -> Resu
 fn write_place<F: Family, W: Drain>(
     writer: &mut W,
     names: &[Name],
-    event: &Event<'_, F>,
+    event: &TraceEvent<'_, F>,
 ) -> Result<(), Failed>
     ensures bytes { AppendsAll (W.contents writer.old) (W.contents writer.new) result
         (place_json names.now (event_seen F.bytes_of event.now)) }
@@ -81,7 +81,7 @@ fn write_what<F: Family, W: Drain>(writer: &mut W, what: &Happening<'_, F>) -> R
 fn write_rest<F: Family, W: Drain>(
     writer: &mut W,
     names: &[Name],
-    event: &Event<'_, F>,
+    event: &TraceEvent<'_, F>,
 ) -> Result<(), Failed>
     ensures bytes { AppendsAll (W.contents writer.old) (W.contents writer.new) result
         (place_json names.now (event_seen F.bytes_of event.now)
@@ -96,7 +96,7 @@ fn write_rest<F: Family, W: Drain>(
 fn write_line<F: Family, W: Drain>(
     writer: &mut W,
     names: &[Name],
-    event: &Event<'_, F>,
+    event: &TraceEvent<'_, F>,
 ) -> Result<(), Failed>
     ensures bytes { AppendsAll (W.contents writer.old) (W.contents writer.new) result
         (json_line F.family names.now (event_seen F.bytes_of event.now)) }
@@ -115,7 +115,7 @@ pub struct JsonPrinter<'a, A> {
     pub filter: Filter<'a, A>,
 }
 
-impl<'a, F: Family, W: Drain> Teller<F, W> for JsonPrinter<'a, F::Addr> {
+impl<'a, F: Family, W: Drain> EventWriter<F, W> for JsonPrinter<'a, F::Addr> {
     ghost use Rattle.pim_events.specs.Filter.{filter_seen, if_shown};
     ghost use Rattle.pim_event_lines.specs.JsonLine.{json_line};
 
@@ -126,7 +126,7 @@ impl<'a, F: Family, W: Drain> Teller<F, W> for JsonPrinter<'a, F::Addr> {
 
     ghost failures = { W.failures };
 
-    fn tell(&self, device: &mut W, event: &Event<'_, F>) -> Result<(), Failed> {
+    fn write_event(&self, device: &mut W, event: &TraceEvent<'_, F>) -> Result<(), Failed> {
         if !is_shown::<F>(&self.filter, event) {
             return Ok(());
         }

@@ -1,14 +1,13 @@
 //! The lines of the events of a trace, as text and as JSON.
 //!
-//! - `TextPrinter` and `JsonPrinter` take events. They write the line of each event that is shown,
-//!   and nothing of any other.
-//! - `TimeForm` says how the text has the moments of events.
+//! - `TextPrinter` and `JsonPrinter` write the line of each event that is shown, and nothing of any
+//!   other.
 //!
 //! `specs/TextLine.antt` and `specs/JsonLine.antt` define the line of each event byte by byte. It
 //! depends on nothing but the event, the names of the ports and the form of moments. At Ok the
 //! whole line was written. If the device fails, a prefix of it was.
 //!
-//! Lines need no memory, since they are written in pieces.
+//! Lines need no memory, since they are written in pieces. Callers: `pim_commands`.
 #![tactic(auto)]
 
 mod counts;
@@ -22,5 +21,4 @@ mod text_printer;
 mod words;
 
 pub use json_printer::JsonPrinter;
-pub use moments::TimeForm;
 pub use text_printer::TextPrinter;

@@ -6,19 +6,8 @@ ghost use Rattle.pim_time.specs.Text.{seconds_text};
 
 use itoa::Buffer;
 use pim_lines::put_front;
-use pim_time::{write_date, write_seconds};
+use pim_time::{TimeForm, write_date, write_seconds};
 use std::marker::Model;
-
-/// How the moments of events are written as text (`--time`).
-#[derive(Clone, Copy, Debug, PartialEq, Eq)]
-pub enum TimeForm {
-    /// Milliseconds since the first record, as in `42239`.
-    Ms,
-    /// Seconds since 1970, as in `1795329735.239`; `-` if there is no record.
-    Epoch,
-    /// A UTC date, as in `2026-11-22T06:42:15.239Z`; `-` if there is no record.
-    Utc,
-}
 
 /// The first millisecond of the year 10000, which a date of four digits can't name.
 const YEAR_10000: u64 = 253_402_300_800_000;

@@ -15,7 +15,7 @@ use crate::words::{by_words, cause_words, echo_text, show_what, state_text, time
 use itoa::Buffer;
 use pim_addr::{Drain, Failed, Family, write_all};
 use pim_down::{Machine, Pending};
-use pim_events::{Ending, Fired, SkipCounts, TimeOut, Transition, pending_in, state_in};
+use pim_events::{EndOfTrace, Fired, SkipCounts, TimeOut, Transition, pending_in, state_in};
 use pim_lines::{ShortText, number_or, write_pieces};
 
 /// Writes the time left on the Expiry Timer of a machine that is held.
@@ -302,7 +302,7 @@ fn write_counts<W: Drain>(writer: &mut W, counts: SkipCounts) -> Result<(), Fail
 }
 
 /// Writes the line of the end of the run.
-pub(crate) fn write_ending_line<W: Drain>(writer: &mut W, ending: Ending) -> Result<(), Failed>
+pub(crate) fn write_ending_line<W: Drain>(writer: &mut W, ending: EndOfTrace) -> Result<(), Failed>
     ensures bytes { AppendsAll (W.contents writer.old) (W.contents writer.new) result
         (ending_line ending) }
     ensures count { W.failures writer.new ≡ failures_after (W.failures writer.old) result }

@@ -5,7 +5,7 @@ ghost use Rattle.pim_device.specs.Device.{AppendsAll, failures_after};
 ghost use Rattle.pim_events.specs.Events.{happening_seen, event_seen};
 ghost use Rattle.pim_event_lines.specs.TextLine.{head_text, what_line, text_line};
 
-use crate::moments::{Stamp, TimeForm};
+use crate::moments::Stamp;
 use crate::text_machines::{
     write_ending_line, write_fired_line, write_time_out_line, write_transition_line,
 };
@@ -14,15 +14,16 @@ use crate::text_packets::{
 };
 use crate::words::name_of;
 use pim_addr::{Drain, Failed, Family};
-use pim_events::{Event, Filter, Happening, Teller, is_shown};
+use pim_events::{EventWriter, Filter, Happening, TraceEvent, is_shown};
 use pim_lines::{Name, write_pieces};
+use pim_time::TimeForm;
 
 /// Writes the moment of an event and the name of its port.
 fn write_head<F: Family, W: Drain>(
     writer: &mut W,
     names: &[Name],
     form: TimeForm,
-    event: &Event<'_, F>,
+    event: &TraceEvent<'_, F>,
 ) -> Result<(), Failed>
     ensures bytes { AppendsAll (W.contents writer.old) (W.contents writer.new) result
         (head_text names.now form (event_seen F.bytes_of event.now)) }
@@ -69,7 +70,7 @@ fn write_line<F: Family, W: Drain>(
     writer: &mut W,
     names: &[Name],
     form: TimeForm,
-    event: &Event<'_, F>,
+    event: &TraceEvent<'_, F>,
 ) -> Result<(), Failed>
     ensures bytes { AppendsAll (W.contents writer.old) (W.contents writer.new) result
         (text_line F.family names.now form (event_seen F.bytes_of event.now)) }
@@ -90,7 +91,7 @@ pub struct TextPrinter<'a, A> {
     pub filter: Filter<'a, A>,
 }
 
-impl<'a, F: Family, W: Drain> Teller<F, W> for TextPrinter<'a, F::Addr> {
+impl<'a, F: Family, W: Drain> EventWriter<F, W> for TextPrinter<'a, F::Addr> {
     ghost use Rattle.pim_events.specs.Filter.{filter_seen, if_shown};
     ghost use Rattle.pim_event_lines.specs.TextLine.{text_line};
 
@@ -101,7 +102,7 @@ impl<'a, F: Family, W: Drain> Teller<F, W> for TextPrinter<'a, F::Addr> {
 
     ghost failures = { W.failures };
 
-    fn tell(&self, device: &mut W, event: &Event<'_, F>) -> Result<(), Failed> {
+    fn write_event(&self, device: &mut W, event: &TraceEvent<'_, F>) -> Result<(), Failed> {
         if !is_shown::<F>(&self.filter, event) {
             return Ok(());
         }

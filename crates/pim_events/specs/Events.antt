@@ -4,8 +4,8 @@ use Rattle.pim_down.specs.Seen.{what_seen}
 use Rattle.pim_jp.specs.Message.{Message}
 use Rattle.pim_router.specs.declared.verdict.Verdict.{Verdict}
 use Rattle.pim_events.specs.declared.event.Cause.{Cause}
-use Rattle.pim_events.specs.declared.event.Ending.{Ending}
-use Rattle.pim_events.specs.declared.event.Event.{Event}
+use Rattle.pim_events.specs.declared.event.EndOfTrace.{EndOfTrace}
+use Rattle.pim_events.specs.declared.event.TraceEvent.{TraceEvent}
 use Rattle.pim_events.specs.declared.event.Fired.{Fired}
 use Rattle.pim_events.specs.declared.event.Greeting.{Greeting}
 use Rattle.pim_events.specs.declared.event.Happening.{Happening}
@@ -17,7 +17,8 @@ use Rattle.pim_events.specs.declared.event.Skipping.{Skipping}
 use Rattle.pim_events.specs.declared.event.TimeOut.{TimeOut}
 use Rattle.pim_events.specs.declared.event.Transition.{Transition}
 
--- A packet with the verdict on it. `message` is there if it reads as a Join/Prune (RFC 7761, 4.9.5).
+-- A packet with the verdict on it. `message` is there if it reads as a Join/Prune (RFC 7761,
+-- 4.9.5).
 pub record Judged : Type 0 where
   pub frame : ℕ
   pub from : List ℕ
@@ -26,7 +27,7 @@ pub record Judged : Type 0 where
 
 -- What happened.
 pub data Happened : Type 0 where
-  hello_taken : Greeting (List ℕ) → Happened
+  hello_heard : Greeting (List ℕ) → Happened
   packet_judged : Judged → Happened
   machine_changed : Transition (List ℕ) → Happened
   join_ignored : Ignored (List ℕ) → Happened
@@ -34,10 +35,11 @@ pub data Happened : Type 0 where
   record_skipped : Skipping → Happened
   neighbour_gone : TimeOut (List ℕ) → Happened
   timer_fired : Fired (List ℕ) → Happened
-  run_ended : Ending → Happened
+  run_ended : EndOfTrace → Happened
 
--- An event: its moment in milliseconds since the first record, the same time in milliseconds since 1970, its
--- port, and what happened. Without any record there is no time since 1970. Only the end of the run has no port.
+-- An event: its moment in milliseconds since the first record, the same time in milliseconds since
+-- 1970, its port, and what happened. Without any record there is no time since 1970. Only the end
+-- of the run has no port.
 pub record Occurrence : Type 0 where
   pub ms : ℕ
   pub epoch : Option ℕ
@@ -104,7 +106,7 @@ module _ {A : Type 0} (bytes_of : A → List ℕ) where
   }
 
   abbrev pub happening_seen : {F N : Type 0} → Happening F A N → Happened
-  happening_seen (happening.Hello hello) = hello_taken (greeting_seen hello)
+  happening_seen (happening.Hello hello) = hello_heard (greeting_seen hello)
   happening_seen (happening.Packet packet) = packet_judged (judgment_seen packet)
   happening_seen (happening.Transition change) = machine_changed (transition_seen change)
   happening_seen (happening.Ignored entry) = join_ignored (ignored_seen entry)
@@ -114,7 +116,7 @@ module _ {A : Type 0} (bytes_of : A → List ℕ) where
   happening_seen (happening.Fired firing) = timer_fired (fired_seen firing)
   happening_seen (happening.Ended ending) = run_ended ending
 
-  abbrev pub event_seen : {F N : Type 0} → Event F A N → Occurrence
+  abbrev pub event_seen : {F N : Type 0} → TraceEvent F A N → Occurrence
   event_seen event = record {
     ms = event.ms;
     epoch = event.epoch;

@@ -17,7 +17,7 @@ use Rattle.pim_router.specs.declared.verdict.Verdict.{Verdict}
 use Rattle.pim_router.specs.declared.verdict.Verdict.TheVariants.{Mine, OtherType, Applied}
 use Rattle.pim_time.specs.declared.reading.Time.{Time}
 use Rattle.pim_time.specs.declared.reading.Time.TheVariants.{Moment, Epoch}
-use Rattle.pim_events.specs.Events.{Happened, Judged, Occurrence, hello_taken, packet_judged, machine_changed}
+use Rattle.pim_events.specs.Events.{Happened, Judged, Occurrence, hello_heard, packet_judged, machine_changed}
 use Rattle.pim_events.specs.Events.{join_ignored, record_skipped, timer_fired, run_ended}
 use Rattle.pim_events.specs.Parts.{state_in, pending_in}
 use Rattle.pim_events.specs.declared.event.Skip.{Skip}
@@ -25,8 +25,8 @@ use Rattle.pim_events.specs.declared.event.Skip.TheVariants.{NoPacket, OtherFami
 use Rattle.pim_events.specs.declared.event.Transition.{Transition}
 use Rattle.pim_events.specs.declared.filter.Filter.{Filter}
 
--- What a user wants to see: everything, or what changes something (`--all`); groups and sources, where an empty list
--- means all (`--group`, `--source`); from which time on (`--from`).
+-- What a user wants to see: everything, or what changes something (`--all`); groups and sources,
+-- where an empty list means all (`--group`, `--source`); from which time on (`--from`).
 pub record Selection : Type 0 where
   pub all : Bool
   pub groups : List (List ℕ)
@@ -51,7 +51,8 @@ is_same_again New = false
 is_same_again Restarted = false
 is_same_again Gone = false
 
--- A verdict that needs no line: the message was applied, is the router's own, or is of another type.
+-- A verdict that needs no line: the message was applied, is the router's own, or is of another
+-- type.
 abbrev pub is_usual : Verdict → Bool
 is_usual Applied = true
 is_usual Mine = true
@@ -76,8 +77,8 @@ abbrev pub is_over : Option Pending → Bool
 is_over None = false
 is_over (Some timer) = timer.ends_in == 0
 
--- A record that may hold a PIM message: a fragment of an IP packet, one without a time, or one that the end
--- of its file cuts short.
+-- A record that may hold a PIM message: a fragment of an IP packet, one without a time, or one that
+-- the end of its file cuts short.
 abbrev pub may_hold_pim : Skip → Bool
 may_hold_pim (NoPacket Fragment) = true
 may_hold_pim (NoPacket NoTime) = true
@@ -86,7 +87,7 @@ may_hold_pim other = false
 
 -- The event is shown without `--all`.
 abbrev pub is_news : Happened → Bool
-is_news (hello_taken hello) = not (is_same_again hello.verdict)
+is_news (hello_heard hello) = not (is_same_again hello.verdict)
 is_news (packet_judged packet) = not (is_usual packet.verdict)
 is_news (machine_changed change) = not (keeps_state change) && not (is_over (pending_in change.after))
 is_news (record_skipped skipped) = may_hold_pim skipped.why

@@ -12,7 +12,7 @@ use pim_transitions::By;
 
 /// One event of a trace.
 #[derive(Drop)]
-pub struct Event<'a, F: Family> {
+pub struct TraceEvent<'a, F: Family> {
     /// The moment, in milliseconds since the first record.
     pub ms: u64,
     /// The same time, in milliseconds since 1970. `None` if there is no record.
@@ -43,7 +43,7 @@ pub enum Happening<'a, F: Family> {
     /// A timer of a machine fired.
     Fired(Fired<F::Addr>),
     /// The run ended.
-    Ended(Ending),
+    Ended(EndOfTrace),
 }
 
 /// A Hello that was taken (RFC 7761, 4.3.1).
@@ -202,7 +202,7 @@ pub struct SkipCounts {
 
 /// What is there at the end of the run.
 #[derive(Clone, Copy, Debug, PartialEq, Eq)]
-pub struct Ending {
+pub struct EndOfTrace {
     /// The number of machines that are held.
     pub records: usize,
     /// The number of neighbours of all ports.

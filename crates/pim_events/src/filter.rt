@@ -15,7 +15,7 @@ ghost use Rattle.pim_events.specs.Filter.{has_wanted_entry, is_wanted_set, is_wa
 ghost use Rattle.pim_events.specs.Filter.{is_wanted_packet};
 ghost use Rattle.pim_events.specs.Filter.{is_chosen, is_early, is_epoch_before, is_end, is_shown};
 
-use crate::event::{Event, Happening, Skip, Transition};
+use crate::event::{Happening, Skip, TraceEvent, Transition};
 use crate::parts::{pending_in, state_in};
 use pim_addr::Family;
 use pim_capture::Why;
@@ -255,7 +255,7 @@ fn is_epoch_before(time: u64, epoch: Option<u64>) -> bool
 }
 
 /// Whether an event has an earlier moment than the first that is wanted.
-fn is_early<F: Family>(from: Option<Time>, event: &Event<'_, F>) -> bool
+fn is_early<F: Family>(from: Option<Time>, event: &TraceEvent<'_, F>) -> bool
     ensures { result ≡ is_early from (event_seen F.bytes_of event.now) }
 {
     match from {
@@ -277,7 +277,7 @@ fn is_end<F: Family>(what: &Happening<'_, F>) -> bool
 
 /// Whether an event is shown: the end of the run always is. Any other event is, if its moment isn't
 /// too early, `--all` is given or it is news, and its groups and sources are wanted.
-pub fn is_shown<F: Family>(filter: &Filter<'_, F::Addr>, event: &Event<'_, F>) -> bool
+pub fn is_shown<F: Family>(filter: &Filter<'_, F::Addr>, event: &TraceEvent<'_, F>) -> bool
     ensures { result ≡ is_shown (filter_seen F.bytes_of filter.now)
         (event_seen F.bytes_of event.now) }
 {

@@ -4,7 +4,7 @@ use Rattle.std.specs.Io.KnownBytes.{Appends}
 use Rattle.pim_addr.specs.declared.family.AddressFamily.{AddressFamily}
 use Rattle.pim_addr.specs.Routes.{RouteTable, rp_of}
 use Rattle.pim_change.specs.Change.{change}
-use Rattle.pim_change.specs.Told.{TellChange}
+use Rattle.pim_change.specs.Written.{CarryChange}
 use Rattle.pim_change.specs.TooBig as changed
 use Rattle.pim_form.specs.Laws.{OneNormalForm}
 use Rattle.pim_form.specs.Messages.{Writing}
@@ -14,21 +14,21 @@ use Rattle.pim_mirror.specs.declared.mirroring.MirrorFault.{MirrorFault}
 use Rattle.pim_mirror.specs.declared.mirroring.MirrorFault.TheVariants as mirror
 use Rattle.pim_moving.specs.Laws.{ChangeFits}
 use Rattle.pim_report.specs.MessageText.{messages_text}
-use Rattle.pim_router.specs.Canonical.{asked, IsAskedBy, IsTooBig}
-use Rattle.pim_router.specs.Change.{IsTooBigToTell}
+use Rattle.pim_router.specs.Canonical.{demanded, IsDemandedBy, IsTooBig}
+use Rattle.pim_router.specs.Change.{IsChangeTooBig}
 use Rattle.pim_router.specs.State.{RouterState}
-use Rattle.pim_exchange.specs.ChangeHearing.{AreTold, HasNoRoom, MovedAgain}
+use Rattle.pim_exchange.specs.ChangeHearing.{AreCarried, HasNoRoom, MovedAgain}
 use Rattle.pim_exchange.specs.ChangeText.{IsChangeBetween, ReportsChange}
 use Rattle.pim_exchange.specs.Fault.{of_mirror}
 use Rattle.pim_exchange.proofs.FreshHearings.{one_of, sent_by}
 
 -- where each star of the second fits, so does the change
 pub never_too_big : OneNormalForm → ChangeFits → (family : AddressFamily) (writing : Writing) (last : List GroupForm) (other : RouterState) (group : List ℕ) → IsTooBig family writing other None
-    → IsTooBigToTell family writing last other (Some group) → ⊥
+    → IsChangeTooBig family writing last other (Some group) → ⊥
 never_too_big one fitting family writing last other group fits big = none (sym all_fit ∙ big.least)
   where
     same : fits.form ≡ big.form
-    same = one_of one family (asked family writing.upstream other) fits.form big.form fits.is big.is
+    same = one_of one family (demanded family writing.upstream other) fits.form big.form fits.is big.is
 
     all_fit : changed.too_big family writing.budget (change last big.form) ≡ None
     all_fit = fitting family writing.budget last big.form (ap (too_big family writing.budget) (sym same) ∙ fits.least)
@@ -38,24 +38,24 @@ never_too_big one fitting family writing last other group fits big = none (sym a
 
 -- what is told of two routers that have one table
 pub told_between : OneNormalForm → (family : AddressFamily) (table : RouteTable) (writing : Writing) (one other : RouterState) (before changes wanted : List (List ℕ)) → table ≡ one.routes → table ≡ other.routes
-    → IsAskedBy family writing one before → IsTooBig family writing one None → IsAskedBy family writing other wanted → IsTooBig family writing other None → IsChangeBetween family writing one other changes
-    → AreTold family table writing before changes wanted
+    → IsDemandedBy family writing one before → IsTooBig family writing one None → IsDemandedBy family writing other wanted → IsTooBig family writing other None → IsChangeBetween family writing one other changes
+    → AreCarried family table writing before changes wanted
 told_between form family table writing one other before changes wanted here there was fits is fit between =
-    let old : between.form ≡ was.form = one_of form family (asked family writing.upstream one) between.form was.form between.was was.is in
-    let new : between.told.form ≡ is.form = one_of form family (asked family writing.upstream other) between.told.form is.form between.told.is is.is in
+    let old : between.form ≡ was.form = one_of form family (demanded family writing.upstream one) between.form was.form between.was was.is in
+    let new : between.reported.form ≡ is.form = one_of form family (demanded family writing.upstream other) between.reported.form is.form between.reported.is is.is in
     record {
       was = sent_by form family table writing one before here was fits;
       is = sent_by form family table writing other wanted there is fit;
-      told =
-          subst (λ (f : List GroupForm). TellChange family writing (rp_of family table) f is.form changes) old
-          (subst (λ (f : List GroupForm). TellChange family writing (rp_of family table) between.form f changes) new
-          (subst (λ (t : RouteTable). TellChange family writing (rp_of family t) between.form between.told.form changes) (sym there) between.told.told));
+      reported =
+          subst (λ (f : List GroupForm). CarryChange family writing (rp_of family table) f is.form changes) old
+          (subst (λ (f : List GroupForm). CarryChange family writing (rp_of family table) between.form f changes) new
+          (subst (λ (t : RouteTable). CarryChange family writing (rp_of family t) between.form between.reported.form changes) (sym there) between.reported.reported));
     }
 
 -- the fresh router doesn't hear the change
 module _ {A : Type 0} (bytes_of : A → List ℕ) (family : AddressFamily) (table : RouteTable) (writing : Writing) (limit : ℕ) (one other : RouterState) (before changes wanted : List (List ℕ))
-    (same : table ≡ one.routes) (asked : IsAskedBy family writing one before) (between : IsChangeBetween family writing one other changes) (old new : Option (List ℕ)) (text : Appends old new (messages_text changes)) where
+    (same : table ≡ one.routes) (demanded : IsDemandedBy family writing one before) (between : IsChangeBetween family writing one other changes) (old new : Option (List ℕ)) (text : Appends old new (messages_text changes)) where
   pub not_reported : (why : MirrorFault) → MovedAgain family table writing limit before changes wanted (Err why) → ReportsChange family writing limit one other bytes_of old new (Err (of_mirror why))
   not_reported (mirror.Full needed) full =
-      record { before = before; asked = asked; change = changes; between = between; written = (subst (λ t. HasNoRoom family t writing limit before changes needed) same full, text) }
-  not_reported mirror.Memory full = inr (record { before = before; asked = asked; change = changes; between = between; written = text })
+      record { before = before; demanded = demanded; change = changes; between = between; written = (subst (λ t. HasNoRoom family t writing limit before changes needed) same full, text) }
+  not_reported mirror.Memory full = inr (record { before = before; demanded = demanded; change = changes; between = between; written = text })

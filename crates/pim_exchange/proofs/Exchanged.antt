@@ -9,7 +9,7 @@ use Rattle.pim_form.specs.Messages.{Writing}
 use Rattle.pim_mirror.specs.declared.mirroring.MirrorFault.{MirrorFault}
 use Rattle.pim_mirror.specs.declared.mirroring.MirrorFault.TheVariants as mirror
 use Rattle.pim_report.specs.MessageText.{messages_text}
-use Rattle.pim_router.specs.Canonical.{IsAskedBy}
+use Rattle.pim_router.specs.Canonical.{IsDemandedBy}
 use Rattle.pim_router.specs.State.{RouterState}
 use Rattle.pim_exchange.specs.Fault.{of_mirror}
 use Rattle.pim_exchange.specs.FreshHearing.{HeardAgain, IsFull}
@@ -28,9 +28,9 @@ module _ (messages wanted again : List (List ℕ)) (line : List ℕ) (same : aga
 -- ---- the canonical messages of a router
 
 module _ {A : Type 0} (bytes_of : A → List ℕ) (family : AddressFamily) (table : RouteTable) (writing : Writing) (limit : ℕ) (router : RouterState) (messages : List (List ℕ)) (same : table ≡ router.routes)
-    (asked : IsAskedBy family writing router messages) (old : Option (List ℕ)) where
+    (demanded : IsDemandedBy family writing router messages) (old : Option (List ℕ)) where
   pub not_heard : (why : MirrorFault) (new : Option (List ℕ)) → HeardAgain family table writing limit messages (Err why) → Appends old new (messages_text messages)
       → Exchanges family writing limit router bytes_of old new (Err (of_mirror why))
   not_heard (mirror.Full needed) new full text =
-      record { messages = messages; asked = asked; written = (subst (λ t. IsFull family t writing limit messages needed) same full, text) }
-  not_heard mirror.Memory new full text = inr (record { messages = messages; asked = asked; written = text })
+      record { messages = messages; demanded = demanded; written = (subst (λ t. IsFull family t writing limit messages needed) same full, text) }
+  not_heard mirror.Memory new full text = inr (record { messages = messages; demanded = demanded; written = text })

@@ -9,22 +9,22 @@ use Rattle.pim_addr.specs.Routes.{RouteTable, IsRouteTable, rp_of}
 use Rattle.pim_form.specs.Laws.{OneNormalForm}
 use Rattle.pim_form.specs.Messages.{Writing, IsWriting, AreCanonical}
 use Rattle.pim_form.specs.NormalForm.{GroupForm, Demand, IsFormOf}
-use Rattle.pim_form.specs.Refused.{told_too_big}
+use Rattle.pim_form.specs.Refused.{group_too_big}
 use Rattle.pim_form.specs.TooBig.{too_big}
-use Rattle.pim_form.specs.TowardLaws.{asked_of}
+use Rattle.pim_form.specs.TowardLaws.{demand_toward}
 use Rattle.pim_fresh.specs.Deliveries.{Delivery, IsShorter, IsTimely, AreAlive, last_of, is_delivered, final_moment}
 use Rattle.pim_mirror.specs.Config.{Fresh, delivery_seen, newest_first, end_of}
 use Rattle.pim_mirror.specs.declared.config.Delivery as code
 use Rattle.pim_mirror.specs.Fits.{Fits, expiry_of}
-use Rattle.pim_mirror.specs.Headline.{TellsOfForm, MirrorAnswersForTheForm}
+use Rattle.pim_mirror.specs.Headline.{CarriesTheForm, MirrorAnswersForTheForm}
 use Rattle.pim_mirror.specs.Mirror.{Mirrors}
 use Rattle.pim_mirror.specs.declared.mirroring.MirrorFault.{MirrorFault}
 use Rattle.pim_mirror.specs.declared.mirroring.MirrorFault.TheVariants as fault
 use Rattle.pim_form.specs.declared.fault.FormFault.{FormFault}
 use Rattle.pim_form.specs.declared.fault.FormFault.TheVariants.{TooBig}
-use Rattle.pim_router.specs.Canonical.{IsAskedBy, IsTooBig}
+use Rattle.pim_router.specs.Canonical.{IsDemandedBy, IsTooBig}
 use Rattle.pim_router.specs.State.{RouterState}
-use Rattle.pim_exchange.specs.FreshHearing.{delivered_at, each_at, fresh_of, AreSent, HaveRoom, IsAgain, Mirrored, HeardAgain, Asks}
+use Rattle.pim_exchange.specs.FreshHearing.{delivered_at, each_at, fresh_of, AreSent, HaveRoom, IsAgain, Mirrored, HeardAgain, Demands}
 
 -- the same, the newest first
 unfoldable pub newest_at : ℕ → ℕ → List Delivery
@@ -144,7 +144,7 @@ module _ (family : AddressFamily) (table : RouteTable) (writing : Writing) (limi
     others_are_not_sender = tt;
     others_count = omega arith;
     others_stay = tt;
-    named = all_named (length messages) (length messages) (omega arith);
+    listed = all_named (length messages) (length messages) (omega arith);
     delivered = λ message within. subst (λ (l : List Delivery). is_delivered message l ≡ true) (sym newest_of) (came 0 message (length messages) within);
     early = all_early 0 (length messages) (omega arith);
     timely = subst (λ (l : List Delivery). IsTimely (expiry_of writing.holdtime) (end_of its) l) (sym newest_of)
@@ -162,10 +162,10 @@ all_short most small (message ∷ messages) all = (omega (arith, all.0, small), 
 
 module _ (family : AddressFamily) (table : RouteTable) (writing : Writing) (limit : ℕ) (messages : List (List ℕ)) where
   told_once : (sent : AreSent family table writing messages) (result : Result RouterState MirrorFault)
-      → TellsOfForm family table writing sent.asked.form messages (fresh_of table writing limit messages) result → Mirrored family table writing limit messages result
+      → CarriesTheForm family table writing sent.demanded.form messages (fresh_of table writing limit messages) result → Mirrored family table writing limit messages result
   told_once sent (Ok router) tells = (
     tells.answers.room,
-    record { form = sent.asked.form; fitting = sent.fitting; routes = tells.answers.at_first.routes; asks = tells.answers.at_first.asks },
+    record { form = sent.demanded.form; fitting = sent.fitting; routes = tells.answers.at_first.routes; asks = tells.answers.at_first.asks },
   )
   told_once sent (Err (fault.Full needed)) tells = record { over = tells.answers.0; first = tells.answers.1 }
   told_once sent (Err fault.Memory) tells = tt
@@ -173,12 +173,12 @@ module _ (family : AddressFamily) (table : RouteTable) (writing : Writing) (limi
   -- the course of the fresh router determines the meaning of the result
   pub tells_once : MirrorAnswersForTheForm → IsRouteTable family table → IsWriting family writing → 1 ≤ limit → limit ≤ 100000 → (sent : AreSent family table writing messages) (fresh : Fresh)
       (result : Result RouterState MirrorFault) → fresh ≡ fresh_of table writing limit messages → Mirrors family messages fresh result
-      → TellsOfForm family table writing sent.asked.form messages (fresh_of table writing limit messages) result
+      → CarriesTheForm family table writing sent.demanded.form messages (fresh_of table writing limit messages) result
   tells_once law sound is_writing least most sent fresh result same goes =
       let course : Mirrors family messages (fresh_of table writing limit messages) result = subst (λ (f : Fresh). Mirrors family messages f result) same goes in
       record {
         course = course;
-        answers = law family table writing sent.state messages (fresh_of table writing limit messages) result sound is_writing sent.asked (fitting family table writing limit messages is_writing.long least most) course;
+        answers = law family table writing sent.state messages (fresh_of table writing limit messages) result sound is_writing sent.demanded (fitting family table writing limit messages is_writing.long least most) course;
       }
 
   pub mirrored : MirrorAnswersForTheForm → IsRouteTable family table → IsWriting family writing → 1 ≤ limit → limit ≤ 100000 → (sent : AreSent family table writing messages) (fresh : Fresh)
@@ -186,27 +186,27 @@ module _ (family : AddressFamily) (table : RouteTable) (writing : Writing) (limi
   mirrored law sound is_writing least most sent fresh result same goes = told_once sent result (tells_once law sound is_writing least most sent fresh result same goes)
 
 module _ (family : AddressFamily) (table : RouteTable) (writing : Writing) (messages : List (List ℕ)) (router : RouterState) (again : IsAgain family table writing messages router) where
-  pub same_again : (others : List (List ℕ)) → IsAskedBy family writing router others → others ≡ messages
-  same_again others asked = again.asks.same_messages asked.form others
-      (subst (λ t. IsFormOf family (asked_of family t writing.upstream router.machines) asked.form) again.routes asked.is)
-      (subst (λ t. AreCanonical family writing (rp_of family t) asked.form others) again.routes asked.told)
+  pub same_again : (others : List (List ℕ)) → IsDemandedBy family writing router others → others ≡ messages
+  same_again others demanded = again.asks.same_messages demanded.form others
+      (subst (λ t. IsFormOf family (demand_toward family t writing.upstream router.machines) demanded.form) again.routes demanded.is)
+      (subst (λ t. AreCanonical family writing (rp_of family t) demanded.form others) again.routes demanded.reported)
 
   pub fits_again : IsTooBig family writing router None
   fits_again = record {
     form = again.form;
-    is = subst (λ t. IsFormOf family (asked_of family t writing.upstream router.machines) again.form) (sym again.routes) again.asks.is_form;
+    is = subst (λ t. IsFormOf family (demand_toward family t writing.upstream router.machines) again.form) (sym again.routes) again.asks.is_form;
     least = again.fitting;
   }
 
-  pub heard_again : (limit : ℕ) (result : Result (List (List ℕ)) MirrorFault) → HaveRoom family table writing limit messages → Asks family writing router result → HeardAgain family table writing limit messages result
-  heard_again limit (Ok others) room asked = (room, same_again others asked)
-  heard_again limit (Err (fault.Full needed)) room asked = absurd asked
-  heard_again limit (Err fault.Memory) room asked = tt
+  pub heard_again : (limit : ℕ) (result : Result (List (List ℕ)) MirrorFault) → HaveRoom family table writing limit messages → Demands family writing router result → HeardAgain family table writing limit messages result
+  heard_again limit (Ok others) room demanded = (room, same_again others demanded)
+  heard_again limit (Err (fault.Full needed)) room demanded = absurd demanded
+  heard_again limit (Err fault.Memory) room demanded = tt
 
 -- a star that is told as too big
 pub told_big : {T F A N : Type 0} (bytes_of : A → List ℕ) (IsSo : Option (List ℕ) → Type 0) (result : Result T (FormFault F A N)) (why : FormFault F A N) (group : A) → result ≡ Err why → why ≡ TooBig group
-    → IsSo (option_map bytes_of (told_too_big result)) → IsSo (Some (bytes_of group))
-told_big bytes_of IsSo result why group is big told = subst (λ r. IsSo (option_map bytes_of (told_too_big r))) (is ∙ ap (λ f. Err f) big) told
+    → IsSo (option_map bytes_of (group_too_big result)) → IsSo (Some (bytes_of group))
+told_big bytes_of IsSo result why group is big reported = subst (λ r. IsSo (option_map bytes_of (group_too_big r))) (is ∙ ap (λ f. Err f) big) reported
 
 -- a router has one form: its stars fit, or one doesn't
 pub fits_or_not : OneNormalForm → (family : AddressFamily) (writing : Writing) (router : RouterState) (group : List ℕ) → IsTooBig family writing router None → IsTooBig family writing router (Some group) → ⊥
@@ -224,15 +224,15 @@ pub one_of : OneNormalForm → (family : AddressFamily) (demand : Demand) (form 
 one_of one family demand form other p q = one family form other p.normal q.normal (λ source group tree valid of_group. sym (p.wants source group tree valid of_group) ∙ q.wants source group tree valid of_group)
 
 abbrev pub sent_by : OneNormalForm → (family : AddressFamily) (table : RouteTable) (writing : Writing) (router : RouterState) (messages : List (List ℕ)) → table ≡ router.routes
-    → IsAskedBy family writing router messages → IsTooBig family writing router None → AreSent family table writing messages
-sent_by one family table writing router messages same asked fits = record {
+    → IsDemandedBy family writing router messages → IsTooBig family writing router None → AreSent family table writing messages
+sent_by one family table writing router messages same demanded fits = record {
   state = router.machines;
-  asked = record {
-    form = asked.form;
-    is = subst (λ t. IsFormOf family (asked_of family t writing.upstream router.machines) asked.form) (sym same) asked.is;
-    told = subst (λ t. AreCanonical family writing (rp_of family t) asked.form messages) (sym same) asked.told;
+  demanded = record {
+    form = demanded.form;
+    is = subst (λ t. IsFormOf family (demand_toward family t writing.upstream router.machines) demanded.form) (sym same) demanded.is;
+    reported = subst (λ t. AreCanonical family writing (rp_of family t) demanded.form messages) (sym same) demanded.reported;
   };
-  fitting = ap (too_big family writing.budget) (one_of one family (asked_of family router.routes writing.upstream router.machines) asked.form fits.form asked.is fits.is) ∙ fits.least;
+  fitting = ap (too_big family writing.budget) (one_of one family (demand_toward family router.routes writing.upstream router.machines) demanded.form fits.form demanded.is fits.is) ∙ fits.least;
 }
 
 -- ---- the deliveries, one after the other

@@ -10,28 +10,28 @@ use Rattle.pim_down.specs.Time.{Downstream}
 use Rattle.pim_form.specs.Messages.{Writing, IsWriting, AreCanonical}
 use Rattle.pim_form.specs.NormalForm.{GroupForm, IsFormOf}
 use Rattle.pim_form.specs.Settled.{IsSettledAt}
-use Rattle.pim_form.specs.Toward.{via_in, upstream_of, is_neighbour}
-use Rattle.pim_form.specs.TowardLaws.{asked_of, SameMessagesSameAsked, TestTellsWhoIsAsked}
+use Rattle.pim_form.specs.Toward.{via_of, rpf_neighbour, is_neighbour}
+use Rattle.pim_form.specs.TowardLaws.{demand_toward, SameMessagesSameDemandToward, TestFindsTheNeighbour}
 use Rattle.pim_form.specs.Wants.{wants}
 use Rattle.pim_fresh.specs.Deliveries.{Delivery, IsShorter, AreAlive}
 use Rattle.pim_mirror.specs.CanonicalCourse.{AreOf, inputs_of}
 use Rattle.pim_mirror.specs.Config.{Fresh, newest_first, end_of}
 use Rattle.pim_mirror.specs.Fits.{expiry_of}
-use Rattle.pim_mirror.specs.Headline.{TellsOfForm}
+use Rattle.pim_mirror.specs.Headline.{CarriesTheForm}
 use Rattle.pim_mirror.specs.Hellos.{timing_of}
-use Rattle.pim_mirror.specs.Laws.{AskedStarsHaveRps}
+use Rattle.pim_mirror.specs.Laws.{DemandedStarsHaveRps}
 use Rattle.pim_mirror.specs.Mirror.{Passes, delivery_inputs}
 use Rattle.pim_mirror.specs.declared.mirroring.MirrorFault.{MirrorFault}
 use Rattle.pim_mirror.specs.declared.mirroring.MirrorFault.TheVariants as fault
 use Rattle.pim_moving.specs.Changing.{AreBetween, IsFormToward, StandsAt, KnowsUntil, NoneEndsOnTheWay, IsGiven, HasMoved}
 use Rattle.pim_moving.specs.Laws.{ChangeMovesARouter, LongTimersLast, MirrorIsSettled}
-use Rattle.pim_router.specs.Canonical.{IsAskedBy, IsTooBig}
+use Rattle.pim_router.specs.Canonical.{IsDemandedBy, IsTooBig}
 use Rattle.pim_router.specs.Course.{Input, runs_to, IsCourse}
 use Rattle.pim_router.specs.Laws.{EveryListHasACourse}
 use Rattle.pim_router.specs.State.{RouterState}
 use Rattle.pim_settling.specs.Hearing.{NoneExpires}
-use Rattle.pim_exchange.specs.ChangeHearing.{fresh_interval, change_inputs, AreTold, HearsBoth, MovedAgain}
-use Rattle.pim_exchange.specs.FreshHearing.{delivered_at, each_at, fresh_of, Asks}
+use Rattle.pim_exchange.specs.ChangeHearing.{fresh_interval, change_inputs, AreCarried, HearsBoth, MovedAgain}
+use Rattle.pim_exchange.specs.FreshHearing.{delivered_at, each_at, fresh_of, Demands}
 use Rattle.pim_exchange.proofs.FreshHearings.{newest_at, newest_of, end_early, all_early, all_short, came, ends_by, alive, lasts, shorter}
 
 -- ---- each message once, at a moment
@@ -72,15 +72,15 @@ early_too moment count deliveries early same = subst (λ l. AllByRecursion (λ (
 pub wants_memory : EveryListHasACourse → (family : AddressFamily) (inputs : List Input) (router : RouterState) → Passes family inputs router (Err fault.Memory) router
 wants_memory has family inputs router =
     let some = has family inputs router in
-    record { told = some.told; after = some.after; course = some.course; passed = tt }
+    record { reported = some.reported; after = some.after; course = some.course; passed = tt }
 
 -- the change's messages are short enough to be heard
-pub change_short : ChangeMessagesAreShort → AskedStarsHaveRps → (family : AddressFamily) (table : RouteTable) (writing : Writing) (before change wanted : List (List ℕ)) → IsRouteTable family table → IsWriting family writing
-    → AreTold family table writing before change wanted → AllByRecursion (λ (message : List ℕ). length message < 2 ^ 32) change
-change_short short stars family table writing before change wanted sound is_writing told =
+pub change_short : ChangeMessagesAreShort → DemandedStarsHaveRps → (family : AddressFamily) (table : RouteTable) (writing : Writing) (before change wanted : List (List ℕ)) → IsRouteTable family table → IsWriting family writing
+    → AreCarried family table writing before change wanted → AllByRecursion (λ (message : List ℕ). length message < 2 ^ 32) change
+change_short short stars family table writing before change wanted sound is_writing reported =
     all_short writing.budget is_writing.most change
-    (short family writing (rp_of family table) told.was.asked.form told.is.asked.form change is_writing told.was.asked.is.normal told.is.asked.is.normal
-    (stars family table writing.upstream told.was.state told.was.asked.form sound told.was.asked.is) (stars family table writing.upstream told.is.state told.is.asked.form sound told.is.asked.is) told.told)
+    (short family writing (rp_of family table) reported.was.demanded.form reported.is.demanded.form change is_writing reported.was.demanded.is.normal reported.is.demanded.is.normal
+    (stars family table writing.upstream reported.was.state reported.was.demanded.form sound reported.was.demanded.is) (stars family table writing.upstream reported.is.state reported.is.demanded.form sound reported.is.demanded.is) reported.reported)
 
 -- from the writer
 pub from_own : (family : AddressFamily) (messages : List (List ℕ)) (sender own : List ℕ) (moment : ℕ) (router after : RouterState) (result : Result (Unit {0}) MirrorFault) → sender ≡ own
@@ -94,15 +94,15 @@ second_true true b e = e
 second_true false b e = absurd (false≢true e)
 
 -- its form is toward this neighbour
-asked_is_toward : TestTellsWhoIsAsked → (family : AddressFamily) (table : RouteTable) (neighbour : List ℕ) (state : Downstream) (form : List GroupForm) → IsFormOf family (asked_of family table neighbour state) form
+asked_is_toward : TestFindsTheNeighbour → (family : AddressFamily) (table : RouteTable) (neighbour : List ℕ) (state : Downstream) (form : List GroupForm) → IsFormOf family (demand_toward family table neighbour state) form
     → IsFormToward family table neighbour form
 asked_is_toward tests family table neighbour state form is =
     let rps = rp_of family table in
-    let via = via_in family table in
+    let via = via_of family table in
     record {
       normal = is.normal;
       toward = (tests family rps via neighbour form is.normal).1 (λ source group tree valid of_group meant.
-          second_true (wants state source group tree) (is_neighbour neighbour (upstream_of rps via source group tree)) (is.wants source group tree valid of_group ∙ meant));
+          second_true (wants state source group tree) (is_neighbour neighbour (rpf_neighbour rps via source group tree)) (is.wants source group tree valid of_group ∙ meant));
     }
 
 -- ---- the mirror, and what is told then
@@ -112,12 +112,12 @@ pub record Laws : Type 0 where
   pub moves : ChangeMovesARouter
   pub long : LongTimersLast
   pub mirrors : MirrorIsSettled
-  pub same : SameMessagesSameAsked
-  pub tests : TestTellsWhoIsAsked
+  pub same : SameMessagesSameDemandToward
+  pub tests : TestFindsTheNeighbour
 
 module _ (laws : Laws) (family : AddressFamily) (table : RouteTable) (writing : Writing) (limit : ℕ) (before change wanted : List (List ℕ))
-    (sound : IsRouteTable family table) (is_writing : IsWriting family writing) (told : AreTold family table writing before change wanted) (router : RouterState)
-    (tells : TellsOfForm family table writing told.was.asked.form before (fresh_of table writing limit before) (Ok router)) where
+    (sound : IsRouteTable family table) (is_writing : IsWriting family writing) (reported : AreCarried family table writing before change wanted) (router : RouterState)
+    (tells : CarriesTheForm family table writing reported.was.demanded.form before (fresh_of table writing limit before) (Ok router)) where
   abbrev its : Fresh
   its = fresh_of table writing limit before
 
@@ -142,11 +142,11 @@ module _ (laws : Laws) (family : AddressFamily) (table : RouteTable) (writing : 
   all_alive : AreAlive (expiry_of writing.holdtime) last (newest_first its)
   all_alive = subst (λ (deliveries : List Delivery). AreAlive (expiry_of writing.holdtime) last deliveries) (sym (newest_of family table writing limit before)) (alive (expiry_of writing.holdtime) last (length before) no_expiry)
 
-  settled : IsSettledAt 0 told.was.asked.form router.machines.records × NoneExpires last router.machines
-  settled = laws.mirrors family table writing told.was.asked.form before its (end_of its) last [] router told.was.asked.is.normal (omega arith) later all_alive tells.answers.at_first
+  settled : IsSettledAt 0 reported.was.demanded.form router.machines.records × NoneExpires last router.machines
+  settled = laws.mirrors family table writing reported.was.demanded.form before its (end_of its) last [] router reported.was.demanded.is.normal (omega arith) later all_alive tells.answers.at_first
 
   module _ (machines : IsSound family router.machines) where
-    stands : StandsAt family told.was.asked.form router
+    stands : StandsAt family reported.was.demanded.form router
     stands = record { one_port = one_port; sound = machines; settled = settled.0 }
 
     routes : router.routes ≡ table
@@ -157,11 +157,11 @@ module _ (laws : Laws) (family : AddressFamily) (table : RouteTable) (writing : 
         let knows = tells.answers.knows last later tt in
         record { hears = knows.hears; same_rps = λ group is. ap (λ (t : RouteTable). rp_of family t group) routes; neighbours = knows.lasts }
 
-    toward_was : IsFormToward family table writing.upstream told.was.asked.form
-    toward_was = asked_is_toward laws.tests family table writing.upstream told.was.state told.was.asked.form told.was.asked.is
+    toward_was : IsFormToward family table writing.upstream reported.was.demanded.form
+    toward_was = asked_is_toward laws.tests family table writing.upstream reported.was.state reported.was.demanded.form reported.was.demanded.is
 
-    toward_is : IsFormToward family table writing.upstream told.is.asked.form
-    toward_is = asked_is_toward laws.tests family table writing.upstream told.is.state told.is.asked.form told.is.asked.is
+    toward_is : IsFormToward family table writing.upstream reported.is.demanded.form
+    toward_is = asked_is_toward laws.tests family table writing.upstream reported.is.state reported.is.demanded.form reported.is.demanded.is
 
     abbrev deliveries : List Delivery
     deliveries = newest_at router.machines.moment (length change)
@@ -174,7 +174,7 @@ module _ (laws : Laws) (family : AddressFamily) (table : RouteTable) (writing : 
 
     timers : NoneEndsOnTheWay family writing change router deliveries last
     timers =
-        laws.long family table writing (timing_of its) told.was.asked.form told.is.asked.form change deliveries last router sound is_writing toward_was toward_is told.told machines knows_until of_these between settled.1
+        laws.long family table writing (timing_of its) reported.was.demanded.form reported.is.demanded.form change deliveries last router sound is_writing toward_was toward_is reported.reported machines knows_until of_these between settled.1
         (shorter last (expiry_of writing.holdtime) no_expiry (last - router.machines.moment) (omega arith))
 
     -- the change came
@@ -185,17 +185,17 @@ module _ (laws : Laws) (family : AddressFamily) (table : RouteTable) (writing : 
         each_came = λ number within. came router.machines.moment number (length change) within;
         between = between;
         final = ends_by 3000 router.machines.moment (length change);
-        told = passes.told;
-        course = subst (λ (end : RouterState). IsCourse family (inputs_of family writing 0 change deliveries ++ runs_to last ∷ []) passes.told router end) (sym passes.passed.1)
-            (subst (λ (inputs : List Input). IsCourse family (inputs ++ runs_to last ∷ []) passes.told router passes.after) (inputs_are family writing change router.machines.moment (length change)) passes.course);
+        reported = passes.reported;
+        course = subst (λ (end : RouterState). IsCourse family (inputs_of family writing 0 change deliveries ++ runs_to last ∷ []) passes.reported router end) (sym passes.passed.1)
+            (subst (λ (inputs : List Input). IsCourse family (inputs ++ runs_to last ∷ []) passes.reported router passes.after) (inputs_are family writing change router.machines.moment (length change)) passes.course);
         room = passes.passed.0;
         timers = timers;
       }
 
-      moved : HasMoved family table writing told.is.asked.form last router after
-      moved = laws.moves family table writing (timing_of its) told.was.asked.form told.is.asked.form change deliveries last router after sound is_writing toward_was toward_is told.told stands knows_until given
+      moved : HasMoved family table writing reported.is.demanded.form last router after
+      moved = laws.moves family table writing (timing_of its) reported.was.demanded.form reported.is.demanded.form change deliveries last router after sound is_writing toward_was toward_is reported.reported stands knows_until given
 
-      asks : IsFormOf family (asked_of family table writing.upstream after.machines) told.is.asked.form
+      asks : IsFormOf family (demand_toward family table writing.upstream after.machines) reported.is.demanded.form
       asks = moved.asks
 
       routes_then : after.routes ≡ table
@@ -203,32 +203,32 @@ module _ (laws : Laws) (family : AddressFamily) (table : RouteTable) (writing : 
 
       pub fits_then : IsTooBig family writing after None
       fits_then = record {
-        form = told.is.asked.form;
-        is = subst (λ (t : RouteTable). IsFormOf family (asked_of family t writing.upstream after.machines) told.is.asked.form) (sym routes_then) asks;
-        least = told.is.fitting;
+        form = reported.is.demanded.form;
+        is = subst (λ (t : RouteTable). IsFormOf family (demand_toward family t writing.upstream after.machines) reported.is.demanded.form) (sym routes_then) asks;
+        least = reported.is.fitting;
       }
 
-      same_then : (others : List (List ℕ)) → IsAskedBy family writing after others → others ≡ wanted
-      same_then others asked =
-          (laws.same family table writing after.machines told.is.state asked.form told.is.asked.form others wanted sound is_writing
-          (subst (λ (t : RouteTable). IsFormOf family (asked_of family t writing.upstream after.machines) asked.form) routes_then asked.is) told.is.asked.is
-          (subst (λ (t : RouteTable). AreCanonical family writing (rp_of family t) asked.form others) routes_then asked.told) told.is.asked.told).1
-          (λ source group tree valid of_group. asks.wants source group tree valid of_group ∙ sym (told.is.asked.is.wants source group tree valid of_group))
+      same_then : (others : List (List ℕ)) → IsDemandedBy family writing after others → others ≡ wanted
+      same_then others demanded =
+          (laws.same family table writing after.machines reported.is.state demanded.form reported.is.demanded.form others wanted sound is_writing
+          (subst (λ (t : RouteTable). IsFormOf family (demand_toward family t writing.upstream after.machines) demanded.form) routes_then demanded.is) reported.is.demanded.is
+          (subst (λ (t : RouteTable). AreCanonical family writing (rp_of family t) demanded.form others) routes_then demanded.reported) reported.is.demanded.reported).1
+          (λ source group tree valid of_group. asks.wants source group tree valid of_group ∙ sym (reported.is.demanded.is.wants source group tree valid of_group))
 
       hears_both : HearsBoth family table writing limit before change None
       hears_both = record {
         mirror = router;
         heard = tells.course;
-        told = passes.told;
+        reported = passes.reported;
         after = passes.after;
         course = passes.course;
         needed_is = passes.passed.0;
       }
 
-      pub moved_again : (result : Result (List (List ℕ)) MirrorFault) → Asks family writing after result → MovedAgain family table writing limit before change wanted result
-      moved_again (Ok others) asked = (hears_both, same_then others asked)
-      moved_again (Err (fault.Full needed)) asked = absurd asked
-      moved_again (Err fault.Memory) asked = tt
+      pub moved_again : (result : Result (List (List ℕ)) MirrorFault) → Demands family writing after result → MovedAgain family table writing limit before change wanted result
+      moved_again (Ok others) demanded = (hears_both, same_then others demanded)
+      moved_again (Err (fault.Full needed)) demanded = absurd demanded
+      moved_again (Err fault.Memory) demanded = tt
 
   -- it did not, or not all
   pub not_moved : (why : MirrorFault) (after : RouterState) → Passes family (change_inputs family change writing.own router.machines.moment) router (Err why) after
@@ -236,7 +236,7 @@ module _ (laws : Laws) (family : AddressFamily) (table : RouteTable) (writing : 
   not_moved (fault.Full needed) after passes = inr (record {
     mirror = router;
     heard = tells.course;
-    told = passes.told;
+    reported = passes.reported;
     after = passes.after;
     course = passes.course;
     needed_is = passes.passed;

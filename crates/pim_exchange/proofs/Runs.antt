@@ -38,7 +38,7 @@ module _ (A : Type 0) (family : AddressFamily) (end : End) (merge merge' : Merge
   -- the first replay stopped, so nothing of the second router was taken
   pub first_stopped : (fault : RunFault) → RunsQuietly family end merge merge' state after {A = Unit {0}} (Err fault)
       → AfterBoth family end merge merge' state after other other state_of state_of {T = Unit {0}} {A = A} None None (λ answer. IsOk answer) (Err (Replay fault))
-  first_stopped (Capture told) stops = (stops, refl, tt)
+  first_stopped (Capture reported) stops = (stops, refl, tt)
   first_stopped Output stops = absurd stops
   first_stopped Memory tallied = (tallied, untaken end other, inl tt)
 
@@ -46,7 +46,7 @@ module _ (A : Type 0) (family : AddressFamily) (end : End) (merge merge' : Merge
     pub second_stopped : (fault : RunFault) → RunsAll family end merge merge' state after → IsTallied end merge merge'
         → RunsQuietly family end other other' state_of after_of {A = Unit {0}} (Err fault)
         → AfterBoth family end merge merge' state after other other' state_of after_of {T = Unit {0}} {A = A} None None (λ answer. IsOk answer) (Err (of_second fault))
-    second_stopped (Capture told) runs tallied stops = (runs, stops, tt)
+    second_stopped (Capture reported) runs tallied stops = (runs, stops, tt)
     second_stopped Output runs tallied stops = absurd stops
     second_stopped Memory runs tallied tallied_of = (tallied, tallied_of, inl tt)
 
@@ -54,10 +54,10 @@ module _ (A : Type 0) (family : AddressFamily) (end : End) (merge merge' : Merge
     pub both_stopped : {T : Type 0} (Step : Result T (ExchangeFault A) → Type 0) (fault : ExchangeFault A) (old : Option (List ℕ))
         → AfterBoth family end merge merge' state after other other' state_of after_of {T = Unit {0}} None None (λ answer. IsOk answer) (Err fault)
         → AfterBoth family end merge merge' state after other other' state_of after_of old old Step (Err fault)
-    both_stopped Step (Replay (Capture told)) old is = (is.0, is.1, keeps_same old)
+    both_stopped Step (Replay (Capture reported)) old is = (is.0, is.1, keeps_same old)
     both_stopped Step (Replay Output) old is = absurd (false≢true is.1)
     both_stopped Step (Replay Memory) old is = (is.0, is.1, inl (keeps_same old))
-    both_stopped Step (Second told) old is = (is.0, is.1, keeps_same old)
+    both_stopped Step (Second reported) old is = (is.0, is.1, keeps_same old)
     both_stopped Step (TooBig group) old is = absurd (false≢true is.1)
     both_stopped Step (Full needed) old is = absurd (false≢true is.1)
 
@@ -65,9 +65,9 @@ module _ (A : Type 0) (family : AddressFamily) (end : End) (merge merge' : Merge
     pub not_failed : (fault : ExchangeFault A) (before : ℕ)
         → AfterBoth family end merge merge' state after other other' state_of after_of {T = Unit {0}} None None (λ answer. IsOk answer) (Err fault)
         → before ≡ failures_of_exchange {T = ℕ} before (Err fault)
-    not_failed (Replay (Capture told)) before is = refl
+    not_failed (Replay (Capture reported)) before is = refl
     not_failed (Replay Output) before is = absurd (false≢true is.1)
     not_failed (Replay Memory) before is = refl
-    not_failed (Second told) before is = refl
+    not_failed (Second reported) before is = refl
     not_failed (TooBig group) before is = refl
     not_failed (Full needed) before is = refl

@@ -4,12 +4,12 @@ use Rattle.std.specs.Prelude.{◌≡◌, ◌⊎◌, ℕ, ◌+◌, List, [], ◌�
 use Rattle.std.specs.List.{flat_map}
 use Rattle.pim_addr.specs.declared.family.AddressFamily.{AddressFamily}
 use Rattle.pim_addr.specs.Routes.{RouteTable, rp_of}
-use Rattle.pim_change.specs.Told.{TellChange}
+use Rattle.pim_change.specs.Written.{CarryChange}
 use Rattle.pim_form.specs.Messages.{Writing}
 use Rattle.pim_mirror.specs.Mirror.{GoesThrough, delivery_inputs, first_needed}
 use Rattle.pim_mirror.specs.declared.mirroring.MirrorFault.{MirrorFault}
 use Rattle.pim_mirror.specs.declared.mirroring.MirrorFault.TheVariants as fault
-use Rattle.pim_router.specs.Course.{Input, Telling, runs_to, IsCourse}
+use Rattle.pim_router.specs.Course.{Input, RouterReport, runs_to, IsCourse}
 use Rattle.pim_router.specs.State.{RouterState}
 use Rattle.pim_exchange.specs.FreshHearing.{AreSent, IsFull, each_at, fresh_of}
 
@@ -27,10 +27,10 @@ change_inputs family messages sender moment =
 module _ (family : AddressFamily) (table : RouteTable) (writing : Writing) where
   -- Under this table the canonical messages of the writer's demand are first `before` and later
   -- `wanted`. The messages `change` report the change from the one to the other.
-  pub record AreTold (before change wanted : List (List ℕ)) : Type 0 where
+  pub record AreCarried (before change wanted : List (List ℕ)) : Type 0 where
     pub was : AreSent family table writing before
     pub is : AreSent family table writing wanted
-    pub told : TellChange family writing (rp_of family table) was.asked.form is.asked.form change
+    pub reported : CarryChange family writing (rp_of family table) was.demanded.form is.demanded.form change
 
   module _ (limit : ℕ) (before change : List (List ℕ)) where
     -- The fresh router heard the messages `before`, and at its final moment those of the change.
@@ -39,10 +39,10 @@ module _ (family : AddressFamily) (table : RouteTable) (writing : Writing) where
     pub record HearsBoth (needed : Option ℕ) : Type 0 where
       pub mirror : RouterState
       pub heard : GoesThrough family before (fresh_of table writing limit before) None mirror
-      pub told : List Telling
+      pub reported : List RouterReport
       pub after : RouterState
-      pub course : IsCourse family (change_inputs family change writing.own mirror.machines.moment) told mirror after
-      pub needed_is : first_needed told ≡ needed
+      pub course : IsCourse family (change_inputs family change writing.own mirror.machines.moment) reported mirror after
+      pub needed_is : first_needed reported ≡ needed
 
     -- Each message of both lists had room in the fresh router.
     abbrev pub HasRoom : Type 0

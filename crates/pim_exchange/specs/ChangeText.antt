@@ -10,8 +10,8 @@ use Rattle.pim_form.specs.NormalForm.{GroupForm, IsFormOf}
 use Rattle.pim_merge.specs.declared.end.End.{End}
 use Rattle.pim_merge.specs.Next.{MergeState}
 use Rattle.pim_report.specs.MessageText.{messages_text}
-use Rattle.pim_router.specs.Canonical.{asked, IsAskedBy, IsFirstTooBig}
-use Rattle.pim_router.specs.Change.{IsToldOf}
+use Rattle.pim_router.specs.Canonical.{demanded, IsDemandedBy, IsFirstTooBig}
+use Rattle.pim_router.specs.Change.{IsChangeOf}
 use Rattle.pim_router.specs.State.{RouterState}
 use Rattle.pim_run.specs.declared.fault.RunFault.TheVariants.{Output, Memory}
 use Rattle.pim_exchange.specs.declared.fault.ExchangeFault.{ExchangeFault}
@@ -25,23 +25,23 @@ use Rattle.pim_exchange.specs.Runs.{AfterBoth}
 pub record IsChangeBetween (family : AddressFamily) (writing : Writing) (one other : RouterState)
     (messages : List (List ℕ)) : Type 0 where
   pub form : List GroupForm
-  pub was : IsFormOf family (asked family writing.upstream one) form
-  pub told : IsToldOf family writing form other messages
+  pub was : IsFormOf family (demanded family writing.upstream one) form
+  pub reported : IsChangeOf family writing form other messages
 
 module _ (family : AddressFamily) (writing : Writing) (limit : ℕ) (one other : RouterState) where
   -- The canonical messages of the first router, and the messages of the change to the second one.
   -- `IsWritten` holds for the two lists.
   pub record Changes (IsWritten : List (List ℕ) → List (List ℕ) → Type 0) : Type 0 where
     pub before : List (List ℕ)
-    pub asked : IsAskedBy family writing one before
+    pub demanded : IsDemandedBy family writing one before
     pub change : List (List ℕ)
     pub between : IsChangeBetween family writing one other change
     pub written : IsWritten before change
 
-  -- What the call returns and writes that lets a fresh router hear the change. A star that is too big
-  -- is one of the first router, or else of the second. `Full` means that the fresh router has no room
-  -- for the first router's messages or for the change. It comes after the messages of the change were
-  -- written. When memory is refused, the text ends before these messages or after them.
+  -- What the call returns and writes that lets a fresh router hear the change. A star that is too
+  -- big is one of the first router, or else of the second. `Full` means that the fresh router has
+  -- no room for the first router's messages or for the change. It comes after the messages of the
+  -- change were written. When memory is refused, the text ends before these messages or after them.
   abbrev pub ReportsChange : {A : Type 0} → (A → List ℕ) → Option (List ℕ) → Option (List ℕ) →
       Result ℕ (ExchangeFault A) → Type 0
   ReportsChange bytes_of old new (Ok status) = (status ≡ 0)
@@ -59,9 +59,9 @@ module _ (family : AddressFamily) (writing : Writing) (limit : ℕ) (one other :
   ReportsChange bytes_of old new (Err fault) = ⊥
 
 -- What `change_into` returns and writes: it reports the change after both replays.
-abbrev pub TellsChange : {A : Type 0} → AddressFamily → End → Writing → ℕ → MergeState → MergeState → RouterState →
+abbrev pub WritesChange : {A : Type 0} → AddressFamily → End → Writing → ℕ → MergeState → MergeState → RouterState →
     RouterState → MergeState → MergeState → RouterState → RouterState → (A → List ℕ) → Option (List ℕ) →
     Option (List ℕ) → Result ℕ (ExchangeFault A) → Type 0
-TellsChange family end writing limit merge merge' state after other other' state_of after_of bytes_of old new =
+WritesChange family end writing limit merge merge' state after other other' state_of after_of bytes_of old new =
     AfterBoth family end merge merge' state after other other' state_of after_of old new
     (ReportsChange family writing limit after after_of bytes_of old new)

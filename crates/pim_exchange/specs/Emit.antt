@@ -31,16 +31,16 @@ module _ (family : AddressFamily) (writing : Writing) (router : RouterState) whe
 
   -- What the call returns and writes that sends these messages. Nothing is written if a star is too
   -- big or memory is refused, and a prefix of them if the device fails.
-  abbrev pub SendsAsked : {A : Type 0} → (A → List ℕ) → Option (List ℕ) → Option (List ℕ) →
+  abbrev pub SendsDemand : {A : Type 0} → (A → List ℕ) → Option (List ℕ) → Option (List ℕ) →
       Result ℕ (ExchangeFault A) → Type 0
-  SendsAsked bytes_of old new (Ok status) = (status ≡ 0) × AllWentOut old new
-  SendsAsked bytes_of old new (Err (TooBig group)) = IsTooBigThen (Some (bytes_of group)) × Keeps old new
-  SendsAsked bytes_of old new (Err (Replay Output)) = FrontWentOut old new
-  SendsAsked bytes_of old new (Err (Replay Memory)) = Keeps old new
-  SendsAsked bytes_of old new (Err fault) = ⊥
+  SendsDemand bytes_of old new (Ok status) = (status ≡ 0) × AllWentOut old new
+  SendsDemand bytes_of old new (Err (TooBig group)) = IsTooBigThen (Some (bytes_of group)) × Keeps old new
+  SendsDemand bytes_of old new (Err (Replay Output)) = FrontWentOut old new
+  SendsDemand bytes_of old new (Err (Replay Memory)) = Keeps old new
+  SendsDemand bytes_of old new (Err fault) = ⊥
 
 -- What `emit_into` returns and writes: it sends the messages after the replay.
 abbrev pub Emits : {A : Type 0} → AddressFamily → End → Writing → MergeState → MergeState → RouterState →
     RouterState → (A → List ℕ) → Option (List ℕ) → Option (List ℕ) → Result ℕ (ExchangeFault A) → Type 0
 Emits family end writing merge merge' state after bytes_of old new =
-    AfterOne family end merge merge' state after old new (SendsAsked family writing after bytes_of old new)
+    AfterOne family end merge merge' state after old new (SendsDemand family writing after bytes_of old new)

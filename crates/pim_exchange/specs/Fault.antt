@@ -21,7 +21,7 @@ failures_of_exchange before (Err other) = before
 
 -- Why the call fails when the second router's replay stops.
 abbrev pub of_second : {A : Type 0} → RunFault → ExchangeFault A
-of_second (Capture told) = Second told
+of_second (Capture reported) = Second reported
 of_second fault = Replay fault
 
 -- Why the call fails when the demands can't be compared or written.

@@ -8,13 +8,13 @@ use Rattle.pim_form.specs.NormalForm.{GroupForm}
 use Rattle.pim_form.specs.TooBig.{too_big}
 use Rattle.pim_down.specs.Time.{Downstream}
 use Rattle.pim_fresh.specs.Deliveries.{Delivery}
-use Rattle.pim_mirror.specs.CanonicalMirror.{AsksAgain}
+use Rattle.pim_mirror.specs.CanonicalMirror.{DemandsAgain}
 use Rattle.pim_mirror.specs.Config.{Fresh, newest_first}
 use Rattle.pim_mirror.specs.Headline.{AreMessagesOf, fresh_exchange, all_entries, first_over}
 use Rattle.pim_mirror.specs.declared.mirroring.MirrorFault.{MirrorFault}
 use Rattle.pim_mirror.specs.declared.mirroring.MirrorFault.TheVariants as fault
 use Rattle.pim_router.specs.declared.config.PortConfig.{PortConfig}
-use Rattle.pim_router.specs.Canonical.{IsAskedBy}
+use Rattle.pim_router.specs.Canonical.{IsDemandedBy}
 use Rattle.pim_router.specs.State.{Port, RouterState}
 
 -- The delivery of the message with this index at this moment.
@@ -52,8 +52,8 @@ module _ (family : AddressFamily) (table : RouteTable) (writing : Writing) where
   -- of some state, and each star of it fits a message.
   pub record AreSent (messages : List (List ℕ)) : Type 0 where
     pub state : Downstream
-    pub asked : AreMessagesOf family table writing state messages
-    pub fitting : too_big family writing.budget asked.form ≡ None
+    pub demanded : AreMessagesOf family table writing state messages
+    pub fitting : too_big family writing.budget demanded.form ≡ None
 
   -- The entries of all messages together are at most `limit`, the number of records that the port
   -- may hold.
@@ -72,7 +72,7 @@ module _ (family : AddressFamily) (table : RouteTable) (writing : Writing) where
     pub form : List GroupForm
     pub fitting : too_big family writing.budget form ≡ None
     pub routes : router.routes ≡ table
-    pub asks : AsksAgain family table writing form messages router.machines
+    pub asks : DemandsAgain family table writing form messages router.machines
 
   -- ---- what private steps return
 
@@ -91,7 +91,7 @@ module _ (family : AddressFamily) (table : RouteTable) (writing : Writing) where
 
 -- What the step returns that makes the canonical messages of a router each of whose stars fits a
 -- message.
-abbrev pub Asks : AddressFamily → Writing → RouterState → Result (List (List ℕ)) MirrorFault → Type 0
-Asks family writing router (Ok messages) = IsAskedBy family writing router messages
-Asks family writing router (Err (fault.Full needed)) = ⊥
-Asks family writing router (Err fault.Memory) = Unit {0}
+abbrev pub Demands : AddressFamily → Writing → RouterState → Result (List (List ℕ)) MirrorFault → Type 0
+Demands family writing router (Ok messages) = IsDemandedBy family writing router messages
+Demands family writing router (Err (fault.Full needed)) = ⊥
+Demands family writing router (Err fault.Memory) = Unit {0}

@@ -9,7 +9,7 @@ use Rattle.pim_lines.specs.Pieces.{line}
 use Rattle.pim_merge.specs.declared.end.End.{End}
 use Rattle.pim_merge.specs.Next.{MergeState}
 use Rattle.pim_report.specs.MessageText.{messages_text}
-use Rattle.pim_router.specs.Canonical.{IsAskedBy, IsTooBig}
+use Rattle.pim_router.specs.Canonical.{IsDemandedBy, IsTooBig}
 use Rattle.pim_router.specs.State.{RouterState}
 use Rattle.pim_run.specs.declared.fault.RunFault.TheVariants.{Output, Memory}
 use Rattle.pim_exchange.specs.declared.fault.ExchangeFault.{ExchangeFault}
@@ -37,41 +37,41 @@ agreed_text messages = messages_text messages ++ agrees_line
 module _ (family : AddressFamily) (writing : Writing) (limit : ℕ) (router : RouterState) where
   -- These are the canonical messages of the router's demand toward the writer's upstream neighbour,
   -- and `IsWritten` holds for them.
-  pub record Asks (IsWritten : List (List ℕ) → Type 0) : Type 0 where
+  pub record Demands (IsWritten : List (List ℕ) → Type 0) : Type 0 where
     pub messages : List (List ℕ)
-    pub asked : IsAskedBy family writing router messages
+    pub demanded : IsDemandedBy family writing router messages
     pub written : IsWritten messages
 
-  -- What the call returns and writes that lets a fresh router hear these messages. `Full` means that
-  -- it has no room for all of them. It comes after their lines were written. When memory is refused,
-  -- the text ends before these lines or after them.
+  -- What the call returns and writes that lets a fresh router hear these messages. `Full` means
+  -- that it has no room for all of them. It comes after their lines were written. When memory is
+  -- refused, the text ends before these lines or after them.
   abbrev pub Exchanges : {A : Type 0} → (A → List ℕ) → Option (List ℕ) → Option (List ℕ) →
       Result ℕ (ExchangeFault A) → Type 0
   Exchanges bytes_of old new (Ok status) = (status ≡ 0)
-      × Asks (λ messages. HaveRoom family router.routes writing limit messages × Appends old new (agreed_text messages))
+      × Demands (λ messages. HaveRoom family router.routes writing limit messages × Appends old new (agreed_text messages))
   Exchanges bytes_of old new (Err (TooBig group)) =
       IsTooBig family writing router (Some (bytes_of group)) × Keeps old new
   Exchanges bytes_of old new (Err (Full needed)) =
-      Asks (λ messages. IsFull family router.routes writing limit messages needed
+      Demands (λ messages. IsFull family router.routes writing limit messages needed
       × Appends old new (messages_text messages))
-  Exchanges bytes_of old new (Err (Replay Output)) = Asks (λ messages. AppendsFront old new (agreed_text messages))
+  Exchanges bytes_of old new (Err (Replay Output)) = Demands (λ messages. AppendsFront old new (agreed_text messages))
   Exchanges bytes_of old new (Err (Replay Memory)) =
-      Keeps old new ⊎ Asks (λ messages. Appends old new (messages_text messages))
+      Keeps old new ⊎ Demands (λ messages. Appends old new (messages_text messages))
   Exchanges bytes_of old new (Err fault) = ⊥
 
 -- What `mirror_into` returns and writes: the exchange after the replay.
-abbrev pub TellsMirror : {A : Type 0} → AddressFamily → End → Writing → ℕ → MergeState → MergeState → RouterState →
+abbrev pub WritesMirror : {A : Type 0} → AddressFamily → End → Writing → ℕ → MergeState → MergeState → RouterState →
     RouterState → (A → List ℕ) → Option (List ℕ) → Option (List ℕ) → Result ℕ (ExchangeFault A) → Type 0
-TellsMirror family end writing limit merge merge' state after bytes_of old new =
+WritesMirror family end writing limit merge merge' state after bytes_of old new =
     AfterOne family end merge merge' state after old new (Exchanges family writing limit after bytes_of old new)
 
 -- ---- used by private functions only
 
 -- What the step returns that makes the canonical messages of a router.
-abbrev pub AsksBy : {A : Type 0} → (A → List ℕ) → AddressFamily → Writing → RouterState →
+abbrev pub DemandsBy : {A : Type 0} → (A → List ℕ) → AddressFamily → Writing → RouterState →
     Result (List (List ℕ)) (ExchangeFault A) → Type 0
-AsksBy bytes_of family writing router (Ok messages) =
-    IsAskedBy family writing router messages × IsTooBig family writing router None
-AsksBy bytes_of family writing router (Err (TooBig group)) = IsTooBig family writing router (Some (bytes_of group))
-AsksBy bytes_of family writing router (Err (Replay Memory)) = Unit {0}
-AsksBy bytes_of family writing router (Err fault) = ⊥
+DemandsBy bytes_of family writing router (Ok messages) =
+    IsDemandedBy family writing router messages × IsTooBig family writing router None
+DemandsBy bytes_of family writing router (Err (TooBig group)) = IsTooBig family writing router (Some (bytes_of group))
+DemandsBy bytes_of family writing router (Err (Replay Memory)) = Unit {0}
+DemandsBy bytes_of family writing router (Err fault) = ⊥

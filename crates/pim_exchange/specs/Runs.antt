@@ -14,12 +14,12 @@ use Rattle.pim_exchange.specs.declared.fault.ExchangeFault.TheVariants.{Replay, 
 
 module _ (family : AddressFamily) (end : End) (merge merge' : MergeState) (state after : RouterState) where
   -- What a call returns and writes that replays a router and then does a step, which returns and
-  -- writes what `Step` says. A fault of a capture stops it, and then nothing is written. The tallies
-  -- of `merge'` count all turns; where a capture has a fault those before it, and where memory is
-  -- refused some first ones.
+  -- writes what `Step` says. A fault of a capture stops it, and then nothing is written. The
+  -- tallies of `merge'` count all turns; where a capture has a fault those before it, and where
+  -- memory is refused some first ones.
   abbrev pub AfterOne : {T A : Type 0} → Option (List ℕ) → Option (List ℕ) →
       (Result T (ExchangeFault A) → Type 0) → Result T (ExchangeFault A) → Type 0
-  AfterOne old new Step (Err (Replay (Capture told))) = StopsAt family end merge state merge' told × Keeps old new
+  AfterOne old new Step (Err (Replay (Capture reported))) = StopsAt family end merge state merge' reported × Keeps old new
   AfterOne old new Step (Err (Replay Memory)) = IsTallied end merge merge'
       × (Keeps old new ⊎ RunsAll family end merge merge' state after × Step (Err (Replay Memory)))
   AfterOne old new Step answer = RunsAll family end merge merge' state after × Step answer
@@ -29,15 +29,15 @@ module _ (family : AddressFamily) (end : End) (merge merge' : MergeState) (state
     abbrev pub BothRun : Type 0
     BothRun = RunsAll family end merge merge' state after × RunsAll family end other other' state_of after_of
 
-    -- The same for two routers. A fault of a capture is one of the first router, and then nothing of
-    -- the second was taken. Or it is one of the second, and named so, if the first replay ended
+    -- The same for two routers. A fault of a capture is one of the first router, and then nothing
+    -- of the second was taken. Or it is one of the second, and named so, if the first replay ended
     -- without a fault. The tallies of `other'` count as those of `merge'` do.
     abbrev pub AfterBoth : {T A : Type 0} → Option (List ℕ) → Option (List ℕ) →
         (Result T (ExchangeFault A) → Type 0) → Result T (ExchangeFault A) → Type 0
-    AfterBoth old new Step (Err (Replay (Capture told))) =
-        StopsAt family end merge state merge' told × (other' ≡ other) × Keeps old new
-    AfterBoth old new Step (Err (Second told)) =
-        RunsAll family end merge merge' state after × StopsAt family end other state_of other' told × Keeps old new
+    AfterBoth old new Step (Err (Replay (Capture reported))) =
+        StopsAt family end merge state merge' reported × (other' ≡ other) × Keeps old new
+    AfterBoth old new Step (Err (Second reported)) =
+        RunsAll family end merge merge' state after × StopsAt family end other state_of other' reported × Keeps old new
     AfterBoth old new Step (Err (Replay Memory)) = IsTallied end merge merge' × IsTallied end other other'
         × (Keeps old new ⊎ BothRun × Step (Err (Replay Memory)))
     AfterBoth old new Step answer = BothRun × Step answer

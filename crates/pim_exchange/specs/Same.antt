@@ -8,7 +8,7 @@ use Rattle.pim_form.specs.Messages.{Writing}
 use Rattle.pim_form.specs.NormalForm.{Agree}
 use Rattle.pim_merge.specs.declared.end.End.{End}
 use Rattle.pim_merge.specs.Next.{MergeState}
-use Rattle.pim_router.specs.Canonical.{asked, IsFirstTooBig}
+use Rattle.pim_router.specs.Canonical.{demanded, IsFirstTooBig}
 use Rattle.pim_router.specs.State.{RouterState}
 use Rattle.pim_run.specs.declared.fault.RunFault.TheVariants.{Output, Memory}
 use Rattle.pim_report.specs.SameLine.{same_line}
@@ -25,7 +25,7 @@ module _ (family : AddressFamily) (writing : Writing) (one other : RouterState) 
   -- For each valid source, each group and both trees, the two routers want the same of the writer's
   -- upstream neighbour.
   abbrev pub WantTheSame : Type 0
-  WantTheSame = Agree family (asked family writing.upstream one) (asked family writing.upstream other)
+  WantTheSame = Agree family (demanded family writing.upstream one) (demanded family writing.upstream other)
 
   -- `same` says whether the two routers want the same, and `IsWritten` holds for it.
   pub record Answers (IsWritten : Bool → Type 0) : Type 0 where
@@ -33,8 +33,8 @@ module _ (family : AddressFamily) (writing : Writing) (one other : RouterState) 
     pub is_so : IsTrue same ↔ WantTheSame
     pub written : IsWritten same
 
-  -- What the comparison of two routers returns and writes. A star that is too big is one of the first
-  -- router, or else of the second, and then nothing is written.
+  -- What the comparison of two routers returns and writes. A star that is too big is one of the
+  -- first router, or else of the second, and then nothing is written.
   abbrev pub ComparesRouters : {A : Type 0} → (A → List ℕ) → Option (List ℕ) → Option (List ℕ) →
       Result ℕ (ExchangeFault A) → Type 0
   ComparesRouters bytes_of old new (Ok status) =

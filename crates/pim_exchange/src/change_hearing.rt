@@ -3,15 +3,18 @@
 ghost use Rattle.std.specs.Prelude.{◌≡◌, ◌≤◌, ◌<◌, ◌^◌, List, ℕ, length};
 ghost use Rattle.std.specs.List.{AllByRecursion};
 ghost use Rattle.pim_mirror.specs.Mirror.{Passes};
-ghost use Rattle.pim_exchange.specs.ChangeHearing.{change_inputs, AreTold, MovedAgain};
+ghost use Rattle.pim_exchange.specs.ChangeHearing.{change_inputs, AreCarried, MovedAgain};
 
-use crate::fresh_hearing::{ask_again, each_at, mirror_once, only_port};
+use crate::fresh_hearing::{demand_again, each_at, mirror_once, only_port};
 use pim_addr::{Family, Routes};
-use pim_change::change_messages_are_short;
-use pim_form::{Messages, Writer, same_messages_same_asked, test_tells_who_is_asked};
-use pim_mirror::{FreshConfig, MirrorFault, asked_stars_have_rps, hear_deliveries};
-use pim_moving::{change_moves_a_router, long_timers_last, mirror_is_settled};
-use pim_router::{Router, every_list_has_a_course};
+use pim_change::laws::change_messages_are_short;
+use pim_form::laws::{same_messages_same_demand_toward, test_finds_the_neighbour};
+use pim_form::{Messages, Writer};
+use pim_mirror::laws::demanded_stars_have_rps;
+use pim_mirror::{FreshConfig, MirrorFault, hear_deliveries};
+use pim_moving::laws::{change_moves_a_router, long_timers_last, mirror_is_settled};
+use pim_router::Router;
+use pim_router::laws::every_list_has_a_course;
 use std::alloc::Global;
 
 /// The override interval of the fresh router's port, in milliseconds (RFC 7761, 4.3.3:
@@ -59,21 +62,21 @@ pub(crate) fn move_again<F: Family>(
     routes: &Routes<F>,
     limit: usize,
 ) -> Result<Messages, MirrorFault>
-    requires told { (wanted : List (List ℕ))
-        × AreTold F.family routes.now by.now before.now change.now wanted }
+    requires reported { (wanted : List (List ℕ))
+        × AreCarried F.family routes.now by.now before.now change.now wanted }
     requires least { 1 ≤ limit }
     requires most { limit ≤ 100000 }
     ensures { (wanted : List (List ℕ))
-        → AreTold F.family routes.now by.now before.now change.now wanted →
+        → AreCarried F.family routes.now by.now before.now change.now wanted →
         MovedAgain F.family routes.now by.now limit before.now change.now wanted result }
 {
-    asked_stars_have_rps();
+    demanded_stars_have_rps();
     change_messages_are_short();
     change_moves_a_router();
     long_timers_last();
     mirror_is_settled();
-    same_messages_same_asked();
-    test_tells_who_is_asked();
+    same_messages_same_demand_toward();
+    test_finds_the_neighbour();
     routes.is_sound();
     by.is_writing();
     let Ok(deliveries) = each_at(alloc, before.count(), 0) else {
@@ -94,5 +97,5 @@ pub(crate) fn move_again<F: Family>(
     router.is_router();
     router.ports().is_sound();
     hear_change(alloc, &mut router, change, by.own())?;
-    ask_again(alloc, &router, by)
+    demand_again(alloc, &router, by)
 }

@@ -10,17 +10,18 @@ ghost use Rattle.std.specs.Prelude.{◌≡◌, ◌≤◌, IfOk, None, length};
 ghost use Rattle.pim_capture.specs.Next.{latest_moment};
 ghost use Rattle.pim_merge.specs.Ends.{IsBoundedEnd};
 ghost use Rattle.pim_router.specs.Canonical.{IsTooBig};
-ghost use Rattle.pim_exchange.specs.ChangeText.{IsChangeBetween, ReportsChange, TellsChange};
+ghost use Rattle.pim_exchange.specs.ChangeText.{IsChangeBetween, ReportsChange, WritesChange};
 ghost use Rattle.pim_exchange.specs.Fault.{failures_of_exchange};
 
 use crate::both::replay_both;
 use crate::change_hearing::move_again;
 use crate::fault::{ExchangeFault, of_mirror};
-use crate::mirror_text::{ask, judgement};
+use crate::mirror_text::{demand_of, judgement};
 use pim_addr::{Drain, Family, Feed, write_all};
-use pim_form::{FormFault, Messages, NormalForm, Writer, one_normal_form};
+use pim_form::laws::one_normal_form;
+use pim_form::{FormFault, Messages, NormalForm, Writer};
 use pim_merge::{End, Merge};
-use pim_moving::change_fits;
+use pim_moving::laws::change_fits;
 use pim_report::write_messages;
 use pim_router::Router;
 use pim_run::RunFault;
@@ -68,8 +69,8 @@ fn report<F: Family, W: Drain>(
     ensures count { W.failures writer.new ≡ failures_of_exchange (W.failures writer.old) result }
 {
     one_normal_form();
-    let before = ask::<F>(alloc, one, by)?;
-    let wanted = ask::<F>(alloc, other, by)?;
+    let before = demand_of::<F>(alloc, one, by)?;
+    let wanted = demand_of::<F>(alloc, other, by)?;
     let Ok(change) = change_between::<F>(alloc, one, other, by) else {
         return Err(ExchangeFault::Replay(RunFault::Memory));
     };
@@ -128,7 +129,7 @@ pub fn change_into<F: Family, R: Feed + Drop, W: Drain>(
     requires least { 1 ≤ limit }
     requires most { limit ≤ 100000 }
     requires routes { router_a.old.routes ≡ router_b.old.routes }
-    ensures text { TellsChange F.family end by.now limit merge_a.old merge_a.new router_a.old
+    ensures text { WritesChange F.family end by.now limit merge_a.old merge_a.new router_a.old
         router_a.new
         merge_b.old merge_b.new router_b.old router_b.new
         F.bytes_of (W.contents writer.old) (W.contents writer.new) result }

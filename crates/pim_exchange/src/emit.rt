@@ -4,7 +4,7 @@ ghost use Rattle.std.specs.Prelude.{◌≡◌, ◌≤◌, IfOk, length};
 ghost use Rattle.pim_capture.specs.Next.{latest_moment};
 ghost use Rattle.pim_merge.specs.Ends.{IsBoundedEnd};
 ghost use Rattle.pim_merge.specs.Run.{IsTallied};
-ghost use Rattle.pim_exchange.specs.Emit.{Emits, SendsAsked};
+ghost use Rattle.pim_exchange.specs.Emit.{Emits, SendsDemand};
 ghost use Rattle.pim_exchange.specs.Fault.{failures_of_exchange};
 
 use crate::fault::ExchangeFault;
@@ -26,13 +26,13 @@ fn blank(alloc: Global, budget: usize) -> Result<Vec<u8>, AllocError>
 
 /// Writes the canonical messages of the router's demand toward the writer's upstream neighbour,
 /// each after its length.
-fn send_asked<F: Family, W: Drain>(
+fn send_demand<F: Family, W: Drain>(
     alloc: Global,
     router: &Router<'_, F>,
     by: &Writer<F>,
     writer: &mut W,
 ) -> Result<u8, ExchangeFault<F::Addr>>
-    ensures sends { SendsAsked F.family by.now router.now
+    ensures sends { SendsDemand F.family by.now router.now
         F.bytes_of (W.contents writer.old) (W.contents writer.new) result }
     ensures count { W.failures writer.new ≡ failures_of_exchange (W.failures writer.old) result }
 {
@@ -77,5 +77,5 @@ pub fn emit_into<F: Family, R: Feed + Drop, W: Drain>(
     if let Err(fault) = replay_quietly::<F, R>(merge, router, end) {
         return Err(ExchangeFault::Replay(fault));
     }
-    send_asked::<F, W>(alloc, router, by, writer)
+    send_demand::<F, W>(alloc, router, by, writer)
 }

@@ -35,7 +35,7 @@ pub(crate) fn of_second<A>(fault: RunFault) -> ExchangeFault<A>
     ensures { result ≡ of_second fault }
 {
     match fault {
-        RunFault::Capture(told) => ExchangeFault::Second(told),
+        RunFault::Capture(reported) => ExchangeFault::Second(reported),
         _ => ExchangeFault::Replay(fault),
     }
 }

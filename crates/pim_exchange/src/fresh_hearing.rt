@@ -6,17 +6,19 @@
 
 ghost use Rattle.std.specs.Prelude.{◌≡◌, ◌≤◌, [], ◌∷◌, map, IfOk, None};
 ghost use Rattle.pim_mirror.specs.Config.{delivery_seen, fresh_seen};
-ghost use Rattle.pim_mirror.specs.Headline.{TellsOfForm};
+ghost use Rattle.pim_mirror.specs.Headline.{CarriesTheForm};
 ghost use Rattle.pim_router.specs.Canonical.{IsTooBig};
-ghost use Rattle.pim_exchange.specs.FreshHearing.{each_at, fresh_config, fresh_of, AreSent, Asks};
+ghost use Rattle.pim_exchange.specs.FreshHearing.{each_at, fresh_config, fresh_of, AreSent};
+ghost use Rattle.pim_exchange.specs.FreshHearing.{Demands};
 ghost use Rattle.pim_exchange.specs.FreshHearing.{Mirrored, HeardAgain};
 
 use pim_addr::{Family, Routes};
-use pim_form::{FormFault, Messages, Writer, one_normal_form};
-use pim_mirror::{
-    Delivery, FreshConfig, MirrorFault, asked_stars_have_rps, canonical_messages_are_short, mirror,
-    mirror_answers_for_the_form,
+use pim_form::laws::one_normal_form;
+use pim_form::{FormFault, Messages, Writer};
+use pim_mirror::laws::{
+    canonical_messages_are_short, demanded_stars_have_rps, mirror_answers_for_the_form,
 };
+use pim_mirror::{Delivery, FreshConfig, MirrorFault, mirror};
 use pim_router::{PortConfig, Router};
 use std::alloc::{AllocError, Global};
 
@@ -71,11 +73,11 @@ pub(crate) fn mirror_once<'a, F: Family>(
     ensures mirrored { Mirrored F.family fresh.now.routes.now by.now fresh.now.limit messages.now
         result }
     ensures tells { (sent : AreSent F.family fresh.now.routes.now by.now messages.now) →
-        TellsOfForm F.family fresh.now.routes.now by.now sent.asked.form messages.now
+        CarriesTheForm F.family fresh.now.routes.now by.now sent.demanded.form messages.now
         (fresh_of fresh.now.routes.now by.now fresh.now.limit messages.now) result }
 {
     canonical_messages_are_short();
-    asked_stars_have_rps();
+    demanded_stars_have_rps();
     mirror_answers_for_the_form();
     fresh.routes.is_sound();
     by.is_writing();
@@ -84,13 +86,13 @@ pub(crate) fn mirror_once<'a, F: Family>(
 
 /// The canonical messages of the router's demand toward the writer's upstream neighbour. Each star
 /// must fit a message.
-pub(crate) fn ask_again<F: Family>(
+pub(crate) fn demand_again<F: Family>(
     alloc: Global,
     router: &Router<'_, F>,
     by: &Writer<F>,
 ) -> Result<Messages, MirrorFault>
     requires { IsTooBig F.family by.now router.now None }
-    ensures { Asks F.family by.now router.now result }
+    ensures { Demands F.family by.now router.now result }
 {
     one_normal_form();
     match router.canonical(alloc, by) {
@@ -129,5 +131,5 @@ pub(crate) fn hear_again<F: Family>(
         deliveries: &deliveries,
     };
     let router = mirror_once(alloc, messages, by, &fresh)?;
-    ask_again(alloc, &router, by)
+    demand_again(alloc, &router, by)
 }

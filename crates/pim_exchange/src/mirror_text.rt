@@ -10,12 +10,13 @@ ghost use Rattle.pim_capture.specs.Next.{latest_moment};
 ghost use Rattle.pim_merge.specs.Ends.{IsBoundedEnd};
 ghost use Rattle.pim_merge.specs.Run.{IsTallied};
 ghost use Rattle.pim_exchange.specs.Fault.{failures_of_exchange};
-ghost use Rattle.pim_exchange.specs.MirrorText.{AsksBy, Exchanges, Judges, TellsMirror};
+ghost use Rattle.pim_exchange.specs.MirrorText.{DemandsBy, Exchanges, Judges, WritesMirror};
 
 use crate::fault::{ExchangeFault, of_form, of_mirror};
 use crate::fresh_hearing::hear_again;
 use pim_addr::{Drain, Family, Feed, write_all};
-use pim_form::{Messages, Writer, one_normal_form};
+use pim_form::laws::one_normal_form;
+use pim_form::{Messages, Writer};
 use pim_merge::{End, Merge};
 use pim_replay::replay_quietly;
 use pim_report::write_messages;
@@ -24,12 +25,12 @@ use pim_run::RunFault;
 use std::alloc::Global;
 
 /// The canonical messages of the router's demand toward the writer's upstream neighbour.
-pub(crate) fn ask<F: Family>(
+pub(crate) fn demand_of<F: Family>(
     alloc: Global,
     router: &Router<'_, F>,
     by: &Writer<F>,
 ) -> Result<Messages, ExchangeFault<F::Addr>>
-    ensures { AsksBy F.bytes_of F.family by.now router.now result }
+    ensures { DemandsBy F.bytes_of F.family by.now router.now result }
 {
     match router.canonical(alloc, by) {
         Ok(messages) => Ok(messages),
@@ -64,7 +65,7 @@ fn exchange<F: Family, W: Drain>(
     ensures count { W.failures writer.new ≡ failures_of_exchange (W.failures writer.old) result }
 {
     one_normal_form();
-    let messages = ask::<F>(alloc, router, by)?;
+    let messages = demand_of::<F>(alloc, router, by)?;
     let Ok(()) = write_messages(writer, &messages) else {
         return Err(ExchangeFault::Replay(RunFault::Output));
     };
@@ -110,7 +111,7 @@ pub fn mirror_into<F: Family, R: Feed + Drop, W: Drain>(
     requires end { IsBoundedEnd end }
     requires least { 1 ≤ limit }
     requires most { limit ≤ 100000 }
-    ensures text { TellsMirror F.family end by.now limit merge.old merge.new router.old router.new
+    ensures text { WritesMirror F.family end by.now limit merge.old merge.new router.old router.new
         F.bytes_of (W.contents writer.old) (W.contents writer.new) result }
     ensures count { W.failures writer.new ≡ failures_of_exchange (W.failures writer.old) result }
     // The tallies of the captures after the run are those of the turns that were taken.

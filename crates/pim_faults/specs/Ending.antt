@@ -5,8 +5,8 @@ use Rattle.std.specs.Io.KnownBytes.{Appends}
 use Rattle.clap.specs.declared.error.kind.ErrorKind.{ErrorKind}
 use Rattle.clap.specs.declared.error.kind.ErrorKind.TheVariants.{DisplayHelp, DisplayVersion}
 use Rattle.pim_device.specs.Device.{AppendsFront, top_count}
-use Rattle.pim_words.specs.declared.fault.Fault.{Fault as WordsFault}
-use Rattle.pim_words.specs.declared.fault.Fault.TheVariants.{Clap}
+use Rattle.pim_words.specs.declared.fault.CommandFault.{CommandFault as WordsFault}
+use Rattle.pim_words.specs.declared.fault.CommandFault.TheVariants.{Clap}
 use Rattle.pim_faults.specs.declared.fault.Fault.{Fault}
 use Rattle.pim_faults.specs.declared.fault.Fault.TheVariants.{Words}
 use Rattle.pim_faults.specs.Words.{fault_text}

@@ -3,7 +3,7 @@ use Rattle.pim_files.specs.declared.fault.OpenFault.{OpenFault}
 use Rattle.pim_files.specs.declared.fault.OpenFault.TheVariants as opening
 use Rattle.pim_words.specs.declared.fault.ConfigCause.{ConfigCause}
 use Rattle.pim_words.specs.declared.fault.ConfigCause.TheVariants as cause
-use Rattle.pim_words.specs.declared.fault.Fault.TheVariants as of_words
+use Rattle.pim_words.specs.declared.fault.CommandFault.TheVariants as of_words
 use Rattle.pim_faults.specs.declared.fault.Fault.{Fault}
 use Rattle.pim_faults.specs.declared.fault.Fault.TheVariants.{Words, File, Unopened, Memory}
 use Rattle.pim_faults.specs.Words.{routes_fault}

@@ -17,12 +17,12 @@ use Rattle.pim_files.specs.declared.routes.fault.RoutesFault.{RoutesFault}
 use Rattle.pim_files.specs.declared.routes.fault.RoutesFault.TheVariants as routes
 use Rattle.pim_lines.specs.declared.either.AnyAddress.{AnyAddress}
 use Rattle.pim_lines.specs.declared.either.AnyAddress.TheVariants as either
-use Rattle.pim_words.specs.declared.fault.Side.{Side}
-use Rattle.pim_words.specs.declared.fault.Side.TheVariants as side
+use Rattle.pim_words.specs.declared.fault.RouterSide.{RouterSide}
+use Rattle.pim_words.specs.declared.fault.RouterSide.TheVariants as side
 use Rattle.pim_words.specs.declared.fault.ConfigCause.{ConfigCause}
 use Rattle.pim_words.specs.declared.fault.ConfigCause.TheVariants as config
-use Rattle.pim_words.specs.declared.fault.Fault.{Fault as WordsFault}
-use Rattle.pim_words.specs.declared.fault.Fault.TheVariants as words
+use Rattle.pim_words.specs.declared.fault.CommandFault.{CommandFault as WordsFault}
+use Rattle.pim_words.specs.declared.fault.CommandFault.TheVariants as words
 use Rattle.pim_faults.specs.declared.fault.Fault.{Fault}
 use Rattle.pim_faults.specs.declared.fault.Fault.TheVariants.{Words, File, Unopened, RoutesTooLong, RoutesRead, RoutesLine, Capture, InFile}
 use Rattle.pim_faults.specs.declared.fault.Fault.TheVariants.{Frame, Hello, JoinPrune, TooBig, Full, InputTooLong}
@@ -36,7 +36,7 @@ abbrev pub refusal_words : ErrorKind → List ℕ
 refusal_words kind = unwrap_or (kind_text kind) (codes "help")
 
 -- The words of a router without a port.
-abbrev pub no_port_words : Side → List ℕ
+abbrev pub no_port_words : RouterSide → List ℕ
 no_port_words side.A = codes "no port for a"
 no_port_words side.B = codes "no port for b"
 

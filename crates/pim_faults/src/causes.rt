@@ -6,7 +6,7 @@ ghost use Rattle.pim_faults.specs.Words.{tag_of};
 
 use pim_capture::{CaptureFault, Vlan};
 use pim_files::FileCause;
-use pim_words::{ConfigCause, Side};
+use pim_words::{ConfigCause, RouterSide};
 
 /// The number of the tag in which a VLAN differs from another one.
 pub fn tag_of(vlan: Vlan, other: Vlan) -> u16
@@ -20,12 +20,12 @@ pub fn tag_of(vlan: Vlan, other: Vlan) -> u16
 }
 
 /// The words of a router of two without a port.
-pub fn no_port_words(side: Side) -> &'static [u8]
+pub fn no_port_words(side: RouterSide) -> &'static [u8]
     ensures { result.now ≡ no_port_words side }
 {
     match side {
-        Side::A => b"no port for a",
-        Side::B => b"no port for b",
+        RouterSide::A => b"no port for a",
+        RouterSide::B => b"no port for b",
     }
 }
 

@@ -15,11 +15,11 @@ use pim_addr::{Drain, Failed, write_all};
 pub const FAULTY: u8 = 2;
 
 /// Whether `clap` shows what the words asked for: help or the version.
-fn is_shown(fault: &pim_words::Fault<'_>) -> bool
+fn is_shown(fault: &pim_words::CommandFault<'_>) -> bool
     ensures { result ≡ is_shown fault.now }
 {
     match fault {
-        pim_words::Fault::Clap(refusal) => matches!(
+        pim_words::CommandFault::Clap(refusal) => matches!(
             refusal.kind,
             ErrorKind::DisplayHelp | ErrorKind::DisplayVersion
         ),
@@ -38,11 +38,11 @@ fn is_help(fault: &Fault<'_>) -> bool
 }
 
 /// `clap`'s own text of what it refuses or shows.
-fn clap_text<'a>(fault: &'a pim_words::Fault<'_>) -> Option<&'a str>
+fn clap_text<'a>(fault: &'a pim_words::CommandFault<'_>) -> Option<&'a str>
     ensures { option_map (λ text. text.now) result ≡ clap_text fault.now }
 {
     match fault {
-        pim_words::Fault::Clap(refusal) => Some(refusal.text.as_str()),
+        pim_words::CommandFault::Clap(refusal) => Some(refusal.text.as_str()),
         _ => None,
     }
 }

@@ -28,7 +28,7 @@ use pim_text::BuildFault;
 #[derive(Debug, Drop)]
 pub enum Fault<'a> {
     /// The words give no plan.
-    Words(pim_words::Fault<'a>),
+    Words(pim_words::CommandFault<'a>),
     /// The file of a port without a link, or of the routes, can't be opened. This is the word of
     /// the port, or the name of the file of routes.
     File(&'a str),
@@ -83,16 +83,16 @@ pub enum Fault<'a> {
     Memory,
 }
 
-impl<'a> From<pim_words::Fault<'a>> for Fault<'a> {
-    ghost from_gives = { λ fault told. told ≡ Words fault };
+impl<'a> From<pim_words::CommandFault<'a>> for Fault<'a> {
+    ghost from_gives = { λ fault reported. reported ≡ Words fault };
 
-    fn from(fault: pim_words::Fault<'a>) -> Fault<'a> {
+    fn from(fault: pim_words::CommandFault<'a>) -> Fault<'a> {
         Fault::Words(fault)
     }
 }
 
 impl From<RoutesFault> for Fault<'static> {
-    ghost from_gives = { λ fault told. told ≡ routes_fault fault };
+    ghost from_gives = { λ fault reported. reported ≡ routes_fault fault };
 
     fn from(fault: RoutesFault) -> Fault<'static> {
         match fault {
@@ -105,7 +105,7 @@ impl From<RoutesFault> for Fault<'static> {
 }
 
 impl From<BuildFault> for Fault<'static> {
-    ghost from_gives = { λ fault told. told ≡ build_fault fault };
+    ghost from_gives = { λ fault reported. reported ≡ build_fault fault };
 
     fn from(fault: BuildFault) -> Fault<'static> {
         match fault {
@@ -371,24 +371,27 @@ fn refusal_words(kind: ErrorKind) -> &'static str
 }
 
 /// Writes the words of a fault of the command line and ends the line.
-fn write_plan_words<W: Drain>(fault: &pim_words::Fault<'_>, writer: &mut W) -> Result<(), Failed>
+fn write_plan_words<W: Drain>(
+    fault: &pim_words::CommandFault<'_>,
+    writer: &mut W,
+) -> Result<(), Failed>
     ensures bytes { AppendsAll (W.contents writer.old) (W.contents writer.new) result
         (line (plan_words fault.now)) }
     ensures count { W.failures writer.new ≡ failures_after (W.failures writer.old) result }
 {
     match fault {
-        pim_words::Fault::Clap(refusal) => write_plain(
+        pim_words::CommandFault::Clap(refusal) => write_plain(
             writer,
             refusal_words(refusal.kind).as_bytes(),
         ),
-        pim_words::Fault::TwoEnds => write_plain(writer, b"two ends"),
-        pim_words::Fault::Address(word) => write_word(writer, b"address ", word),
-        pim_words::Fault::Word(word) => write_word(writer, b"word ", word),
-        pim_words::Fault::Family => write_plain(writer, b"family"),
-        pim_words::Fault::NoPort(side) => write_plain(writer, no_port_words(*side)),
-        pim_words::Fault::WriterAddress => write_plain(writer, b"writer address"),
-        pim_words::Fault::Config(cause) => write_plain(writer, config_words(*cause)),
-        pim_words::Fault::Memory => write_plain(writer, b"memory"),
+        pim_words::CommandFault::TwoEnds => write_plain(writer, b"two ends"),
+        pim_words::CommandFault::Address(word) => write_word(writer, b"address ", word),
+        pim_words::CommandFault::Word(word) => write_word(writer, b"word ", word),
+        pim_words::CommandFault::Family => write_plain(writer, b"family"),
+        pim_words::CommandFault::NoPort(side) => write_plain(writer, no_port_words(*side)),
+        pim_words::CommandFault::WriterAddress => write_plain(writer, b"writer address"),
+        pim_words::CommandFault::Config(cause) => write_plain(writer, config_words(*cause)),
+        pim_words::CommandFault::Memory => write_plain(writer, b"memory"),
     }
 }
 

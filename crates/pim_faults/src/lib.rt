@@ -8,6 +8,7 @@
 //! A device's count of failures rises exactly where its failure is the result.
 //!
 //! The crate is apart from `pim_commands`, so that it is checked before the engines of captures.
+//! Callers: `pim_commands` and `pim_main`.
 #![tactic(auto)]
 
 mod causes;

@@ -8,12 +8,12 @@ use pim_files::OpenFault;
 use pim_words::ConfigCause;
 
 impl<'a> From<OpenFault<'a>> for Fault<'a> {
-    ghost from_gives = { λ fault told. told ≡ open_fault fault };
+    ghost from_gives = { λ fault reported. reported ≡ open_fault fault };
 
     fn from(fault: OpenFault<'a>) -> Fault<'a> {
         match fault {
-            OpenFault::Upstream => Fault::Words(pim_words::Fault::WriterAddress),
-            OpenFault::Rp => Fault::Words(pim_words::Fault::Config(ConfigCause::Rp)),
+            OpenFault::Upstream => Fault::Words(pim_words::CommandFault::WriterAddress),
+            OpenFault::Rp => Fault::Words(pim_words::CommandFault::Config(ConfigCause::Rp)),
             OpenFault::File(word) => Fault::File(word),
             OpenFault::Port { file, cause } => Fault::Unopened { file, cause },
             OpenFault::Routes(fault) => Fault::from(fault),

@@ -65,7 +65,7 @@ module _ (family : AddressFamily) where
   pub stopped : (all : List (List ℕ)) (line : List ℕ) (left : List (List ℕ)) (old now : RouteTable) (number : ℕ) (fault : RoutesFault) → Went all (line ∷ left) old now number → IsLineFault family line (number + 1) now fault → StopsIn family all old now fault
   stopped all line left old now number TooLong went never = absurd never
   stopped all line left old now number Read went never = absurd never
-  stopped all line left old now number (Line told) went (is, wrong) = record {
+  stopped all line left old now number (Line reported) went (is, wrong) = record {
     before = went.front;
     line = line;
     behind = left;

@@ -4,21 +4,21 @@ use Rattle.std.specs.List.{filter}
 use Rattle.pim_addr.specs.declared.family.AddressFamily.{AddressFamily}
 use Rattle.pim_addr.specs.Routes.{RouteTable}
 use Rattle.pim_merge.specs.Next.{MergeState, IsUntaken}
-use Rattle.pim_words.specs.declared.fault.Side.TheVariants.{A as of_a, B as of_b}
+use Rattle.pim_words.specs.declared.fault.RouterSide.TheVariants.{A as of_a, B as of_b}
 use Rattle.pim_words.specs.declared.task.Captures.{Captures}
 use Rattle.pim_words.specs.declared.task.More.{More}
 use Rattle.pim_words.specs.declared.task.Port.{Port}
 use Rattle.pim_files.specs.declared.fault.OpenFault.{OpenFault}
 use Rattle.pim_files.specs.Captures.{PortFiles, all_files, files_from, names_of, of_router, HoldFiles, StopsAt}
 use Rattle.pim_words.specs.Faults.{is_of}
-use Rattle.pim_files.specs.Files.{Files, Known, AsksFor, AsksFront}
+use Rattle.pim_files.specs.Files.{Files, Known, RequestsFor, RequestsFront}
 use Rattle.pim_files.specs.Table.{IsTable, table_names}
 use Rattle.pim_files.specs.Opening.{port_files, file_names, IsUnopened, IsOpen, AreOpen}
 use Rattle.pim_files.proofs.Asked.{asks_more}
 
 -- ---- the names that were asked for
 
-pub front_of_more : (a b : Known) (xs ys : List (List ℕ)) → AsksFront a b xs → AsksFront a b (xs ++ ys)
+pub front_of_more : (a b : Known) (xs ys : List (List ℕ)) → RequestsFront a b xs → RequestsFront a b (xs ++ ys)
 front_of_more a b xs ys p = record {
   front = p.front;
   others = p.others ++ ys;
@@ -26,7 +26,7 @@ front_of_more a b xs ys p = record {
   asks = p.asks;
 }
 
-pub front_after : (a b c : Known) (xs ys : List (List ℕ)) → AsksFor a b xs → AsksFront b c ys → AsksFront a c (xs ++ ys)
+pub front_after : (a b c : Known) (xs ys : List (List ℕ)) → RequestsFor a b xs → RequestsFront b c ys → RequestsFront a c (xs ++ ys)
 front_after a b c xs ys p q = record {
   front = xs ++ q.front;
   others = q.others;
@@ -44,7 +44,7 @@ module _ {A R : Type 0} (family : AddressFamily) (bytes_of : A → List ℕ) (re
     (upstream : Option A) where
   -- a port's file isn't open
   pub no_port : (table : RouteTable) (all : List (PortFiles A)) (fault : OpenFault) → all ≡ port_files captures
-      → IsTable family bytes_of remaining failures known.files captures upstream table → AsksFor known middle (table_names captures) → StopsAt middle.files (all_files all) fault
+      → IsTable family bytes_of remaining failures known.files captures upstream table → RequestsFor known middle (table_names captures) → StopsAt middle.files (all_files all) fault
       → IsUnopened family bytes_of remaining failures known.files captures upstream fault
   no_port table all fault same is_table named stops = inr (
     table,
@@ -54,36 +54,36 @@ module _ {A R : Type 0} (family : AddressFamily) (bytes_of : A → List ℕ) (re
   )
 
   -- the names that were asked for, if a port's file isn't open
-  pub port_asked : (all : List (PortFiles A)) → all ≡ port_files captures → AsksFor known middle (table_names captures) → AsksFront middle last (names_of (all_files all))
-      → AsksFront known last (file_names captures)
-  port_asked all same named asked = front_after known middle last (table_names captures) (names_of (all_files (port_files captures))) named
-      (subst (λ (l : List (PortFiles A)). AsksFront middle last (names_of (all_files l))) same asked)
+  pub port_asked : (all : List (PortFiles A)) → all ≡ port_files captures → RequestsFor known middle (table_names captures) → RequestsFront middle last (names_of (all_files all))
+      → RequestsFront known last (file_names captures)
+  port_asked all same named requested = front_after known middle last (table_names captures) (names_of (all_files (port_files captures))) named
+      (subst (λ (l : List (PortFiles A)). RequestsFront middle last (names_of (all_files l))) same requested)
 
-  names_asked : (all : List (PortFiles A)) → all ≡ port_files captures → AsksFor known middle (table_names captures) → AsksFor middle last (names_of (all_files all))
-      → AsksFor known last (file_names captures)
-  names_asked all same named asked = asks_more known middle last (table_names captures) (names_of (all_files (port_files captures))) named
-      (subst (λ (l : List (PortFiles A)). AsksFor middle last (names_of (all_files l))) same asked)
+  names_asked : (all : List (PortFiles A)) → all ≡ port_files captures → RequestsFor known middle (table_names captures) → RequestsFor middle last (names_of (all_files all))
+      → RequestsFor known last (file_names captures)
+  names_asked all same named requested = asks_more known middle last (table_names captures) (names_of (all_files (port_files captures))) named
+      (subst (λ (l : List (PortFiles A)). RequestsFor middle last (names_of (all_files l))) same requested)
 
   -- the captures of one router are open
   pub is_open : (table : RouteTable) (merge : MergeState) (ports : List (Port A)) (all : List (PortFiles A)) → ports ≡ captures.ports.items → all ≡ port_files captures
-      → IsTable family bytes_of remaining failures known.files captures upstream table → AsksFor known middle (table_names captures)
-      → length merge.lanes ≡ length ports → IsUntaken merge → HoldFiles middle.files all merge.lanes → AsksFor middle last (names_of (all_files all))
+      → IsTable family bytes_of remaining failures known.files captures upstream table → RequestsFor known middle (table_names captures)
+      → length merge.lanes ≡ length ports → IsUntaken merge → HoldFiles middle.files all merge.lanes → RequestsFor middle last (names_of (all_files all))
       → IsOpen family bytes_of remaining failures known last captures upstream table merge
-  is_open table merge ports all same_ports same is_table named each untaken held asked = record {
+  is_open table merge ports all same_ports same is_table named each untaken held requested = record {
     is_table = is_table;
     each = each ∙ ap length same_ports;
     untaken = untaken;
     held = subst (λ (l : List (PortFiles A)). HoldFiles known.files l merge.lanes) same (subst (λ (f : Option Files). HoldFiles f all merge.lanes) named.files held);
-    asked = names_asked all same named asked;
+    requested = names_asked all same named requested;
   }
 
   -- the captures of two routers are open
   pub are_open : (table : RouteTable) (merge other : MergeState) (ports : List (Port A)) (all : List (PortFiles A)) → ports ≡ captures.ports.items → all ≡ port_files captures
-      → IsTable family bytes_of remaining failures known.files captures upstream table → AsksFor known middle (table_names captures)
+      → IsTable family bytes_of remaining failures known.files captures upstream table → RequestsFor known middle (table_names captures)
       → length merge.lanes ≡ length (filter (is_of of_a) ports) → length other.lanes ≡ length (filter (is_of of_b) ports) → IsUntaken merge → IsUntaken other
-      → HoldFiles middle.files (of_router of_a all) merge.lanes → HoldFiles middle.files (of_router of_b all) other.lanes → AsksFor middle last (names_of (all_files all))
+      → HoldFiles middle.files (of_router of_a all) merge.lanes → HoldFiles middle.files (of_router of_b all) other.lanes → RequestsFor middle last (names_of (all_files all))
       → AreOpen family bytes_of remaining failures known last captures upstream table merge other
-  are_open table merge other ports all same_ports same is_table named each_of_a each_of_b untaken_of_a untaken_of_b held_of_a held_of_b asked = record {
+  are_open table merge other ports all same_ports same is_table named each_of_a each_of_b untaken_of_a untaken_of_b held_of_a held_of_b requested = record {
     is_table = is_table;
     each_of_a = each_of_a ∙ ap (λ (l : List (Port A)). length (filter (is_of of_a) l)) same_ports;
     each_of_b = each_of_b ∙ ap (λ (l : List (Port A)). length (filter (is_of of_b) l)) same_ports;
@@ -93,5 +93,5 @@ module _ {A R : Type 0} (family : AddressFamily) (bytes_of : A → List ℕ) (re
         (subst (λ (f : Option Files). HoldFiles f (of_router of_a all) merge.lanes) named.files held_of_a);
     held_of_b = subst (λ (l : List (PortFiles A)). HoldFiles known.files (of_router of_b l) other.lanes) same
         (subst (λ (f : Option Files). HoldFiles f (of_router of_b all) other.lanes) named.files held_of_b);
-    asked = names_asked all same named asked;
+    requested = names_asked all same named requested;
   }

@@ -1,7 +1,7 @@
 -- Names that an opener is asked for, one after another.
 use Rattle.std.proofs.Common.{◌≡◌, ◌∙◌, sym, ap, subst, refl, ℕ, List, [], ◌++◌, take, drop, map, Option, None, Some, Result, Ok, Err, append_assoc, append-nil}
 use Rattle.std.proofs.lemmas.List.{take-append-drop, map-append}
-use Rattle.pim_files.specs.Files.{Known, Grows, AsksFor, AsksFront, AsksAll}
+use Rattle.pim_files.specs.Files.{Known, Grows, RequestsFor, RequestsFront, RequestsAll}
 
 Grows-none : (a : Option (List (List ℕ))) → Grows a a []
 Grows-none None = tt
@@ -14,26 +14,26 @@ Grows-more None (Some second) (Some third) xs ys p q = absurd p
 Grows-more (Some first) (Some second) (Some third) xs ys p q = q ∙ ap (λ l. l ++ ys) p ∙ append_assoc first xs ys
 
 -- it was asked for nothing
-pub asks_none : (a : Known) → AsksFor a a []
-asks_none a = record { files = refl; asked = Grows-none a.asked }
+pub asks_none : (a : Known) → RequestsFor a a []
+asks_none a = record { files = refl; requested = Grows-none a.requested }
 
 -- it was asked for more
-pub asks_more : (a b c : Known) (xs ys : List (List ℕ)) → AsksFor a b xs → AsksFor b c ys → AsksFor a c (xs ++ ys)
+pub asks_more : (a b c : Known) (xs ys : List (List ℕ)) → RequestsFor a b xs → RequestsFor b c ys → RequestsFor a c (xs ++ ys)
 asks_more a b c xs ys p q = record {
   files = q.files ∙ p.files;
-  asked = Grows-more a.asked b.asked c.asked xs ys p.asked q.asked;
+  requested = Grows-more a.requested b.requested c.requested xs ys p.requested q.requested;
 }
 
 -- all names are a front of themselves
-pub all_in_front : (a b : Known) (names : List (List ℕ)) → AsksFor a b names → AsksFront a b names
+pub all_in_front : (a b : Known) (names : List (List ℕ)) → RequestsFor a b names → RequestsFront a b names
 all_in_front a b names p = record { front = names; others = []; cut = sym (append-nil names); asks = p }
 
 -- it was asked for none of the names
-pub none_in_front : (a : Known) (names : List (List ℕ)) → AsksFront a a names
+pub none_in_front : (a : Known) (names : List (List ℕ)) → RequestsFront a a names
 none_in_front a names = record { front = []; others = names; cut = refl; asks = asks_none a }
 
 -- it was asked for the names of some first items
-pub some_in_front : {X : Type 0} (name : X → List ℕ) (a b : Known) (items : List X) (count : ℕ) → AsksFor a b (map name (take count items)) → AsksFront a b (map name items)
+pub some_in_front : {X : Type 0} (name : X → List ℕ) (a b : Known) (items : List X) (count : ℕ) → RequestsFor a b (map name (take count items)) → RequestsFront a b (map name items)
 some_in_front name a b items count p = record {
   front = map name (take count items);
   others = map name (drop count items);
@@ -42,6 +42,6 @@ some_in_front name a b items count p = record {
 }
 
 -- it was asked for nothing where there are no names
-pub asks_no_names : {X E : Type 0} (a : Known) (names : List (List ℕ)) (result : Result X E) → names ≡ [] → AsksAll a a names result
-asks_no_names a names (Ok x) none = subst (AsksFor a a) (sym none) (asks_none a)
+pub asks_no_names : {X E : Type 0} (a : Known) (names : List (List ℕ)) (result : Result X E) → names ≡ [] → RequestsAll a a names result
+asks_no_names a names (Ok x) none = subst (RequestsFor a a) (sym none) (asks_none a)
 asks_no_names a names (Err e) none = none_in_front a names

@@ -6,18 +6,18 @@ use Rattle.std.proofs.lemmas.List.Elements.{filter-append, filter_more}
 use Rattle.pim_words.specs.declared.task.More.{More}
 use Rattle.pim_words.specs.declared.task.Port.{Port}
 use Rattle.pim_files.specs.declared.fault.OpenFault.{OpenFault}
-use Rattle.pim_files.specs.Files.{Files, Known, AsksFor, AsksFront}
-use Rattle.pim_files.specs.Captures.{NamedFile, is_further, with_more, first_file, further_file, files_of, names_of, IsReaderOf, IsPortFault, StopsAt, HaveFiles}
+use Rattle.pim_files.specs.Files.{Files, Known, RequestsFor, RequestsFront}
+use Rattle.pim_files.specs.Captures.{FileOfName, is_further, with_more, first_file, further_file, files_of, names_of, IsReaderOf, IsPortFault, StopsAt, HaveFiles}
 use Rattle.pim_files.proofs.Asked.{all_in_front}
 use Rattle.pim_files.proofs.Several.{asks_both, front_within, stops_first, stops_within, one_more_reader, present_of}
 
 module _ {A : Type 0} (number : ℕ) (port : Port A) (further : List More) where
   -- those among the first ones
-  abbrev pub files_by : ℕ → List NamedFile
+  abbrev pub files_by : ℕ → List FileOfName
   files_by place = files_of (with_more number (take place further) port)
 
   -- the files after these
-  abbrev pub files_after : ℕ → List NamedFile
+  abbrev pub files_after : ℕ → List FileOfName
   files_after place = map further_file (filter (is_further number port) (drop place further))
 
   split_at : (place : ℕ) → files_of (with_more number further port) ≡ files_by place ++ files_after place
@@ -60,10 +60,10 @@ module _ {A : Type 0} (number : ℕ) (port : Port A) (further : List More) where
           ∙ append_assoc (files_by place) (further_file one ∷ []) (files_after (place + 1))
 
       -- it was asked for, too
-      pub asks_further : (a b c : Known) → AsksFor a b (names_of (files_by place)) → AsksFor b c (one.file.now ∷ []) → AsksFor a c (names_of (files_by (place + 1)))
+      pub asks_further : (a b c : Known) → RequestsFor a b (names_of (files_by place)) → RequestsFor b c (one.file.now ∷ []) → RequestsFor a c (names_of (files_by (place + 1)))
       asks_further a b c p q = asks_both a b c (files_by place) (further_file one ∷ []) (files_by (place + 1)) one_more_file p q
 
-      pub front_further : (a b c : Known) → AsksFor a b (names_of (files_by place)) → AsksFor b c (one.file.now ∷ []) → AsksFront a c (names_of (files_of (with_more number further port)))
+      pub front_further : (a b c : Known) → RequestsFor a b (names_of (files_by place)) → RequestsFor b c (one.file.now ∷ []) → RequestsFront a c (names_of (files_of (with_more number further port)))
       front_further a b c p q =
           front_within a b c (files_by place) (further_file one ∷ []) (files_after (place + 1)) (files_of (with_more number further port)) split_around p
           (all_in_front b c (names_of (further_file one ∷ [])) q)

@@ -11,13 +11,13 @@ use Rattle.pim_merge.specs.declared.tally.Tally.{Tally}
 use Rattle.pim_merge.specs.Lane.{LaneState, coming_on, tallies_of}
 use Rattle.pim_merge.specs.Next.{MergeState, IsUntaken}
 use Rattle.pim_merge.specs.Tally.{no_tally}
-use Rattle.pim_words.specs.declared.fault.Side.{Side}
-use Rattle.pim_words.specs.declared.task.Link.{Link}
+use Rattle.pim_words.specs.declared.fault.RouterSide.{RouterSide}
+use Rattle.pim_words.specs.declared.task.LinkWord.{LinkWord}
 use Rattle.pim_words.specs.declared.task.More.{More}
 use Rattle.pim_words.specs.declared.task.Port.{Port}
 use Rattle.pim_words.specs.Faults.{is_side, is_of}
 use Rattle.pim_files.specs.Files.{Files}
-use Rattle.pim_files.specs.Captures.{PortFiles, NamedFile, with_more, files_from, files_of, all_files, names_of, choice_of, results_by, results_of, AreReaders, HaveFiles, AreFiles, HoldFiles, are_of, of_router, one_of, AddsLane, AddsUntaken}
+use Rattle.pim_files.specs.Captures.{PortFiles, FileOfName, with_more, files_from, files_of, all_files, names_of, choice_of, results_by, results_of, AreReaders, HaveFiles, AreFiles, HoldFiles, are_of, of_router, one_of, AddsLane, AddsUntaken}
 
 -- ---- what was taken
 
@@ -42,7 +42,7 @@ more_if true old new none clock more = one_untaken old new none clock more
 more_if false old new none clock more = same_untaken old new none clock (more ∙ append-nil (tallies_of old.lanes))
 
 -- of one more, if it is one of this router
-pub untaken_if : (side other : Side) (old new : MergeState) → IsUntaken old → new.clock ≡ old.clock → AddsUntaken side other old.lanes new.lanes → IsUntaken new
+pub untaken_if : (side other : RouterSide) (old new : MergeState) → IsUntaken old → new.clock ≡ old.clock → AddsUntaken side other old.lanes new.lanes → IsUntaken new
 untaken_if side other old new none clock more = more_if (is_side side other) old new none clock more
 
 -- no captures of no ports
@@ -58,7 +58,7 @@ lanes_more lanes lanes' one more =
 -- ---- the results of a port's files
 
 -- for these bytes
-abbrev results_from : Option Link → List (List ℕ) → List Answer
+abbrev results_from : Option LinkWord → List (List ℕ) → List Answer
 results_from None [] = []
 results_from None (content ∷ contents) = answers content
 results_from (Some link) contents = answers_of_files (choice_of link) contents
@@ -71,17 +71,17 @@ known_some : (contents : List (List ℕ)) → all_known (λ (o : Option (List �
 known_some [] = refl
 known_some (content ∷ contents) = ap (known_too (Some content)) (known_some contents)
 
-by_map : {X : Type 0} (f : X → Option (List ℕ)) (link : Option Link) (xs : List X) → results_by f link xs ≡ results_by (λ (o : Option (List ℕ)). o) link (map f xs)
+by_map : {X : Type 0} (f : X → Option (List ℕ)) (link : Option LinkWord) (xs : List X) → results_by f link xs ≡ results_by (λ (o : Option (List ℕ)). o) link (map f xs)
 by_map f None [] = refl
 by_map f None (x ∷ xs) = refl
 by_map f (Some link) xs = ap (option_map (answers_of_files (choice_of link))) (known_map f xs)
 
-by_some : (link : Option Link) (contents : List (List ℕ)) → results_by (λ (o : Option (List ℕ)). o) link (map Some contents) ≡ Some (results_from link contents)
+by_some : (link : Option LinkWord) (contents : List (List ℕ)) → results_by (λ (o : Option (List ℕ)). o) link (map Some contents) ≡ Some (results_from link contents)
 by_some None [] = refl
 by_some None (content ∷ contents) = refl
 by_some (Some link) contents = ap (option_map (answers_of_files (choice_of link))) (known_some contents)
 
-by_contents : {X : Type 0} (f : X → Option (List ℕ)) (link : Option Link) (xs : List X) (contents : List (List ℕ)) → map f xs ≡ map Some contents → results_by f link xs ≡ Some (results_from link contents)
+by_contents : {X : Type 0} (f : X → Option (List ℕ)) (link : Option LinkWord) (xs : List X) (contents : List (List ℕ)) → map f xs ≡ map Some contents → results_by f link xs ≡ Some (results_from link contents)
 by_contents f link xs contents are = by_map f link xs ∙ ap (results_by (λ (o : Option (List ℕ)). o) link) are ∙ by_some link contents
 
 -- those of the first reader alone
@@ -142,7 +142,7 @@ module _ {A : Type 0} where
   counted false port ports = omega arith
 
   -- the ports of a router from a place on
-  pub one_less_of : (side : Side) (ports : List (Port A)) (place next : ℕ) (port : Port A) → next ≡ suc place → place < length ports → port ≡ get_or ports place port
+  pub one_less_of : (side : RouterSide) (ports : List (Port A)) (place next : ℕ) (port : Port A) → next ≡ suc place → place < length ports → port ≡ get_or ports place port
       → length (filter (is_of side) (drop place ports)) ≡ one_of side port.side + length (filter (is_of side) (drop next ports))
   one_less_of side ports place next port is below here =
       ap (λ l. length (filter (is_of side) l)) (drop-cons ports place port below ∙ ap (λ p. p ∷ drop (suc place) ports) (sym here))
@@ -203,7 +203,7 @@ module _ {A : Type 0} where
         (one_more_held remaining (with_more number further port) readers lanes lanes' known (take place (files_from 0 further ports)) are opened_now more)
 
     -- the same, if it is one of this router
-    pub one_more_of : (side : Side) → HoldFiles known (of_router side (take place (files_from 0 further ports))) lanes
+    pub one_more_of : (side : RouterSide) → HoldFiles known (of_router side (take place (files_from 0 further ports))) lanes
         → AddsLane side port.side (results_by remaining port.link readers) lanes lanes' → HoldFiles known (of_router side (take next (files_from 0 further ports))) lanes'
     one_more_of side are more =
         subst (λ l. HoldFiles known l lanes')

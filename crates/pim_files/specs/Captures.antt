@@ -7,8 +7,8 @@ use Rattle.pim_container.specs.declared.choice.Choice.{Choice}
 use Rattle.pim_merge.specs.Lane.{LaneState, IsComing, coming_on, tallies_of}
 use Rattle.pim_merge.specs.Tally.{no_tally}
 use Rattle.pim_merge.specs.Chosen.{answers_of_files, all_known}
-use Rattle.pim_words.specs.declared.fault.Side.{Side}
-use Rattle.pim_words.specs.declared.task.Link.{Link}
+use Rattle.pim_words.specs.declared.fault.RouterSide.{RouterSide}
+use Rattle.pim_words.specs.declared.task.LinkWord.{LinkWord}
 use Rattle.pim_words.specs.declared.task.More.{More}
 use Rattle.pim_words.specs.declared.task.Port.{Port}
 use Rattle.pim_words.specs.Faults.{is_side, is_of}
@@ -40,7 +40,7 @@ files_from number further (port ∷ ports) = with_more number further port ∷ f
 -- ---- the files that are opened
 
 -- A file that is opened, with its fault where it can't be for a cause.
-pub record NamedFile : Type 0 where
+pub record FileOfName : Type 0 where
   pub name : List ℕ
   pub fault : FileCause → OpenFault
 
@@ -50,83 +50,84 @@ abbrev pub port_fault : {A : Type 0} → Port A → FileCause → OpenFault
 port_fault port cause = cond (is_some port.link) (opening.Port port.file cause) (opening.File port.word)
 
 -- The port's file.
-abbrev pub first_file : {A : Type 0} → Port A → NamedFile
+abbrev pub first_file : {A : Type 0} → Port A → FileOfName
 first_file port = record { name = port.file.now; fault = λ cause. port_fault port cause }
 
 -- A further file. Its fault names it.
-abbrev pub further_file : More → NamedFile
+abbrev pub further_file : More → FileOfName
 further_file one = record { name = one.file.now; fault = λ cause. opening.Port one.file cause }
 
 -- The files of a port, in the order in which they are opened.
-abbrev pub files_of : {A : Type 0} → PortFiles A → List NamedFile
+abbrev pub files_of : {A : Type 0} → PortFiles A → List FileOfName
 files_of it = first_file it.port ∷ map further_file it.more
 
 -- The files of these ports, in the order in which they are opened.
-abbrev pub all_files : {A : Type 0} → List (PortFiles A) → List NamedFile
+abbrev pub all_files : {A : Type 0} → List (PortFiles A) → List FileOfName
 all_files ports = flat_map files_of ports
 
 -- The names of files.
-abbrev pub names_of : List NamedFile → List (List ℕ)
-names_of wanted = map (λ (file : NamedFile). file.name) wanted
+abbrev pub names_of : List FileOfName → List (List ℕ)
+names_of wanted = map (λ (file : FileOfName). file.name) wanted
 
 -- ---- one file
 
 -- The reader has all of the file to give.
-abbrev pub IsReaderOf : {R : Type 0} → (R → Option (List ℕ)) → Option Files → NamedFile → R → Type 0
+abbrev pub IsReaderOf : {R : Type 0} → (R → Option (List ℕ)) → Option Files → FileOfName → R → Type 0
 IsReaderOf remaining known file reader = IfSome known (λ files.
     IsSome (files.contents file.name) × (remaining reader ≡ files.contents file.name))
 
 -- The file can't be opened, and this is why.
-pub record IsClosed (known : Option Files) (file : NamedFile) (fault : OpenFault) : Type 0 where
+pub record IsClosed (known : Option Files) (file : FileOfName) (fault : OpenFault) : Type 0 where
   pub cause : FileCause
   pub is : fault ≡ file.fault cause
   pub closed : IfSome known (λ files.
       (files.contents file.name ≡ None) × (cause ≡ files.causes file.name))
 
 -- Why the file isn't open: it can't be opened, or memory is refused.
-abbrev pub IsPortFault : Option Files → NamedFile → OpenFault → Type 0
+abbrev pub IsPortFault : Option Files → FileOfName → OpenFault → Type 0
 IsPortFault known file opening.Memory = ⊤
 IsPortFault known file fault = IsClosed known file fault
 
 -- ---- several files
 
 -- These files hold these bytes.
-abbrev pub AreContents : Files → List NamedFile → List (List ℕ) → Type 0
+abbrev pub AreContents : Files → List FileOfName → List (List ℕ) → Type 0
 AreContents files wanted contents = map files.contents (names_of wanted) ≡ map Some contents
 
 -- These files can be opened, where it is known what files hold.
-abbrev pub CanOpen : Option Files → List NamedFile → Type 0
+abbrev pub CanOpen : Option Files → List FileOfName → Type 0
 CanOpen known wanted = IfSome known (λ files. (contents : List (List ℕ)) × AreContents files wanted contents)
 
 -- This file isn't open. It is the first such one: the files before it can be opened.
-pub record StopsAt (known : Option Files) (wanted : List NamedFile) (fault : OpenFault) : Type 0 where
-  pub before : List NamedFile
-  pub file : NamedFile
-  pub others : List NamedFile
+pub record StopsAt (known : Option Files) (wanted : List FileOfName) (fault : OpenFault) : Type 0 where
+  pub before : List FileOfName
+  pub file : FileOfName
+  pub others : List FileOfName
   pub cut : wanted ≡ before ++ file ∷ others
   pub wrong : IsPortFault known file fault
   pub opened : CanOpen known before
 
 -- These readers have all of these files to give, in their order.
-pub record AreReaders {R : Type 0} (remaining : R → Option (List ℕ)) (files : Files) (wanted : List NamedFile)
+pub record AreReaders {R : Type 0} (remaining : R → Option (List ℕ)) (files : Files) (wanted : List FileOfName)
     (readers : List R) : Type 0 where
   pub contents : List (List ℕ)
   pub are : AreContents files wanted contents
   pub given : map remaining readers ≡ map Some contents
 
 -- The same, where it is known what files hold.
-abbrev pub HaveFiles : {R : Type 0} → (R → Option (List ℕ)) → Option Files → List NamedFile → List R → Type 0
+abbrev pub HaveFiles : {R : Type 0} → (R → Option (List ℕ)) → Option Files → List FileOfName → List R → Type 0
 HaveFiles remaining known wanted readers = IfSome known (λ files. AreReaders remaining files wanted readers)
 
 -- ---- the captures of ports
 
 -- The packets that are taken of a link: those of its VLAN and of its interface.
-abbrev pub choice_of : Link → Choice
+abbrev pub choice_of : LinkWord → Choice
 choice_of link = record { vlan = link.vlan; interface = link.interface }
 
--- The results for the bytes of a port's files, if they are known: of any container by this link, one
--- file after the other; or of a classic capture, which is one file. `bytes_of` gives the bytes of each.
-abbrev pub results_by : {X : Type 0} → (X → Option (List ℕ)) → Option Link → List X → Option (List Answer)
+-- The results for the bytes of a port's files, if they are known: of any container by this link,
+-- one file after the other; or of a classic capture, which is one file. `bytes_of` gives the bytes
+-- of each.
+abbrev pub results_by : {X : Type 0} → (X → Option (List ℕ)) → Option LinkWord → List X → Option (List Answer)
 results_by bytes_of None [] = Some []
 results_by bytes_of None (file ∷ others) = option_map answers (bytes_of file)
 results_by bytes_of (Some link) files = option_map (answers_of_files (choice_of link)) (all_known bytes_of files)
@@ -149,23 +150,23 @@ HoldFiles known ports lanes = IfSome known (λ files. AreFiles files ports lanes
 -- ---- two routers
 
 -- The same of a port with its further files.
-abbrev pub are_of : {A : Type 0} → Side → PortFiles A → Bool
+abbrev pub are_of : {A : Type 0} → RouterSide → PortFiles A → Bool
 are_of side it = is_of side it.port
 
 -- The ports of this router, each with its further files.
-abbrev pub of_router : {A : Type 0} → Side → List (PortFiles A) → List (PortFiles A)
+abbrev pub of_router : {A : Type 0} → RouterSide → List (PortFiles A) → List (PortFiles A)
 of_router side ports = filter (are_of side) ports
 
 -- 1 if the port belongs to this router, otherwise 0.
-abbrev pub one_of : Side → Side → ℕ
+abbrev pub one_of : RouterSide → RouterSide → ℕ
 one_of side other = cond (is_side side other) 1 0
 
 -- A capture with these results is one more of the router `side` if its port is one of that router.
-abbrev pub AddsLane : Side → Side → Option (List Answer) → List LaneState → List LaneState → Type 0
+abbrev pub AddsLane : RouterSide → RouterSide → Option (List Answer) → List LaneState → List LaneState → Type 0
 AddsLane side other results old new = map coming_on new
     ≡ map coming_on old ++ cond (is_side side other) (results ∷ []) []
 
 -- Nothing was taken of that capture.
-abbrev pub AddsUntaken : Side → Side → List LaneState → List LaneState → Type 0
+abbrev pub AddsUntaken : RouterSide → RouterSide → List LaneState → List LaneState → Type 0
 AddsUntaken side other old new =
     tallies_of new ≡ tallies_of old ++ cond (is_side side other) (no_tally ∷ []) []

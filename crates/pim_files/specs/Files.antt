@@ -15,33 +15,33 @@ pub record Files : Type 0 where
 pub record Known : Type 0 where
   pub files : Option Files
   -- the names that it was asked for, in this order
-  pub asked : Option (List (List ℕ))
+  pub requested : Option (List (List ℕ))
 
 -- Nothing is known.
 abbrev pub nothing_known : Known
-nothing_known = record { files = None; asked = None }
+nothing_known = record { files = None; requested = None }
 
 -- If the names that were asked for are known afterwards, these came last, after the earlier ones.
 abbrev pub Grows : Option (List (List ℕ)) → Option (List (List ℕ)) → List (List ℕ) → Type 0
 Grows before None names = ⊤
-Grows None (Some asked) names = ⊥
-Grows (Some before) (Some asked) names = asked ≡ before ++ names
+Grows None (Some requested) names = ⊥
+Grows (Some before) (Some requested) names = requested ≡ before ++ names
 
 -- The opener was asked for these names, one after another. What files hold is the same.
-pub record AsksFor (old new : Known) (names : List (List ℕ)) : Type 0 where
+pub record RequestsFor (old new : Known) (names : List (List ℕ)) : Type 0 where
   pub files : new.files ≡ old.files
-  pub asked : Grows old.asked new.asked names
+  pub requested : Grows old.requested new.requested names
 
 -- The opener was asked for some first ones of these names.
-pub record AsksFront (old new : Known) (names : List (List ℕ)) : Type 0 where
+pub record RequestsFront (old new : Known) (names : List (List ℕ)) : Type 0 where
   pub front : List (List ℕ)
   pub others : List (List ℕ)
   pub cut : names ≡ front ++ others
-  pub asks : AsksFor old new front
+  pub asks : RequestsFor old new front
 
 -- At Ok the opener was asked for all these names, at Err for some first ones.
-abbrev pub AsksAll : {A E : Type 0} → Known → Known → List (List ℕ) → Result A E → Type 0
-AsksAll old new names result = MatchResult result (λ _. AsksFor old new names) (λ _. AsksFront old new names)
+abbrev pub RequestsAll : {A E : Type 0} → Known → Known → List (List ℕ) → Result A E → Type 0
+RequestsAll old new names result = MatchResult result (λ _. RequestsFor old new names) (λ _. RequestsFront old new names)
 
 -- What opening the file of this name gives: a reader that has all of it to give. Otherwise it can't
 -- be opened for its cause, or memory is refused.

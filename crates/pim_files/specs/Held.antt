@@ -15,12 +15,12 @@ abbrev pub held_files : HeldFiles → List HeldFile
 held_files opener = opener.files.now
 
 -- The names that it was asked for, if it could note all of them.
-abbrev pub held_asked : HeldFiles → Option (List (List ℕ))
-held_asked opener = cond opener.is_whole (Some (map string_bytes opener.asked.items)) None
+abbrev pub held_requested : HeldFiles → Option (List (List ℕ))
+held_requested opener = cond opener.is_whole (Some (map string_bytes opener.requested.items)) None
 
 -- What is known of it: a name without a file is the one cause that it has.
 abbrev pub held_known : HeldFiles → Known
 held_known opener = record {
   files = Some (record { contents = held_content (held_files opener); causes = λ name. Missing });
-  asked = held_asked opener;
+  requested = held_requested opener;
 }

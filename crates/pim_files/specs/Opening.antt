@@ -4,12 +4,12 @@ use Rattle.std.specs.Prelude.{◌≡◌, ◌⊎◌, ℕ, List, ◌++◌, length,
 use Rattle.pim_addr.specs.declared.family.AddressFamily.{AddressFamily}
 use Rattle.pim_addr.specs.Routes.{RouteTable}
 use Rattle.pim_merge.specs.Next.{MergeState, IsUntaken}
-use Rattle.pim_words.specs.declared.fault.Side.TheVariants as side
+use Rattle.pim_words.specs.declared.fault.RouterSide.TheVariants as side
 use Rattle.pim_words.specs.declared.task.Captures.{Captures}
 use Rattle.pim_files.specs.declared.fault.OpenFault.{OpenFault}
 use Rattle.pim_files.specs.Captures.{PortFiles, all_files, files_from, names_of, of_router, HoldFiles, StopsAt}
 use Rattle.pim_words.specs.Faults.{is_of}
-use Rattle.pim_files.specs.Files.{Files, Known, AsksFor}
+use Rattle.pim_files.specs.Files.{Files, Known, RequestsFor}
 use Rattle.pim_files.specs.Table.{IsTable, IsTableFault, table_names}
 
 -- The ports, each with its further files.
@@ -23,7 +23,8 @@ file_names captures = table_names captures ++ names_of (all_files (port_files ca
 
 module _ {A R : Type 0} (family : AddressFamily) (bytes_of : A → List ℕ) (remaining : R → Option (List ℕ))
     (failures : R → ℕ) (known : Option Files) (captures : Captures A) (upstream : Option A) where
-  -- Why not all files are open: there is no table. Or there is one, and a file of a port isn't open.
+  -- Why not all files are open: there is no table. Or there is one, and a file of a port isn't
+  -- open.
   abbrev pub IsUnopened : OpenFault → Type 0
   IsUnopened fault =
       IsTableFault family bytes_of remaining failures known captures upstream fault
@@ -38,7 +39,7 @@ module _ {A R : Type 0} (family : AddressFamily) (bytes_of : A → List ℕ) (re
     pub each : length merge.lanes ≡ length captures.ports.items
     pub untaken : IsUntaken merge
     pub held : HoldFiles known.files (port_files captures) merge.lanes
-    pub asked : AsksFor known known' (file_names captures)
+    pub requested : RequestsFor known known' (file_names captures)
 
   -- The same for two routers.
   pub record AreOpen (merge other : MergeState) : Type 0 where
@@ -49,4 +50,4 @@ module _ {A R : Type 0} (family : AddressFamily) (bytes_of : A → List ℕ) (re
     pub untaken_of_b : IsUntaken other
     pub held_of_a : HoldFiles known.files (of_router side.A (port_files captures)) merge.lanes
     pub held_of_b : HoldFiles known.files (of_router side.B (port_files captures)) other.lanes
-    pub asked : AsksFor known known' (file_names captures)
+    pub requested : RequestsFor known known' (file_names captures)

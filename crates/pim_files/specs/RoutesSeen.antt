@@ -33,7 +33,7 @@ AddsLine family line old new =
 -- Why a line is not added: memory ran out, or the line with this number is wrong.
 abbrev pub IsLineFault : AddressFamily → List ℕ → ℕ → RouteTable → RoutesFault → Type 0
 IsLineFault family line number table Memory = ⊤
-IsLineFault family line number table (Line told) = (told ≡ number) × IsWrong family line table
+IsLineFault family line number table (Line reported) = (reported ≡ number) × IsWrong family line table
 IsLineFault family line number table fault = ⊥
 
 -- Why not all lines are added: memory ran out after some first lines, or a line is wrong.

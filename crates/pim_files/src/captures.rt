@@ -5,7 +5,7 @@ ghost use Rattle.std.specs.Prelude.{None, vec_len};
 ghost use Rattle.pim_merge.specs.Lane.{coming_on, tallies_of};
 ghost use Rattle.pim_merge.specs.Next.{IsUntaken};
 ghost use Rattle.pim_merge.specs.Tally.{no_tally};
-ghost use Rattle.pim_files.specs.Files.{AsksAll};
+ghost use Rattle.pim_files.specs.Files.{RequestsAll};
 ghost use Rattle.pim_files.specs.Captures.{HoldFiles, StopsAt, choice_of, results_by};
 ghost use Rattle.pim_files.specs.Captures.{all_files, files_from, names_of};
 
@@ -15,11 +15,11 @@ use crate::port::open_port;
 use pim_addr::Feed;
 use pim_container::Choice;
 use pim_merge::Merge;
-use pim_words::{Link, More, Port};
+use pim_words::{LinkWord, More, Port};
 use std::alloc::{AllocError, Global};
 
 /// The packets that are taken of a link.
-fn choice_of(link: Link) -> Choice
+fn choice_of(link: LinkWord) -> Choice
     ensures { result ≡ choice_of link }
 {
     Choice {
@@ -52,7 +52,7 @@ pub(crate) fn add_by<R: Feed + Drop>(
     merge: &mut Merge<R>,
     alloc: Global,
     readers: Vec<R>,
-    link: Option<Link>,
+    link: Option<LinkWord>,
 ) -> Result<(), AllocError>
     requires { 0 < vec_len readers }
     ensures coming { IfOk result (λ _. map coming_on merge.new.lanes ≡
@@ -84,7 +84,7 @@ pub(crate) fn open_all<'a, A, O: Opener>(
         (files_from 0 further.now ports.now) merge.lanes) }
     ensures fault { IfErr result (StopsAt (O.known opener.old).files
         (all_files (files_from 0 further.now ports.now))) }
-    ensures asked { AsksAll (O.known opener.old) (O.known opener.new)
+    ensures requested { RequestsAll (O.known opener.old) (O.known opener.new)
         (names_of (all_files (files_from 0 further.now ports.now))) result }
 {
     let mut merge = Merge::new(alloc);

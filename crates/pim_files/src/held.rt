@@ -1,8 +1,8 @@
 //! Files in memory, for tests.
 
 ghost use Rattle.std.specs.Prelude.{◌≡◌, [], ◌∷◌, Some, option_map, map, string_bytes};
-ghost use Rattle.pim_files.specs.Files.{AsksFor, Opens, Grows};
-ghost use Rattle.pim_files.specs.Held.{held_content, held_files, held_asked, held_known};
+ghost use Rattle.pim_files.specs.Files.{RequestsFor, Opens, Grows};
+ghost use Rattle.pim_files.specs.Held.{held_content, held_files, held_requested, held_known};
 
 use crate::opener::{FileCause, Opener, Unopened};
 use pim_addr::ScriptedFeed;
@@ -25,7 +25,7 @@ pub struct HeldFile<'a> {
 pub struct HeldFiles<'a> {
     files: &'a [HeldFile<'a>],
     most: usize,
-    asked: Vec<String>,
+    requested: Vec<String>,
     is_whole: bool,
 }
 
@@ -33,23 +33,24 @@ impl<'a> HeldFiles<'a> {
     /// Returns an opener of these files, whose readers give at most `most` bytes in a call.
     pub fn new(alloc: Global, files: &'a [HeldFile<'a>], most: usize) -> Self
         ensures files { held_files result ≡ files.now }
-        ensures asked { held_asked result ≡ Some [] }
+        ensures requested { held_requested result ≡ Some [] }
     {
         HeldFiles {
             files,
             most,
-            asked: Vec::new(alloc),
+            requested: Vec::new(alloc),
             is_whole: true,
         }
     }
 
     /// Returns the names that it was asked for, in this order. `None` if memory was refused for the
     /// note of one.
-    pub fn asked(&self) -> Option<&[String]>
-        ensures { option_map (λ names. map string_bytes names.now) result ≡ held_asked self.now }
+    pub fn requested(&self) -> Option<&[String]>
+        ensures { option_map (λ names. map string_bytes names.now) result
+            ≡ held_requested self.now }
     {
         if self.is_whole {
-            Some(&self.asked)
+            Some(&self.requested)
         } else {
             None
         }
@@ -57,21 +58,22 @@ impl<'a> HeldFiles<'a> {
 
     /// Notes a name.
     fn note(&mut self, alloc: Global, name: &str)
-        ensures asked { Grows (held_asked self.old) (held_asked self.new) (name.now ∷ []) }
+        ensures requested { Grows (held_requested self.old) (held_requested self.new)
+            (name.now ∷ []) }
         ensures files { held_files self.new ≡ held_files self.old }
     {
         let Ok(copy) = String::from_str(alloc, name) else {
             self.is_whole = false;
             return;
         };
-        if self.asked.push(copy).is_err() {
+        if self.requested.push(copy).is_err() {
             self.is_whole = false;
         }
     }
 }
 
 /// The first file of this name.
-fn file_named<'a>(files: &'a [HeldFile<'a>], name: &str) -> Option<HeldFile<'a>>
+fn file_of_name<'a>(files: &'a [HeldFile<'a>], name: &str) -> Option<HeldFile<'a>>
     ensures { option_map (λ file. file.bytes.now) result ≡ held_content files.now name.now }
 {
     for file in files {
@@ -89,7 +91,7 @@ impl<'a> Opener for HeldFiles<'a> {
 
     fn open(&mut self, alloc: Global, name: &str) -> Result<ScriptedFeed<'a>, Unopened> {
         self.note(alloc, name);
-        match file_named(self.files, name) {
+        match file_of_name(self.files, name) {
             Some(file) => Ok(ScriptedFeed::new(file.bytes, self.most, file.fails_from)),
             None => Err(Unopened::File(FileCause::Missing)),
         }

@@ -1,7 +1,7 @@
 //! What opens files.
 
 ghost use Rattle.std.specs.Prelude.{[], ◌∷◌, IfSome};
-ghost use Rattle.pim_files.specs.Files.{Known, AsksFor, Opens};
+ghost use Rattle.pim_files.specs.Files.{Known, RequestsFor, Opens};
 
 use pim_addr::Feed;
 use std::alloc::Global;
@@ -41,7 +41,7 @@ pub trait Opener {
     /// # Errors
     /// Why it isn't open.
     fn open(&mut self, alloc: Global, name: &str) -> Result<Self::Reader, Unopened>
-        ensures asked { AsksFor (known self.old) (known self.new) (name.now ∷ []) }
+        ensures requested { RequestsFor (known self.old) (known self.new) (name.now ∷ []) }
         ensures opened { IfSome (known self.old).files (λ files.
             Opens Self.Reader.remaining files name.now result) };
 }

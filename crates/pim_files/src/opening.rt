@@ -1,7 +1,7 @@
 //! All files of a command: the table of routes, and the captures of one router or two.
 
 ghost use Rattle.std.specs.Prelude.{IfOk, IfErr};
-ghost use Rattle.pim_files.specs.Files.{AsksFront};
+ghost use Rattle.pim_files.specs.Files.{RequestsFront};
 ghost use Rattle.pim_files.specs.Opening.{file_names, IsUnopened, IsOpen, AreOpen};
 
 use crate::captures::open_all;
@@ -48,8 +48,8 @@ pub fn open_one<'a, F: Family, O: Opener>(
         files.routes files.merge) }
     ensures unopened { IfErr result (IsUnopened F.family F.bytes_of O.Reader.remaining
         O.Reader.failures (O.known opener.old).files captures.now upstream) }
-    ensures asked { IfErr result (λ _.
-        AsksFront (O.known opener.old) (O.known opener.new) (file_names captures.now)) }
+    ensures requested { IfErr result (λ _.
+        RequestsFront (O.known opener.old) (O.known opener.new) (file_names captures.now)) }
 {
     let routes = table::<F, O>(alloc, opener, captures, upstream)?;
     let merge = open_all(alloc, opener, &captures.ports, &captures.more)?;
@@ -72,8 +72,8 @@ pub fn open_two<'a, F: Family, O: Opener>(
         files.routes files.pair.a files.pair.b) }
     ensures unopened { IfErr result (IsUnopened F.family F.bytes_of O.Reader.remaining
         O.Reader.failures (O.known opener.old).files captures.now upstream) }
-    ensures asked { IfErr result (λ _.
-        AsksFront (O.known opener.old) (O.known opener.new) (file_names captures.now)) }
+    ensures requested { IfErr result (λ _.
+        RequestsFront (O.known opener.old) (O.known opener.new) (file_names captures.now)) }
 {
     let routes = table::<F, _>(alloc, opener, captures, upstream)?;
     let pair = open_both(alloc, opener, &captures.ports, &captures.more)?;

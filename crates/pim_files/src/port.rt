@@ -1,7 +1,7 @@
 //! The files of a port: its own file, and those in which its capture goes on.
 
 ghost use Rattle.std.specs.Prelude.{◌≡◌, ◌<◌, [], ◌∷◌, IfOk, IfErr, MatchResult, vec_len};
-ghost use Rattle.pim_files.specs.Files.{AsksFor, AsksAll};
+ghost use Rattle.pim_files.specs.Files.{RequestsFor, RequestsAll};
 ghost use Rattle.pim_files.specs.Captures.{IsReaderOf, IsPortFault, StopsAt, HaveFiles};
 ghost use Rattle.pim_files.specs.Captures.{port_fault, first_file, further_file, files_of};
 ghost use Rattle.pim_files.specs.Captures.{is_further, with_more, names_of};
@@ -33,7 +33,8 @@ fn open_own<'a, A, O: Opener>(
     ensures opened { MatchResult result
         (IsReaderOf O.Reader.remaining (O.known opener.old).files (first_file port.now))
         (IsPortFault (O.known opener.old).files (first_file port.now)) }
-    ensures asked { AsksFor (O.known opener.old) (O.known opener.new) (port.now.file.now ∷ []) }
+    ensures requested { RequestsFor (O.known opener.old) (O.known opener.new)
+        (port.now.file.now ∷ []) }
 {
     match opener.open(alloc, port.file) {
         Ok(reader) => Ok(reader),
@@ -51,7 +52,8 @@ fn open_further<'a, O: Opener>(
     ensures opened { MatchResult result
         (IsReaderOf O.Reader.remaining (O.known opener.old).files (further_file one.now))
         (IsPortFault (O.known opener.old).files (further_file one.now)) }
-    ensures asked { AsksFor (O.known opener.old) (O.known opener.new) (one.now.file.now ∷ []) }
+    ensures requested { RequestsFor (O.known opener.old) (O.known opener.new)
+        (one.now.file.now ∷ []) }
 {
     match opener.open(alloc, one.file) {
         Ok(reader) => Ok(reader),
@@ -73,7 +75,8 @@ fn open_first<'a, A, O: Opener>(
         (O.known opener.old).files (first_file port.now ∷ []) readers.items) }
     ensures some { IfOk result (λ readers. 0 < vec_len readers) }
     ensures fault { IfErr result (IsPortFault (O.known opener.old).files (first_file port.now)) }
-    ensures asked { AsksFor (O.known opener.old) (O.known opener.new) (port.now.file.now ∷ []) }
+    ensures requested { RequestsFor (O.known opener.old) (O.known opener.new)
+        (port.now.file.now ∷ []) }
 {
     let reader = open_own(alloc, opener, port)?;
     let mut readers = Vec::new(alloc);
@@ -109,7 +112,7 @@ pub(crate) fn open_port<'a, A, O: Opener>(
     ensures some { IfOk result (λ readers. 0 < vec_len readers) }
     ensures fault { IfErr result (StopsAt (O.known opener.old).files
         (files_of (with_more number further.now port.now))) }
-    ensures asked { AsksAll (O.known opener.old) (O.known opener.new)
+    ensures requested { RequestsAll (O.known opener.old) (O.known opener.new)
         (names_of (files_of (with_more number further.now port.now))) result }
 {
     let mut readers = open_first(alloc, opener, port)?;

@@ -2,7 +2,7 @@
 
 ghost use Rattle.std.specs.Prelude.{◌≡◌, [], ◌∷◌, option_map, MatchResult};
 ghost use Rattle.pim_words.specs.Table.{given_table};
-ghost use Rattle.pim_files.specs.Files.{AsksFor, AsksAll};
+ghost use Rattle.pim_files.specs.Files.{RequestsFor, RequestsAll};
 ghost use Rattle.pim_files.specs.Table.{is_bad, table_causes, IsFirstCause};
 ghost use Rattle.pim_files.specs.Table.{IsFileTable, IsFileFault};
 ghost use Rattle.pim_files.specs.Table.{IsTable, IsTableFault, table_names};
@@ -66,7 +66,7 @@ fn add_file<'a, F: Family, O: Opener>(
         (O.known opener.old).files name.now routes.old routes.new)
         (IsFileFault F.family O.Reader.remaining O.Reader.failures
         (O.known opener.old).files name.now routes.old) }
-    ensures asked { AsksFor (O.known opener.old) (O.known opener.new) (name.now ∷ []) }
+    ensures requested { RequestsFor (O.known opener.old) (O.known opener.new) (name.now ∷ []) }
 {
     let mut reader = match opener.open(alloc, name) {
         Ok(reader) => reader,
@@ -96,7 +96,7 @@ pub fn table<'a, F: Family, O: Opener>(
         (O.known opener.old).files captures.now upstream)
         (IsTableFault F.family F.bytes_of O.Reader.remaining O.Reader.failures
         (O.known opener.old).files captures.now upstream) }
-    ensures asked { AsksAll (O.known opener.old) (O.known opener.new)
+    ensures requested { RequestsAll (O.known opener.old) (O.known opener.new)
         (table_names captures.now) result }
 {
     let Some(name) = captures.routes else {

@@ -12,7 +12,7 @@ use Rattle.pim_addr.specs.Routes.{RouteTable, rp_of}
 use Rattle.pim_down.specs.declared.machines.key.What.{What}
 use Rattle.pim_down.specs.declared.machines.key.What.TheVariants.{Star, Source, Rpt}
 use Rattle.pim_down.specs.declared.machines.machine.Record.{Record}
-use Rattle.pim_down.specs.Laws.{KeysAreToldApart}
+use Rattle.pim_down.specs.Laws.{KeysAreDistinct}
 use Rattle.pim_down.specs.Sound.{IsSound}
 use Rattle.pim_down.specs.Time.{Downstream}
 use Rattle.pim_form.specs.declared.tree.Tree.{Tree}
@@ -22,9 +22,9 @@ use Rattle.pim_form.specs.Rows.{exceptions_of}
 use Rattle.pim_form.specs.Settled.{group_in}
 use Rattle.pim_form.specs.Wants.{is_joined, is_pruned, state_on, wants_on, some_below, wants}
 use Rattle.pim_form.specs.Collect.{of_port, collected}
-use Rattle.pim_form.specs.Toward.{via_in, via_rp, upstream_of, is_neighbour}
-use Rattle.pim_form.specs.TowardLaws.{asked_of}
-use Rattle.pim_form.specs.Asked.{form_below, asked_form, HasAsked, IsAskedForm}
+use Rattle.pim_form.specs.Toward.{via_of, star_rpf_neighbour, rpf_neighbour, is_neighbour}
+use Rattle.pim_form.specs.TowardLaws.{demand_toward}
+use Rattle.pim_form.specs.Demanded.{form_below, demanded_form, HasDemand, IsDemandedForm}
 use Rattle.pim_form.proofs.Addresses.{same_is}
 use Rattle.pim_form.proofs.AskedForAll.{first_true, second_true, or_second}
 use Rattle.pim_form.proofs.CollectedWants.{port_form}
@@ -90,9 +90,9 @@ some_star : (s : List ℕ) (star : Option (List (List ℕ))) → not (is_excepte
 some_star s None wanted = wanted
 some_star s (Some exceptions) wanted = refl
 
-excepted_is : (s : List ℕ) (star : Option (List (List ℕ))) (wanted asked : Bool) → is_some star ≡ true → asked ≡ true → (wanted && asked) ≡ not (is_excepted s star) → is_listed s (exceptions_of star) ≡ not wanted
-excepted_is s None wanted asked some e is = absurd (false≢true some)
-excepted_is s (Some exceptions) wanted asked some e is = turned (is_listed s exceptions) wanted (subst (λ a. (wanted && a) ≡ not (is_listed s exceptions)) e is)
+excepted_is : (s : List ℕ) (star : Option (List (List ℕ))) (wanted demanded : Bool) → is_some star ≡ true → demanded ≡ true → (wanted && demanded) ≡ not (is_excepted s star) → is_listed s (exceptions_of star) ≡ not wanted
+excepted_is s None wanted demanded some e is = absurd (false≢true some)
+excepted_is s (Some exceptions) wanted demanded some e is = turned (is_listed s exceptions) wanted (subst (λ a. (wanted && a) ≡ not (is_listed s exceptions)) e is)
   where
     turned : (listed wanted : Bool) → (wanted && true) ≡ not listed → listed ≡ not wanted
     turned true true h = h
@@ -143,7 +143,7 @@ record WantedBelow (family : AddressFamily) (state : Downstream) (group : List �
   valid : IsSourceAddress family source
   wanted : some_below count (wants_on state.records source group Shared) ≡ true
 
-module _ (apart : KeysAreToldApart) (family : AddressFamily) (state : Downstream) (sound : IsSound family state) where
+module _ (apart : KeysAreDistinct) (family : AddressFamily) (state : Downstream) (sound : IsSound family state) where
   abbrev joined : List ℕ → ℕ → Bool
   joined group port = is_joined (state_on state.records port group Star)
 
@@ -193,44 +193,44 @@ module _ (apart : KeysAreToldApart) (family : AddressFamily) (state : Downstream
       }
 
   module _ (table : RouteTable) (neighbour : List ℕ) where
-    is_asked : IsFormOf family (asked_of family table neighbour state) (asked_form family table neighbour state)
-    unfolding asked_form
+    is_asked : IsFormOf family (demand_toward family table neighbour state) (demanded_form family table neighbour state)
+    unfolding demanded_form
     is_asked =
         let rps = rp_of family table in
-        let via = via_in family table in
+        let via = via_of family table in
         let below = below_form state.ports in
         let left = form_left rps via neighbour family (form_below state.ports state) below.normal in
         record {
           normal = left.normal;
           wants = λ s group tree valid is_group.
-              ap (λ w. w && is_neighbour neighbour (upstream_of rps via s group tree)) (below.wants s group tree valid is_group)
+              ap (λ w. w && is_neighbour neighbour (rpf_neighbour rps via s group tree)) (below.wants s group tree valid is_group)
               ∙ left.wants s group tree valid is_group;
         }
 
     -- what is asked of a source of a group
-    group_asked : (form : List GroupForm) → IsFormOf family (asked_of family table neighbour state) form → (s group : List ℕ) (tree : Tree) → IsSourceAddress family s → IsGroupAddress family group
-        → asked_of family table neighbour state s group tree ≡ group_wants (group_in group form) s tree
+    group_asked : (form : List GroupForm) → IsFormOf family (demand_toward family table neighbour state) form → (s group : List ℕ) (tree : Tree) → IsSourceAddress family s → IsGroupAddress family group
+        → demand_toward family table neighbour state s group tree ≡ group_wants (group_in group form) s tree
     group_asked form is s group tree valid is_group = is.wants s group tree valid is_group ∙ group_in_wants form s group tree is.normal.ascending
 
     abbrev to_rp : List ℕ → Bool
-    to_rp group = is_neighbour neighbour (via_rp (via_in family table) (rp_of family table group))
+    to_rp group = is_neighbour neighbour (star_rpf_neighbour (via_of family table) (rp_of family table group))
 
-    has_star : (form : List GroupForm) → IsFormOf family (asked_of family table neighbour state) form → (group : List ℕ) → IsGroupAddress family group
+    has_star : (form : List GroupForm) → IsFormOf family (demand_toward family table neighbour state) form → (group : List ℕ) → IsGroupAddress family group
         → is_some (group_in group form).star ≡ (some_below state.ports (joined group) && to_rp group)
     has_star form is group is_group =
         both_ways (is_some (group_in group form).star) (some_below state.ports (joined group) && to_rp group)
         (λ some.
         let left = left_by family (group_in group form).star (exceptions_in family form group is.normal.groups) some in
-        let asked = group_asked form is left.source group Shared left.valid is_group ∙ left.wanted in
+        let demanded = group_asked form is left.source group Shared left.valid is_group ∙ left.wanted in
         both_true
-        (joined_below group left.source state.ports (first_true (wants state left.source group Shared) (to_rp group) asked))
-        (second_true (wants state left.source group Shared) (to_rp group) asked))
+        (joined_below group left.source state.ports (first_true (wants state left.source group Shared) (to_rp group) demanded))
+        (second_true (wants state left.source group Shared) (to_rp group) demanded))
         (λ both.
         let found = wanted_below group state.ports (first_true (some_below state.ports (joined group)) (to_rp group) both) in
-        let asked : (wants state found.source group Shared && to_rp group) ≡ true = both_true found.wanted (second_true (some_below state.ports (joined group)) (to_rp group) both) in
-        some_star found.source (group_in group form).star (sym (group_asked form is found.source group Shared found.valid is_group) ∙ asked))
+        let demanded : (wants state found.source group Shared && to_rp group) ≡ true = both_true found.wanted (second_true (some_below state.ports (joined group)) (to_rp group) both) in
+        some_star found.source (group_in group form).star (sym (group_asked form is found.source group Shared found.valid is_group) ∙ demanded))
 
-    has_asked : (form : List GroupForm) → IsFormOf family (asked_of family table neighbour state) form → (group : List ℕ) → IsGroupAddress family group → HasAsked family table neighbour state group (group_in group form)
+    has_asked : (form : List GroupForm) → IsFormOf family (demand_toward family table neighbour state) form → (group : List ℕ) → IsGroupAddress family group → HasDemand family table neighbour state group (group_in group form)
     has_asked form is group is_group = record {
       star = has_star form is group is_group;
       exceptions = λ some s valid.
@@ -240,9 +240,9 @@ module _ (apart : KeysAreToldApart) (family : AddressFamily) (state : Downstream
       sources = λ s valid. sym (group_asked form is s group SourceTree valid is_group);
     }
 
-    pub is_asked_form : IsAskedForm family table neighbour state (asked_form family table neighbour state)
+    pub is_asked_form : IsDemandedForm family table neighbour state (demanded_form family table neighbour state)
     is_asked_form = record {
       is = is_asked;
-      groups = has_asked (asked_form family table neighbour state) is_asked;
+      groups = has_asked (demanded_form family table neighbour state) is_asked;
       few = few_units family state sound table neighbour;
     }

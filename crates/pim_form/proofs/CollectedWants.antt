@@ -12,7 +12,7 @@ use Rattle.pim_down.specs.declared.machines.key.What.TheVariants.{Star, Source, 
 use Rattle.pim_down.specs.declared.machines.machine.State.{State}
 use Rattle.pim_down.specs.declared.machines.machine.Record.{Record}
 use Rattle.pim_down.specs.Key.{what_cmp}
-use Rattle.pim_down.specs.Laws.{KeysAreToldApart}
+use Rattle.pim_down.specs.Laws.{KeysAreDistinct}
 use Rattle.pim_down.specs.Sound.{IsSound}
 use Rattle.pim_down.specs.Time.{Downstream}
 use Rattle.pim_form.specs.declared.tree.Tree.{Tree}
@@ -239,7 +239,7 @@ collected_wants [] s group Shared run = refl
 collected_wants [] s group SourceTree run = refl
 collected_wants (held ∷ records) s group tree run = behind_wants (added held (fresh held.key.group)) records s group tree (all_first held records run.0) run.1 ∙ fresh_wants held records s group tree run.0
 
-pub port_form : (apart : KeysAreToldApart) (family : AddressFamily) (state : Downstream) (port : ℕ) → IsSound family state
+pub port_form : (apart : KeysAreDistinct) (family : AddressFamily) (state : Downstream) (port : ℕ) → IsSound family state
     → IsFormOf family (wants_at port state) (collected (of_port port state))
 port_form apart family state port sound =
     let are = are_of_port family state port sound in

@@ -3,7 +3,7 @@ use Rattle.std.proofs.Common.{◌≡◌, ◌∙◌, ℕ, Bool, true, false, cond
 use Rattle.std.specs.List.{AllByRecursion}
 use Rattle.std.proofs.lemmas.List.{append_assoc}
 use Rattle.pim_down.specs.declared.machines.machine.Record.{Record}
-use Rattle.pim_form.specs.declared.place.Place.{Place}
+use Rattle.pim_form.specs.declared.place.GroupPlace.{GroupPlace}
 use Rattle.pim_form.specs.NormalForm.{GroupForm, same_address}
 use Rattle.pim_form.specs.Rows.{place_seen, form_seen}
 use Rattle.pim_form.specs.Drafts.{IsDraft, IsLast, Becomes}
@@ -14,7 +14,7 @@ use Rattle.pim_form.proofs.Merging.{IsRest}
 
 module _ {A : Type 0} (bytes_of : A → List ℕ) where
   -- The groups that are ended, and what comes of the last one and the records that are left, are the form of all.
-  pub record IsCollecting (row : List A) (places : List (Place A)) (place : Place A) (left : List (Record (List ℕ))) (all : List GroupForm) : Type 0 where
+  pub record IsCollecting (row : List A) (places : List (GroupPlace A)) (place : GroupPlace A) (left : List (Record (List ℕ))) (all : List GroupForm) : Type 0 where
     pub last : IsLast (length row) place
     pub rest : IsRest bytes_of row places (collected_behind (place_seen bytes_of row place) left) all
     pub next : AllByRecursion (IsNext (place_seen bytes_of row place)) left
@@ -22,7 +22,7 @@ module _ {A : Type 0} (bytes_of : A → List ℕ) where
 
   -- ---- the first record
 
-  pub starts : (row row' : List A) (place : Place A) (held : Record (List ℕ)) (left : List (Record (List ℕ))) (all : List (Record (List ℕ))) → all ≡ held ∷ left → IsRun all → Becomes bytes_of row row' place (added held (fresh held.key.group))
+  pub starts : (row row' : List A) (place : GroupPlace A) (held : Record (List ℕ)) (left : List (Record (List ℕ))) (all : List (Record (List ℕ))) → all ≡ held ∷ left → IsRun all → Becomes bytes_of row row' place (added held (fresh held.key.group))
       → IsCollecting row' [] place left (collected all)
   unfolding collected
   starts row row' place held left all is run becomes =
@@ -34,13 +34,13 @@ module _ {A : Type 0} (bytes_of : A → List ℕ) where
         run = run'.1;
       }
 
-  pub nothing : (row : List A) (places : List (Place A)) (all : List (Record (List ℕ))) → all ≡ [] → places ≡ [] → IsDraft bytes_of row places (collected all)
+  pub nothing : (row : List A) (places : List (GroupPlace A)) (all : List (Record (List ℕ))) → all ≡ [] → places ≡ [] → IsDraft bytes_of row places (collected all)
   unfolding collected
   nothing row places all none empty = subst (λ ps. IsDraft bytes_of row ps (collected all)) (sym empty) (record { within = tt; seen = ap collected (sym none) })
 
   -- ---- one record more
 
-  module _ (row row' : List A) (places places' : List (Place A)) (place place' : Place A) (held : Record (List ℕ)) (left left' : List (Record (List ℕ))) (all : List GroupForm) (is : left ≡ held ∷ left') (collecting : IsCollecting row places place left all) where
+  module _ (row row' : List A) (places places' : List (GroupPlace A)) (place place' : GroupPlace A) (held : Record (List ℕ)) (left left' : List (Record (List ℕ))) (all : List GroupForm) (is : left ≡ held ∷ left') (collecting : IsCollecting row places place left all) where
     next_here : IsNext (place_seen bytes_of row place) held
     next_here = (subst (AllByRecursion (IsNext (place_seen bytes_of row place))) is collecting.next).0
 
@@ -96,7 +96,7 @@ module _ {A : Type 0} (bytes_of : A → List ℕ) where
 
   -- ---- the end
 
-  pub ends : (row : List A) (places places' : List (Place A)) (place : Place A) (left : List (Record (List ℕ))) (all : List GroupForm) → left ≡ [] → IsCollecting row places place left all
+  pub ends : (row : List A) (places places' : List (GroupPlace A)) (place : GroupPlace A) (left : List (Record (List ℕ))) (all : List GroupForm) → left ≡ [] → IsCollecting row places place left all
       → ((form : List GroupForm) → IsDraft bytes_of row places form → IsDraft bytes_of row places' (form ++ closed (place_seen bytes_of row place))) → IsDraft bytes_of row places' all
   unfolding collected_behind
   ends row places places' place left all none collecting closes =

@@ -3,7 +3,7 @@ use Rattle.std.proofs.Common.{◌≡◌, ◌∙◌, ℕ, ◌+◌, ◌≤◌, Lis
 use Rattle.std.specs.List.{AllByRecursion}
 use Rattle.std.proofs.lemmas.List.{take-map, drop-map, take-append-le, map-append, length-map}
 use Rattle.std.proofs.Math.Seq.{drop-append_seam, take-length}
-use Rattle.pim_form.specs.declared.place.Place.{Place}
+use Rattle.pim_form.specs.declared.place.GroupPlace.{GroupPlace}
 use Rattle.pim_form.specs.NormalForm.{GroupForm}
 use Rattle.pim_form.specs.Rows.{between, IsWithin, star_of, exceptions_of, place_seen, form_seen}
 use Rattle.std.specs.Option.{is_some}
@@ -31,20 +31,20 @@ module _ {A : Type 0} (bytes_of : A → List ℕ) where
         let long = same_length row in
         by_bytes start end row' ∙ ap (between start end) grows ∙ ap (drop start) (take-append-le end (map bytes_of row) more (omega arith)) ∙ sym (by_bytes start end row)
 
-    pub same_place : (place : Place A) → IsWithin (length row) place → place_seen bytes_of row' place ≡ place_seen bytes_of row place
+    pub same_place : (place : GroupPlace A) → IsWithin (length row) place → place_seen bytes_of row' place ≡ place_seen bytes_of row place
     same_place place within =
         let exceptions = same_part place.exceptions_start place.exceptions_end within.3 in
         let sources = same_part place.sources_start place.sources_end within.1 in
         λ i. record { group = bytes_of place.group; star = star_of place.starred (exceptions i); sources = sources i }
 
-    pub same_form : (places : List (Place A)) → AllByRecursion (IsWithin (length row)) places → form_seen bytes_of row' places ≡ form_seen bytes_of row places
+    pub same_form : (places : List (GroupPlace A)) → AllByRecursion (IsWithin (length row)) places → form_seen bytes_of row' places ≡ form_seen bytes_of row places
     same_form [] within = refl
     same_form (place ∷ places) within =
         let first = same_place place within.0 in
         let others = same_form places within.1 in
         λ i. first i ∷ others i
 
-    pub still_within : (places : List (Place A)) → AllByRecursion (IsWithin (length row)) places → AllByRecursion (IsWithin (length row')) places
+    pub still_within : (places : List (GroupPlace A)) → AllByRecursion (IsWithin (length row)) places → AllByRecursion (IsWithin (length row')) places
     still_within [] within = tt
     still_within (place ∷ places) within = ((within.0.0, omega (arith, grown_length, within.0.1), within.0.2, omega (arith, grown_length, within.0.3)), still_within places within.1)
 
@@ -55,7 +55,7 @@ module _ {A : Type 0} (bytes_of : A → List ℕ) where
         by_bytes start end row' ∙ ap (drop start) (whole ∙ grows) ∙ ap (λ n. drop n (map bytes_of row ++ more)) (first ∙ sym (same_length row)) ∙ drop-append_seam (map bytes_of row) more
 
   -- one group more
-  pub one_more : (row row' row'' : List A) (sources exceptions : List (List ℕ)) (places places' : List (Place A)) (form : List GroupForm) (place : Place A) (this : GroupForm) →
+  pub one_more : (row row' row'' : List A) (sources exceptions : List (List ℕ)) (places places' : List (GroupPlace A)) (form : List GroupForm) (place : GroupPlace A) (this : GroupForm) →
       IsDraft bytes_of row places form → map bytes_of row' ≡ map bytes_of row ++ sources → map bytes_of row'' ≡ map bytes_of row' ++ exceptions → places' ≡ places ++ place ∷ [] →
       place.sources_start ≡ length row → place.sources_end ≡ length row' → place.exceptions_start ≡ length row' → place.exceptions_end ≡ length row'' →
       bytes_of place.group ≡ this.group → star_of place.starred exceptions ≡ this.star → sources ≡ this.sources →

@@ -6,7 +6,7 @@ use Rattle.std.specs.List.Sorted.{IsStrictlySortedBy}
 use Rattle.std.specs.Ordering.{nat_cmp}
 use Rattle.std.specs.Cmp.Lexicographic.{slice_cmp}
 use Rattle.pim_addr.specs.declared.family.AddressFamily.{AddressFamily}
-use Rattle.pim_form.specs.declared.place.Place.{Place}
+use Rattle.pim_form.specs.declared.place.GroupPlace.{GroupPlace}
 use Rattle.pim_form.specs.declared.tree.Tree.{Tree}
 use Rattle.pim_form.specs.NormalForm.{GroupForm, AreAscending, same_address, is_listed, groups_of, IsNormalGroup, group_wants, form_wants}
 use Rattle.pim_form.specs.Rows.{IsWithin, place_group, place_seen, form_seen, IsKept}
@@ -44,35 +44,35 @@ wants_at (a ∷ form) up (suc i) d below s tree =
     of_others a form s (get_or form i d).group tree (less_apart_back a.group (get_or form i d).group less) ∙ wants_at form up.1 i d inside s tree
 
 module _ {A : Type 0} (bytes_of : A → List ℕ) (row : List A) where
-  pub form_first : (place : Place A) (places : List (Place A)) → form_seen bytes_of row (place ∷ places) ≡ place_seen bytes_of row place ∷ form_seen bytes_of row places
+  pub form_first : (place : GroupPlace A) (places : List (GroupPlace A)) → form_seen bytes_of row (place ∷ places) ≡ place_seen bytes_of row place ∷ form_seen bytes_of row places
   form_first place places = refl
 
-  pub places_count : (places : List (Place A)) → length (form_seen bytes_of row places) ≡ length places
+  pub places_count : (places : List (GroupPlace A)) → length (form_seen bytes_of row places) ≡ length places
   places_count [] = refl
   places_count (place ∷ places) = ap suc (places_count places)
 
-  pub groups_seen : (places : List (Place A)) → groups_of (form_seen bytes_of row places) ≡ map (place_group bytes_of) places
+  pub groups_seen : (places : List (GroupPlace A)) → groups_of (form_seen bytes_of row places) ≡ map (place_group bytes_of) places
   groups_seen [] = refl
   groups_seen (place ∷ places) = ap (λ (gs : List (List ℕ)). place_group bytes_of place ∷ gs) (groups_seen places)
 
-  pub seen_at : (places : List (Place A)) (i : ℕ) (d : Place A) → i < length places → get_or (form_seen bytes_of row places) i (place_seen bytes_of row d) ≡ place_seen bytes_of row (get_or places i d)
+  pub seen_at : (places : List (GroupPlace A)) (i : ℕ) (d : GroupPlace A) → i < length places → get_or (form_seen bytes_of row places) i (place_seen bytes_of row d) ≡ place_seen bytes_of row (get_or places i d)
   seen_at [] i d below = absurd (omega arith)
   seen_at (place ∷ places) zero d below = refl
   seen_at (place ∷ places) (suc i) d below = seen_at places i d (omega arith)
 
-  module _ (family : AddressFamily) (places : List (Place A)) (kept : IsKept bytes_of family row places) where
+  module _ (family : AddressFamily) (places : List (GroupPlace A)) (kept : IsKept bytes_of family row places) where
     pub ascending : AreAscending (map (place_group bytes_of) places)
     ascending = subst AreAscending (groups_seen places) kept.normal.ascending
 
-    pub within_at : (i : ℕ) (d : Place A) → i < length places → IsWithin (length row) (get_or places i d)
+    pub within_at : (i : ℕ) (d : GroupPlace A) → i < length places → IsWithin (length row) (get_or places i d)
     within_at i d below = all_at (IsWithin (length row)) places kept.within i d below
 
-    pub normal_at : (i : ℕ) (d : Place A) → i < length places → IsNormalGroup family (place_seen bytes_of row (get_or places i d))
+    pub normal_at : (i : ℕ) (d : GroupPlace A) → i < length places → IsNormalGroup family (place_seen bytes_of row (get_or places i d))
     normal_at i d below =
         subst (IsNormalGroup family) (seen_at places i d below)
         (all_at (IsNormalGroup family) (form_seen bytes_of row places) kept.normal.groups i (place_seen bytes_of row d) (rw (places_count places) below))
 
-    pub wants_found : (i : ℕ) (d : Place A) (s group : List ℕ) (tree : Tree) → i < length places → place_group bytes_of (get_or places i d) ≡ group
+    pub wants_found : (i : ℕ) (d : GroupPlace A) (s group : List ℕ) (tree : Tree) → i < length places → place_group bytes_of (get_or places i d) ≡ group
         → form_wants (form_seen bytes_of row places) s group tree ≡ group_wants (place_seen bytes_of row (get_or places i d)) s tree
     wants_found i d s group tree below is =
         let at = wants_at (form_seen bytes_of row places) kept.normal.ascending i (place_seen bytes_of row d) (rw (places_count places) below) s tree in
@@ -83,6 +83,6 @@ module _ {A : Type 0} (bytes_of : A → List ℕ) (row : List A) where
     pub wants_none : (s group : List ℕ) (tree : Tree) → is_listed group (map (place_group bytes_of) places) ≡ false → form_wants (form_seen bytes_of row places) s group tree ≡ false
     wants_none s group tree none = unlisted_form (form_seen bytes_of row places) s group tree (rw (groups_seen places) none)
 
-pub none_kept : {A : Type 0} (bytes_of : A → List ℕ) (row : List A) (family : AddressFamily) (places : List (Place A)) → places ≡ [] → IsKept bytes_of family row places
+pub none_kept : {A : Type 0} (bytes_of : A → List ℕ) (row : List A) (family : AddressFamily) (places : List (GroupPlace A)) → places ≡ [] → IsKept bytes_of family row places
 unfolding IsStrictlySortedBy
 none_kept {A} bytes_of row family places none = subst (IsKept bytes_of family row) (sym none) (record { within = tt; normal = record { ascending = tt; groups = tt } })

@@ -12,7 +12,7 @@ use Rattle.pim_addr.specs.Address.{IsSourceAddress}
 use Rattle.pim_form.specs.declared.tree.Tree.{Tree}
 use Rattle.pim_form.specs.declared.tree.Tree.TheVariants.{Shared, Source}
 use Rattle.pim_form.specs.NormalForm.{GroupForm, AreAscending, same_address, is_listed, AreExceptions, is_empty, IsNormalGroup, groups_of, IsNormal, is_excepted, group_wants, form_wants, IsFormOf}
-use Rattle.pim_form.specs.Toward.{via_rp, upstream_of, is_neighbour, toward, is_star_toward, is_group_toward, is_toward}
+use Rattle.pim_form.specs.Toward.{star_rpf_neighbour, rpf_neighbour, is_neighbour, toward, is_star_toward, is_group_toward, is_toward}
 use Rattle.pim_form.specs.KeptToward.{is_reached, group_toward, form_toward}
 use Rattle.pim_form.proofs.Addresses.{same_is}
 
@@ -74,7 +74,7 @@ module _ (rps via : List ℕ → Option (List ℕ)) (neighbour : List ℕ) where
       → IsNormalGroup family (group_toward rps via neighbour this)
   group_left family this is some = record {
     group = is.group;
-    exceptions = exceptions_left family (is_neighbour neighbour (via_rp via (rps this.group))) this.star is.exceptions;
+    exceptions = exceptions_left family (is_neighbour neighbour (star_rpf_neighbour via (rps this.group))) this.star is.exceptions;
     ascending = IsStrictlySortedBy-filter (slice_cmp nat_cmp) (is_reached rps via neighbour) this.sources is.ascending;
     sources = all_filter (IsSourceAddress family) (is_reached rps via neighbour) this.sources is.sources;
     some = some;
@@ -133,8 +133,8 @@ module _ (rps via : List ℕ → Option (List ℕ)) (neighbour : List ℕ) where
   star_wants s star false = sym (and_false (not (is_excepted s star)))
 
   group_wants_left : (this : GroupForm) (s : List ℕ) (tree : Tree)
-      → group_wants (group_toward rps via neighbour this) s tree ≡ (group_wants this s tree && is_neighbour neighbour (upstream_of rps via s this.group tree))
-  group_wants_left this s Shared = star_wants s this.star (is_neighbour neighbour (via_rp via (rps this.group)))
+      → group_wants (group_toward rps via neighbour this) s tree ≡ (group_wants this s tree && is_neighbour neighbour (rpf_neighbour rps via s this.group tree))
+  group_wants_left this s Shared = star_wants s this.star (is_neighbour neighbour (star_rpf_neighbour via (rps this.group)))
   group_wants_left this s Source = listed_filter (is_reached rps via neighbour) s this.sources
 
   empty_wants : (group : List ℕ) (star : Option (List (List ℕ))) (sources : List (List ℕ)) (s : List ℕ) (tree : Tree) → is_empty star sources ≡ true → group_wants (record { group = group; star = star; sources = sources }) s tree ≡ false
@@ -159,14 +159,14 @@ module _ (rps via : List ℕ → Option (List ℕ)) (neighbour : List ℕ) where
       → ((same_address group this.group && group_wants (group_toward rps via neighbour this) s tree) || form_wants left s group tree)
       ≡ toward rps via neighbour (form_wants (this ∷ form)) s group tree
   one_more s group tree this form left others =
-      let asked = is_neighbour neighbour (upstream_of rps via s group tree) in
+      let demanded = is_neighbour neighbour (rpf_neighbour rps via s group tree) in
       elim (same_address group this.group) as (λ a. same_address group this.group ≡ a
       → ((a && group_wants (group_toward rps via neighbour this) s tree) || form_wants left s group tree)
-      ≡ (((a && group_wants this s tree) || form_wants form s group tree) && asked)) [
+      ≡ (((a && group_wants this s tree) || form_wants form s group tree) && demanded)) [
         | true ↦ λ same.
-            let here : group_wants (group_toward rps via neighbour this) s tree ≡ (group_wants this s tree && asked) =
-            group_wants_left this s tree ∙ ap (λ g. group_wants this s tree && is_neighbour neighbour (upstream_of rps via s g tree)) (sym (same_is group this.group same)) in
-            rw (here, others) (spread true (group_wants this s tree) (form_wants form s group tree) asked)
+            let here : group_wants (group_toward rps via neighbour this) s tree ≡ (group_wants this s tree && demanded) =
+            group_wants_left this s tree ∙ ap (λ g. group_wants this s tree && is_neighbour neighbour (rpf_neighbour rps via s g tree)) (sym (same_is group this.group same)) in
+            rw (here, others) (spread true (group_wants this s tree) (form_wants form s group tree) demanded)
         | false ↦ λ apart. others
       ] refl
 
@@ -181,7 +181,7 @@ module _ (rps via : List ℕ → Option (List ℕ)) (neighbour : List ℕ) where
 
   -- ---- and nothing else
 
-  star_is_toward : (group : List ℕ) (star : Option (List (List ℕ))) (b : Bool) → is_neighbour neighbour (via_rp via (rps group)) ≡ b
+  star_is_toward : (group : List ℕ) (star : Option (List (List ℕ))) (b : Bool) → is_neighbour neighbour (star_rpf_neighbour via (rps group)) ≡ b
       → is_star_toward rps via neighbour group (if b then star else None) ≡ true
   star_is_toward group None true e = refl
   star_is_toward group (Some xs) true e = e
@@ -189,7 +189,7 @@ module _ (rps via : List ℕ → Option (List ℕ)) (neighbour : List ℕ) where
 
   group_is_toward : (this : GroupForm) → is_group_toward rps via neighbour (group_toward rps via neighbour this) ≡ true
   group_is_toward this =
-      rw (star_is_toward this.group this.star (is_neighbour neighbour (via_rp via (rps this.group))) refl) (filter_passes (is_reached rps via neighbour) this.sources)
+      rw (star_is_toward this.group this.star (is_neighbour neighbour (star_rpf_neighbour via (rps this.group))) refl) (filter_passes (is_reached rps via neighbour) this.sources)
 
   pub left_is_toward : (form : List GroupForm) → is_toward rps via neighbour (form_toward rps via neighbour form) ≡ true
   left_is_toward = by_groups (λ form left. is_toward rps via neighbour left ≡ true) refl

@@ -6,7 +6,7 @@ use Rattle.std.proofs.lemmas.Bool.{ltb-true, ltb-false}
 use Rattle.std.proofs.lemmas.List.{length-drop, length-take-le, map-append}
 use Rattle.std.proofs.Math.ListN.{drop_of_length-le}
 use Rattle.pim_addr.specs.declared.family.AddressFamily.{AddressFamily}
-use Rattle.pim_form.specs.declared.place.Place.{Place}
+use Rattle.pim_form.specs.declared.place.GroupPlace.{GroupPlace}
 use Rattle.pim_form.specs.NormalForm.{GroupForm, is_empty, IsNormal}
 use Rattle.pim_form.specs.Rows.{between, star_of, IsWithin, place_seen, form_seen, IsKept}
 use Rattle.pim_form.specs.KeptToward.{group_toward, form_toward, has_some, IsPushed}
@@ -34,20 +34,20 @@ module _ {A : Type 0} (bytes_of : A → List ℕ) where
 
   module _ (rps via : List ℕ → Option (List ℕ)) (neighbour : List ℕ) where
     -- the places are what is left of groups that came, `left` are those that come
-    pub record HasKept (row : List A) (places : List (Place A)) (left all : List GroupForm) : Type 0 where
+    pub record HasKept (row : List A) (places : List (GroupPlace A)) (left all : List GroupForm) : Type 0 where
       pub within : AllByRecursion (IsWithin (length row)) places
       pub seen : form_seen bytes_of row places ++ form_toward rps via neighbour left ≡ form_toward rps via neighbour all
 
-    pub starts : (row : List A) (places : List (Place A)) (all : List GroupForm) → places ≡ [] → HasKept row places all all
+    pub starts : (row : List A) (places : List (GroupPlace A)) (all : List GroupForm) → places ≡ [] → HasKept row places all all
     starts row places all none = subst (λ ps. HasKept row ps all all) (sym none) (record { within = tt; seen = refl })
 
-    empty_pushed : (this : GroupForm) (old new : List A) (place : Place A) → IsPushed bytes_of (group_toward rps via neighbour this) old new place
+    empty_pushed : (this : GroupForm) (old new : List A) (place : GroupPlace A) → IsPushed bytes_of (group_toward rps via neighbour this) old new place
         → is_empty (group_toward rps via neighbour this).star (group_toward rps via neighbour this).sources ≡ not (has_some place)
     empty_pushed this old new place is =
         sym (ap (λ (form : GroupForm). is_empty form.star form.sources) is.seen)
         ∙ empty_between place.starred (map bytes_of (between place.exceptions_start place.exceptions_end new)) place.sources_start place.sources_end new is.within.0 is.within.1
 
-    steps_over : (row new : List A) (places : List (Place A)) (before left all : List GroupForm) (this : GroupForm) (place : Place A)
+    steps_over : (row new : List A) (places : List (GroupPlace A)) (before left all : List GroupForm) (this : GroupForm) (place : GroupPlace A)
         → HasKept row places before all → before ≡ this ∷ left → IsPushed bytes_of (group_toward rps via neighbour this) row new place → has_some place ≡ false
         → HasKept new places left all
     steps_over row new places before left all this place is next push none = record {
@@ -59,7 +59,7 @@ module _ {A : Type 0} (bytes_of : A → List ℕ) where
           ∙ is.seen;
     }
 
-    steps_on : (row new : List A) (places more : List (Place A)) (before left all : List GroupForm) (this : GroupForm) (place : Place A)
+    steps_on : (row new : List A) (places more : List (GroupPlace A)) (before left all : List GroupForm) (this : GroupForm) (place : GroupPlace A)
         → HasKept row places before all → before ≡ this ∷ left → IsPushed bytes_of (group_toward rps via neighbour this) row new place → has_some place ≡ true
         → more ≡ places ++ place ∷ [] → HasKept new more left all
     steps_on row new places more before left all this place is next push some grown = subst (λ ps. HasKept new ps left all) (sym grown) (record {
@@ -76,7 +76,7 @@ module _ {A : Type 0} (bytes_of : A → List ℕ) where
           ∙ is.seen;
     })
 
-    pub steps : (row new : List A) (places more : List (Place A)) (before left all : List GroupForm) (this : GroupForm) (place : Place A)
+    pub steps : (row new : List A) (places more : List (GroupPlace A)) (before left all : List GroupForm) (this : GroupForm) (place : GroupPlace A)
         → HasKept row places before all → before ≡ this ∷ left → IsPushed bytes_of (group_toward rps via neighbour this) row new place
         → more ≡ (if has_some place then places ++ place ∷ [] else places) → HasKept new more left all
     steps row new places more before left all this place is next push grown =
@@ -85,13 +85,13 @@ module _ {A : Type 0} (bytes_of : A → List ℕ) where
           | false ↦ λ none same. subst (λ ps. HasKept new ps left all) (sym same) (steps_over row new places before left all this place is next push none)
         ] refl grown
 
-    pub ends : (row : List A) (places : List (Place A)) (left all : List GroupForm) → HasKept row places left all → left ≡ []
+    pub ends : (row : List A) (places : List (GroupPlace A)) (left all : List GroupForm) → HasKept row places left all → left ≡ []
         → form_seen bytes_of row places ≡ form_toward rps via neighbour all
     unfolding form_toward
     ends row places left all is none =
         sym (append-nil (form_seen bytes_of row places)) ∙ subst (λ (form : List GroupForm). form_seen bytes_of row places ++ form_toward rps via neighbour form ≡ form_toward rps via neighbour all) none is.seen
 
-    pub kept : (family : AddressFamily) (row : List A) (places : List (Place A)) (left all : List GroupForm) → HasKept row places left all → left ≡ []
+    pub kept : (family : AddressFamily) (row : List A) (places : List (GroupPlace A)) (left all : List GroupForm) → HasKept row places left all → left ≡ []
         → IsNormal family all → IsKept bytes_of family row places
     kept family row places left all is none normal = record {
       within = is.within;

@@ -12,7 +12,7 @@ pub mod Spelled
 pub mod Told
 pub mod Headline
 pub mod OneNeighbour
-pub mod Asked
+pub mod Demanded
 pub mod PushedGroups
 pub mod KeptForm
 pub mod KeptLoop

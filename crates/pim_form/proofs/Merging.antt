@@ -6,7 +6,7 @@ use Rattle.std.specs.Ordering.{nat_cmp}
 use Rattle.std.specs.Cmp.Lexicographic.{slice_cmp}
 use Rattle.std.proofs.lemmas.List.{append_assoc, append-nil, nil_from_length}
 use Rattle.pim_addr.specs.declared.family.AddressFamily.{AddressFamily}
-use Rattle.pim_form.specs.declared.place.Place.{Place}
+use Rattle.pim_form.specs.declared.place.GroupPlace.{GroupPlace}
 use Rattle.pim_form.specs.NormalForm.{GroupForm, IsNormalGroup, IsNormal}
 use Rattle.pim_form.specs.Rows.{IsWithin, place_seen, form_seen, AreKept, IsKept}
 use Rattle.pim_form.specs.Drafts.{IsDraft}
@@ -32,41 +32,41 @@ module _ {B : Type 0} (address_of : B → List ℕ) (both : B → B → B) (one'
 
 module _ {A : Type 0} (bytes_of : A → List ℕ) where
   -- the groups that are there and those still to come are all
-  pub record IsRest (row : List A) (places : List (Place A)) (left all : List GroupForm) : Type 0 where
+  pub record IsRest (row : List A) (places : List (GroupPlace A)) (left all : List GroupForm) : Type 0 where
     pub within : AllByRecursion (IsWithin (length row)) places
     pub so_far : form_seen bytes_of row places ++ left ≡ all
 
   -- a group was appended
-  abbrev pub Adds : List A → List A → List (Place A) → List (Place A) → GroupForm → Type 0
+  abbrev pub Adds : List A → List A → List (GroupPlace A) → List (GroupPlace A) → GroupForm → Type 0
   Adds row row' places places' this = (form : List GroupForm) → IsDraft bytes_of row places form → IsDraft bytes_of row' places' (form ++ this ∷ [])
 
-  pub rest_step : (row row' : List A) (places places' : List (Place A)) (this : GroupForm) (left all : List GroupForm) → Adds row row' places places' this → IsRest row places (this ∷ left) all → IsRest row' places' left all
+  pub rest_step : (row row' : List A) (places places' : List (GroupPlace A)) (this : GroupForm) (left all : List GroupForm) → Adds row row' places places' this → IsRest row places (this ∷ left) all → IsRest row' places' left all
   rest_step row row' places places' this left all adds rest =
       let draft = adds (form_seen bytes_of row places) (record { within = rest.within; seen = refl }) in
       record { within = draft.within; so_far = ap (λ (form : List GroupForm). form ++ left) draft.seen ∙ append_assoc (form_seen bytes_of row places) (this ∷ []) left ∙ rest.so_far }
 
-  pub rest_of_draft : (row : List A) (places : List (Place A)) (form left : List GroupForm) → IsDraft bytes_of row places form → IsRest row places left (form ++ left)
+  pub rest_of_draft : (row : List A) (places : List (GroupPlace A)) (form left : List GroupForm) → IsDraft bytes_of row places form → IsRest row places left (form ++ left)
   rest_of_draft row places form left draft = record { within = draft.within; so_far = ap (λ (f : List GroupForm). f ++ left) draft.seen }
 
-  pub draft_of_rest : (row : List A) (places : List (Place A)) (left all : List GroupForm) → left ≡ [] → IsRest row places left all → IsDraft bytes_of row places all
+  pub draft_of_rest : (row : List A) (places : List (GroupPlace A)) (left all : List GroupForm) → left ≡ [] → IsRest row places left all → IsDraft bytes_of row places all
   draft_of_rest row places left all none rest =
       record { within = rest.within; seen = sym (append-nil (form_seen bytes_of row places)) ∙ ap (λ (l : List GroupForm). form_seen bytes_of row places ++ l) (sym none) ∙ rest.so_far }
 
   -- ---- two forms
 
-  pub record IsMerging (family : AddressFamily) (row_one row_other : List A) (left right : List (Place A)) (row : List A) (places : List (Place A)) (all : List GroupForm) : Type 0 where
+  pub record IsMerging (family : AddressFamily) (row_one row_other : List A) (left right : List (GroupPlace A)) (row : List A) (places : List (GroupPlace A)) (all : List GroupForm) : Type 0 where
     pub one : AreKept bytes_of family row_one left
     pub other : AreKept bytes_of family row_other right
     pub rest : IsRest row places (merged (form_seen bytes_of row_one left) (form_seen bytes_of row_other right)) all
 
   module _ (family : AddressFamily) (row_one row_other : List A) where
-    kept_behind : (row : List A) (left left' : List (Place A)) (a : Place A) → left ≡ a ∷ left' → AreKept bytes_of family row left → AreKept bytes_of family row left'
+    kept_behind : (row : List A) (left left' : List (GroupPlace A)) (a : GroupPlace A) → left ≡ a ∷ left' → AreKept bytes_of family row left → AreKept bytes_of family row left'
     kept_behind row left left' a is kept = let kept' : AreKept bytes_of family row (a ∷ left') = subst (AreKept bytes_of family row) is kept in (kept'.0.1, kept'.1.1)
 
-    pub kept_first : (row : List A) (left left' : List (Place A)) (a : Place A) → left ≡ a ∷ left' → AreKept bytes_of family row left → IsWithin (length row) a × IsNormalGroup family (place_seen bytes_of row a)
+    pub kept_first : (row : List A) (left left' : List (GroupPlace A)) (a : GroupPlace A) → left ≡ a ∷ left' → AreKept bytes_of family row left → IsWithin (length row) a × IsNormalGroup family (place_seen bytes_of row a)
     kept_first row left left' a is kept = let kept' : AreKept bytes_of family row (a ∷ left') = subst (AreKept bytes_of family row) is kept in (kept'.0.0, kept'.1.0)
 
-    module _ (left left' right right' : List (Place A)) (a b : Place A) (row row' : List A) (places places' : List (Place A)) (all : List GroupForm) (is_left : left ≡ a ∷ left') (is_right : right ≡ b ∷ right') (merging : IsMerging family row_one row_other left right row places all) where
+    module _ (left left' right right' : List (GroupPlace A)) (a b : GroupPlace A) (row row' : List A) (places places' : List (GroupPlace A)) (all : List GroupForm) (is_left : left ≡ a ∷ left') (is_right : right ≡ b ∷ right') (merging : IsMerging family row_one row_other left right row places all) where
       opened : IsRest row places (merged (form_seen bytes_of row_one (a ∷ left')) (form_seen bytes_of row_other (b ∷ right'))) all
       opened = subst (λ l. IsRest row places (merged (form_seen bytes_of row_one (a ∷ left')) (form_seen bytes_of row_other l)) all) is_right (subst (λ l. IsRest row places (merged (form_seen bytes_of row_one l) (form_seen bytes_of row_other right)) all) is_left merging.rest)
 
@@ -97,7 +97,7 @@ module _ {A : Type 0} (bytes_of : A → List ℕ) where
       }
 
     -- one of the two has ended, and the groups that are left of each are appended
-    module _ (left right : List (Place A)) (row row' row'' : List A) (places places' places'' : List (Place A)) (all : List GroupForm)
+    module _ (left right : List (GroupPlace A)) (row row' row'' : List A) (places places' places'' : List (GroupPlace A)) (all : List GroupForm)
         (first : (form : List GroupForm) → IsDraft bytes_of row places form → IsDraft bytes_of row' places' (form ++ form_seen bytes_of row_one left))
         (second : (form : List GroupForm) → IsDraft bytes_of row' places' form → IsDraft bytes_of row'' places'' (form ++ form_seen bytes_of row_other right))
         (merging : IsMerging family row_one row_other left right row places all) where
@@ -110,7 +110,7 @@ module _ {A : Type 0} (bytes_of : A → List ℕ) where
           let empty : left ≡ [] = nil_from_length left none in
           let here : form_seen bytes_of row places ++ form_seen bytes_of row_other right ≡ all = subst (λ l. form_seen bytes_of row places ++ merged (form_seen bytes_of row_one l) (form_seen bytes_of row_other right) ≡ all) empty merging.rest.so_far in
           subst (IsDraft bytes_of row'' places'')
-          (ap (λ (l : List (Place A)). (form_seen bytes_of row places ++ form_seen bytes_of row_one l) ++ form_seen bytes_of row_other right) empty
+          (ap (λ (l : List (GroupPlace A)). (form_seen bytes_of row places ++ form_seen bytes_of row_one l) ++ form_seen bytes_of row_other right) empty
           ∙ ap (λ (f : List GroupForm). f ++ form_seen bytes_of row_other right) (append-nil (form_seen bytes_of row places)) ∙ here) both_appended
 
       pub merged_second : length right ≡ 0 → IsDraft bytes_of row'' places'' all
@@ -120,12 +120,12 @@ module _ {A : Type 0} (bytes_of : A → List ℕ) where
           ap (λ (l : List GroupForm). form_seen bytes_of row places ++ l) (sym (merged_none group_of both_groups (form_seen bytes_of row_one left)))
           ∙ subst (λ l. form_seen bytes_of row places ++ merged (form_seen bytes_of row_one left) (form_seen bytes_of row_other l) ≡ all) empty merging.rest.so_far in
           subst (IsDraft bytes_of row'' places'')
-          (ap (λ (l : List (Place A)). (form_seen bytes_of row places ++ form_seen bytes_of row_one left) ++ form_seen bytes_of row_other l) empty
+          (ap (λ (l : List (GroupPlace A)). (form_seen bytes_of row places ++ form_seen bytes_of row_one left) ++ form_seen bytes_of row_other l) empty
           ∙ append-nil (form_seen bytes_of row places ++ form_seen bytes_of row_one left) ∙ here) both_appended
 
   -- ---- forms that are kept
 
-  pub starts : (family : AddressFamily) (row_one row_other : List A) (left right : List (Place A)) (row : List A) (places : List (Place A)) →
+  pub starts : (family : AddressFamily) (row_one row_other : List A) (left right : List (GroupPlace A)) (row : List A) (places : List (GroupPlace A)) →
       IsKept bytes_of family row_one left → IsKept bytes_of family row_other right → places ≡ [] →
       IsMerging family row_one row_other left right row places (merged (form_seen bytes_of row_one left) (form_seen bytes_of row_other right))
   starts family row_one row_other left right row places is_one is_other none = record {
@@ -134,5 +134,5 @@ module _ {A : Type 0} (bytes_of : A → List ℕ) where
     rest = subst (λ p. IsRest row p (merged (form_seen bytes_of row_one left) (form_seen bytes_of row_other right)) (merged (form_seen bytes_of row_one left) (form_seen bytes_of row_other right))) (sym none) (record { within = tt; so_far = refl });
   }
 
-  pub kept_of_draft : (family : AddressFamily) (row : List A) (places : List (Place A)) (form : List GroupForm) → IsDraft bytes_of row places form → IsNormal family form → IsKept bytes_of family row places
+  pub kept_of_draft : (family : AddressFamily) (row : List A) (places : List (GroupPlace A)) (form : List GroupForm) → IsDraft bytes_of row places form → IsNormal family form → IsKept bytes_of family row places
   kept_of_draft family row places form draft normal = record { within = draft.within; normal = subst (IsNormal family) (sym draft.seen) normal }

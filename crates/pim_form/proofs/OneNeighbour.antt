@@ -4,7 +4,7 @@ use Rattle.std.proofs.lemmas.Bool.{false≢true}
 use Rattle.pim_form.specs.declared.tree.Tree.{Tree}
 use Rattle.pim_form.specs.declared.tree.Tree.TheVariants.{Shared, Source}
 use Rattle.pim_form.specs.NormalForm.{Demand}
-use Rattle.pim_form.specs.Toward.{via_rp, upstream_of, is_neighbour, toward, SharedHaveRps}
+use Rattle.pim_form.specs.Toward.{star_rpf_neighbour, rpf_neighbour, is_neighbour, toward, SharedHaveRps}
 use Rattle.pim_form.proofs.Addresses.{same_itself}
 
 and_known : (a b : Bool) → (a ≡ true → b ≡ true) → a && b ≡ a
@@ -15,12 +15,12 @@ module _ (rps via : List ℕ → Option (List ℕ)) (neighbour : List ℕ) (all 
   reached : (address : List ℕ) → is_neighbour neighbour (via address) ≡ true
   reached address = ap (is_neighbour neighbour) (all address) ∙ same_itself neighbour
 
-  by_rp : (rp : Option (List ℕ)) → is_some rp ≡ true → is_neighbour neighbour (via_rp via rp) ≡ true
+  by_rp : (rp : Option (List ℕ)) → is_some rp ≡ true → is_neighbour neighbour (star_rpf_neighbour via rp) ≡ true
   by_rp None h = absurd (false≢true h)
   by_rp (Some rp) h = reached rp
 
   pub asked_for_all : (demand : Demand) → SharedHaveRps rps via demand → (source group : List ℕ) (tree : Tree) → toward rps via neighbour demand source group tree ≡ demand source group tree
   asked_for_all demand have source group Shared =
-      and_known (demand source group Shared) (is_neighbour neighbour (upstream_of rps via source group Shared)) (λ wanted. by_rp (rps group) (have source group wanted))
+      and_known (demand source group Shared) (is_neighbour neighbour (rpf_neighbour rps via source group Shared)) (λ wanted. by_rp (rps group) (have source group wanted))
   asked_for_all demand have source group Source =
-      and_known (demand source group Source) (is_neighbour neighbour (upstream_of rps via source group Source)) (λ wanted. reached source)
+      and_known (demand source group Source) (is_neighbour neighbour (rpf_neighbour rps via source group Source)) (λ wanted. reached source)

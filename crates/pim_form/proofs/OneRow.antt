@@ -10,8 +10,8 @@ use Rattle.pim_form.specs.declared.tree.Tree.TheVariants.{Shared, Source}
 use Rattle.pim_form.specs.Wants.{is_joined, is_pruned, state_on, wants_on, some_below, wants}
 use Rattle.pim_form.specs.NormalForm.{Agree, GroupForm, IsFormOf}
 use Rattle.pim_form.specs.Messages.{IsRp}
-use Rattle.pim_form.specs.Toward.{via_in, via_rp, upstream_of, is_neighbour}
-use Rattle.pim_form.specs.TowardLaws.{asked_of, StarsHaveRps, AsksForAll}
+use Rattle.pim_form.specs.Toward.{via_of, star_rpf_neighbour, rpf_neighbour, is_neighbour}
+use Rattle.pim_form.specs.TowardLaws.{demand_toward, StarsHaveRps, DemandsAll}
 use Rattle.pim_form.proofs.Addresses.{same_itself}
 use Rattle.pim_form.proofs.AskedForAll.{first_true}
 use Rattle.pim_form.proofs.OneForm.{one_form}
@@ -36,37 +36,37 @@ and_known true b h = h refl
 and_known false b h = refl
 
 module _ (family : AddressFamily) (table : RouteTable) (neighbour : List ℕ) (state : Downstream) (sound : IsRouteTable family table)
-    (all : (address : List ℕ) → IsAddress family address → via_in family table address ≡ Some neighbour) (have : StarsHaveRps family table state) where
-  reached : (address : List ℕ) → IsAddress family address → is_neighbour neighbour (via_in family table address) ≡ true
+    (all : (address : List ℕ) → IsAddress family address → via_of family table address ≡ Some neighbour) (have : StarsHaveRps family table state) where
+  reached : (address : List ℕ) → IsAddress family address → is_neighbour neighbour (via_of family table address) ≡ true
   reached address is = ap (is_neighbour neighbour) (all address is) ∙ same_itself neighbour
 
-  rp_reached : (rp : Option (List ℕ)) → IsRp family rp → is_neighbour neighbour (via_rp (via_in family table) rp) ≡ true
+  rp_reached : (rp : Option (List ℕ)) → IsRp family rp → is_neighbour neighbour (star_rpf_neighbour (via_of family table) rp) ≡ true
   rp_reached None is = absurd is
   rp_reached (Some rp) is = reached rp is.0
 
   star_reached : (source group : List ℕ) → IsGroupAddress family group → wants state source group Shared ≡ true
-      → is_neighbour neighbour (via_rp (via_in family table) (rp_of family table group)) ≡ true
+      → is_neighbour neighbour (star_rpf_neighbour (via_of family table) (rp_of family table group)) ≡ true
   star_reached source group is_group wanted =
       let found = below state.ports (wants_on state.records source group Shared) wanted in
       let joined = first_true (is_joined (state_on state.records found.port group Star)) (not (is_pruned (state_on state.records found.port group (Rpt source)))) found.passes in
       rp_reached (rp_of family table group) (rp_is_source family table group sound (have found.port group is_group joined))
 
-  agree : Agree family (asked_of family table neighbour state) (wants state)
+  agree : Agree family (demand_toward family table neighbour state) (wants state)
   agree source group Shared is is_group =
-      and_known (wants state source group Shared) (is_neighbour neighbour (upstream_of (rp_of family table) (via_in family table) source group Shared)) (λ wanted. star_reached source group is_group wanted)
+      and_known (wants state source group Shared) (is_neighbour neighbour (rpf_neighbour (rp_of family table) (via_of family table) source group Shared)) (λ wanted. star_reached source group is_group wanted)
   agree source group Source is is_group =
-      and_known (wants state source group Source) (is_neighbour neighbour (upstream_of (rp_of family table) (via_in family table) source group Source)) (λ wanted. reached source is.0)
+      and_known (wants state source group Source) (is_neighbour neighbour (rpf_neighbour (rp_of family table) (via_of family table) source group Source)) (λ wanted. reached source is.0)
 
-  wanted_form : (form : List GroupForm) → IsFormOf family (asked_of family table neighbour state) form → IsFormOf family (wants state) form
+  wanted_form : (form : List GroupForm) → IsFormOf family (demand_toward family table neighbour state) form → IsFormOf family (wants state) form
   wanted_form form is = record { normal = is.normal; wants = λ s g t valid is_group. sym (agree s g t valid is_group) ∙ is.wants s g t valid is_group }
 
-  asked_form : (form : List GroupForm) → IsFormOf family (wants state) form → IsFormOf family (asked_of family table neighbour state) form
-  asked_form form is = record { normal = is.normal; wants = λ s g t valid is_group. agree s g t valid is_group ∙ is.wants s g t valid is_group }
+  demanded_form : (form : List GroupForm) → IsFormOf family (wants state) form → IsFormOf family (demand_toward family table neighbour state) form
+  demanded_form form is = record { normal = is.normal; wants = λ s g t valid is_group. agree s g t valid is_group ∙ is.wants s g t valid is_group }
 
-  pub asks_for_all : AsksForAll family table neighbour state
+  pub asks_for_all : DemandsAll family table neighbour state
   asks_for_all = record {
     agree = agree;
-    forms = λ form. (wanted_form form, asked_form form);
-    one = λ asked wanted is_asked is_wanted. one_form family asked wanted is_asked.normal is_wanted.normal (λ s g t valid is_group.
+    forms = λ form. (wanted_form form, demanded_form form);
+    one = λ demanded wanted is_asked is_wanted. one_form family demanded wanted is_asked.normal is_wanted.normal (λ s g t valid is_group.
         sym (is_asked.wants s g t valid is_group) ∙ agree s g t valid is_group ∙ is_wanted.wants s g t valid is_group);
   }

@@ -4,7 +4,7 @@ use Rattle.std.specs.List.{AllByRecursion}
 use Rattle.std.proofs.lemmas.Bool.{false≢true}
 use Rattle.std.proofs.lemmas.List.{drop-append-le, map-append, length-drop, length-map, length-take-le}
 use Rattle.std.proofs.Math.Seq.{take-length}
-use Rattle.pim_form.specs.declared.place.Place.{Place}
+use Rattle.pim_form.specs.declared.place.GroupPlace.{GroupPlace}
 use Rattle.pim_form.specs.NormalForm.{GroupForm, is_empty}
 use Rattle.pim_form.specs.Rows.{between, IsWithin, star_of, exceptions_of, place_seen, form_seen}
 use Rattle.pim_form.specs.Drafts.{IsDraft, IsLast, Keeps, Becomes}
@@ -49,7 +49,7 @@ module _ {A : Type 0} (bytes_of : A → List ℕ) where
 
   -- ---- a source
 
-  no_exceptions : (row : List A) (place : Place A) → IsLast (length row) place → exceptions_of (star_of place.starred (read place.exceptions_start place.exceptions_end row)) ≡ [] → place.exceptions_start ≡ place.exceptions_end
+  no_exceptions : (row : List A) (place : GroupPlace A) → IsLast (length row) place → exceptions_of (star_of place.starred (read place.exceptions_start place.exceptions_end row)) ≡ [] → place.exceptions_start ≡ place.exceptions_end
   no_exceptions row place is none = by place.starred refl
     where
       by : (b : Bool) → place.starred ≡ b → place.exceptions_start ≡ place.exceptions_end
@@ -62,7 +62,7 @@ module _ {A : Type 0} (bytes_of : A → List ℕ) where
           let order = is.exceptions in
           omega arith
 
-  pub source_added : (row row' : List A) (x : A) (place place' : Place A) → IsLast (length row) place → exceptions_of (place_seen bytes_of row place).star ≡ [] → row' ≡ row ++ x ∷ [] →
+  pub source_added : (row row' : List A) (x : A) (place place' : GroupPlace A) → IsLast (length row) place → exceptions_of (place_seen bytes_of row place).star ≡ [] → row' ≡ row ++ x ∷ [] →
       place'.group ≡ place.group → place'.starred ≡ place.starred → place'.sources_start ≡ place.sources_start → place'.sources_end ≡ length row' → place'.exceptions_start ≡ length row' → place'.exceptions_end ≡ length row' →
       Becomes bytes_of row row' place' (record { group = bytes_of place.group; star = (place_seen bytes_of row place).star; sources = (place_seen bytes_of row place).sources ++ bytes_of x ∷ [] })
   source_added row row' x place place' is none grown group starred start end middle last =
@@ -82,7 +82,7 @@ module _ {A : Type 0} (bytes_of : A → List ℕ) where
 
   -- ---- an exception
 
-  pub exception_added : (row row' : List A) (x : A) (place place' : Place A) → IsLast (length row) place → place.starred ≡ true → row' ≡ row ++ x ∷ [] →
+  pub exception_added : (row row' : List A) (x : A) (place place' : GroupPlace A) → IsLast (length row) place → place.starred ≡ true → row' ≡ row ++ x ∷ [] →
       place'.group ≡ place.group → place'.starred ≡ place.starred → place'.sources_start ≡ place.sources_start → place'.sources_end ≡ place.sources_end → place'.exceptions_start ≡ place.exceptions_start → place'.exceptions_end ≡ length row' →
       Becomes bytes_of row row' place' (record { group = bytes_of place.group; star = with_exception (bytes_of x) (place_seen bytes_of row place).star; sources = (place_seen bytes_of row place).sources })
   exception_added row row' x place place' is has grown group starred start end middle last =
@@ -124,7 +124,7 @@ module _ {A : Type 0} (bytes_of : A → List ℕ) where
   none_listed start end row above below = let same : end ≡ start = omega arith in ap (λ n. read start n row) same ∙ ap (map bytes_of) (none_between start row)
 
   -- something is wanted of it
-  pub closed_some : (row : List A) (places places' : List (Place A)) (place : Place A) (form : List GroupForm) → places' ≡ places ++ place ∷ [] → is_empty (place_seen bytes_of row place).star (place_seen bytes_of row place).sources ≡ false
+  pub closed_some : (row : List A) (places places' : List (GroupPlace A)) (place : GroupPlace A) (form : List GroupForm) → places' ≡ places ++ place ∷ [] → is_empty (place_seen bytes_of row place).star (place_seen bytes_of row place).sources ≡ false
       → IsLast (length row) place → IsDraft bytes_of row places form → IsDraft bytes_of row places' (form ++ closed (place_seen bytes_of row place))
   closed_some row places places' place form is some last draft =
       let within : IsWithin (length row) place = (last.sources, omega (arith, last.middle, last.last, last.exceptions), last.exceptions, omega (arith, last.last)) in
@@ -134,10 +134,10 @@ module _ {A : Type 0} (bytes_of : A → List ℕ) where
         seen = ap (form_seen bytes_of row) is ∙ map-append (place_seen bytes_of row) places (place ∷ []) ∙ ap (λ (f : List GroupForm). f ++ place_seen bytes_of row place ∷ []) seen ∙ ap (λ b. form ++ cond b [] (place_seen bytes_of row place ∷ [])) (sym some);
       }
 
-  pub some_star : (row : List A) (place : Place A) → place.starred ≡ true → is_empty (place_seen bytes_of row place).star (place_seen bytes_of row place).sources ≡ false
+  pub some_star : (row : List A) (place : GroupPlace A) → place.starred ≡ true → is_empty (place_seen bytes_of row place).star (place_seen bytes_of row place).sources ≡ false
   some_star row place e = ap (λ s. is_empty (star_of s (read place.exceptions_start place.exceptions_end row)) (read place.sources_start place.sources_end row)) e
 
-  pub some_source : (row : List A) (place : Place A) → place.starred ≡ false → place.sources_start < place.sources_end → IsLast (length row) place → is_empty (place_seen bytes_of row place).star (place_seen bytes_of row place).sources ≡ false
+  pub some_source : (row : List A) (place : GroupPlace A) → place.starred ≡ false → place.sources_start < place.sources_end → IsLast (length row) place → is_empty (place_seen bytes_of row place).star (place_seen bytes_of row place).sources ≡ false
   some_source row place e some is =
       ap (λ s. is_empty (star_of s (read place.exceptions_start place.exceptions_end row)) (read place.sources_start place.sources_end row)) e
       ∙ some_listed place.sources_start place.sources_end row some (omega (arith, is.middle, is.last, is.exceptions))

@@ -11,7 +11,7 @@ use Rattle.std.specs.List.{flat_map}
 use Rattle.pim_form.specs.NormalForm.{GroupForm, IsNormal}
 use Rattle.pim_form.specs.Units.{units_of, run_entries, run_size, empty_message_size, empty_set_size, entry_size}
 use Rattle.pim_form.specs.Packing.{fits}
-use Rattle.pim_form.specs.Messages.{Writing, IsWriting, HaveRps, told_set, told_message}
+use Rattle.pim_form.specs.Messages.{Writing, IsWriting, HaveRps, written_set, written_message}
 use Rattle.pim_form.proofs.Normal.{groups_some}
 use Rattle.pim_form.proofs.Units.{count_groups}
 use Rattle.pim_form.proofs.Spelled.{IsPart, units_valid, parts_valid, is_message, sets_size, head_and_sets}
@@ -25,33 +25,33 @@ module _ (family : AddressFamily) (writing : Writing) (rps : List ℕ → Option
     fitting = fitting;
   }
 
-  pub message_is : IsWriting family writing → IsMessage family (told_message writing rps part)
+  pub message_is : IsWriting family writing → IsMessage family (written_message writing rps part)
   message_is is = is_message family writing rps part is is_part
 
   -- header, head and sets
-  pub message_room : run_size family (units_of part) ≡ 4 + (canonical_head_length family + canonical_sets_length family (map (told_set rps) part))
+  pub message_room : run_size family (units_of part) ≡ 4 + (canonical_head_length family + canonical_sets_length family (map (written_set rps) part))
   message_room =
       let groups = count_groups part is_part.ascending is_part.some in
       let sets = sets_size family rps part (parts_valid family rps part is_part.some is_part.valid) in
       ap (λ (n : ℕ). empty_message_size family + n * empty_set_size family + run_entries (units_of part) * entry_size family) groups
-      ∙ sym (head_and_sets family (length part) (run_entries (units_of part)) (canonical_sets_length family (map (told_set rps) part)) sets)
+      ∙ sym (head_and_sets family (length part) (run_entries (units_of part)) (canonical_sets_length family (map (written_set rps) part)) sets)
 
   body_is : (count holdtime : ℕ) (upstream front head sets : List ℕ) → length front ≡ 4 → count ≡ length part → upstream ≡ writing.upstream → holdtime ≡ writing.holdtime
-      → head ≡ canonical_head family upstream count holdtime → sets ≡ flat_map (canonical_set family) (map (told_set rps) part)
-      → drop 4 (front ++ (head ++ sets)) ≡ canonical family (told_message writing rps part)
+      → head ≡ canonical_head family upstream count holdtime → sets ≡ flat_map (canonical_set family) (map (written_set rps) part)
+      → drop 4 (front ++ (head ++ sets)) ≡ canonical family (written_message writing rps part)
   body_is count holdtime upstream front head sets long counts upstreams times is_head is_sets =
-      let counted : count ≡ length (map (told_set rps) part) = counts ∙ sym (length-map part (told_set rps)) in
+      let counted : count ≡ length (map (written_set rps) part) = counts ∙ sym (length-map part (written_set rps)) in
       ap (λ (n : ℕ). drop n (front ++ (head ++ sets))) (sym long) ∙ drop-append_seam front (head ++ sets)
       ∙ ap (λ (bytes : List ℕ). bytes ++ sets) is_head ∙ ap (λ (address : List ℕ). canonical_head family address count holdtime ++ sets) upstreams
       ∙ ap (λ (n : ℕ). canonical_head family writing.upstream n holdtime ++ sets) counted
-      ∙ ap (λ (n : ℕ). canonical_head family writing.upstream (length (map (told_set rps) part)) n ++ sets) times
-      ∙ ap (λ (bytes : List ℕ). canonical_head family writing.upstream (length (map (told_set rps) part)) writing.holdtime ++ bytes) is_sets
+      ∙ ap (λ (n : ℕ). canonical_head family writing.upstream (length (map (written_set rps) part)) n ++ sets) times
+      ∙ ap (λ (bytes : List ℕ). canonical_head family writing.upstream (length (map (written_set rps) part)) writing.holdtime ++ bytes) is_sets
 
   pub sealed_is : (count holdtime : ℕ) (own routers upstream front head sets bytes : List ℕ) → length front ≡ 4 → count ≡ length part → upstream ≡ writing.upstream → holdtime ≡ writing.holdtime
-      → head ≡ canonical_head family upstream count holdtime → sets ≡ flat_map (canonical_set family) (map (told_set rps) part) → own ≡ writing.own → routers ≡ all_routers family
-      → IsSealed family own routers JoinPrune (drop 4 (front ++ (head ++ sets))) bytes → IsSealed family writing.own (all_routers family) JoinPrune (canonical family (told_message writing rps part)) bytes
+      → head ≡ canonical_head family upstream count holdtime → sets ≡ flat_map (canonical_set family) (map (written_set rps) part) → own ≡ writing.own → routers ≡ all_routers family
+      → IsSealed family own routers JoinPrune (drop 4 (front ++ (head ++ sets))) bytes → IsSealed family writing.own (all_routers family) JoinPrune (canonical family (written_message writing rps part)) bytes
   sealed_is count holdtime own routers upstream front head sets bytes long counts upstreams times is_head is_sets owns alls sealed =
       let body = body_is count holdtime upstream front head sets long counts upstreams times is_head is_sets in
-      subst (λ (address : List ℕ). IsSealed family address (all_routers family) JoinPrune (canonical family (told_message writing rps part)) bytes) owns
-      (subst (λ (address : List ℕ). IsSealed family own address JoinPrune (canonical family (told_message writing rps part)) bytes) alls
+      subst (λ (address : List ℕ). IsSealed family address (all_routers family) JoinPrune (canonical family (written_message writing rps part)) bytes) owns
+      (subst (λ (address : List ℕ). IsSealed family own address JoinPrune (canonical family (written_message writing rps part)) bytes) alls
       (subst (λ (body : List ℕ). IsSealed family own routers JoinPrune body bytes) body sealed))

@@ -6,7 +6,7 @@ use Rattle.std.proofs.lemmas.Bool.{leb-true, true≢false, cases_lt}
 use Rattle.pim_addr.specs.declared.family.AddressFamily.{AddressFamily}
 use Rattle.pim_addr.specs.declared.family.AddressFamily.TheVariants.{Ipv4, Ipv6}
 use Rattle.pim_addr.specs.Address.{IsSourceAddress}
-use Rattle.pim_form.specs.declared.place.Place.{Place}
+use Rattle.pim_form.specs.declared.place.GroupPlace.{GroupPlace}
 use Rattle.pim_form.specs.NormalForm.{GroupForm, IsNormalGroup, is_empty}
 use Rattle.pim_form.specs.Units.{WantUnit, star_unit, source_unit, star_units, group_units, units_of, run_entries, empty_message_size, empty_set_size, entry_size}
 use Rattle.pim_form.specs.Packing.{fits, StopsBefore, IsPacking}
@@ -22,11 +22,11 @@ use Rattle.pim_form.proofs.PlanRows.{meets, length-between, first_of, lone, asce
 use Rattle.pim_form.proofs.PlanFilling.{closes, kept_begun, fits_begun, run_append, some, nonempty}
 
 -- its star, if it has one, and its sources before this one
-abbrev pub front_piece : {A : Type 0} → ℕ → Place A → Place A
+abbrev pub front_piece : {A : Type 0} → ℕ → GroupPlace A → GroupPlace A
 front_piece middle p = record p { sources_end = middle }
 
 -- its sources from this one on
-abbrev pub rest_piece : {A : Type 0} → ℕ → Place A → Place A
+abbrev pub rest_piece : {A : Type 0} → ℕ → GroupPlace A → GroupPlace A
 rest_piece middle p = record p { starred = false; sources_start = middle; exceptions_end = p.exceptions_start }
 
 -- ---- groups
@@ -65,7 +65,7 @@ starred_some : (b : Bool) (exceptions xs : List (List ℕ)) → b ≡ true → i
 starred_some true exceptions xs is = refl
 starred_some false exceptions xs is = absurd (true≢false (sym is))
 
-module _ {A : Type 0} (bytes_of : A → List ℕ) (family : AddressFamily) (row : List A) (p : Place A) (within : IsWithin (length row) p) where
+module _ {A : Type 0} (bytes_of : A → List ℕ) (family : AddressFamily) (row : List A) (p : GroupPlace A) (within : IsWithin (length row) p) where
   abbrev exceptions : List (List ℕ)
   exceptions = map bytes_of (between p.exceptions_start p.exceptions_end row)
 
@@ -112,8 +112,8 @@ module _ {A : Type 0} (bytes_of : A → List ℕ) (family : AddressFamily) (row 
 
 -- ---- what is first of a group, alone
 
-record FirstPiece {A : Type 0} (bytes_of : A → List ℕ) (family : AddressFamily) (row : List A) (p : Place A) : Type 0 where
-  piece : Place A
+record FirstPiece {A : Type 0} (bytes_of : A → List ℕ) (family : AddressFamily) (row : List A) (p : GroupPlace A) : Type 0 where
+  piece : GroupPlace A
   unit : WantUnit
   others : List WantUnit
   same : place_group bytes_of p ≡ place_group bytes_of piece
@@ -123,7 +123,7 @@ record FirstPiece {A : Type 0} (bytes_of : A → List ℕ) (family : AddressFami
   begins : group_units (place_seen bytes_of row p) ≡ unit ∷ others
   entries : star_entries piece + place_sources piece ≡ (if p.starred then star_entries p else 1)
 
-module _ {A : Type 0} (bytes_of : A → List ℕ) (family : AddressFamily) (row : List A) (p : Place A) (within : IsWithin (length row) p) (good : IsGood bytes_of family row p) where
+module _ {A : Type 0} (bytes_of : A → List ℕ) (family : AddressFamily) (row : List A) (p : GroupPlace A) (within : IsWithin (length row) p) (good : IsGood bytes_of family row p) where
   none_between : (start : ℕ) → start ≤ length row → map bytes_of (between start start row) ≡ []
   none_between start inside = by (between start start row) (omega (arith, length-between start start row (omega arith) inside))
     where
@@ -145,7 +145,7 @@ module _ {A : Type 0} (bytes_of : A → List ℕ) (family : AddressFamily) (row 
 
   first_piece : (b : Bool) → p.starred ≡ b → FirstPiece bytes_of family row p
   first_piece true is =
-      let piece : Place A = front_piece p.sources_start p in
+      let piece : GroupPlace A = front_piece p.sources_start p in
       let inside : IsWithin (length row) piece = (omega arith, omega (arith, within.0, within.1), within.2, within.3) in
       let exceptions : List (List ℕ) = map bytes_of (between p.exceptions_start p.exceptions_end row) in
       let x : List ℕ = bytes_of p.group in
@@ -171,7 +171,7 @@ module _ {A : Type 0} (bytes_of : A → List ℕ) (family : AddressFamily) (row 
       let middle : ℕ = p.sources_start + 1 in
       let low : p.sources_start ≤ middle = omega arith in
       let high : middle ≤ p.sources_end = omega arith in
-      let piece : Place A = front_piece middle p in
+      let piece : GroupPlace A = front_piece middle p in
       let inside : IsWithin (length row) piece = (low, omega (arith, within.1), within.2, within.3) in
       let here : List A = between p.sources_start middle row in
       let one : length here ≡ 1 = omega (arith, length-between p.sources_start middle row low inside.1) in
@@ -214,10 +214,10 @@ source_room : (family : AddressFamily) (budget : ℕ) → 70 ≤ budget → HasR
 source_room Ipv4 budget least = (omega arith, omega arith)
 source_room Ipv6 budget least = (omega arith, omega arith)
 
-abbrev pub first_entries : {A : Type 0} → Place A → ℕ
+abbrev pub first_entries : {A : Type 0} → GroupPlace A → ℕ
 first_entries p = if p.starred then star_entries p else 1
 
-module _ {A : Type 0} (bytes_of : A → List ℕ) (family : AddressFamily) (budget : ℕ) (row : List A) (places : List (Place A)) (p : Place A) (left : List (Place A)) (filled : Filled A)
+module _ {A : Type 0} (bytes_of : A → List ℕ) (family : AddressFamily) (budget : ℕ) (row : List A) (places : List (GroupPlace A)) (p : GroupPlace A) (left : List (GroupPlace A)) (filled : Filled A)
     (f : IsFilling bytes_of family budget row places (p ∷ left) filled) where
   next_holds : Holds bytes_of family row (p ∷ left)
   next_holds = holds_behind bytes_of family row f.begun (p ∷ left) (holds bytes_of family row (f.begun ++ p ∷ left) f.kept)
@@ -245,14 +245,14 @@ module _ {A : Type 0} (bytes_of : A → List ℕ) (family : AddressFamily) (budg
           subst (λ n. HasRoom family budget 1 n) long room
       by false is = source_room family budget f.least
 
-  with_last : (q : Place A) → place_group bytes_of p ≡ place_group bytes_of q → IsWithin (length row) q → IsGood bytes_of family row q → IsKept bytes_of family row (f.begun ++ q ∷ [])
+  with_last : (q : GroupPlace A) → place_group bytes_of p ≡ place_group bytes_of q → IsWithin (length row) q → IsGood bytes_of family row q → IsKept bytes_of family row (f.begun ++ q ∷ [])
   with_last q same within good =
       let all = holds_with bytes_of family row f.begun left p q (holds bytes_of family row (f.begun ++ p ∷ left) f.kept) same within good in
       let one : (f.begun ++ q ∷ []) ++ left ≡ f.begun ++ q ∷ left = append_assoc f.begun (q ∷ []) left in
       kept bytes_of family row (f.begun ++ q ∷ [])
       (holds_front bytes_of family row (f.begun ++ q ∷ []) left (subst (Holds bytes_of family row) (sym one) all))
 
-  module _ (q : Place A) (within : IsWithin (length row) q) where
+  module _ (q : GroupPlace A) (within : IsWithin (length row) q) where
     more_groups : filled.groups + 1 ≡ length (form_seen bytes_of row (f.begun ++ q ∷ []))
     more_groups = omega (arith, f.groups, places_count bytes_of row (f.begun ++ q ∷ []), length-append f.begun (q ∷ []))
 
@@ -295,14 +295,14 @@ module _ {A : Type 0} (bytes_of : A → List ℕ) (family : AddressFamily) (budg
       record {
         closed = f.closed;
         begun = f.begun ++ p ∷ [];
-        pieces = ap (λ (xs : List (Place A)). xs ++ p ∷ []) f.pieces ∙ append_assoc (flat_map (λ part. part) f.closed) f.begun (p ∷ []);
+        pieces = ap (λ (xs : List (GroupPlace A)). xs ++ p ∷ []) f.pieces ∙ append_assoc (flat_map (λ part. part) f.closed) f.begun (p ∷ []);
         ends = f.ends;
         groups = omega (arith, f.groups, length-append f.begun (p ∷ []));
         entries = more_entries p next_within;
         room = room;
         done = f.done;
         kept = subst (IsKept bytes_of family row) (sym one) f.kept;
-        packs = λ runs packing. f.packs runs (subst (λ (xs : List (Place A)). IsPacking family budget (run_of bytes_of row xs) runs) one packing);
+        packs = λ runs packing. f.packs runs (subst (λ (xs : List (GroupPlace A)). IsPacking family budget (run_of bytes_of row xs) runs) one packing);
         fits = (star_of_fits family budget (place_seen bytes_of row p) (form_seen bytes_of row left) f.fits).1;
         least = f.least;
       }
@@ -310,7 +310,7 @@ module _ {A : Type 0} (bytes_of : A → List ℕ) (family : AddressFamily) (budg
   some_begun : (HasRoom family budget (filled.groups + 1) (filled.entries + first_entries p) → ⊥) → 0 < length f.begun
   some_begun full = by f.begun f.groups f.entries
     where
-      by : (begun : List (Place A)) → filled.groups ≡ length begun → filled.entries ≡ run_entries (run_of bytes_of row begun) → 0 < length begun
+      by : (begun : List (GroupPlace A)) → filled.groups ≡ length begun → filled.entries ≡ run_entries (run_of bytes_of row begun) → 0 < length begun
       by [] groups entries =
           let count : filled.entries ≡ 0 = entries ∙ no_entries in
           let none : filled.groups ≡ 0 = groups in
@@ -355,7 +355,7 @@ module _ {A : Type 0} (bytes_of : A → List ℕ) (family : AddressFamily) (budg
         → group_units (place_seen bytes_of row (front_piece (middle + 1) p))
         ≡ group_units (place_seen bytes_of row (front_piece middle p)) ++ source_unit (bytes_of p.group) (bytes_of first) ∷ []
     longer_units first is =
-        let q : Place A = front_piece (middle + 1) p in
+        let q : GroupPlace A = front_piece (middle + 1) p in
         let inside : IsWithin (length row) q = (omega arith, omega (arith, next_within.1), next_within.2, next_within.3) in
         units_cut bytes_of family row q inside middle low (omega arith)
         ∙ ap (λ (xs : List A). group_units (place_seen bytes_of row (front_piece middle p)) ++ map (source_unit (bytes_of p.group)) (map bytes_of xs)) is
@@ -366,9 +366,9 @@ module _ {A : Type 0} (bytes_of : A → List ℕ) (family : AddressFamily) (budg
         → IsFilling bytes_of family budget row places (rest_piece middle p ∷ left)
         (record { pieces = filled.pieces ++ front_piece middle p ∷ []; ends = filled.ends ++ length (filled.pieces ++ front_piece middle p ∷ []) ∷ []; groups = 0; entries = 0 })
     closes_within room full =
-        let front : Place A = front_piece middle p in
-        let rest : Place A = rest_piece middle p in
-        let longer : Place A = front_piece (middle + 1) p in
+        let front : GroupPlace A = front_piece middle p in
+        let rest : GroupPlace A = rest_piece middle p in
+        let longer : GroupPlace A = front_piece (middle + 1) p in
         let in_front : IsWithin (length row) front = (low, omega (arith, next_within.1), next_within.2, next_within.3) in
         let in_longer : IsWithin (length row) longer = (omega arith, omega (arith, next_within.1), next_within.2, next_within.3) in
         let in_rest : IsWithin (length row) rest = (high, next_within.1, omega arith, omega (arith, next_within.2, next_within.3)) in
@@ -415,7 +415,7 @@ module _ {A : Type 0} (bytes_of : A → List ℕ) (family : AddressFamily) (budg
         (kept bytes_of family row (rest ∷ left) is_rest) whole fit_front
         (subst (StopsBefore family budget (run_of bytes_of row (f.begun ++ front ∷ []))) (sym next) stops)
         (star_of_fits family budget (place_seen bytes_of row p) (form_seen bytes_of row left) f.fits).1
-        (ap (λ (xs : List (Place A)). xs ++ front ∷ []) f.pieces ∙ append_assoc (flat_map (λ part. part) f.closed) f.begun (front ∷ []))
+        (ap (λ (xs : List (GroupPlace A)). xs ++ front ∷ []) f.pieces ∙ append_assoc (flat_map (λ part. part) f.closed) f.begun (front ∷ []))
       where
         regroup : (a b c d : List WantUnit) → a ++ ((b ++ c) ++ d) ≡ (a ++ b) ++ (c ++ d)
         regroup a b c d = simp append_assoc
@@ -426,7 +426,7 @@ pub few_entries : (family : AddressFamily) (budget groups entries : ℕ) → Has
 few_entries Ipv4 budget groups entries room most = omega (arith, room.0)
 few_entries Ipv6 budget groups entries room most = omega (arith, room.0)
 
-module _ {A : Type 0} (bytes_of : A → List ℕ) (family : AddressFamily) (budget : ℕ) (row : List A) (places : List (Place A)) (p : Place A) (left : List (Place A)) (filled : Filled A)
+module _ {A : Type 0} (bytes_of : A → List ℕ) (family : AddressFamily) (budget : ℕ) (row : List A) (places : List (GroupPlace A)) (p : GroupPlace A) (left : List (GroupPlace A)) (filled : Filled A)
     (f : IsFilling bytes_of family budget row places (p ∷ left) filled) where
   pub few_exceptions : budget ≤ 65000 → p.starred ≡ true → p.exceptions_end < p.exceptions_start + 65000
   few_exceptions most is =
@@ -496,8 +496,8 @@ module _ {A : Type 0} (bytes_of : A → List ℕ) (family : AddressFamily) (budg
 
 module _ {A : Type 0} (bytes_of : A → List ℕ) (family : AddressFamily) (budget : ℕ) where
   -- what was put in place of a group is the next piece
-  pub goes_next : (before p : Place A) (first filled : Filled A) → IsNext bytes_of family budget before first
-      → ((row : List A) (places left : List (Place A)) → IsFilling bytes_of family budget row places (before ∷ left) first → IsFilling bytes_of family budget row places (p ∷ left) filled)
+  pub goes_next : (before p : GroupPlace A) (first filled : Filled A) → IsNext bytes_of family budget before first
+      → ((row : List A) (places left : List (GroupPlace A)) → IsFilling bytes_of family budget row places (before ∷ left) first → IsFilling bytes_of family budget row places (p ∷ left) filled)
       → IsNext bytes_of family budget p filled
   goes_next before p first filled next goes = record {
     row = next.row;
@@ -506,7 +506,7 @@ module _ {A : Type 0} (bytes_of : A → List ℕ) (family : AddressFamily) (budg
     filling = goes next.row next.places next.left next.filling;
   }
 
-  module _ (p : Place A) (filled : Filled A) (next : IsNext bytes_of family budget p filled) where
+  module _ (p : GroupPlace A) (filled : Filled A) (next : IsNext bytes_of family budget p filled) where
     pub within_of : (p.sources_start ≤ p.sources_end) × (p.exceptions_start ≤ p.exceptions_end)
     within_of = let within = next_within bytes_of family budget next.row next.places p next.left filled next.filling in (within.0, within.2)
 
@@ -524,10 +524,10 @@ module _ {A : Type 0} (bytes_of : A → List ℕ) (family : AddressFamily) (budg
         long ((fit (star_entries p + place_sources p) (some_units bytes_of family budget next.row next.places p next.left filled next.filling p.starred refl)).1 has)
 
   -- what is left of a group is told whole
-  pub tells : (before p : Place A) (first filled new : Filled A)
-      → ((row : List A) (places left : List (Place A)) → IsFilling bytes_of family budget row places (before ∷ left) first → IsFilling bytes_of family budget row places (p ∷ left) filled)
+  pub tells : (before p : GroupPlace A) (first filled new : Filled A)
+      → ((row : List A) (places left : List (GroupPlace A)) → IsFilling bytes_of family budget row places (before ∷ left) first → IsFilling bytes_of family budget row places (p ∷ left) filled)
       → HasRoom family budget (filled.groups + 1) (filled.entries + (star_entries p + place_sources p))
       → new ≡ record { pieces = filled.pieces ++ p ∷ []; ends = filled.ends; groups = filled.groups + 1; entries = filled.entries + (star_entries p + place_sources p) }
-      → (row : List A) (places left : List (Place A)) → IsFilling bytes_of family budget row places (before ∷ left) first → IsFilling bytes_of family budget row places left new
+      → (row : List A) (places left : List (GroupPlace A)) → IsFilling bytes_of family budget row places (before ∷ left) first → IsFilling bytes_of family budget row places left new
   tells before p first filled new goes room is row places left filling =
       subst (IsFilling bytes_of family budget row places left) (sym is) (goes_on bytes_of family budget row places p left filled (goes row places left filling) room)

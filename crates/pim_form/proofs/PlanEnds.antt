@@ -3,7 +3,7 @@ use Rattle.std.proofs.Common.{◌≡◌, ◌∙◌, ℕ, ◌+◌, List, [], ◌�
 use Rattle.std.proofs.lemmas.List.{append-nil, drop-take}
 use Rattle.std.proofs.Math.Seq.{drop-append_seam, take-append_seam}
 use Rattle.std.specs.List.{flat_map}
-use Rattle.pim_form.specs.declared.place.Place.{Place}
+use Rattle.pim_form.specs.declared.place.GroupPlace.{GroupPlace}
 use Rattle.pim_form.specs.Rows.{between}
 use Rattle.pim_form.specs.Plan.{parts_from, AreEnds}
 use Rattle.pim_form.specs.Filling.{ends_from}
@@ -35,7 +35,7 @@ module _ {A : Type 0} where
       ∙ ap (take (length part)) (drop-append_seam before (part ++ behind))
       ∙ take-append_seam part behind
 
-pub parts_are : {A : Type 0} (before : List (Place A)) (closed : List (List (Place A))) → parts_from (length before) (ends_from (length before) closed) (before ++ all_of closed) ≡ closed
+pub parts_are : {A : Type 0} (before : List (GroupPlace A)) (closed : List (List (GroupPlace A))) → parts_from (length before) (ends_from (length before) closed) (before ++ all_of closed) ≡ closed
 unfolding ends_from parts_from
 parts_are before [] = refl
 parts_are {A} before (part ∷ closed) =
@@ -44,5 +44,5 @@ parts_are {A} before (part ∷ closed) =
     let long : length (before ++ part) ≡ length before + length part = length-append before part in
     let joined : (before ++ part) ++ all_of closed ≡ before ++ (part ++ all_of closed) = append_assoc before part (all_of closed) in
     let others' = subst (λ n. parts_from n (ends_from n closed) ((before ++ part) ++ all_of closed) ≡ closed) long others in
-    let others'' = subst (λ (pieces : List (Place A)). parts_from (length before + length part) (ends_from (length before + length part) closed) pieces ≡ closed) joined others' in
+    let others'' = subst (λ (pieces : List (GroupPlace A)). parts_from (length before + length part) (ends_from (length before + length part) closed) pieces ≡ closed) joined others' in
     λ i. here i ∷ others'' i

@@ -5,7 +5,7 @@ use Rattle.std.proofs.lemmas.List.{append-nil, map-append}
 use Rattle.std.proofs.lemmas.Grind.{flat_map-append}
 use Rattle.pim_addr.specs.declared.family.AddressFamily.{AddressFamily}
 use Rattle.pim_addr.specs.declared.family.AddressFamily.TheVariants.{Ipv4, Ipv6}
-use Rattle.pim_form.specs.declared.place.Place.{Place}
+use Rattle.pim_form.specs.declared.place.GroupPlace.{GroupPlace}
 use Rattle.pim_form.specs.NormalForm.{GroupForm, IsNormalGroup}
 use Rattle.pim_form.specs.Units.{WantUnit, units_of, run_entries}
 use Rattle.pim_form.specs.Packing.{fits, StopsBefore, IsNonempty, joined, AreRuns, IsPacking}
@@ -29,17 +29,17 @@ unfolding run_entries
 no_entries = refl
 
 module _ {A : Type 0} (bytes_of : A → List ℕ) (family : AddressFamily) (budget : ℕ) (row : List A) where
-  pub run_append : (xs ys : List (Place A)) → run_of bytes_of row (xs ++ ys) ≡ run_of bytes_of row xs ++ run_of bytes_of row ys
+  pub run_append : (xs ys : List (GroupPlace A)) → run_of bytes_of row (xs ++ ys) ≡ run_of bytes_of row xs ++ run_of bytes_of row ys
   run_append xs ys = ap units_of (map-append (place_seen bytes_of row) xs ys) ∙ units_append (form_seen bytes_of row xs) (form_seen bytes_of row ys)
 
-  pub some : (xs : List (Place A)) → IsKept bytes_of family row xs → AllByRecursion IsSome (form_seen bytes_of row xs)
+  pub some : (xs : List (GroupPlace A)) → IsKept bytes_of family row xs → AllByRecursion IsSome (form_seen bytes_of row xs)
   some xs is = all_some (form_seen bytes_of row xs) is.normal.groups
     where
       all_some : (form : List GroupForm) → AllByRecursion (IsNormalGroup family) form → AllByRecursion IsSome form
       all_some [] all = tt
       all_some (a ∷ form) all = (all.0.some, all_some form all.1)
 
-  pub starts : (places : List (Place A)) → IsKept bytes_of family row places → too_big family budget (form_seen bytes_of row places) ≡ None → 70 ≤ budget
+  pub starts : (places : List (GroupPlace A)) → IsKept bytes_of family row places → too_big family budget (form_seen bytes_of row places) ≡ None → 70 ≤ budget
       → IsFilling bytes_of family budget row places places (record { pieces = []; ends = []; groups = 0; entries = 0 })
   unfolding ends_from
   starts places is fit least = record {
@@ -57,9 +57,9 @@ module _ {A : Type 0} (bytes_of : A → List ℕ) (family : AddressFamily) (budg
     least = least;
   }
 
-  module _ (places left : List (Place A)) (filled : Filled A) (f : IsFilling bytes_of family budget row places left filled) where
+  module _ (places left : List (GroupPlace A)) (filled : Filled A) (f : IsFilling bytes_of family budget row places left filled) where
     -- some pieces are a message, and others are left
-    pub closes : (pieces front behind : List (Place A)) → IsNonempty (run_of bytes_of row front) → IsKept bytes_of family row front → IsKept bytes_of family row behind
+    pub closes : (pieces front behind : List (GroupPlace A)) → IsNonempty (run_of bytes_of row front) → IsKept bytes_of family row front → IsKept bytes_of family row behind
         → run_of bytes_of row (f.begun ++ left) ≡ run_of bytes_of row front ++ run_of bytes_of row behind
         → fits family budget (run_of bytes_of row front) ≡ true → StopsBefore family budget (run_of bytes_of row front) (run_of bytes_of row behind)
         → too_big family budget (form_seen bytes_of row behind) ≡ None → pieces ≡ all_of f.closed ++ front
@@ -67,14 +67,14 @@ module _ {A : Type 0} (bytes_of : A → List ℕ) (family : AddressFamily) (budg
     unfolding AreRuns
     closes pieces front behind nonempty kept_front kept_behind same fit stops small are =
         let whole : all_of (f.closed ++ front ∷ []) ≡ pieces =
-        flat_map-append (λ (part : List (Place A)). part) f.closed (front ∷ []) ∙ ap (λ (xs : List (Place A)). all_of f.closed ++ xs) (append-nil front) ∙ sym are in
+        flat_map-append (λ (part : List (GroupPlace A)). part) f.closed (front ∷ []) ∙ ap (λ (xs : List (GroupPlace A)). all_of f.closed ++ xs) (append-nil front) ∙ sym are in
         let run : List WantUnit = run_of bytes_of row front in
         record {
           closed = f.closed ++ front ∷ [];
           begun = [];
           pieces = sym whole ∙ sym (append-nil (all_of (f.closed ++ front ∷ [])));
           ends = ap (λ (ends : List ℕ). ends ++ length pieces ∷ []) f.ends
-              ∙ ap (λ (xs : List (Place A)). ends_from 0 f.closed ++ length xs ∷ []) (sym whole)
+              ∙ ap (λ (xs : List (GroupPlace A)). ends_from 0 f.closed ++ length xs ∷ []) (sym whole)
               ∙ ap (λ n. ends_from 0 f.closed ++ n ∷ []) (omega arith)
               ∙ sym (ends_more 0 f.closed front);
           groups = refl;
@@ -106,7 +106,7 @@ module _ {A : Type 0} (bytes_of : A → List ℕ) (family : AddressFamily) (budg
         fits_by family budget (form_seen bytes_of row f.begun) kept_begun.normal.ascending (some f.begun kept_begun)
         (subst (λ n. HasRoom family budget (length (form_seen bytes_of row f.begun)) n) f.entries room)
 
-  pub nonempty : (xs : List (Place A)) → 0 < length xs → AllByRecursion IsSome (form_seen bytes_of row xs) → IsNonempty (run_of bytes_of row xs)
+  pub nonempty : (xs : List (GroupPlace A)) → 0 < length xs → AllByRecursion IsSome (form_seen bytes_of row xs) → IsNonempty (run_of bytes_of row xs)
   nonempty [] long all = absurd (omega arith)
   nonempty (x ∷ xs) long all =
       let first = first_unit (place_seen bytes_of row x) (run_of bytes_of row xs) all.0 in
@@ -115,7 +115,7 @@ module _ {A : Type 0} (bytes_of : A → List ℕ) (family : AddressFamily) (budg
       subst IsNonempty (sym begins) here
 
   -- the last message is closed
-  pub last_closes : (places : List (Place A)) (filled : Filled A) → IsFilling bytes_of family budget row places [] filled → (filled.groups ≡ 0 → ⊥)
+  pub last_closes : (places : List (GroupPlace A)) (filled : Filled A) → IsFilling bytes_of family budget row places [] filled → (filled.groups ≡ 0 → ⊥)
       → IsFilling bytes_of family budget row places [] (record { pieces = filled.pieces; ends = filled.ends ++ length filled.pieces ∷ []; groups = 0; entries = 0 })
   last_closes places filled f open_one =
       let is = kept_begun places [] filled f in
@@ -124,19 +124,19 @@ module _ {A : Type 0} (bytes_of : A → List ℕ) (family : AddressFamily) (budg
       closes places [] filled f filled.pieces f.begun [] (nonempty f.begun long (some f.begun is)) is none
       (run_append f.begun []) (fits_begun places [] filled f) tt refl f.pieces
 
-  empty_begun : (xs : List (Place A)) → 0 ≡ length xs → xs ≡ []
+  empty_begun : (xs : List (GroupPlace A)) → 0 ≡ length xs → xs ≡ []
   empty_begun [] none = refl
   empty_begun (x ∷ xs) none = absurd (omega arith)
 
-  pub plan_ends : (places : List (Place A)) (filled : Filled A) → IsFilling bytes_of family budget row places [] filled → filled.groups ≡ 0
+  pub plan_ends : (places : List (GroupPlace A)) (filled : Filled A) → IsFilling bytes_of family budget row places [] filled → filled.groups ≡ 0
       → IsPlan bytes_of family budget row places filled.pieces filled.ends
   unfolding AreRuns
   plan_ends places filled f closed_all =
       let none : f.begun ≡ [] = empty_begun f.begun (sym closed_all ∙ f.groups) in
-      let pieces : filled.pieces ≡ all_of f.closed = f.pieces ∙ ap (λ (xs : List (Place A)). all_of f.closed ++ xs) none ∙ append-nil (all_of f.closed) in
+      let pieces : filled.pieces ≡ all_of f.closed = f.pieces ∙ ap (λ (xs : List (GroupPlace A)). all_of f.closed ++ xs) none ∙ append-nil (all_of f.closed) in
       let parts : parts_from 0 filled.ends filled.pieces ≡ f.closed =
-      ap (λ (ends : List ℕ). parts_from 0 ends filled.pieces) f.ends ∙ ap (λ (xs : List (Place A)). parts_from 0 (ends_from 0 f.closed) xs) pieces ∙ parts_are [] f.closed in
-      let units : run_of bytes_of row (f.begun ++ []) ≡ [] = ap (λ (xs : List (Place A)). run_of bytes_of row (xs ++ [])) none in
+      ap (λ (ends : List ℕ). parts_from 0 ends filled.pieces) f.ends ∙ ap (λ (xs : List (GroupPlace A)). parts_from 0 (ends_from 0 f.closed) xs) pieces ∙ parts_are [] f.closed in
+      let units : run_of bytes_of row (f.begun ++ []) ≡ [] = ap (λ (xs : List (GroupPlace A)). run_of bytes_of row (xs ++ [])) none in
       let nothing : IsPacking family budget [] [] = record { whole = refl; cut = tt } in
       let packing = f.packs [] (subst (λ (us : List WantUnit). IsPacking family budget us []) (sym units) nothing) in
       let whole : AreEnds 0 (0 + length (all_of f.closed)) (ends_from 0 f.closed) = ends_are 0 f.closed in
@@ -144,6 +144,6 @@ module _ {A : Type 0} (bytes_of : A → List ℕ) (family : AddressFamily) (budg
       record {
         whole = subst (λ (ends : List ℕ). AreEnds 0 (length filled.pieces) ends) (sym f.ends) (subst (λ n. AreEnds 0 n (ends_from 0 f.closed)) long whole);
         kept = subst (AllByRecursion (IsKept bytes_of family row)) (sym parts) f.done;
-        packing = subst (λ (parts : List (List (Place A))). IsPacking family budget (run_of bytes_of row places) (map (run_of bytes_of row) parts)) (sym parts)
+        packing = subst (λ (parts : List (List (GroupPlace A))). IsPacking family budget (run_of bytes_of row places) (map (run_of bytes_of row) parts)) (sym parts)
             (subst (IsPacking family budget (run_of bytes_of row places)) (append-nil (map (run_of bytes_of row) f.closed)) packing);
       }

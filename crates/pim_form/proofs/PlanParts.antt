@@ -3,13 +3,13 @@ use Rattle.std.proofs.Common.{◌≡◌, ◌∙◌, ℕ, ◌+◌, ◌<◌, ◌�
 use Rattle.std.proofs.lemmas.List.{append-nil, drop_all}
 use Rattle.std.specs.List.{AllByRecursion}
 use Rattle.pim_addr.specs.declared.family.AddressFamily.{AddressFamily}
-use Rattle.pim_form.specs.declared.place.Place.{Place}
+use Rattle.pim_form.specs.declared.place.GroupPlace.{GroupPlace}
 use Rattle.pim_form.specs.Units.{WantUnit, run_size}
-use Rattle.pim_form.specs.Messages.{Writing, TellsRun, TellRuns}
+use Rattle.pim_form.specs.Messages.{Writing, CarriesRun, CarryRuns}
 use Rattle.pim_form.specs.Rows.{between, form_seen, IsKept}
 use Rattle.pim_form.specs.Plan.{AreEnds, parts_from, run_of}
 use Rattle.pim_form.specs.Parts.{runs_size}
-use Rattle.pim_form.specs.Added.{TellsPart}
+use Rattle.pim_form.specs.Added.{CarriesPart}
 use Rattle.pim_form.proofs.Normal.{groups_some}
 
 -- ---- the ends that are left
@@ -21,7 +21,7 @@ pub no_end : (items ends : List ℕ) (i : ℕ) → items ≡ ends → length ite
 no_end items ends i is beyond = drop_all i ends (omega (arith, beyond, ap length is))
 
 -- the pieces of the next part, and the ends behind them
-pub record NextPart {A : Type 0} (pieces : List (Place A)) (start end : ℕ) (left others : List ℕ) : Type 0 where
+pub record NextPart {A : Type 0} (pieces : List (GroupPlace A)) (start end : ℕ) (left others : List ℕ) : Type 0 where
   pub next : left ≡ end ∷ others
   pub above : start ≤ end
   pub within : end ≤ length pieces
@@ -29,36 +29,36 @@ pub record NextPart {A : Type 0} (pieces : List (Place A)) (start end : ℕ) (le
 
 -- ---- the parts that are left
 
-module _ {A : Type 0} (pieces : List (Place A)) (start end : ℕ) (left others : List ℕ) (is : left ≡ end ∷ others) where
+module _ {A : Type 0} (pieces : List (GroupPlace A)) (start end : ℕ) (left others : List ℕ) (is : left ≡ end ∷ others) where
   these_parts : parts_from start left pieces ≡ between start end pieces ∷ parts_from end others pieces
   unfolding parts_from
   these_parts = ap (λ (ends : List ℕ). parts_from start ends pieces) is
 
-  of_first : (P : List (Place A) → Type 0) → AllByRecursion P (parts_from start left pieces) → P (between start end pieces)
+  of_first : (P : List (GroupPlace A) → Type 0) → AllByRecursion P (parts_from start left pieces) → P (between start end pieces)
   of_first P all = (subst (AllByRecursion P) these_parts all).0
 
-  pub of_others : (P : List (Place A) → Type 0) → AllByRecursion P (parts_from start left pieces) → AllByRecursion P (parts_from end others pieces)
+  pub of_others : (P : List (GroupPlace A) → Type 0) → AllByRecursion P (parts_from start left pieces) → AllByRecursion P (parts_from end others pieces)
   of_others P all = (subst (AllByRecursion P) these_parts all).1
 
-  module _ (family : AddressFamily) (run : List (Place A) → List WantUnit) where
+  module _ (family : AddressFamily) (run : List (GroupPlace A) → List WantUnit) where
     pub one_more_run : (total more next all : ℕ) → more ≡ run_size family (run (between start end pieces)) → next ≡ total + more → total + runs_size family (map run (parts_from start left pieces)) ≡ all
         → next + runs_size family (map run (parts_from end others pieces)) ≡ all
     unfolding runs_size
     one_more_run total more next all is_more is_next counted =
-        let parts = ap (λ (these : List (List (Place A))). runs_size family (map run these)) these_parts in
+        let parts = ap (λ (these : List (List (GroupPlace A))). runs_size family (map run these)) these_parts in
         omega (arith, parts, is_more, is_next, counted)
 
     pub one_more_told : (writing : Writing) (rps : List ℕ → Option (List ℕ)) (runs : List (List WantUnit)) (messages next : List (List ℕ)) (message : List ℕ)
-        → next ≡ messages ++ message ∷ [] → TellsRun family writing rps (run (between start end pieces)) message
-        → ((behind : List (List ℕ)) → TellRuns family writing rps (map run (parts_from start left pieces)) behind → TellRuns family writing rps runs (messages ++ behind))
-        → (behind : List (List ℕ)) → TellRuns family writing rps (map run (parts_from end others pieces)) behind → TellRuns family writing rps runs (next ++ behind)
-    one_more_told writing rps runs messages next message is_next tells told behind tell =
+        → next ≡ messages ++ message ∷ [] → CarriesRun family writing rps (run (between start end pieces)) message
+        → ((behind : List (List ℕ)) → CarryRuns family writing rps (map run (parts_from start left pieces)) behind → CarryRuns family writing rps runs (messages ++ behind))
+        → (behind : List (List ℕ)) → CarryRuns family writing rps (map run (parts_from end others pieces)) behind → CarryRuns family writing rps runs (next ++ behind)
+    one_more_told writing rps runs messages next message is_next tells reported behind tell =
         let runs_left : map run (parts_from start left pieces) ≡ run (between start end pieces) ∷ map run (parts_from end others pieces) = ap (map run) these_parts in
-        let all : TellRuns family writing rps runs (messages ++ message ∷ behind) =
-        told (message ∷ behind) (subst (λ (these : List (List WantUnit)). TellRuns family writing rps these (message ∷ behind)) (sym runs_left) (tells, tell)) in
-        subst (TellRuns family writing rps runs) (sym (ap (λ (front : List (List ℕ)). front ++ behind) is_next ∙ append_assoc messages (message ∷ []) behind)) all
+        let all : CarryRuns family writing rps runs (messages ++ message ∷ behind) =
+        reported (message ∷ behind) (subst (λ (these : List (List WantUnit)). CarryRuns family writing rps these (message ∷ behind)) (sym runs_left) (tells, tell)) in
+        subst (CarryRuns family writing rps runs) (sym (ap (λ (front : List (List ℕ)). front ++ behind) is_next ∙ append_assoc messages (message ∷ []) behind)) all
 
-module _ {A : Type 0} (pieces : List (Place A)) (items ends : List ℕ) (i start : ℕ) (is : items ≡ ends) (below : i < length items) where
+module _ {A : Type 0} (pieces : List (GroupPlace A)) (items ends : List ℕ) (i start : ℕ) (is : items ≡ ends) (below : i < length items) where
   pub next_part : AreEnds start (length pieces) (drop i ends) → NextPart pieces start (get_or items i 0) (drop i ends) (drop (i + 1) ends)
   unfolding AreEnds
   next_part are =
@@ -67,29 +67,29 @@ module _ {A : Type 0} (pieces : List (Place A)) (items ends : List ℕ) (i start
       record { next = next; above = parts.0; within = parts.1; behind = parts.2 }
 
   -- where these pieces are seen, the next part is what all parts are
-  pub of_next : (P : List (Place A) → Type 0) → AllByRecursion P (parts_from start (drop i ends) pieces) → (seen part : List (Place A)) → seen ≡ pieces → part ≡ between start (get_or items i 0) seen → P part
+  pub of_next : (P : List (GroupPlace A) → Type 0) → AllByRecursion P (parts_from start (drop i ends) pieces) → (seen part : List (GroupPlace A)) → seen ≡ pieces → part ≡ between start (get_or items i 0) seen → P part
   of_next P all seen part same first =
       subst P (sym (first ∙ ap (between start (get_or items i 0)) same)) (of_first pieces start (get_or items i 0) (drop i ends) (drop (i + 1) ends) (next_end items ends i is below) P all)
 
-module _ {A : Type 0} (pieces : List (Place A)) (start : ℕ) (left : List ℕ) (none : left ≡ []) (family : AddressFamily) (run : List (Place A) → List WantUnit) where
+module _ {A : Type 0} (pieces : List (GroupPlace A)) (start : ℕ) (left : List ℕ) (none : left ≡ []) (family : AddressFamily) (run : List (GroupPlace A) → List WantUnit) where
   no_part : parts_from start left pieces ≡ []
   unfolding parts_from
   no_part = ap (λ (ends : List ℕ). parts_from start ends pieces) none
 
   pub no_more_run : (total all : ℕ) → total + runs_size family (map run (parts_from start left pieces)) ≡ all → total ≡ all
   unfolding runs_size
-  no_more_run total all counted = omega (arith, ap (λ (these : List (List (Place A))). runs_size family (map run these)) no_part, counted)
+  no_more_run total all counted = omega (arith, ap (λ (these : List (List (GroupPlace A))). runs_size family (map run these)) no_part, counted)
 
   pub no_more_told : (writing : Writing) (rps : List ℕ → Option (List ℕ)) (runs : List (List WantUnit)) (messages : List (List ℕ))
-      → ((behind : List (List ℕ)) → TellRuns family writing rps (map run (parts_from start left pieces)) behind → TellRuns family writing rps runs (messages ++ behind))
-      → TellRuns family writing rps runs messages
-  no_more_told writing rps runs messages told =
-      subst (TellRuns family writing rps runs) (append-nil messages)
-      (told [] (subst (λ (these : List (List (Place A))). TellRuns family writing rps (map run these) []) (sym no_part) tt))
+      → ((behind : List (List ℕ)) → CarryRuns family writing rps (map run (parts_from start left pieces)) behind → CarryRuns family writing rps runs (messages ++ behind))
+      → CarryRuns family writing rps runs messages
+  no_more_told writing rps runs messages reported =
+      subst (CarryRuns family writing rps runs) (append-nil messages)
+      (reported [] (subst (λ (these : List (List (GroupPlace A))). CarryRuns family writing rps (map run these) []) (sym no_part) tt))
 
 -- the message of a part tells its run
-pub part_tells : {A : Type 0} (bytes_of : A → List ℕ) (family : AddressFamily) (writing : Writing) (rps : List ℕ → Option (List ℕ)) (row : List A) (part : List (Place A)) (message : List ℕ)
-    → IsKept bytes_of family row part → TellsPart family writing rps (form_seen bytes_of row part) message → TellsRun family writing rps (run_of bytes_of row part) message
+pub part_tells : {A : Type 0} (bytes_of : A → List ℕ) (family : AddressFamily) (writing : Writing) (rps : List ℕ → Option (List ℕ)) (row : List A) (part : List (GroupPlace A)) (message : List ℕ)
+    → IsKept bytes_of family row part → CarriesPart family writing rps (form_seen bytes_of row part) message → CarriesRun family writing rps (run_of bytes_of row part) message
 part_tells bytes_of family writing rps row part message kept tells = record {
   part = form_seen bytes_of row part;
   units = refl;

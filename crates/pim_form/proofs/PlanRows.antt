@@ -8,7 +8,7 @@ use Rattle.std.specs.Ordering.{nat_cmp}
 use Rattle.std.specs.declared.cmp.Ordering.TheVariants.{Less}
 use Rattle.std.specs.Cmp.Lexicographic.{slice_cmp}
 use Rattle.pim_addr.specs.declared.family.AddressFamily.{AddressFamily}
-use Rattle.pim_form.specs.declared.place.Place.{Place}
+use Rattle.pim_form.specs.declared.place.GroupPlace.{GroupPlace}
 use Rattle.pim_form.specs.NormalForm.{AreAscending, IsNormalGroup, groups_of}
 use Rattle.pim_form.specs.Rows.{between, IsWithin, place_group, place_seen, form_seen, IsKept}
 use Rattle.pim_form.proofs.Lists.{all_append, all_front, all_behind, all_map, all_mapped}
@@ -60,26 +60,26 @@ ascending_behind (x ∷ xs) ys up = ascending_behind xs ys up.1
 -- ---- places
 
 module _ {A : Type 0} (bytes_of : A → List ℕ) (family : AddressFamily) (row : List A) where
-  abbrev pub IsGood : Place A → Type 0
+  abbrev pub IsGood : GroupPlace A → Type 0
   IsGood place = IsNormalGroup family (place_seen bytes_of row place)
 
-  pub record Holds (places : List (Place A)) : Type 0 where
+  pub record Holds (places : List (GroupPlace A)) : Type 0 where
     pub within : AllByRecursion (IsWithin (length row)) places
     pub ascending : AreAscending (map (place_group bytes_of) places)
     pub good : AllByRecursion IsGood places
 
-  seen_groups : (places : List (Place A)) → map (place_group bytes_of) places ≡ groups_of (form_seen bytes_of row places)
+  seen_groups : (places : List (GroupPlace A)) → map (place_group bytes_of) places ≡ groups_of (form_seen bytes_of row places)
   seen_groups [] = refl
   seen_groups (place ∷ places) = ap (λ (gs : List (List ℕ)). place_group bytes_of place ∷ gs) (seen_groups places)
 
-  pub holds : (places : List (Place A)) → IsKept bytes_of family row places → Holds places
+  pub holds : (places : List (GroupPlace A)) → IsKept bytes_of family row places → Holds places
   holds places kept = record {
     within = kept.within;
     ascending = ascending bytes_of row family places kept;
     good = all_mapped IsGood (IsNormalGroup family) (place_seen bytes_of row) (λ place h. h) places kept.normal.groups;
   }
 
-  pub kept : (places : List (Place A)) → Holds places → IsKept bytes_of family row places
+  pub kept : (places : List (GroupPlace A)) → Holds places → IsKept bytes_of family row places
   kept places are = record {
     within = are.within;
     normal = record {
@@ -88,7 +88,7 @@ module _ {A : Type 0} (bytes_of : A → List ℕ) (family : AddressFamily) (row 
     };
   }
 
-  pub holds_front : (xs ys : List (Place A)) → Holds (xs ++ ys) → Holds xs
+  pub holds_front : (xs ys : List (GroupPlace A)) → Holds (xs ++ ys) → Holds xs
   holds_front xs ys are = record {
     within = all_front (IsWithin (length row)) xs ys are.within;
     ascending = ascending_front (map (place_group bytes_of) xs) (map (place_group bytes_of) ys)
@@ -96,7 +96,7 @@ module _ {A : Type 0} (bytes_of : A → List ℕ) (family : AddressFamily) (row 
     good = all_front IsGood xs ys are.good;
   }
 
-  pub holds_behind : (xs ys : List (Place A)) → Holds (xs ++ ys) → Holds ys
+  pub holds_behind : (xs ys : List (GroupPlace A)) → Holds (xs ++ ys) → Holds ys
   holds_behind xs ys are = record {
     within = all_behind (IsWithin (length row)) xs ys are.within;
     ascending = ascending_behind (map (place_group bytes_of) xs) (map (place_group bytes_of) ys)
@@ -105,7 +105,7 @@ module _ {A : Type 0} (bytes_of : A → List ℕ) (family : AddressFamily) (row 
   }
 
   -- a piece of the same group in the place of another
-  pub holds_with : (xs ys : List (Place A)) (p q : Place A) → Holds (xs ++ p ∷ ys) → place_group bytes_of p ≡ place_group bytes_of q → IsWithin (length row) q → IsGood q
+  pub holds_with : (xs ys : List (GroupPlace A)) (p q : GroupPlace A) → Holds (xs ++ p ∷ ys) → place_group bytes_of p ≡ place_group bytes_of q → IsWithin (length row) q → IsGood q
       → Holds (xs ++ q ∷ ys)
   holds_with xs ys p q are same within good =
       let behind = holds_behind xs (p ∷ ys) are in

@@ -2,7 +2,7 @@
 use Rattle.std.proofs.Common.{ℕ, List, [], ◌∷◌, map, sym, subst, Option}
 use Rattle.std.specs.List.{AllByRecursion}
 use Rattle.pim_addr.specs.declared.family.AddressFamily.{AddressFamily}
-use Rattle.pim_form.specs.declared.place.Place.{Place}
+use Rattle.pim_form.specs.declared.place.GroupPlace.{GroupPlace}
 use Rattle.pim_form.specs.NormalForm.{GroupForm, IsNormal}
 use Rattle.pim_form.specs.Units.{units_of}
 use Rattle.pim_form.specs.Packing.{joined, AreRuns}
@@ -24,12 +24,12 @@ module _ (family : AddressFamily) (rps : List ℕ → Option (List ℕ)) where
   units_have part normal valid = valid_have part (parts_valid family rps part (groups_some family part normal.groups) valid)
 
 module _ {A : Type 0} (bytes_of : A → List ℕ) (family : AddressFamily) (row : List A) where
-  parts_fitting : (budget : ℕ) (parts : List (List (Place A))) → AllByRecursion (IsKept bytes_of family row) parts → AreRuns family budget (map (run_of bytes_of row) parts) → AllByRecursion (IsFitting bytes_of family budget row) parts
+  parts_fitting : (budget : ℕ) (parts : List (List (GroupPlace A))) → AllByRecursion (IsKept bytes_of family row) parts → AreRuns family budget (map (run_of bytes_of row) parts) → AllByRecursion (IsFitting bytes_of family budget row) parts
   unfolding AreRuns
   parts_fitting budget [] kept cut = tt
   parts_fitting budget (part ∷ parts) kept cut = (record { kept = kept.0; fitting = cut.1 }, parts_fitting budget parts kept.1 cut.3)
 
-  parts_have : (rps : List ℕ → Option (List ℕ)) (parts : List (List (Place A))) → AllByRecursion (IsKept bytes_of family row) parts → AllByRecursion (IsValidUnit family rps) (joined (map (run_of bytes_of row) parts))
+  parts_have : (rps : List ℕ → Option (List ℕ)) (parts : List (List (GroupPlace A))) → AllByRecursion (IsKept bytes_of family row) parts → AllByRecursion (IsValidUnit family rps) (joined (map (run_of bytes_of row) parts))
       → AllByRecursion (PartHasRps bytes_of family rps row) parts
   parts_have rps [] kept valid = tt
   parts_have rps (part ∷ parts) kept valid = (
@@ -37,7 +37,7 @@ module _ {A : Type 0} (bytes_of : A → List ℕ) (family : AddressFamily) (row 
     parts_have rps parts kept.1 (all_behind (IsValidUnit family rps) (run_of bytes_of row part) (joined (map (run_of bytes_of row) parts)) valid),
   )
 
-  module _ (budget : ℕ) (places pieces : List (Place A)) (ends : List ℕ) (plan : IsPlan bytes_of family budget row places pieces ends) where
+  module _ (budget : ℕ) (places pieces : List (GroupPlace A)) (ends : List ℕ) (plan : IsPlan bytes_of family budget row places pieces ends) where
     pub plan_fits : AllByRecursion (IsFitting bytes_of family budget row) (parts_from 0 ends pieces)
     plan_fits = parts_fitting budget (parts_from 0 ends pieces) plan.kept plan.packing.cut
 

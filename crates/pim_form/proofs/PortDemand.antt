@@ -12,7 +12,7 @@ use Rattle.pim_down.specs.declared.machines.machine.State.{State}
 use Rattle.pim_down.specs.declared.machines.machine.Record.{Record}
 use Rattle.pim_down.specs.Key.{same_key}
 use Rattle.pim_down.specs.Records.{IsBelow, IsAscending, machine_at, state_of_machine, state_of, is_on, count_on}
-use Rattle.pim_down.specs.Laws.{KeysAreToldApart}
+use Rattle.pim_down.specs.Laws.{KeysAreDistinct}
 use Rattle.pim_down.specs.Sound.{IsReal, IsSound}
 use Rattle.pim_down.specs.Time.{Downstream}
 use Rattle.pim_form.specs.declared.tree.Tree.{Tree}
@@ -73,7 +73,7 @@ what_itself Star = refl
 what_itself (Source s) = same_itself s
 what_itself (Rpt s) = same_itself s
 
-module _ (apart : KeysAreToldApart) where
+module _ (apart : KeysAreDistinct) where
   key_tells : (port : ℕ) (group : List ℕ) (what : What (List ℕ)) (key : Key (List ℕ)) → key.port ≡ port → same_key (record { port = port; group = group; what = what }) key ≡ (same_address group key.group && same_what what key.what)
   key_tells port group what key on =
       let sought : Key (List ℕ) = record { port = port; group = group; what = what } in

@@ -15,13 +15,13 @@ use Rattle.pim_down.specs.declared.machines.machine.Machine.{Machine}
 use Rattle.pim_down.specs.declared.machines.machine.Record.{Record}
 use Rattle.pim_down.specs.Key.{same_key}
 use Rattle.pim_down.specs.Records.{IsBelow, IsAscending, machine_at, is_on}
-use Rattle.pim_down.specs.Laws.{KeysAreToldApart}
+use Rattle.pim_down.specs.Laws.{KeysAreDistinct}
 use Rattle.pim_form.specs.NormalForm.{GroupForm, AreAscending, AreExceptions, same_address, is_listed, groups_of}
 use Rattle.pim_form.specs.Rows.{exceptions_of}
 use Rattle.pim_form.specs.Wants.{is_pruned, state_on}
 use Rattle.pim_form.specs.Settled.{unwanted, group_in, is_in_join, joins_if, prunes_if, rpt_settles, machine_settles, IsSettledAt, record_settles, is_joined_at, is_pruned_at, group_settles}
 use Rattle.pim_addr.specs.declared.family.AddressFamily.{AddressFamily}
-use Rattle.pim_form.specs.declared.place.Place.{Place}
+use Rattle.pim_form.specs.declared.place.GroupPlace.{GroupPlace}
 use Rattle.pim_form.specs.Rows.{place_group, place_seen, form_seen, IsKept}
 use Rattle.pim_form.proofs.Kept.{all_at, seen_at, groups_seen, places_count}
 use Rattle.pim_form.proofs.Addresses.{same_is, same_itself, less_apart_back}
@@ -62,7 +62,7 @@ all_from_listed test (x ∷ xs) each =
 
 -- ---- records and keys
 
-module _ (apart : KeysAreToldApart) where
+module _ (apart : KeysAreDistinct) where
   itself : (key : Key (List ℕ)) → same_key key key ≡ true
   itself key = (apart key key).1.1 refl
 
@@ -208,7 +208,7 @@ module _ (records : List (Record (List ℕ))) (port : ℕ) where
       pruned (Some exceptions) each =
           all_from_listed (is_pruned_at records port this.group) exceptions (λ s listed. subst (λ b. prunes_if b (state_on records port this.group (Rpt s)) ≡ true) listed (each s))
 
-  module _ (apart : KeysAreToldApart) (form : List GroupForm) where
+  module _ (apart : KeysAreDistinct) (form : List GroupForm) where
     settled_if : (list_all (record_settles form) (filter (is_on port) records) && list_all (group_settles records port) form) ≡ true → IsSettledAt port form records
     settled_if all group what = by (machine_at (record { port = port; group = group; what = what }) records) refl
       where
@@ -235,15 +235,15 @@ module _ (records : List (Record (List ℕ))) (port : ℕ) where
     only_if up groups settled =
         and_both (list_all (record_settles form) (filter (is_on port) records)) (list_all (group_settles records port) form)
         (all_records apart (record_settles form) port records up held)
-        (all_tested (group_settles records port) (λ this. group_in this.group form ≡ this) asked form (all_in form groups))
+        (all_tested (group_settles records port) (λ this. group_in this.group form ≡ this) demanded form (all_in form groups))
       where
         held : (key : Key (List ℕ)) (machine : Machine) → key.port ≡ port → machine_at key records ≡ Some machine → record_settles form (record { key = key; machine = machine }) ≡ true
         held key machine on is =
             let there : machine_at (record { port = port; group = key.group; what = key.what }) records ≡ Some machine = subst (λ (n : ℕ). machine_at (record { port = n; group = key.group; what = key.what }) records ≡ Some machine) on is in
             rw there at (settled key.group key.what)
 
-        asked : (this : GroupForm) → group_in this.group form ≡ this → group_settles records port this ≡ true
-        asked this is = group_asks this (λ what. subst (λ (one : GroupForm). machine_settles one what (state_on records port this.group what) ≡ true) is (settled this.group what))
+        demanded : (this : GroupForm) → group_in this.group form ≡ this → group_settles records port this ≡ true
+        demanded this is = group_asks this (λ what. subst (λ (one : GroupForm). machine_settles one what (state_on records port this.group what) ≡ true) is (settled this.group what))
 
     pub settles_exactly : IsAscending records → AreAscending (groups_of form)
         → ((list_all (record_settles form) (filter (is_on port) records) && list_all (group_settles records port) form) ≡ true) ↔ IsSettledAt port form records
@@ -251,8 +251,8 @@ module _ (records : List (Record (List ℕ))) (port : ℕ) where
 
 -- ---- two tests, one after the other
 
-pub by_second : (P : Type 0) (held asked one other : Bool) → held ≡ one → held ≡ true → asked ≡ other → ((one && other) ≡ true) ↔ P → (asked ≡ true) ↔ P
-by_second P held asked one other is holds is' exact =
+pub by_second : (P : Type 0) (held demanded one other : Bool) → held ≡ one → held ≡ true → demanded ≡ other → ((one && other) ≡ true) ↔ P → (demanded ≡ true) ↔ P
+by_second P held demanded one other is holds is' exact =
     (λ e. exact.0 (and_both one other (sym is ∙ holds) (sym is' ∙ e)), λ p. is' ∙ (both_are one other (exact.1 p)).1)
 
 pub by_first : (P : Type 0) (held one other : Bool) → held ≡ one → held ≡ false → ((one && other) ≡ true) ↔ P → (held ≡ true) ↔ P
@@ -279,8 +279,8 @@ none_in (this ∷ form) group none =
     neither true q h = absurd cc
     neither false q h = (refl, h)
 
-module _ {A : Type 0} (bytes_of : A → List ℕ) (row : List A) (family : AddressFamily) (places : List (Place A)) (kept : IsKept bytes_of family row places) where
-  pub group_found : (i : ℕ) (d : Place A) (group : List ℕ) → i < length places → place_group bytes_of (get_or places i d) ≡ group
+module _ {A : Type 0} (bytes_of : A → List ℕ) (row : List A) (family : AddressFamily) (places : List (GroupPlace A)) (kept : IsKept bytes_of family row places) where
+  pub group_found : (i : ℕ) (d : GroupPlace A) (group : List ℕ) → i < length places → place_group bytes_of (get_or places i d) ≡ group
       → group_in group (form_seen bytes_of row places) ≡ place_seen bytes_of row (get_or places i d)
   group_found i d group below is =
       let at = all_at (λ (this : GroupForm). group_in this.group (form_seen bytes_of row places) ≡ this) (form_seen bytes_of row places) (all_in (form_seen bytes_of row places) kept.normal.ascending) i (place_seen bytes_of row d) (rw (places_count bytes_of row places) below) in

@@ -4,7 +4,7 @@ use Rattle.std.specs.List.{filter}
 use Rattle.std.proofs.lemmas.List.{take-take, take-append-drop}
 use Rattle.std.proofs.Math.Seq.{take-append_seam, drop-append_seam, take-length}
 use Rattle.std.specs.List.{AllByRecursion}
-use Rattle.pim_form.specs.declared.place.Place.{Place}
+use Rattle.pim_form.specs.declared.place.GroupPlace.{GroupPlace}
 use Rattle.pim_form.specs.NormalForm.{GroupForm}
 use Rattle.pim_form.specs.Rows.{between, IsWithin, star_of, form_seen}
 use Rattle.pim_form.specs.KeptToward.{IsFront, IsStarPushed, IsPushed}
@@ -42,8 +42,8 @@ module _ {A : Type 0} (bytes_of : A → List ℕ) where
   grows : (old new : List A) → IsFront old new → map bytes_of new ≡ map bytes_of old ++ map bytes_of (drop (length old) new)
   grows old new front = appended bytes_of old new (drop (length old) new) (sym (take-append-drop (length old) new) ∙ ap (λ (xs : List A). xs ++ drop (length old) new) front)
 
-  pub form_front : (places : List (Place A)) (old new : List A) → AllByRecursion (IsWithin (length old)) places → IsFront old new → form_seen bytes_of new places ≡ form_seen bytes_of old places
+  pub form_front : (places : List (GroupPlace A)) (old new : List A) → AllByRecursion (IsWithin (length old)) places → IsFront old new → form_seen bytes_of new places ≡ form_seen bytes_of old places
   form_front places old new within front = same_form bytes_of old new (map bytes_of (drop (length old) new)) (grows old new front) places within
 
-  pub within_front : (places : List (Place A)) (old new : List A) → AllByRecursion (IsWithin (length old)) places → IsFront old new → AllByRecursion (IsWithin (length new)) places
+  pub within_front : (places : List (GroupPlace A)) (old new : List A) → AllByRecursion (IsWithin (length old)) places → IsFront old new → AllByRecursion (IsWithin (length new)) places
   within_front places old new within front = still_within bytes_of old new (map bytes_of (drop (length old) new)) (grows old new front) places within

@@ -15,7 +15,7 @@ use Rattle.pim_jp.specs.Canonical.{canonical}
 use Rattle.pim_form.specs.NormalForm.{GroupForm, AreAscending, IsNormal, groups_of, is_empty}
 use Rattle.pim_form.specs.Units.{WantUnit, star_unit, source_unit, star_units, group_units, units_of, run_entries, run_groups, groups_behind, run_size}
 use Rattle.pim_form.specs.Packing.{most_groups, joined}
-use Rattle.pim_form.specs.Messages.{Writing, IsWriting, TellRuns, AreCanonical, told_message}
+use Rattle.pim_form.specs.Messages.{Writing, IsWriting, CarryRuns, AreCanonical, written_message}
 use Rattle.pim_form.specs.TooBig.{star_fits, too_big}
 use Rattle.pim_form.proofs.Lists.{all_append, all_front, all_behind}
 use Rattle.pim_form.proofs.Normal.{groups_some}
@@ -244,11 +244,11 @@ form_in_two (this ∷ form) run left up some h =
 
 module _ (family : AddressFamily) (writing : Writing) (rps : List ℕ → Option (List ℕ)) (seal : SomeMessageIsSealed) where
   some_told : (runs : List (List WantUnit)) (form : List GroupForm) → AreAscending (groups_of form) → AllByRecursion IsSome form → units_of form ≡ joined runs
-      → (messages : List (List ℕ)) × TellRuns family writing rps runs messages
+      → (messages : List (List ℕ)) × CarryRuns family writing rps runs messages
   some_told [] form up some is = ([], tt)
   some_told (run ∷ runs) form up some is =
       let cut = form_in_two form run (joined runs) up some is in
-      let message = seal family writing.own (all_routers family) JoinPrune (canonical family (told_message writing rps cut.part)) in
+      let message = seal family writing.own (all_routers family) JoinPrune (canonical family (written_message writing rps cut.part)) in
       let others = some_told runs cut.others cut.are_others.ascending cut.are_others.some cut.are_others.is in (
         message.0 ∷ others.0,
         (
@@ -261,13 +261,13 @@ module _ (family : AddressFamily) (writing : Writing) (rps : List ℕ → Option
       → (messages : List (List ℕ)) × AreCanonical family writing rps form messages
   some_messages form is normal none =
       let packing = some_packing family writing.budget (units_of form) (form_alone family writing.budget is.least form none) in
-      let told = some_told packing.0 form normal.ascending (groups_some family form normal.groups) (sym packing.1.whole) in
-      (told.0, record { runs = packing.0; packing = packing.1; told = told.1 })
+      let reported = some_told packing.0 form normal.ascending (groups_some family form normal.groups) (sym packing.1.whole) in
+      (reported.0, record { runs = packing.0; packing = packing.1; reported = reported.1 })
 
   told_fit : (form : List GroupForm) → IsWriting family writing → (messages : List (List ℕ)) × AreCanonical family writing rps form messages
       → too_big family writing.budget form ≡ None
-  told_fit form is (messages, told) =
-      none_too_big family writing.budget is.least form (packing_alone family writing.budget (units_of form) (told.runs, told.packing))
+  told_fit form is (messages, reported) =
+      none_too_big family writing.budget is.least form (packing_alone family writing.budget (units_of form) (reported.runs, reported.packing))
 
   pub messages_unless_too_big : (form : List GroupForm) → IsWriting family writing → IsNormal family form
       → ((messages : List (List ℕ)) × AreCanonical family writing rps form messages) ↔ (too_big family writing.budget form ≡ None)

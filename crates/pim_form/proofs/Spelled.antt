@@ -15,7 +15,7 @@ use Rattle.pim_addr.specs.Address.{IsGroupAddress, IsSourceAddress}
 use Rattle.pim_form.specs.NormalForm.{GroupForm, AreAscending, AreExceptions, is_empty, IsNormalGroup, groups_of}
 use Rattle.pim_form.specs.Units.{WantUnit, star_unit, source_unit, star_units, group_units, units_of, run_entries, run_size, empty_message_size, empty_set_size, entry_size}
 use Rattle.pim_form.specs.Packing.{fits}
-use Rattle.pim_form.specs.Messages.{Writing, IsWriting, IsRp, IsRpOf, HaveRps, star_entries, excepted_entries, told_set, told_message}
+use Rattle.pim_form.specs.Messages.{Writing, IsWriting, IsRp, IsRpOf, HaveRps, star_entries, excepted_entries, written_set, written_message}
 use Rattle.pim_form.proofs.Lists.{all_append, all_front, all_behind, all_map, all_mapped}
 use Rattle.pim_form.proofs.Units.{IsSome, count_groups}
 use Rattle.pim_form.proofs.OnePacking.{entries_append, fits_parts}
@@ -97,7 +97,7 @@ module _ (family : AddressFamily) (rps : List ℕ → Option (List ℕ)) where
   pruned_valid group None all = tt
   pruned_valid group (Some xs) all = all_map (IsSourceAddress family) (IsMessageEntry family) (λ source. Rpt source) (λ s is. is) xs all.0.1
 
-  entries_valid : (this : GroupForm) → IsValid this → AllByRecursion (IsMessageEntry family) (told_set rps this).joined × AllByRecursion (IsMessageEntry family) (told_set rps this).pruned
+  entries_valid : (this : GroupForm) → IsValid this → AllByRecursion (IsMessageEntry family) (written_set rps this).joined × AllByRecursion (IsMessageEntry family) (written_set rps this).pruned
   entries_valid this is = (
     all_append (IsMessageEntry family) (star_entries (rps this.group) this.star) (map (λ source. Source source) this.sources)
         (joined_valid this.group (rps this.group) this.star (rp_here this is))
@@ -145,7 +145,7 @@ apart : (rp : Option (List ℕ)) (star : Option (List (List ℕ))) (sources : Li
 apart rp None sources = refl
 apart rp (Some xs) sources = none_in_both xs (star_entries rp (Some xs) ++ map (λ source. Source source) sources) (λ x. not_in_joined x rp (Some xs) sources)
 
-legal : (rps : List ℕ → Option (List ℕ)) (this : GroupForm) → IsLegalSet (told_set rps this)
+legal : (rps : List ℕ → Option (List ℕ)) (this : GroupForm) → IsLegalSet (written_set rps this)
 legal rps this = (one_star (rps this.group) this.star this.sources, apart (rps this.group) this.star this.sources)
 
 -- ---- how many entries
@@ -162,7 +162,7 @@ stars_entries family group None (Some xs) is = absurd is
 stars_entries family group (Some rp) (Some xs) is = omega (arith, length-map xs (λ source. Rpt source))
 
 pub group_entries : (family : AddressFamily) (rps : List ℕ → Option (List ℕ)) (this : GroupForm) → IsRpOf family (rps this.group) this.star
-    → run_entries (group_units this) ≡ length (told_set rps this).joined + length (told_set rps this).pruned
+    → run_entries (group_units this) ≡ length (written_set rps this).joined + length (written_set rps this).pruned
 group_entries family rps this is =
     omega (
       arith,
@@ -175,14 +175,14 @@ group_entries family rps this is =
 
 -- ---- the message of a part
 
-sets_are : (family : AddressFamily) (rps : List ℕ → Option (List ℕ)) (part : List GroupForm) → AllByRecursion (IsValid family rps) part → run_entries (units_of part) < 2 ^ 16 → AllByRecursion (IsMessageSet family) (map (told_set rps) part)
+sets_are : (family : AddressFamily) (rps : List ℕ → Option (List ℕ)) (part : List GroupForm) → AllByRecursion (IsValid family rps) part → run_entries (units_of part) < 2 ^ 16 → AllByRecursion (IsMessageSet family) (map (written_set rps) part)
 sets_are family rps [] all few = tt
 sets_are family rps (this ∷ part) all few =
     let here = group_entries family rps this (rp_here family rps this all.0) in
     let both = entries_append (group_units this) (units_of part) in
     let entries = entries_valid family rps this all.0 in
-    let joined : length (told_set rps this).joined < 2 ^ 16 = omega arith in
-    let pruned : length (told_set rps this).pruned < 2 ^ 16 = omega arith in
+    let joined : length (written_set rps this).joined < 2 ^ 16 = omega arith in
+    let pruned : length (written_set rps this).pruned < 2 ^ 16 = omega arith in
     let left : run_entries (units_of part) < 2 ^ 16 = omega arith in
     ((all.0.group.0, all.0.group.1, legal rps this, joined, entries.0, pruned, entries.1), sets_are family rps part all.1 left)
 
@@ -197,18 +197,18 @@ pub record IsPart (family : AddressFamily) (writing : Writing) (rps : List ℕ �
   pub valid : AllByRecursion (IsValidUnit family rps) (units_of part)
   pub fitting : fits family writing.budget (units_of part) ≡ true
 
-pub is_message : (family : AddressFamily) (writing : Writing) (rps : List ℕ → Option (List ℕ)) (part : List GroupForm) → IsWriting family writing → IsPart family writing rps part → IsMessage family (told_message writing rps part)
+pub is_message : (family : AddressFamily) (writing : Writing) (rps : List ℕ → Option (List ℕ)) (part : List GroupForm) → IsWriting family writing → IsPart family writing rps part → IsMessage family (written_message writing rps part)
 is_message family writing rps part is whole =
     let bounds = fits_parts family writing.budget (units_of part) whole.fitting in
     let size : run_size family (units_of part) ≤ 65000 = omega (arith, bounds.0, is.most) in
-    let groups : length (map (told_set rps) part) < 2 ^ 8 = omega (arith, bounds.1, count_groups part whole.ascending whole.some, length-map part (told_set rps)) in
+    let groups : length (map (written_set rps) part) < 2 ^ 8 = omega (arith, bounds.1, count_groups part whole.ascending whole.some, length-map part (written_set rps)) in
     let sets = sets_are family rps part (parts_valid family rps part whole.some whole.valid) (entries_few family (units_of part) size) in
     (is.upstream.0, is.short, groups, sets)
 
 -- ---- its length
 
 pub sets_size : (family : AddressFamily) (rps : List ℕ → Option (List ℕ)) (part : List GroupForm) → AllByRecursion (IsValid family rps) part
-    → canonical_sets_length family (map (told_set rps) part) ≡ length part * empty_set_size family + run_entries (units_of part) * entry_size family
+    → canonical_sets_length family (map (written_set rps) part) ≡ length part * empty_set_size family + run_entries (units_of part) * entry_size family
 unfolding canonical_sets_length run_entries
 sets_size Ipv4 rps [] all = refl
 sets_size Ipv6 rps [] all = refl
@@ -226,11 +226,11 @@ head_and_sets Ipv4 groups entries sets h = omega arith
 head_and_sets Ipv6 groups entries sets h = omega arith
 
 pub part_size : (family : AddressFamily) (writing : Writing) (rps : List ℕ → Option (List ℕ)) (part : List GroupForm) (sum : ℕ) (bytes : List ℕ) → IsPart family writing rps part
-    → length (canonical family (told_message writing rps part)) ≡ canonical_head_length family + canonical_sets_length family (map (told_set rps) part)
-    → bytes ≡ framed JoinPrune sum (canonical family (told_message writing rps part)) → length bytes ≡ run_size family (units_of part)
+    → length (canonical family (written_message writing rps part)) ≡ canonical_head_length family + canonical_sets_length family (map (written_set rps) part)
+    → bytes ≡ framed JoinPrune sum (canonical family (written_message writing rps part)) → length bytes ≡ run_size family (units_of part)
 part_size family writing rps part sum bytes whole body is =
     let groups = count_groups part whole.ascending whole.some in
     let sets = sets_size family rps part (parts_valid family rps part whole.some whole.valid) in
-    ap length is ∙ framed_length sum (canonical family (told_message writing rps part)) ∙ ap (λ n. 4 + n) body
-    ∙ head_and_sets family (length part) (run_entries (units_of part)) (canonical_sets_length family (map (told_set rps) part)) sets
+    ap length is ∙ framed_length sum (canonical family (written_message writing rps part)) ∙ ap (λ n. 4 + n) body
+    ∙ head_and_sets family (length part) (run_entries (units_of part)) (canonical_sets_length family (map (written_set rps) part)) sets
     ∙ ap (λ n. empty_message_size family + n * empty_set_size family + run_entries (units_of part) * entry_size family) (sym groups)

@@ -7,7 +7,7 @@ use Rattle.pim_addr.specs.Address.{IsSourceAddress}
 use Rattle.pim_addr.specs.Routes.{Row, RouteTable, matches, longer_of, longest, led_to, rp_of, IsRealRow, IsRouteTable}
 use Rattle.pim_form.specs.NormalForm.{GroupForm}
 use Rattle.pim_form.specs.Messages.{IsRp, IsRpOf, HaveRps}
-use Rattle.pim_form.specs.Toward.{via_rp, is_neighbour, is_star_toward, is_group_toward, is_toward}
+use Rattle.pim_form.specs.Toward.{star_rpf_neighbour, is_neighbour, is_star_toward, is_group_toward, is_toward}
 use Rattle.pim_form.proofs.KeptForm.{all_filter}
 use Rattle.pim_form.proofs.AskedForAll.{first_true, second_true}
 
@@ -50,13 +50,13 @@ rp_is_source family table group sound some = by (rp_of family table group) (led_
     by (Some rp) is some = is
 
 module _ (family : AddressFamily) (table : RouteTable) (sound : IsRouteTable family table) (via : List ℕ → Option (List ℕ)) (neighbour : List ℕ) where
-  led_is_some : (rp : Option (List ℕ)) → is_neighbour neighbour (via_rp via rp) ≡ true → is_some rp ≡ true
-  led_is_some None asked = asked
-  led_is_some (Some rp) asked = refl
+  led_is_some : (rp : Option (List ℕ)) → is_neighbour neighbour (star_rpf_neighbour via rp) ≡ true → is_some rp ≡ true
+  led_is_some None demanded = demanded
+  led_is_some (Some rp) demanded = refl
 
   star_has_rp : (group : List ℕ) (star : Option (List (List ℕ))) → is_star_toward (rp_of family table) via neighbour group star ≡ true → IsRpOf family (rp_of family table group) star
-  star_has_rp group None asked = tt
-  star_has_rp group (Some xs) asked = rp_is_source family table group sound (led_is_some (rp_of family table group) asked)
+  star_has_rp group None demanded = tt
+  star_has_rp group (Some xs) demanded = rp_is_source family table group sound (led_is_some (rp_of family table group) demanded)
 
   -- each star of a form that passes the test has an RP
   pub have_rps : (form : List GroupForm) → is_toward (rp_of family table) via neighbour form ≡ true → HaveRps family (rp_of family table) form

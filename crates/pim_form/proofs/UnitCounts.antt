@@ -17,10 +17,10 @@ use Rattle.pim_form.specs.NormalForm.{GroupForm, same_address, is_empty}
 use Rattle.pim_form.specs.Wants.{is_joined, is_pruned}
 use Rattle.pim_form.specs.Collect.{fresh, with_exception, star_with, sources_with, added, closed, collected_behind, collected, of_port}
 use Rattle.pim_form.specs.Merge.{by_order, merged_into, merged_by, itself, first_of, united, both_stars, both_groups, group_of, merged}
-use Rattle.pim_form.specs.Toward.{via_in, via_rp, is_neighbour}
+use Rattle.pim_form.specs.Toward.{via_of, star_rpf_neighbour, is_neighbour}
 use Rattle.pim_form.specs.KeptToward.{is_reached, star_toward, group_toward, form_toward}
 use Rattle.pim_form.specs.Units.{star_units, source_unit, group_units, units_of}
-use Rattle.pim_form.specs.Asked.{form_below, asked_form}
+use Rattle.pim_form.specs.Demanded.{form_below, demanded_form}
 use Rattle.pim_form.proofs.PortDemand.{are_of_port}
 
 -- ---- lists whose items have a size
@@ -153,7 +153,7 @@ fewer test (x ∷ xs) =
 module _ (rps via : List ℕ → Option (List ℕ)) (neighbour : List ℕ) where
   star_left : (group : List ℕ) (star : Option (List (List ℕ))) → star_count (star_toward rps via neighbour group star) ≤ star_count star
   star_left group star =
-      elim (is_neighbour neighbour (via_rp via (rps group))) as (λ b. star_count (cond b star None) ≤ star_count star) [
+      elim (is_neighbour neighbour (star_rpf_neighbour via (rps group))) as (λ b. star_count (cond b star None) ≤ star_count star) [
         | true ↦ omega arith
         | false ↦ omega arith
       ]
@@ -180,10 +180,10 @@ module _ (family : AddressFamily) (state : Downstream) (sound : IsSound family s
       let port = are_of_port family state count sound in
       omega (arith, merged_units (collected (of_port count state)) (form_below count state), collected_units (of_port count state), port.few, units_below count)
 
-  pub few_units : (table : RouteTable) (neighbour : List ℕ) → length (units_of (asked_form family table neighbour state)) ≤ 6400000
-  unfolding asked_form
+  pub few_units : (table : RouteTable) (neighbour : List ℕ) → length (units_of (demanded_form family table neighbour state)) ≤ 6400000
+  unfolding demanded_form
   few_units table neighbour =
-      let left = units_left (rp_of family table) (via_in family table) neighbour (form_below state.ports state) in
+      let left = units_left (rp_of family table) (via_of family table) neighbour (form_below state.ports state) in
       let below = units_below state.ports in
       let most = sound.ports in
-      omega (arith, units_total (form_toward (rp_of family table) (via_in family table) neighbour (form_below state.ports state)), left, below, most)
+      omega (arith, units_total (form_toward (rp_of family table) (via_of family table) neighbour (form_below state.ports state)), left, below, most)

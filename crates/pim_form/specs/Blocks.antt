@@ -17,6 +17,6 @@ abbrev pub messages_seen : List ℕ → List Span → List (List ℕ)
 messages_seen bytes spans = map (message_seen bytes) spans
 
 -- The bytes of a message that was returned by reference, or `None`.
-abbrev pub told_bytes : Option (Bor (List ℕ)) → Option (List ℕ)
-told_bytes None = None
-told_bytes (Some bytes) = Some bytes.now
+abbrev pub written_bytes : Option (Bor (List ℕ)) → Option (List ℕ)
+written_bytes None = None
+written_bytes (Some bytes) = Some bytes.now

@@ -3,7 +3,7 @@ use Rattle.std.specs.Prelude.{◌≡◌, ℕ, ◌+◌, ◌*◌, ◌-◌, ◌≤�
 use Rattle.std.specs.Prelude.{if◌then◌else◌}
 use Rattle.std.specs.List.{AllByRecursion, flat_map}
 use Rattle.pim_addr.specs.declared.family.AddressFamily.{AddressFamily}
-use Rattle.pim_form.specs.declared.place.Place.{Place}
+use Rattle.pim_form.specs.declared.place.GroupPlace.{GroupPlace}
 use Rattle.pim_form.specs.Units.{WantUnit, empty_message_size, empty_set_size, entry_size, run_entries}
 use Rattle.pim_form.specs.Packing.{IsPacking, most_groups}
 use Rattle.pim_form.specs.TooBig.{too_big}
@@ -20,7 +20,7 @@ HasRoom family budget groups entries =
 -- A plan under construction. `groups` and `entries` count those of the open message.
 pub record Filled (A : Type 0) : Type 0 where
   -- the pieces of all messages, in order
-  pub pieces : List (Place A)
+  pub pieces : List (GroupPlace A)
   -- for each closed message, the number of pieces up to its end
   pub ends : List ℕ
   pub groups : ℕ
@@ -29,15 +29,15 @@ pub record Filled (A : Type 0) : Type 0 where
 -- ---- pieces of a group
 
 -- The number of entries of a piece's star: one for (*,G) and one for each exception.
-abbrev pub star_entries : {A : Type 0} → Place A → ℕ
+abbrev pub star_entries : {A : Type 0} → GroupPlace A → ℕ
 star_entries place = if place.starred then 1 + (place.exceptions_end - place.exceptions_start) else 0
 
 -- The number of sources of a piece.
-abbrev pub place_sources : {A : Type 0} → Place A → ℕ
+abbrev pub place_sources : {A : Type 0} → GroupPlace A → ℕ
 place_sources place = place.sources_end - place.sources_start
 
 -- 1 where the piece has a star, else 0.
-abbrev pub star_count : {A : Type 0} → Place A → ℕ
+abbrev pub star_count : {A : Type 0} → GroupPlace A → ℕ
 star_count place = if place.starred then 1 else 0
 
 -- ---- what is in messages and what is left
@@ -51,10 +51,10 @@ module _ {A : Type 0} (bytes_of : A → List ℕ) where
   -- The invariant of the filling. The pieces of the open message and those that are left are a part
   -- of the form. Any packing of that part, placed after the closed messages, is a packing of the
   -- whole form.
-  pub record IsFilling (family : AddressFamily) (budget : ℕ) (row : List A) (places left : List (Place A))
+  pub record IsFilling (family : AddressFamily) (budget : ℕ) (row : List A) (places left : List (GroupPlace A))
       (filled : Filled A) : Type 0 where
-    pub closed : List (List (Place A))
-    pub begun : List (Place A)
+    pub closed : List (List (GroupPlace A))
+    pub begun : List (GroupPlace A)
     pub pieces : filled.pieces ≡ flat_map (λ part. part) closed ++ begun
     pub ends : filled.ends ≡ ends_from 0 closed
     pub groups : filled.groups ≡ length begun
@@ -68,8 +68,8 @@ module _ {A : Type 0} (bytes_of : A → List ℕ) where
     pub least : 70 ≤ budget
 
   -- This piece can be put into the plan next.
-  pub record IsNext (family : AddressFamily) (budget : ℕ) (place : Place A) (filled : Filled A) : Type 0 where
+  pub record IsNext (family : AddressFamily) (budget : ℕ) (place : GroupPlace A) (filled : Filled A) : Type 0 where
     pub row : List A
-    pub places : List (Place A)
-    pub left : List (Place A)
+    pub places : List (GroupPlace A)
+    pub left : List (GroupPlace A)
     pub filling : IsFilling family budget row places (place ∷ left) filled

@@ -16,7 +16,7 @@ use Rattle.pim_form.specs.Toward.{toward, SharedHaveRps}
 use Rattle.pim_form.specs.Units.{WantUnit, units_of, run_size}
 use Rattle.pim_form.specs.Packing.{IsPacking, fits, IsNonempty, StopsBefore}
 use Rattle.pim_form.specs.TooBig.{too_big}
-use Rattle.pim_form.specs.Messages.{Writing, IsWriting, HaveRps, AreCanonical, told_message}
+use Rattle.pim_form.specs.Messages.{Writing, IsWriting, HaveRps, AreCanonical, written_message}
 
 -- The bytes, sent from `source` to ALL-PIM-ROUTERS, open as a Join/Prune message. Its body is read
 -- as this message, and no fault is found (RFC 7761, 4.9 and 4.9.5).
@@ -65,15 +65,15 @@ pub record BeginsWith (family : AddressFamily) (budget : ℕ) (run left : List W
 
 -- A nonempty run at the front of the units that fits, and would not fit with the next unit, is the
 -- first run of any packing.
-abbrev pub FirstRunIsTold : Type 0
-FirstRunIsTold = (family : AddressFamily) (budget : ℕ) (run left : List WantUnit) (runs : List (List WantUnit)) →
+abbrev pub FirstRunIsWritten : Type 0
+FirstRunIsWritten = (family : AddressFamily) (budget : ℕ) (run left : List WantUnit) (runs : List (List WantUnit)) →
     IsNonempty run → fits family budget run ≡ true → StopsBefore family budget run left →
     IsPacking family budget (run ++ left) runs → BeginsWith family budget run left runs
 
 -- Two normal forms with the same canonical messages by one writer are equal, where each star has an
 -- RP.
-abbrev pub MessagesTellTheForm : Type 0
-MessagesTellTheForm = (family : AddressFamily) (writing : Writing) (rps : List ℕ → Option (List ℕ)) (one other : List GroupForm)
+abbrev pub MessagesCarryTheForm : Type 0
+MessagesCarryTheForm = (family : AddressFamily) (writing : Writing) (rps : List ℕ → Option (List ℕ)) (one other : List GroupForm)
     (messages : List (List ℕ)) → IsWriting family writing → IsNormal family one → IsNormal family other →
     HaveRps family rps one → HaveRps family rps other →
     AreCanonical family writing rps one messages → AreCanonical family writing rps other messages → one ≡ other
@@ -100,13 +100,13 @@ SizeIsLength = (family : AddressFamily) (writing : Writing) (rps : List ℕ → 
     IsWriting family writing → IsNormal family part → HaveRps family rps part →
     fits family writing.budget (units_of part) ≡ true →
     IsSealed family writing.own (all_routers family) JoinPrune
-    (canonical family (told_message writing rps part)) bytes →
+    (canonical family (written_message writing rps part)) bytes →
     length bytes ≡ run_size family (units_of part)
 
 -- If one neighbour reaches all addresses, and each group wanted on the shared tree has an RP, the
 -- whole demand is requested from that neighbour.
-abbrev pub OneNeighbourIsAskedForAll : Type 0
-OneNeighbourIsAskedForAll = (rps via : List ℕ → Option (List ℕ)) (neighbour : List ℕ) (demand : Demand) →
+abbrev pub OneNeighbourGetsAll : Type 0
+OneNeighbourGetsAll = (rps via : List ℕ → Option (List ℕ)) (neighbour : List ℕ) (demand : Demand) →
     ((address : List ℕ) → via address ≡ Some neighbour) → SharedHaveRps rps via demand →
     (source group : List ℕ) (tree : Tree) → toward rps via neighbour demand source group tree ≡ demand source group tree
 

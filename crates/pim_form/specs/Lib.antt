@@ -13,7 +13,7 @@ pub mod TooBig
 pub mod Toward
 pub mod KeptToward
 pub mod TowardLaws
-pub mod Asked
+pub mod Demanded
 pub mod Plan
 pub mod Entries
 pub mod Added

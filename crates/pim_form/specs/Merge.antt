@@ -1,6 +1,6 @@
 -- The merge of two forms into one that wants what either wants, as the code merges. Public
--- definitions cite it in `asked_form` alone, and the law `form_of_what_is_asked` says that this is
--- the normal form of what is requested.
+-- definitions cite it in `demanded_form` alone, and the law `form_of_demand_toward` says that this
+-- is the normal form of what is requested.
 use Rattle.std.specs.Prelude.{ℕ, zero, suc, ◌+◌, Bool, false, ◌||◌, List, [], ◌∷◌, Option, None, Some}
 use Rattle.std.specs.List.{filter}
 use Rattle.std.specs.declared.cmp.Ordering.{Ordering}

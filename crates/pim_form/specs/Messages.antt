@@ -67,8 +67,8 @@ excepted_entries (Some exceptions) = map (λ source. Rpt source) exceptions
 
 -- The group set that requests a group: Join(*,G), then Join(S,G) for each source, and
 -- Prune(S,G,rpt) for each exception.
-abbrev pub told_set : (List ℕ → Option (List ℕ)) → GroupForm → GroupSet
-told_set rps this = record {
+abbrev pub written_set : (List ℕ → Option (List ℕ)) → GroupForm → GroupSet
+written_set rps this = record {
   group = this.group;
   joined = star_entries (rps this.group) this.star ++ map (λ source. Source source) this.sources;
   pruned = excepted_entries this.star;
@@ -76,31 +76,31 @@ told_set rps this = record {
 
 -- The Join/Prune message that requests a part of a form from the writer's upstream neighbour, with
 -- one group set for each group.
-abbrev pub told_message : Writing → (List ℕ → Option (List ℕ)) → List GroupForm → Message
-told_message writing rps part = record {
+abbrev pub written_message : Writing → (List ℕ → Option (List ℕ)) → List GroupForm → Message
+written_message writing rps part = record {
   upstream = writing.upstream;
   holdtime = writing.holdtime;
-  sets = map (told_set rps) part;
+  sets = map (written_set rps) part;
 }
 
 -- The bytes are the message of a run. The run is the units of a part of a form, and the bytes are
 -- the canonical message of that part, sealed to ALL-PIM-ROUTERS.
-pub record TellsRun (family : AddressFamily) (writing : Writing) (rps : List ℕ → Option (List ℕ)) (run : List WantUnit) (bytes : List ℕ)
+pub record CarriesRun (family : AddressFamily) (writing : Writing) (rps : List ℕ → Option (List ℕ)) (run : List WantUnit) (bytes : List ℕ)
     : Type 0 where
   pub part : List GroupForm
   pub units : units_of part ≡ run
   pub ascending : AreAscending (groups_of part)
   pub some : AllByRecursion (λ this. is_empty this.star this.sources ≡ false) part
   pub sealed : IsSealed family writing.own (all_routers family) JoinPrune
-      (canonical family (told_message writing rps part)) bytes
+      (canonical family (written_message writing rps part)) bytes
 
 -- The messages are those of the runs, one for each run, in order.
-abbrev pub TellRuns : AddressFamily → Writing → (List ℕ → Option (List ℕ)) → List (List WantUnit) → List (List ℕ) → Type 0
-TellRuns family writing rps [] [] = Unit {0}
-TellRuns family writing rps [] (bytes ∷ messages) = ⊥
-TellRuns family writing rps (run ∷ runs) [] = ⊥
-TellRuns family writing rps (run ∷ runs) (bytes ∷ messages) =
-    TellsRun family writing rps run bytes × TellRuns family writing rps runs messages
+abbrev pub CarryRuns : AddressFamily → Writing → (List ℕ → Option (List ℕ)) → List (List WantUnit) → List (List ℕ) → Type 0
+CarryRuns family writing rps [] [] = Unit {0}
+CarryRuns family writing rps [] (bytes ∷ messages) = ⊥
+CarryRuns family writing rps (run ∷ runs) [] = ⊥
+CarryRuns family writing rps (run ∷ runs) (bytes ∷ messages) =
+    CarriesRun family writing rps run bytes × CarryRuns family writing rps runs messages
 
 -- The messages are canonical messages of the form: they are those of the runs of a packing of its
 -- units. A form has at most one list of them by a writer.
@@ -108,4 +108,4 @@ pub record AreCanonical (family : AddressFamily) (writing : Writing) (rps : List
     (messages : List (List ℕ)) : Type 0 where
   pub runs : List (List WantUnit)
   pub packing : IsPacking family writing.budget (units_of form) runs
-  pub told : TellRuns family writing rps runs messages
+  pub reported : CarryRuns family writing rps runs messages

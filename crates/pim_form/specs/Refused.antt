@@ -4,8 +4,8 @@ use Rattle.pim_form.specs.declared.fault.FormFault.{FormFault}
 use Rattle.pim_form.specs.declared.fault.FormFault.TheVariants.{TooBig, Memory, Tables}
 
 -- The group that a refusal reports as too big, or `None`.
-abbrev pub told_too_big : {T F A N : Type 0} → Result T (FormFault F A N) → Option A
-told_too_big (Ok messages) = None
-told_too_big (Err (TooBig group)) = Some group
-told_too_big (Err Memory) = None
-told_too_big (Err Tables) = None
+abbrev pub group_too_big : {T F A N : Type 0} → Result T (FormFault F A N) → Option A
+group_too_big (Ok messages) = None
+group_too_big (Err (TooBig group)) = Some group
+group_too_big (Err Memory) = None
+group_too_big (Err Tables) = None

@@ -3,7 +3,7 @@
 use Rattle.std.specs.Prelude.{◌≡◌, ℕ, ◌≤◌, ◌<◌, slice_index_or, Bool, false, List, [], ◌∷◌, Option, None, Some, length, take}
 use Rattle.std.specs.Prelude.{drop, map, if◌then◌else◌}
 use Rattle.std.specs.List.{AllByRecursion}
-use Rattle.pim_form.specs.declared.place.Place.{Place}
+use Rattle.pim_form.specs.declared.place.GroupPlace.{GroupPlace}
 use Rattle.pim_addr.specs.declared.family.AddressFamily.{AddressFamily}
 use Rattle.pim_form.specs.NormalForm.{GroupForm, IsNormalGroup, IsNormal, is_listed}
 
@@ -12,7 +12,7 @@ abbrev pub between : {A : Type 0} → ℕ → ℕ → List A → List A
 between start end row = drop start (take end row)
 
 -- The group's sources and exceptions are parts of a row of `size` addresses.
-abbrev pub IsWithin : {A : Type 0} → ℕ → Place A → Type 0
+abbrev pub IsWithin : {A : Type 0} → ℕ → GroupPlace A → Type 0
 IsWithin size place = (place.sources_start ≤ place.sources_end) × (place.sources_end ≤ size)
     × (place.exceptions_start ≤ place.exceptions_end) × (place.exceptions_end ≤ size)
 
@@ -40,30 +40,30 @@ module _ {A : Type 0} (bytes_of : A → List ℕ) where
   }
 
   -- The group at a place of the row.
-  abbrev pub place_seen : List A → Place A → GroupForm
+  abbrev pub place_seen : List A → GroupPlace A → GroupForm
   place_seen row place = group_seen place.group place.starred
       (between place.exceptions_start place.exceptions_end row) (between place.sources_start place.sources_end row)
 
   -- The groups at these places of the row.
-  abbrev pub form_seen : List A → List (Place A) → List GroupForm
+  abbrev pub form_seen : List A → List (GroupPlace A) → List GroupForm
   form_seen row places = map (place_seen row) places
 
   -- The places lie within the row, and each group there is normal.
-  abbrev pub AreKept : AddressFamily → List A → List (Place A) → Type 0
+  abbrev pub AreKept : AddressFamily → List A → List (GroupPlace A) → Type 0
   AreKept family row places =
       AllByRecursion (IsWithin (length row)) places × AllByRecursion (IsNormalGroup family) (form_seen row places)
 
   -- The places lie within the row, and the groups there are a normal form.
-  pub record IsKept (family : AddressFamily) (row : List A) (places : List (Place A)) : Type 0 where
+  pub record IsKept (family : AddressFamily) (row : List A) (places : List (GroupPlace A)) : Type 0 where
     pub within : AllByRecursion (IsWithin (length row)) places
     pub normal : IsNormal family (form_seen row places)
 
   -- The group address of a place.
-  abbrev pub place_group : Place A → List ℕ
+  abbrev pub place_group : GroupPlace A → List ℕ
   place_group place = bytes_of place.group
 
   -- The index of a group among the places, or `None` where no place has that group.
-  abbrev pub Finds : List ℕ → List (Place A) → Option ℕ → Type 0
+  abbrev pub Finds : List ℕ → List (GroupPlace A) → Option ℕ → Type 0
   Finds group places None = is_listed group (map place_group places) ≡ false
   Finds group places (Some index) =
-      (index < length places) × ((d : Place A) → place_group (slice_index_or places index d) ≡ group)
+      (index < length places) × ((d : GroupPlace A) → place_group (slice_index_or places index d) ≡ group)

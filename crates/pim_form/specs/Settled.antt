@@ -37,7 +37,7 @@ is_in_no_info state = not (is_some state)
 
 -- A (*,G) or (S,G) machine is in Join if the form requests it, else in NoInfo.
 abbrev pub joins_if : Bool → Option State → Bool
-joins_if asked state = if asked then is_in_join state else is_in_no_info state
+joins_if demanded state = if demanded then is_in_join state else is_in_no_info state
 
 -- An (S,G,rpt) machine under a star is in Prune if its source is an exception, else in NoInfo.
 abbrev pub prunes_if : Bool → Option State → Bool

@@ -10,9 +10,9 @@ use Rattle.pim_form.specs.declared.tree.Tree.TheVariants.{Shared, Source}
 use Rattle.pim_form.specs.NormalForm.{Demand, GroupForm, same_address}
 
 -- RPF'(*,G) without asserts (RFC 7761, 4.1): the neighbour toward the RP, if there is an RP.
-abbrev pub via_rp : (List ℕ → Option (List ℕ)) → Option (List ℕ) → Option (List ℕ)
-via_rp via None = None
-via_rp via (Some rp) = via rp
+abbrev pub star_rpf_neighbour : (List ℕ → Option (List ℕ)) → Option (List ℕ) → Option (List ℕ)
+star_rpf_neighbour via None = None
+star_rpf_neighbour via (Some rp) = via rp
 
 -- The upstream neighbour exists and is this neighbour.
 abbrev pub is_neighbour : List ℕ → Option (List ℕ) → Bool
@@ -22,22 +22,22 @@ is_neighbour neighbour (Some upstream) = same_address upstream neighbour
 module _ (rps via : List ℕ → Option (List ℕ)) where
   -- The neighbour from which the traffic of a source to a group is requested: RPF'(*,G) on the
   -- shared tree, RPF'(S,G) on the source's tree, both without asserts (RFC 7761, 4.1).
-  abbrev pub upstream_of : List ℕ → List ℕ → Tree → Option (List ℕ)
-  upstream_of source group Shared = via_rp via (rps group)
-  upstream_of source group Source = via source
+  abbrev pub rpf_neighbour : List ℕ → List ℕ → Tree → Option (List ℕ)
+  rpf_neighbour source group Shared = star_rpf_neighbour via (rps group)
+  rpf_neighbour source group Source = via source
 
   -- The part of a demand that is requested from this neighbour. Traffic without a route isn't
   -- requested.
   abbrev pub toward : List ℕ → Demand → Demand
   toward neighbour demand source group tree =
-      demand source group tree && is_neighbour neighbour (upstream_of source group tree)
+      demand source group tree && is_neighbour neighbour (rpf_neighbour source group tree)
 
   -- ---- forms
 
   -- The group has no star, or the neighbour is RPF'(*,G).
   abbrev pub is_star_toward : List ℕ → List ℕ → Option (List (List ℕ)) → Bool
   is_star_toward neighbour group None = true
-  is_star_toward neighbour group (Some exceptions) = is_neighbour neighbour (via_rp via (rps group))
+  is_star_toward neighbour group (Some exceptions) = is_neighbour neighbour (star_rpf_neighbour via (rps group))
 
   -- The neighbour is the upstream neighbour of the group's star, if it has one, and of each of its
   -- sources.
@@ -53,7 +53,7 @@ module _ (rps via : List ℕ → Option (List ℕ)) where
   abbrev pub SharedHaveRps : Demand → Type 0
   SharedHaveRps demand = (source group : List ℕ) → demand source group Shared ≡ true → is_some (rps group) ≡ true
 
--- The neighbour to which a route table leads an address. `rp_of` of pim_down is the RP of a
--- group by the same table.
-abbrev pub via_in : AddressFamily → RouteTable → List ℕ → Option (List ℕ)
-via_in family table address = via family address table
+-- The neighbour to which a route table leads an address. `rp_of` is the RP of a group by the same
+-- table.
+abbrev pub via_of : AddressFamily → RouteTable → List ℕ → Option (List ℕ)
+via_of family table address = via family address table

@@ -27,13 +27,19 @@ is_pruned _ = false
 abbrev pub state_on : List (Record (List ℕ)) → ℕ → List ℕ → What (List ℕ) → Option State
 state_on records port group what = state_of (record { port = port; group = group; what = what }) records
 
--- The port wants the traffic of a source to a group. On the shared tree it is in joins(*,G) but not
--- in prunes(S,G,rpt), and so in inherited_olist(S,G,rpt). On the source's tree it is in joins(S,G),
--- and so in immediate_olist(S,G).
-abbrev pub wants_on : List (Record (List ℕ)) → List ℕ → List ℕ → Tree → ℕ → Bool
-wants_on records source group Shared port =
+-- The port is in inherited_olist(S,G,rpt): in joins(*,G) but not in prunes(S,G,rpt).
+abbrev pub inherited_olist : List (Record (List ℕ)) → List ℕ → List ℕ → ℕ → Bool
+inherited_olist records source group port =
     is_joined (state_on records port group Star) && not (is_pruned (state_on records port group (Rpt source)))
-wants_on records source group SourceTree port = is_joined (state_on records port group (Source source))
+
+-- The port is in immediate_olist(S,G): in joins(S,G).
+abbrev pub immediate_olist : List (Record (List ℕ)) → List ℕ → List ℕ → ℕ → Bool
+immediate_olist records source group port = is_joined (state_on records port group (Source source))
+
+-- The port wants the traffic of a source to a group, on the shared tree or on the source's tree.
+abbrev pub wants_on : List (Record (List ℕ)) → List ℕ → List ℕ → Tree → ℕ → Bool
+wants_on records source group Shared port = inherited_olist records source group port
+wants_on records source group SourceTree port = immediate_olist records source group port
 
 -- Some number below `count` passes the test.
 unfoldable pub some_below : ℕ → (ℕ → Bool) → Bool

@@ -1,7 +1,7 @@
 //! The form of what one port wants, in one pass over its records.
 
 ghost use Rattle.std.specs.Prelude.{◌≡◌, ◌||◌, ◌++◌, ◌∷◌, [], true, List, length, OnOk, IfOk};
-ghost use Rattle.pim_down.specs.Seen.{told_seen, what_seen};
+ghost use Rattle.pim_down.specs.Seen.{record_of_seen, what_seen};
 ghost use Rattle.pim_form.specs.NormalForm.{GroupForm, IsFormOf};
 ghost use Rattle.pim_form.specs.Rows.{exceptions_of, place_seen};
 ghost use Rattle.pim_form.specs.Drafts.{IsDraft, IsLast, Becomes};
@@ -9,7 +9,7 @@ ghost use Rattle.pim_form.specs.Collect.{fresh, with_exception, added, Takes, cl
 ghost use Rattle.pim_form.specs.Collect.{collected, of_port};
 
 use crate::form::NormalForm;
-use crate::place::Place;
+use crate::place::GroupPlace;
 use crate::wanting::{is_joined, is_pruned};
 use pim_addr::Family;
 use pim_down::{Ports, Record, What};
@@ -18,7 +18,7 @@ use std::alloc::{AllocError, Global};
 /// Appends a source to the last group, which has no exceptions yet.
 fn add_source<F: Family>(
     row: &mut Vec<F::Addr>,
-    group: &mut Place<F::Addr>,
+    group: &mut GroupPlace<F::Addr>,
     source: F::Addr,
 ) -> Result<(), AllocError>
     requires last { IsLast (length row.old.items) group.old }
@@ -39,7 +39,7 @@ fn add_source<F: Family>(
 /// Appends an exception to the last group, which has a star.
 fn add_exception<F: Family>(
     row: &mut Vec<F::Addr>,
-    group: &mut Place<F::Addr>,
+    group: &mut GroupPlace<F::Addr>,
     source: F::Addr,
 ) -> Result<(), AllocError>
     requires last { IsLast (length row.old.items) group.old }
@@ -59,14 +59,15 @@ fn add_exception<F: Family>(
 /// Adds a record to the last group. In key order (*,G) comes first, then (S,G), then (S,G,rpt).
 fn add<F: Family>(
     row: &mut Vec<F::Addr>,
-    group: &mut Place<F::Addr>,
+    group: &mut GroupPlace<F::Addr>,
     held: &Record<F::Addr>,
 ) -> Result<(), AllocError>
     requires last { IsLast (length row.old.items) group.old }
     requires takes { Takes (what_seen F.bytes_of held.now.key.what)
         (place_seen F.bytes_of row.old.items group.old) }
     ensures { OnOk result (Becomes F.bytes_of row.old.items row.new.items group.new
-        (added (told_seen F.bytes_of held.now) (place_seen F.bytes_of row.old.items group.old))) }
+        (added (record_of_seen F.bytes_of held.now)
+        (place_seen F.bytes_of row.old.items group.old))) }
 {
     let state = Some(held.machine.state);
     match held.key.what {
@@ -91,11 +92,11 @@ fn add<F: Family>(
 fn begin<F: Family>(
     row: &mut Vec<F::Addr>,
     held: &Record<F::Addr>,
-) -> Result<Place<F::Addr>, AllocError>
+) -> Result<GroupPlace<F::Addr>, AllocError>
     ensures { IfOk result (λ group. Becomes F.bytes_of row.old.items row.new.items group
-        (added (told_seen F.bytes_of held.now) (fresh (F.bytes_of held.now.key.group)))) }
+        (added (record_of_seen F.bytes_of held.now) (fresh (F.bytes_of held.now.key.group)))) }
 {
-    let mut group = Place {
+    let mut group = GroupPlace {
         group: held.key.group,
         starred: false,
         sources_start: row.len(),
@@ -109,8 +110,8 @@ fn begin<F: Family>(
 
 /// Ends a group: the form gets it if it has a star or a source.
 fn close<F: Family>(
-    places: &mut Vec<Place<F::Addr>>,
-    group: &Place<F::Addr>,
+    places: &mut Vec<GroupPlace<F::Addr>>,
+    group: &GroupPlace<F::Addr>,
 ) -> Result<(), AllocError>
     ensures { OnOk result ((row : List F.Addr) (form : List GroupForm)
         → IsLast (length row) group.now →
@@ -127,7 +128,7 @@ fn close<F: Family>(
 /// Appends the groups of one port to a form under construction, which has no group yet.
 fn push_port<F: Family>(
     row: &mut Vec<F::Addr>,
-    places: &mut Vec<Place<F::Addr>>,
+    places: &mut Vec<GroupPlace<F::Addr>>,
     ports: &Ports<F>,
     port: usize,
 ) -> Result<(), AllocError>
@@ -163,7 +164,7 @@ pub(crate) fn collect<F: Family>(
     ensures { IfOk result (λ form. IsFormOf F.family (wants_at port ports.now) form) }
 {
     ports.is_sound();
-    pim_down::keys_are_told_apart();
+    pim_down::laws::keys_are_distinct();
     let mut row = Vec::new(alloc);
     let mut places = Vec::new(alloc);
     push_port::<F>(&mut row, &mut places, ports, port)?;

@@ -5,10 +5,10 @@ ghost use Rattle.std.specs.Prelude.{IsTrue, IfOk, true};
 ghost use Rattle.pim_form.specs.Filling.{HasRoom, star_count, star_entries, place_sources};
 ghost use Rattle.pim_form.specs.Filling.{IsFilling, IsNext};
 ghost use Rattle.pim_form.specs.Plan.{IsPlan};
-ghost use Rattle.pim_form.specs.declared.place.Place.{Place};
+ghost use Rattle.pim_form.specs.declared.place.GroupPlace.{GroupPlace};
 
-use crate::place::Place;
-use crate::plan::Plan;
+use crate::place::GroupPlace;
+use crate::plan::PackingPlan;
 use crate::sizes::{MOST_GROUPS, message_size};
 use pim_addr::{Family, source_length};
 use std::alloc::{AllocError, Global};
@@ -17,7 +17,7 @@ use std::marker::Model;
 /// A plan under construction. Its last message is open.
 #[derive(Drop)]
 pub(crate) struct Filling<A> {
-    pieces: Vec<Place<A>>,
+    pieces: Vec<GroupPlace<A>>,
     ends: Vec<usize>,
     /// The number of groups of the open message.
     groups: usize,
@@ -53,7 +53,7 @@ impl<A: Copy> Filling<A> {
     }
 
     /// Puts a piece into the open message.
-    fn push(&mut self, piece: &Place<A>) -> Result<(), AllocError>
+    fn push(&mut self, piece: &GroupPlace<A>) -> Result<(), AllocError>
         requires sources { piece.now.sources_start ≤ piece.now.sources_end }
         requires exceptions { piece.now.exceptions_start ≤ piece.now.exceptions_end }
         requires groups { self.old.groups < 255 }
@@ -106,7 +106,7 @@ fn fitting<F: Family>(filling: &Filling<F::Addr>, budget: usize) -> usize
 }
 
 /// The number of entries of a star; none without a star.
-fn star_entries<A>(place: &Place<A>) -> usize
+fn star_entries<A>(place: &GroupPlace<A>) -> usize
     requires within { place.now.exceptions_start ≤ place.now.exceptions_end }
     requires exceptions { place.now.starred ≡ true →
         place.now.exceptions_end < place.now.exceptions_start + 65000 }
@@ -122,13 +122,14 @@ fn star_entries<A>(place: &Place<A>) -> usize
 fn cut<F: Family>(
     filling: &mut Filling<F::Addr>,
     budget: usize,
-    place: &Place<F::Addr>,
-) -> Result<Place<F::Addr>, AllocError>
+    place: &GroupPlace<F::Addr>,
+) -> Result<GroupPlace<F::Addr>, AllocError>
     requires next { IsNext F.bytes_of F.family budget place.now filling.old }
     requires budget { budget ≤ 65000 }
     requires long { HasRoom F.family budget (filling.old.groups + 1)
         (filling.old.entries + (star_entries place.now + place_sources place.now)) → ⊥ }
-    ensures cut { IfOk result (λ rest. (row : List F.Addr) (places left : List (Place F.Addr)) →
+    ensures cut { IfOk result
+        (λ rest. (row : List F.Addr) (places left : List (GroupPlace F.Addr)) →
         IsFilling F.bytes_of F.family budget row places (place.now ∷ left) filling.old →
         IsFilling F.bytes_of F.family budget row places (rest ∷ left) filling.new) }
     ensures falls { IfOk result (λ rest.
@@ -143,11 +144,11 @@ fn cut<F: Family>(
         return Ok(place);
     }
     let end = place.sources_start + (room - star);
-    let front = Place {
+    let front = GroupPlace {
         sources_end: end,
         ..place
     };
-    let rest = Place {
+    let rest = GroupPlace {
         starred: false,
         sources_start: end,
         exceptions_end: place.exceptions_start,
@@ -159,7 +160,7 @@ fn cut<F: Family>(
 }
 
 /// Whether a piece has at most `room` entries.
-fn has_at_most<A>(place: &Place<A>, room: usize) -> bool
+fn has_at_most<A>(place: &GroupPlace<A>, room: usize) -> bool
     requires sources { place.now.sources_start ≤ place.now.sources_end }
     requires within { place.now.exceptions_start ≤ place.now.exceptions_end }
     requires exceptions { place.now.starred ≡ true →
@@ -175,13 +176,14 @@ fn has_at_most<A>(place: &Place<A>, room: usize) -> bool
 fn fill<F: Family>(
     filling: &mut Filling<F::Addr>,
     budget: usize,
-    place: &Place<F::Addr>,
-) -> Result<Place<F::Addr>, AllocError>
+    place: &GroupPlace<F::Addr>,
+) -> Result<GroupPlace<F::Addr>, AllocError>
     requires next { IsNext F.bytes_of F.family budget place.now filling.old }
     requires budget { budget ≤ 65000 }
     requires long { HasRoom F.family budget (filling.old.groups + 1)
         (filling.old.entries + (star_entries place.now + place_sources place.now)) → ⊥ }
-    ensures filled { IfOk result (λ last. (row : List F.Addr) (places left : List (Place F.Addr)) →
+    ensures filled { IfOk result
+        (λ last. (row : List F.Addr) (places left : List (GroupPlace F.Addr)) →
         IsFilling F.bytes_of F.family budget row places (place.now ∷ left) filling.old →
         IsFilling F.bytes_of F.family budget row places (last ∷ left) filling.new) }
     ensures fits { IfOk result (λ last. HasRoom F.family budget (filling.new.groups + 1)
@@ -198,11 +200,11 @@ fn fill<F: Family>(
 pub(crate) fn add<F: Family>(
     filling: &mut Filling<F::Addr>,
     budget: usize,
-    place: &Place<F::Addr>,
+    place: &GroupPlace<F::Addr>,
 ) -> Result<(), AllocError>
     requires next { IsNext F.bytes_of F.family budget place.now filling.old }
     requires budget { budget ≤ 65000 }
-    ensures { IfOk result (λ _. (row : List F.Addr) (places left : List (Place F.Addr)) →
+    ensures { IfOk result (λ _. (row : List F.Addr) (places left : List (GroupPlace F.Addr)) →
         IsFilling F.bytes_of F.family budget row places (place.now ∷ left) filling.old →
         IsFilling F.bytes_of F.family budget row places left filling.new) }
 {
@@ -214,8 +216,11 @@ pub(crate) fn add<F: Family>(
 }
 
 /// Closes the open message, if it isn't empty, and returns the plan.
-pub(crate) fn finish<F: Family>(filling: Filling<F::Addr>) -> Result<Plan<F::Addr>, AllocError>
-    ensures { IfOk result (λ plan. (budget : ℕ) (row : List F.Addr) (places : List (Place F.Addr)) →
+pub(crate) fn finish<F: Family>(
+    filling: Filling<F::Addr>,
+) -> Result<PackingPlan<F::Addr>, AllocError>
+    ensures { IfOk result
+        (λ plan. (budget : ℕ) (row : List F.Addr) (places : List (GroupPlace F.Addr)) →
         IsFilling F.bytes_of F.family budget row places [] filling →
         IsPlan F.bytes_of F.family budget row places plan.pieces.items plan.ends.items) }
 {
@@ -223,7 +228,7 @@ pub(crate) fn finish<F: Family>(filling: Filling<F::Addr>) -> Result<Plan<F::Add
     if filling.groups != 0 {
         filling.close()?;
     }
-    Ok(Plan {
+    Ok(PackingPlan {
         pieces: filling.pieces,
         ends: filling.ends,
     })

@@ -9,7 +9,7 @@ ghost use Rattle.pim_form.specs.NormalForm.{IsNormal, form_wants};
 ghost use Rattle.pim_form.specs.Settled.{unwanted, group_in};
 
 use crate::groups::{GroupView, Groups, group_at};
-use crate::place::Place;
+use crate::place::GroupPlace;
 use crate::sorted::find_group;
 use crate::tree::Tree;
 use pim_addr::Family;
@@ -22,7 +22,7 @@ pub struct NormalForm<F: Family> {
     /// The addresses of all groups.
     pub(crate) row: Vec<F::Addr>,
     /// Where the addresses of each group are, in the order of groups.
-    pub(crate) places: Vec<Place<F::Addr>>,
+    pub(crate) places: Vec<GroupPlace<F::Addr>>,
 }
 
 impl<F: Family> Model for NormalForm<F> {

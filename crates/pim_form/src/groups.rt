@@ -7,7 +7,7 @@ ghost use Rattle.pim_form.specs.NormalForm.{IsNormalGroup, group_wants};
 ghost use Rattle.pim_form.specs.Rows.{IsWithin, AreKept, exceptions_of, place_seen, form_seen};
 ghost use Rattle.pim_form.specs.Rows.{IsCut};
 
-use crate::place::{Place, between};
+use crate::place::{GroupPlace, between};
 use crate::sorted::is_listed;
 use crate::tree::Tree;
 use pim_addr::Family;
@@ -92,7 +92,7 @@ impl<'a, F: Family> GroupView<'a, F> {
 /// The group at this place of the row.
 pub(crate) fn group_at<'a, F: Family>(
     row: &'a [F::Addr],
-    place: &Place<F::Addr>,
+    place: &GroupPlace<F::Addr>,
 ) -> GroupView<'a, F>
     requires within { IsWithin (length row.now) place.now }
     requires normal { IsNormalGroup F.family (place_seen F.bytes_of row.now place.now) }
@@ -110,7 +110,7 @@ pub(crate) fn group_at<'a, F: Family>(
 #[derive(Drop)]
 pub struct Groups<'a, F: Family> {
     row: &'a [F::Addr],
-    places: &'a [Place<F::Addr>],
+    places: &'a [GroupPlace<F::Addr>],
 }
 
 impl<'a, F: Family> Model for Groups<'a, F> {
@@ -127,7 +127,7 @@ impl<'a, F: Family> Model for Groups<'a, F> {
 
 impl<'a, F: Family> Groups<'a, F> {
     /// The groups at these places of the row.
-    pub(crate) fn new(row: &'a [F::Addr], places: &'a [Place<F::Addr>]) -> Self
+    pub(crate) fn new(row: &'a [F::Addr], places: &'a [GroupPlace<F::Addr>]) -> Self
         requires { AreKept F.bytes_of F.family row.now places.now }
         ensures { result ≡ form_seen F.bytes_of row.now places.now }
     {

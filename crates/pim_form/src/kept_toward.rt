@@ -7,14 +7,14 @@ ghost use Rattle.std.specs.Prelude.{◌≡◌, ◌∷◌, ◌++◌, [], true, fi
 ghost use Rattle.std.specs.Option.{is_some};
 ghost use Rattle.pim_addr.specs.Routes.{rp_of};
 ghost use Rattle.pim_form.specs.NormalForm.{IsFormOf, form_wants};
-ghost use Rattle.pim_form.specs.Toward.{via_in, toward, is_toward};
+ghost use Rattle.pim_form.specs.Toward.{via_of, toward, is_toward};
 ghost use Rattle.pim_form.specs.Wants.{wants};
 ghost use Rattle.pim_form.specs.KeptToward.{is_reached, star_toward, group_toward, has_some};
 ghost use Rattle.pim_form.specs.KeptToward.{IsStarPushed, IsPushed};
 
 use crate::form::NormalForm;
 use crate::groups::GroupView;
-use crate::place::Place;
+use crate::place::GroupPlace;
 use crate::toward::{is_neighbour, is_rp_reached};
 use pim_addr::{Family, Routes};
 use pim_down::Ports;
@@ -29,7 +29,7 @@ fn push_reached<F: Family>(
 ) -> Result<(), AllocError>
     ensures { OnOk result (row.new.items ≡ row.old.items
         ++ filter (λ source. is_reached (rp_of F.family routes.now)
-        (via_in F.family routes.now) (F.bytes_of upstream) (F.bytes_of source)) sources.now) }
+        (via_of F.family routes.now) (F.bytes_of upstream) (F.bytes_of source)) sources.now) }
 {
     for &source in sources {
         if is_neighbour::<F>(routes.via(source), upstream) {
@@ -42,7 +42,7 @@ fn push_reached<F: Family>(
 /// Whether the group has a star that is requested from this neighbour.
 fn keeps_star<F: Family>(this: &GroupView<'_, F>, routes: &Routes<F>, upstream: F::Addr) -> bool
     ensures { result
-        ≡ is_some (star_toward (rp_of F.family routes.now) (via_in F.family routes.now)
+        ≡ is_some (star_toward (rp_of F.family routes.now) (via_of F.family routes.now)
         (F.bytes_of upstream) this.now.group this.now.star) }
 {
     this.star() && is_rp_reached::<F>(routes, this.group(), upstream)
@@ -57,7 +57,7 @@ fn push_star<F: Family>(
     upstream: F::Addr,
 ) -> Result<bool, AllocError>
     ensures { IfOk result (IsStarPushed F.bytes_of (star_toward (rp_of F.family routes.now)
-        (via_in F.family routes.now) (F.bytes_of upstream) this.now.group this.now.star)
+        (via_of F.family routes.now) (F.bytes_of upstream) this.now.group this.now.star)
         row.old.items row.new.items) }
 {
     if !keeps_star::<F>(this, routes, upstream) {
@@ -73,17 +73,17 @@ fn push_group<F: Family>(
     this: &GroupView<'_, F>,
     routes: &Routes<F>,
     upstream: F::Addr,
-) -> Result<Place<F::Addr>, AllocError>
+) -> Result<GroupPlace<F::Addr>, AllocError>
     ensures { IfOk result
         (IsPushed F.bytes_of
-        (group_toward (rp_of F.family routes.now) (via_in F.family routes.now)
+        (group_toward (rp_of F.family routes.now) (via_of F.family routes.now)
         (F.bytes_of upstream) this.now) row.old.items row.new.items) }
 {
     let sources_start = row.len();
     push_reached::<F>(row, this.sources(), routes, upstream)?;
     let sources_end = row.len();
     let starred = push_star::<F>(row, this, routes, upstream)?;
-    Ok(Place {
+    Ok(GroupPlace {
         group: this.group(),
         starred,
         sources_start,
@@ -94,14 +94,17 @@ fn push_group<F: Family>(
 }
 
 /// Whether a place has a star or a source.
-fn has_some<A: Copy>(place: &Place<A>) -> bool
+fn has_some<A: Copy>(place: &GroupPlace<A>) -> bool
     ensures { result ≡ has_some place.now }
 {
     place.starred || place.sources_start < place.sources_end
 }
 
 /// Appends the place, if it has a star or a source.
-fn push_place<A: Copy>(places: &mut Vec<Place<A>>, place: Place<A>) -> Result<(), AllocError>
+fn push_place<A: Copy>(
+    places: &mut Vec<GroupPlace<A>>,
+    place: GroupPlace<A>,
+) -> Result<(), AllocError>
     ensures { OnOk result (places.new.items
         ≡ (if has_some place then places.old.items ++ place ∷ [] else places.old.items)) }
 {
@@ -120,9 +123,9 @@ fn kept_toward<F: Family>(
     upstream: F::Addr,
 ) -> Result<NormalForm<F>, AllocError>
     ensures meaning { IfOk result (λ form. IsFormOf F.family (toward (rp_of F.family routes.now)
-        (via_in F.family routes.now) (F.bytes_of upstream) (form_wants normal.now)) form) }
+        (via_of F.family routes.now) (F.bytes_of upstream) (form_wants normal.now)) form) }
     ensures only { IfOk result
-        (λ form. is_toward (rp_of F.family routes.now) (via_in F.family routes.now)
+        (λ form. is_toward (rp_of F.family routes.now) (via_of F.family routes.now)
         (F.bytes_of upstream) form ≡ true) }
 {
     normal.is_normal();
@@ -151,9 +154,9 @@ impl<F: Family> NormalForm<F> {
     ) -> Result<NormalForm<F>, AllocError>
         ensures meaning { IfOk result
             (λ form. IsFormOf F.family (toward (rp_of F.family routes.now)
-            (via_in F.family routes.now) (F.bytes_of upstream) (wants ports.now)) form) }
+            (via_of F.family routes.now) (F.bytes_of upstream) (wants ports.now)) form) }
         ensures only { IfOk result
-            (λ form. is_toward (rp_of F.family routes.now) (via_in F.family routes.now)
+            (λ form. is_toward (rp_of F.family routes.now) (via_of F.family routes.now)
             (F.bytes_of upstream) form ≡ true) }
     {
         let wanted = NormalForm::of(alloc, ports)?;

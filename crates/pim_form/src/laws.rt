@@ -2,11 +2,16 @@
 
 ghost use Rattle.pim_form.specs.Laws.{SealedMessageIsRead, SomeSourceIsOutside, OneNormalForm};
 ghost use Rattle.pim_form.specs.Laws.{OnePacking};
-ghost use Rattle.pim_form.specs.Laws.{MessagesTellTheForm, OneListOfMessages};
+ghost use Rattle.pim_form.specs.Laws.{MessagesCarryTheForm, OneListOfMessages};
 ghost use Rattle.pim_form.specs.Laws.{SameMessagesSameDemand, SizeIsLength};
-ghost use Rattle.pim_form.specs.Laws.{OneNeighbourIsAskedForAll, FirstRunIsTold};
+ghost use Rattle.pim_form.specs.Laws.{OneNeighbourGetsAll, FirstRunIsWritten};
 ghost use Rattle.pim_form.specs.Laws.{UnitsPackIfEachFits, MessagesAreThereUnlessTooBig};
-ghost use Rattle.pim_form.specs.Asked.{GroupsAreCounted};
+ghost use Rattle.pim_form.specs.Demanded.{GroupsAreCounted};
+
+pub use crate::toward_laws::{
+    form_of_demand_toward, one_row_has_one_neighbour, same_messages_same_demand_toward,
+    test_finds_the_neighbour,
+};
 
 /// A canonical message that is sealed for ALL-PIM-ROUTERS opens without a fault, and its body is
 /// read as that message (RFC 7761, 4.9 and 4.9.5). The law is in this crate because neither
@@ -15,7 +20,7 @@ pub fn sealed_message_is_read()
     ensures { SealedMessageIsRead }
 {
     pim_frame::sealed_opens();
-    pim_jp::canonical_is_read();
+    pim_jp::laws::canonical_is_read();
 }
 
 /// Outside of any 100,000 exceptions there is a valid source, in both families.
@@ -35,23 +40,23 @@ pub fn one_packing()
 
 /// A nonempty run at the front of the units that fits, and would not fit with the next unit, is the
 /// first run of any packing.
-pub fn first_run_is_told()
-    ensures { FirstRunIsTold }
+pub fn first_run_is_written()
+    ensures { FirstRunIsWritten }
 {}
 
 /// The size of a run that fits is the length of its message in bytes.
 pub fn size_is_length()
     ensures { SizeIsLength }
 {
-    pim_jp::canonical_has_its_length();
+    pim_jp::laws::canonical_has_its_length();
 }
 
 /// Normal forms with the same canonical messages by one writer are equal.
-pub fn messages_tell_the_form()
-    ensures { MessagesTellTheForm }
+pub fn messages_carry_the_form()
+    ensures { MessagesCarryTheForm }
 {
     pim_frame::sealed_opens();
-    pim_jp::canonical_is_read();
+    pim_jp::laws::canonical_is_read();
 }
 
 /// A form has at most one list of canonical messages by a writer.
@@ -68,13 +73,13 @@ pub fn same_messages_same_demand()
 {
     pim_frame::one_checksum();
     pim_frame::sealed_opens();
-    pim_jp::canonical_is_read();
+    pim_jp::laws::canonical_is_read();
 }
 
 /// If one neighbour reaches all addresses, and each group wanted on the shared tree has an RP, the
 /// whole demand is requested from that neighbour.
-pub fn one_neighbour_is_asked_for_all()
-    ensures { OneNeighbourIsAskedForAll }
+pub fn one_neighbour_gets_all()
+    ensures { OneNeighbourGetsAll }
 {}
 
 /// A part of a form, ascending and without empty groups, has as many groups as its units belong to.

@@ -8,7 +8,7 @@ ghost use Rattle.pim_form.specs.Merge.{united, common, both_stars, both_groups, 
 
 use crate::form::NormalForm;
 use crate::groups::{GroupView, Groups, group_at};
-use crate::place::Place;
+use crate::place::GroupPlace;
 use pim_addr::Family;
 use std::alloc::{AllocError, Global};
 use std::cmp::Ordering;
@@ -27,7 +27,8 @@ fn push_united<F: Family>(
     other: &[F::Addr],
 ) -> Result<(), AllocError>
     ensures { OnOk result (map F.bytes_of row.new.items ≡
-        map F.bytes_of row.old.items ++ united (map F.bytes_of one.now) (map F.bytes_of other.now)) }
+        map F.bytes_of row.old.items
+        ++ united (map F.bytes_of one.now) (map F.bytes_of other.now)) }
 {
     let (mut left, mut right) = (one, other);
     while let Some((a, left_behind)) = left.split_first() {
@@ -63,7 +64,8 @@ fn push_common<F: Family>(
     requires one { AreAscending (map F.bytes_of one.now) }
     requires other { AreAscending (map F.bytes_of other.now) }
     ensures { OnOk result (map F.bytes_of row.new.items ≡
-        map F.bytes_of row.old.items ++ common (map F.bytes_of one.now) (map F.bytes_of other.now)) }
+        map F.bytes_of row.old.items
+        ++ common (map F.bytes_of one.now) (map F.bytes_of other.now)) }
 {
     let (mut left, mut right) = (one, other);
     while let Some((a, left_behind)) = left.split_first() {
@@ -105,7 +107,7 @@ fn push_exceptions<F: Family>(
 /// Appends a group to a form under construction.
 fn push_group<F: Family>(
     row: &mut Vec<F::Addr>,
-    places: &mut Vec<Place<F::Addr>>,
+    places: &mut Vec<GroupPlace<F::Addr>>,
     group: &GroupView<'_, F>,
 ) -> Result<(), AllocError>
     ensures { OnOk result ((form : List GroupForm)
@@ -116,7 +118,7 @@ fn push_group<F: Family>(
     append(row, group.sources())?;
     let sources_end = row.len();
     append(row, group.exceptions())?;
-    places.push(Place {
+    places.push(GroupPlace {
         group: group.group(),
         starred: group.star(),
         sources_start,
@@ -130,7 +132,7 @@ fn push_group<F: Family>(
 /// Appends the merge of two groups of the same address.
 fn push_both<F: Family>(
     row: &mut Vec<F::Addr>,
-    places: &mut Vec<Place<F::Addr>>,
+    places: &mut Vec<GroupPlace<F::Addr>>,
     one: &GroupView<'_, F>,
     other: &GroupView<'_, F>,
 ) -> Result<(), AllocError>
@@ -143,7 +145,7 @@ fn push_both<F: Family>(
     push_united::<F>(row, one.sources(), other.sources())?;
     let sources_end = row.len();
     push_exceptions::<F>(row, one, other)?;
-    places.push(Place {
+    places.push(GroupPlace {
         group: one.group(),
         starred: one.star() | other.star(),
         sources_start,
@@ -157,7 +159,7 @@ fn push_both<F: Family>(
 /// Appends these groups to a form under construction.
 fn push_groups<F: Family>(
     row: &mut Vec<F::Addr>,
-    places: &mut Vec<Place<F::Addr>>,
+    places: &mut Vec<GroupPlace<F::Addr>>,
     groups: Groups<'_, F>,
 ) -> Result<(), AllocError>
     ensures { OnOk result ((form : List GroupForm)
@@ -173,7 +175,7 @@ fn push_groups<F: Family>(
 /// Appends the merge of two forms to a form under construction, which has no group yet.
 fn push_merged<F: Family>(
     row: &mut Vec<F::Addr>,
-    places: &mut Vec<Place<F::Addr>>,
+    places: &mut Vec<GroupPlace<F::Addr>>,
     one: &NormalForm<F>,
     other: &NormalForm<F>,
 ) -> Result<(), AllocError>
@@ -181,8 +183,8 @@ fn push_merged<F: Family>(
     ensures { OnOk result
         (IsDraft F.bytes_of row.new.items places.new.items (merged one.now other.now)) }
 {
-    let mut left: &[Place<F::Addr>] = &one.places;
-    let mut right: &[Place<F::Addr>] = &other.places;
+    let mut left: &[GroupPlace<F::Addr>] = &one.places;
+    let mut right: &[GroupPlace<F::Addr>] = &other.places;
     while let Some((a, left_behind)) = left.split_first() {
         let Some((b, right_behind)) = right.split_first() else {
             break;

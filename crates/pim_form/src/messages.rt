@@ -4,13 +4,13 @@ ghost use Rattle.std.specs.Prelude.{IsTrue, ◌↔◌, ◌≡◌, ◌<◌, true,
 ghost use Rattle.std.specs.Prelude.{OnOk, OnErr};
 ghost use Rattle.pim_addr.specs.Routes.{rp_of};
 ghost use Rattle.pim_form.specs.Added.{IsAdded};
-ghost use Rattle.pim_form.specs.Blocks.{told_bytes};
+ghost use Rattle.pim_form.specs.Blocks.{written_bytes};
 ghost use Rattle.pim_form.specs.Messages.{HaveRps};
 ghost use Rattle.pim_form.specs.Packing.{fits};
 ghost use Rattle.pim_form.specs.Plan.{run_of};
 ghost use Rattle.pim_form.specs.Rows.{IsKept, form_seen};
 
-use crate::place::Place;
+use crate::place::GroupPlace;
 use crate::writer::Writer;
 use crate::written::append_message;
 use pim_addr::{Family, Routes};
@@ -72,7 +72,7 @@ impl Messages {
         writer: &Writer<F>,
         routes: &Routes<F>,
         row: &[F::Addr],
-        pieces: &[Place<F::Addr>],
+        pieces: &[GroupPlace<F::Addr>],
     ) -> Result<(), AllocError>
         requires kept { IsKept F.bytes_of F.family row.now pieces.now }
         requires rps { HaveRps F.family (rp_of F.family routes.now)
@@ -114,7 +114,7 @@ impl Messages {
     /// Returns the bytes of one message, PIM header included. Messages are numbered from 0; from
     /// `count()` on there is none.
     pub fn get(&self, index: usize) -> Option<&[u8]>
-        ensures { told_bytes result ≡ slice_get self.now index }
+        ensures { written_bytes result ≡ slice_get self.now index }
     {
         if index >= self.spans.len() {
             return None;

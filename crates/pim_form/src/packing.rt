@@ -7,19 +7,19 @@
 ghost use Rattle.std.specs.Prelude.{◌≡◌, ◌≢◌, true, None, Err, length, map, option_map, IfOk};
 ghost use Rattle.std.specs.List.{AllByRecursion};
 ghost use Rattle.pim_addr.specs.Routes.{rp_of};
-ghost use Rattle.pim_form.specs.Messages.{HaveRps, TellRuns, AreCanonical};
+ghost use Rattle.pim_form.specs.Messages.{HaveRps, CarryRuns, AreCanonical};
 ghost use Rattle.pim_form.specs.Parts.{IsFitting, PartHasRps, runs_size};
 ghost use Rattle.pim_form.specs.Plan.{AreEnds, parts_from, run_of};
-ghost use Rattle.pim_form.specs.Refused.{told_too_big};
+ghost use Rattle.pim_form.specs.Refused.{group_too_big};
 ghost use Rattle.pim_form.specs.TooBig.{too_big};
-ghost use Rattle.pim_form.specs.Toward.{via_in, is_toward};
+ghost use Rattle.pim_form.specs.Toward.{via_of, is_toward};
 
 use crate::fault::FormFault;
 use crate::form::NormalForm;
 use crate::groups::Groups;
 use crate::messages::Messages;
-use crate::place::{Place, between};
-use crate::plan::{Plan, plan_messages};
+use crate::place::{GroupPlace, between};
+use crate::plan::{PackingPlan, plan_messages};
 use crate::sizes::too_big;
 use crate::writer::Writer;
 use crate::written::message_length;
@@ -30,13 +30,14 @@ use std::alloc::{AllocError, Global};
 fn total_length<F: Family>(
     writer: &Writer<F>,
     row: &[F::Addr],
-    plan: &Plan<F::Addr>,
+    plan: &PackingPlan<F::Addr>,
 ) -> Result<usize, AllocError>
     requires ends { AreEnds 0 (length plan.now.pieces.items) plan.now.ends.items }
     requires parts { AllByRecursion (IsFitting F.bytes_of F.family writer.now.budget row.now)
         (parts_from 0 plan.now.ends.items plan.now.pieces.items) }
     ensures { IfOk result (λ total. total ≡ runs_size F.family
-        (map (run_of F.bytes_of row.now) (parts_from 0 plan.now.ends.items plan.now.pieces.items))) }
+        (map (run_of F.bytes_of row.now)
+        (parts_from 0 plan.now.ends.items plan.now.pieces.items))) }
 {
     writer.is_writing();
     let mut total: usize = 0;
@@ -54,12 +55,12 @@ fn total_length<F: Family>(
 }
 
 /// The messages of a plan, in one block.
-fn told_plan<F: Family>(
+fn write_plan<F: Family>(
     alloc: Global,
     writer: &Writer<F>,
     routes: &Routes<F>,
     row: &[F::Addr],
-    plan: &Plan<F::Addr>,
+    plan: &PackingPlan<F::Addr>,
 ) -> Result<Messages, AllocError>
     requires ends { AreEnds 0 (length plan.now.pieces.items) plan.now.ends.items }
     requires parts { AllByRecursion (IsFitting F.bytes_of F.family writer.now.budget row.now)
@@ -67,7 +68,7 @@ fn told_plan<F: Family>(
     requires rps { AllByRecursion
         (PartHasRps F.bytes_of F.family (rp_of F.family routes.now) row.now)
         (parts_from 0 plan.now.ends.items plan.now.pieces.items) }
-    ensures { IfOk result (λ messages. TellRuns F.family writer.now (rp_of F.family routes.now)
+    ensures { IfOk result (λ messages. CarryRuns F.family writer.now (rp_of F.family routes.now)
         (map (run_of F.bytes_of row.now) (parts_from 0 plan.now.ends.items plan.now.pieces.items))
         messages) }
 {
@@ -99,7 +100,7 @@ fn packed<F: Family>(
 {
     writer.is_writing();
     let plan = plan_messages::<F>(alloc, &normal.row, &normal.places, writer.budget())?;
-    told_plan::<F>(alloc, writer, routes, &normal.row, &plan)
+    write_plan::<F>(alloc, writer, routes, &normal.row, &plan)
 }
 
 /// Returns the canonical messages that request a form from the writer's upstream neighbour
@@ -118,13 +119,13 @@ pub fn pack<F: Family>(
     writer: &Writer<F>,
     routes: &Routes<F>,
 ) -> Result<Messages, FormFault<F>>
-    requires { is_toward (rp_of F.family routes.now) (via_in F.family routes.now)
+    requires { is_toward (rp_of F.family routes.now) (via_of F.family routes.now)
         writer.now.upstream normal.now
         ≡ true }
     ensures canonical { IfOk result
         (λ messages. AreCanonical F.family writer.now (rp_of F.family routes.now) normal.now
         messages) }
-    ensures too_big { option_map F.bytes_of (told_too_big result)
+    ensures too_big { option_map F.bytes_of (group_too_big result)
         ≡ too_big F.family writer.now.budget normal.now }
     ensures not_tables { result ≢ Err FormFault.Tables }
 {

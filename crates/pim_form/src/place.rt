@@ -5,7 +5,7 @@ ghost use Rattle.pim_form.specs.Rows.{between};
 
 /// A group of a form, or a piece of one, and where its addresses are in the form's row.
 #[derive(Clone, Copy)]
-pub(crate) struct Place<A> {
+pub(crate) struct GroupPlace<A> {
     /// The group address.
     pub(crate) group: A,
     /// Whether it has a star.

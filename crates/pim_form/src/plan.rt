@@ -6,15 +6,15 @@ ghost use Rattle.pim_form.specs.TooBig.{too_big};
 ghost use Rattle.pim_form.specs.Plan.{IsPlan};
 
 use crate::filling::{Filling, add, finish};
-use crate::place::Place;
+use crate::place::GroupPlace;
 use pim_addr::Family;
 use std::alloc::{AllocError, Global};
 
 /// The pieces of the groups of a form, in order, and where the pieces of each message end.
 #[derive(Drop)]
-pub(crate) struct Plan<A> {
+pub(crate) struct PackingPlan<A> {
     /// Where each piece is in the form's row.
-    pub(crate) pieces: Vec<Place<A>>,
+    pub(crate) pieces: Vec<GroupPlace<A>>,
     /// For each message, the number of pieces up to its end.
     pub(crate) ends: Vec<usize>,
 }
@@ -24,9 +24,9 @@ pub(crate) struct Plan<A> {
 pub(crate) fn plan_messages<F: Family>(
     alloc: Global,
     row: &[F::Addr],
-    places: &[Place<F::Addr>],
+    places: &[GroupPlace<F::Addr>],
     budget: usize,
-) -> Result<Plan<F::Addr>, AllocError>
+) -> Result<PackingPlan<F::Addr>, AllocError>
     requires kept { IsKept F.bytes_of F.family row.now places.now }
     requires least { 70 ≤ budget }
     requires most { budget ≤ 65000 }

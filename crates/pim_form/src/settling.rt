@@ -6,7 +6,7 @@
 ghost use Rattle.std.specs.Prelude.{◌≡◌, ◌↔◌, IsTrue, map};
 ghost use Rattle.std.specs.List.{filter, list_all};
 ghost use Rattle.pim_down.specs.Records.{is_on};
-ghost use Rattle.pim_down.specs.Seen.{told_seen, what_seen};
+ghost use Rattle.pim_down.specs.Seen.{record_of_seen, what_seen};
 ghost use Rattle.pim_form.specs.Settled.{is_in_join, joins_if, rpt_settles};
 ghost use Rattle.pim_form.specs.Settled.{machine_settles, record_settles, is_joined_at};
 ghost use Rattle.pim_form.specs.Settled.{is_pruned_at, group_settles};
@@ -27,10 +27,10 @@ fn is_in_join(state: Option<State>) -> bool
 }
 
 /// Whether a (*,G) or (S,G) machine is in Join if the form requests it, else in NoInfo.
-fn joins_if(asked: bool, state: Option<State>) -> bool
-    ensures { result ≡ joins_if asked state }
+fn joins_if(demanded: bool, state: Option<State>) -> bool
+    ensures { result ≡ joins_if demanded state }
 {
-    if asked {
+    if demanded {
         is_in_join(state)
     } else {
         state.is_none()
@@ -70,7 +70,7 @@ fn machine_settles<F: Family>(
 
 /// Whether the state of a record's machine is one that the form allows.
 fn record_settles<F: Family>(normal: &NormalForm<F>, held: &Record<F::Addr>) -> bool
-    ensures { result ≡ record_settles normal.now (told_seen F.bytes_of held.now) }
+    ensures { result ≡ record_settles normal.now (record_of_seen F.bytes_of held.now) }
 {
     let state = Some(held.machine.state);
     match normal.group(held.key.group) {
@@ -153,6 +153,6 @@ pub fn settled<F: Family>(ports: &Ports<F>, port: usize, normal: &NormalForm<F>)
 {
     ports.is_sound();
     normal.is_normal();
-    pim_down::keys_are_told_apart();
+    pim_down::laws::keys_are_distinct();
     all_held_settle::<F>(ports, port, normal) && all_groups_settle::<F>(ports, port, normal)
 }

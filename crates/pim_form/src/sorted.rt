@@ -4,7 +4,7 @@ ghost use Rattle.std.specs.Prelude.{◌≡◌, map};
 ghost use Rattle.pim_form.specs.NormalForm.{AreAscending, is_listed};
 ghost use Rattle.pim_form.specs.Rows.{place_group, Finds};
 
-use crate::place::Place;
+use crate::place::GroupPlace;
 use pim_addr::Family;
 
 /// Whether the address is in this strictly ascending list.
@@ -19,7 +19,7 @@ pub(crate) fn is_listed<F: Family>(sorted: &[F::Addr], address: F::Addr) -> bool
 }
 
 /// The index of a group among these places, whose groups are strictly ascending.
-pub(crate) fn find_group<F: Family>(places: &[Place<F::Addr>], group: F::Addr) -> Option<usize>
+pub(crate) fn find_group<F: Family>(places: &[GroupPlace<F::Addr>], group: F::Addr) -> Option<usize>
     requires { AreAscending (map (place_group F.bytes_of) places.now) }
     ensures { Finds F.bytes_of (F.bytes_of group) places.now result }
 {

@@ -19,12 +19,12 @@ ghost use Rattle.pim_form.specs.Packing.{fits};
 ghost use Rattle.pim_form.specs.Rows.{IsKept, form_seen};
 ghost use Rattle.pim_form.specs.Plan.{run_of};
 ghost use Rattle.pim_form.specs.Added.{IsAppended};
-ghost use Rattle.pim_form.specs.Messages.{IsRpOf, HaveRps, star_entries, told_set};
-ghost use Rattle.pim_form.specs.Messages.{told_message};
+ghost use Rattle.pim_form.specs.Messages.{IsRpOf, HaveRps, star_entries, written_set};
+ghost use Rattle.pim_form.specs.Messages.{written_message};
 ghost use Rattle.pim_form.specs.Entries.{canonical_source_entry, canonical_rpt_entry};
 
 use crate::groups::{GroupView, Groups};
-use crate::place::Place;
+use crate::place::GroupPlace;
 use crate::sizes::message_size;
 use crate::writer::Writer;
 use pim_addr::{Family, Routes, group_length, source_length};
@@ -97,15 +97,17 @@ fn write_star<F: Family>(routes: &Routes<F>, group: &GroupView<'_, F>, bytes: &m
 /// The number of joined entries of a group: its star and its sources.
 fn joined_count<F: Family>(group: &GroupView<'_, F>) -> usize
     requires { length group.now.sources < 2 ^ 16 }
-    ensures { (rps : List ℕ → Option (List ℕ)) → IsRpOf F.family (rps group.now.group) group.now.star
-        → result ≡ length (told_set rps group.now).joined }
+    ensures { (rps : List ℕ → Option (List ℕ))
+        → IsRpOf F.family (rps group.now.group) group.now.star
+        → result ≡ length (written_set rps group.now).joined }
 {
     usize::from(group.star()) + group.sources().len()
 }
 
 /// The number of pruned entries of a group: its exceptions.
 fn pruned_count<F: Family>(group: &GroupView<'_, F>) -> usize
-    ensures { (rps : List ℕ → Option (List ℕ)) → result ≡ length (told_set rps group.now).pruned }
+    ensures { (rps : List ℕ → Option (List ℕ)) → result
+        ≡ length (written_set rps group.now).pruned }
 {
     group.exceptions().len()
 }
@@ -113,13 +115,13 @@ fn pruned_count<F: Family>(group: &GroupView<'_, F>) -> usize
 /// Writes the set of a group: it joins the star and then the sources, and prunes the exceptions.
 fn write_set<F: Family>(routes: &Routes<F>, group: &GroupView<'_, F>, bytes: &mut [u8])
     requires rp { IsRpOf F.family (rp_of F.family routes.now group.now.group) group.now.star }
-    requires joined { length (told_set (rp_of F.family routes.now) group.now).joined < 2 ^ 16 }
-    requires pruned { length (told_set (rp_of F.family routes.now) group.now).pruned < 2 ^ 16 }
+    requires joined { length (written_set (rp_of F.family routes.now) group.now).joined < 2 ^ 16 }
+    requires pruned { length (written_set (rp_of F.family routes.now) group.now).pruned < 2 ^ 16 }
     requires length { length bytes.old ≡ canonical_set_length F.family
-        (length (told_set (rp_of F.family routes.now) group.now).joined)
-        (length (told_set (rp_of F.family routes.now) group.now).pruned) }
+        (length (written_set (rp_of F.family routes.now) group.now).joined)
+        (length (written_set (rp_of F.family routes.now) group.now).pruned) }
     ensures { bytes.new
-        ≡ canonical_set F.family (told_set (rp_of F.family routes.now) group.now) }
+        ≡ canonical_set F.family (written_set (rp_of F.family routes.now) group.now) }
 {
     let sources = group.sources();
     let exceptions = group.exceptions();
@@ -142,16 +144,16 @@ fn write_set_at<F: Family>(
     bytes: &mut [u8],
 ) -> usize
     requires rp { IsRpOf F.family (rp_of F.family routes.now group.now.group) group.now.star }
-    requires set { IsMessageSet F.family (told_set (rp_of F.family routes.now) group.now) }
+    requires set { IsMessageSet F.family (written_set (rp_of F.family routes.now) group.now) }
     requires room { at + canonical_set_length F.family
-        (length (told_set (rp_of F.family routes.now) group.now).joined)
-        (length (told_set (rp_of F.family routes.now) group.now).pruned) ≤ length bytes.old }
+        (length (written_set (rp_of F.family routes.now) group.now).joined)
+        (length (written_set (rp_of F.family routes.now) group.now).pruned) ≤ length bytes.old }
     ensures end { result ≡ at + canonical_set_length F.family
-        (length (told_set (rp_of F.family routes.now) group.now).joined)
-        (length (told_set (rp_of F.family routes.now) group.now).pruned) }
+        (length (written_set (rp_of F.family routes.now) group.now).joined)
+        (length (written_set (rp_of F.family routes.now) group.now).pruned) }
     ensures front { take result bytes.new
         ≡ take at bytes.old
-        ++ canonical_set F.family (told_set (rp_of F.family routes.now) group.now) }
+        ++ canonical_set F.family (written_set (rp_of F.family routes.now) group.now) }
     ensures length { length bytes.new ≡ length bytes.old }
 {
     let length = set_length::<F>(joined_count(group) as u16, pruned_count(group) as u16);
@@ -165,12 +167,12 @@ fn write_set_at<F: Family>(
 fn write_sets<F: Family>(routes: &Routes<F>, groups: Groups<'_, F>, bytes: &mut [u8])
     requires rps { HaveRps F.family (rp_of F.family routes.now) groups }
     requires sets { AllByRecursion (IsMessageSet F.family)
-        (map (told_set (rp_of F.family routes.now)) groups) }
+        (map (written_set (rp_of F.family routes.now)) groups) }
     requires length { length bytes.old
-        ≡ canonical_sets_length F.family (map (told_set (rp_of F.family routes.now)) groups) }
+        ≡ canonical_sets_length F.family (map (written_set (rp_of F.family routes.now)) groups) }
     ensures { bytes.new
         ≡ flat_map (canonical_set F.family)
-        (map (told_set (rp_of F.family routes.now)) groups.entry) }
+        (map (written_set (rp_of F.family routes.now)) groups.entry) }
 {
     let mut at = 0;
     for group in groups {
@@ -191,7 +193,7 @@ pub(crate) fn write_message<F: Family>(
     requires fitting { fits F.family writer.now.budget (units_of part) ≡ true }
     requires length { length bytes.old ≡ run_size F.family (units_of part) }
     ensures { IsSealed F.family writer.now.own (all_routers F.family) JoinPrune
-        (canonical F.family (told_message writer.now (rp_of F.family routes.now) part.entry))
+        (canonical F.family (written_message writer.now (rp_of F.family routes.now) part.entry))
         bytes.new }
 {
     writer.is_writing();
@@ -241,7 +243,7 @@ pub(crate) fn append_message<F: Family>(
     writer: &Writer<F>,
     routes: &Routes<F>,
     row: &[F::Addr],
-    pieces: &[Place<F::Addr>],
+    pieces: &[GroupPlace<F::Addr>],
     bytes: &mut Vec<u8>,
 ) -> Result<(), AllocError>
     requires kept { IsKept F.bytes_of F.family row.now pieces.now }

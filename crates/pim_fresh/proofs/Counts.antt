@@ -19,8 +19,8 @@ use Rattle.pim_down.specs.Records.{IsBelow, IsAscending, machine_at, count_on}
 use Rattle.pim_down.specs.Tables.{machine_in}
 use Rattle.pim_down.specs.Hearing.{Event, key_of, creates, is_new, count_new, needed}
 use Rattle.pim_down.specs.Time.{Downstream}
-use Rattle.pim_down.specs.Laws.{KeysAreToldApart}
-use Rattle.pim_fresh.specs.Exchange.{Exchange, TellsUnitsOnce, is_named, AreUnits}
+use Rattle.pim_down.specs.Laws.{KeysAreDistinct}
+use Rattle.pim_fresh.specs.Exchange.{Exchange, HasUnitsOnce, has_unit_of, AreUnits}
 use Rattle.pim_fresh.specs.Deliveries.{Delivery, last_of, is_delivered}
 use Rattle.pim_fresh.specs.Expected.{Span, span_of, time_left, is_waiting, unit_of, units_of}
 use Rattle.pim_fresh.specs.Laws.{HoldsTheUnits, NeedsTheUnits}
@@ -64,7 +64,7 @@ last_delivered message last (delivery ∷ earlier) e =
       | false ↦ λ f. last_delivered message last earlier f
     ] e
 
-module _ (keys : KeysAreToldApart) where
+module _ (keys : KeysAreDistinct) where
   symmetric : (a b : Key (List ℕ)) → same_key a b ≡ same_key b a
   symmetric a b = by (same_key a b) (same_key b a) refl refl
     where
@@ -81,58 +81,58 @@ module _ (keys : KeysAreToldApart) where
     congr = λ a b c e. ap (λ (k : Key (List ℕ)). same_key k c) ((keys a b).1.0 e);
   }
 
-  member_named : (port : ℕ) (key : Key (List ℕ)) (events : List Event) → is_member same_key (map (key_of port) events) key ≡ is_named port key events
+  member_named : (port : ℕ) (key : Key (List ℕ)) (events : List Event) → is_member same_key (map (key_of port) events) key ≡ has_unit_of port key events
   member_named port key [] = refl
   member_named port key (event ∷ events) =
       ap (λ b. b || is_member same_key (map (key_of port) events) key) (symmetric key (key_of port event))
       ∙ ap (λ b. same_key (key_of port event) key || b) (member_named port key events)
 
-  absent_apart : (port : ℕ) (key : Key (List ℕ)) (events : List Event) → is_named port key events ≡ false → AllByRecursion (λ other. same_key key other ≡ false) (map (key_of port) events)
+  absent_apart : (port : ℕ) (key : Key (List ℕ)) (events : List Event) → has_unit_of port key events ≡ false → AllByRecursion (λ other. same_key key other ≡ false) (map (key_of port) events)
   absent_apart port key [] e = tt
   absent_apart port key (event ∷ events) e =
-      let parts = or_false (same_key (key_of port event) key) (is_named port key events) e in
+      let parts = or_false (same_key (key_of port event) key) (has_unit_of port key events) e in
       (symmetric key (key_of port event) ∙ parts.0, absent_apart port key events parts.1)
 
-  named_append : (port : ℕ) (key : Key (List ℕ)) (front back : List Event) → is_named port key (front ++ back) ≡ (is_named port key front || is_named port key back)
+  named_append : (port : ℕ) (key : Key (List ℕ)) (front back : List Event) → has_unit_of port key (front ++ back) ≡ (has_unit_of port key front || has_unit_of port key back)
   named_append port key front back = list_any-append (λ (event : Event). same_key (key_of port event) key) front back
 
   none_of : (a b : Bool) → a ≡ false → b ≡ false → (a || b) ≡ false
   none_of true b p q = p
   none_of false b p q = q
 
-  distinct_append : (port : ℕ) (before events more : List Event) → AreUnits port before events → IsDistinct same_key (map (key_of port) more) → ((key : Key (List ℕ)) → is_named port key events ≡ true → is_named port key more ≡ false) → IsDistinct same_key (map (key_of port) (events ++ more))
+  distinct_append : (port : ℕ) (before events more : List Event) → AreUnits port before events → IsDistinct same_key (map (key_of port) more) → ((key : Key (List ℕ)) → has_unit_of port key events ≡ true → has_unit_of port key more ≡ false) → IsDistinct same_key (map (key_of port) (events ++ more))
   unfolding AreUnits IsDistinct
   distinct_append port before [] more units distinct others = distinct
   distinct_append port before (event ∷ events) more units distinct others =
-      let own : is_named port (key_of port event) (event ∷ before) ≡ true = ap (λ b. b || is_named port (key_of port event) before) (same_itself keys port (key_of port event)) in
-      let here : is_named port (key_of port event) events ≡ false = apart keys port (key_of port event) (event ∷ before) events units.3 own in
-      let there : is_named port (key_of port event) more ≡ false = others (key_of port event) (ap (λ b. b || is_named port (key_of port event) events) (same_itself keys port (key_of port event))) in (
-        absent_apart port (key_of port event) (events ++ more) (named_append port (key_of port event) events more ∙ none_of (is_named port (key_of port event) events) (is_named port (key_of port event) more) here there),
-        distinct_append port (event ∷ before) events more units.3 distinct (λ key named. others key (ap (λ b. same_key (key_of port event) key || b) named ∙ or_true (same_key (key_of port event) key))),
+      let own : has_unit_of port (key_of port event) (event ∷ before) ≡ true = ap (λ b. b || has_unit_of port (key_of port event) before) (same_itself keys port (key_of port event)) in
+      let here : has_unit_of port (key_of port event) events ≡ false = apart keys port (key_of port event) (event ∷ before) events units.3 own in
+      let there : has_unit_of port (key_of port event) more ≡ false = others (key_of port event) (ap (λ b. b || has_unit_of port (key_of port event) events) (same_itself keys port (key_of port event))) in (
+        absent_apart port (key_of port event) (events ++ more) (named_append port (key_of port event) events more ∙ none_of (has_unit_of port (key_of port event) events) (has_unit_of port (key_of port event) more) here there),
+        distinct_append port (event ∷ before) events more units.3 distinct (λ key has_unit. others key (ap (λ b. same_key (key_of port event) key || b) has_unit ∙ or_true (same_key (key_of port event) key))),
       )
 
-  module _ (exchange : Exchange) (tells : TellsUnitsOnce exchange) where
+  module _ (exchange : Exchange) (tells : HasUnitsOnce exchange) where
     -- what is named by a message that didn't come has no span
-    no_span_yet : (message : ℕ) (deliveries : List Delivery) (key : Key (List ℕ)) → is_delivered message deliveries ≡ false → is_named exchange.port key (exchange.messages message) ≡ true → is_some (span_of exchange key deliveries) ≡ false
-    no_span_yet message deliveries key d named = by (span_of exchange key deliveries) refl
+    no_span_yet : (message : ℕ) (deliveries : List Delivery) (key : Key (List ℕ)) → is_delivered message deliveries ≡ false → has_unit_of exchange.port key (exchange.messages message) ≡ true → is_some (span_of exchange key deliveries) ≡ false
+    no_span_yet message deliveries key d has_unit = by (span_of exchange key deliveries) refl
       where
         by : (o : Option Span) → span_of exchange key deliveries ≡ o → is_some o ≡ false
         by None e = refl
         by (Some span) e =
             let that = comes exchange key deliveries span e in
-            let same = tells.once that.message message key that.named named in
+            let same = tells.once that.message message key that.has_unit has_unit in
             absurd (false≢true (sym d ∙ subst (λ (i : ℕ). is_delivered i deliveries ≡ true) same (last_delivered that.message span.last deliveries that.last)))
 
-    named_units : (key : Key (List ℕ)) (deliveries : List Delivery) → is_named exchange.port key (units_of exchange deliveries) ≡ is_some (span_of exchange key deliveries)
+    named_units : (key : Key (List ℕ)) (deliveries : List Delivery) → has_unit_of exchange.port key (units_of exchange deliveries) ≡ is_some (span_of exchange key deliveries)
     unfolding units_of span_of
     named_units key [] = refl
     named_units key (delivery ∷ earlier) =
         named_append exchange.port key (cond (is_delivered delivery.message earlier) [] (exchange.messages delivery.message)) (units_of exchange earlier)
-        ∙ ap (λ b. is_named exchange.port key (cond (is_delivered delivery.message earlier) [] (exchange.messages delivery.message)) || b) (named_units key earlier)
+        ∙ ap (λ b. has_unit_of exchange.port key (cond (is_delivered delivery.message earlier) [] (exchange.messages delivery.message)) || b) (named_units key earlier)
         ∙ by (names exchange key delivery) refl (is_delivered delivery.message earlier) refl
       where
         by : (n : Bool) → names exchange key delivery ≡ n → (d : Bool) → is_delivered delivery.message earlier ≡ d →
-            (is_named exchange.port key (cond d [] (exchange.messages delivery.message)) || is_some (span_of exchange key earlier)) ≡ is_some (span_of exchange key (delivery ∷ earlier))
+            (has_unit_of exchange.port key (cond d [] (exchange.messages delivery.message)) || is_some (span_of exchange key earlier)) ≡ is_some (span_of exchange key (delivery ∷ earlier))
         by true n true d = was_named exchange key delivery.message earlier d n ∙ sym (ap is_some (span_named exchange key delivery earlier n))
         by true n false d = ap (λ b. b || is_some (span_of exchange key earlier)) n ∙ sym (ap is_some (span_named exchange key delivery earlier n))
         by false n true d = sym (ap is_some (span_other exchange key delivery earlier n))
@@ -145,7 +145,7 @@ module _ (keys : KeysAreToldApart) where
         elim (is_delivered delivery.message earlier) as (λ d. is_delivered delivery.message earlier ≡ d → IsDistinct same_key (map (key_of exchange.port) (cond d [] (exchange.messages delivery.message) ++ units_of exchange earlier))) [
           | true ↦ λ d. distinct_units earlier
           | false ↦ λ d. distinct_append exchange.port [] (exchange.messages delivery.message) (units_of exchange earlier) (tells.units delivery.message) (distinct_units earlier)
-              (λ key named. named_units key earlier ∙ no_span_yet delivery.message earlier key d named)
+              (λ key has_unit. named_units key earlier ∙ no_span_yet delivery.message earlier key d has_unit)
         ] refl
 
     some_unit : (moment : ℕ) (what : What (List ℕ)) (o : Option Span) → is_some (unit_of exchange moment what o) ≡ is_some o
@@ -172,7 +172,7 @@ module _ (keys : KeysAreToldApart) where
 -- ---- room
 
 -- all records are on the port
-all_on : (port : ℕ) (records : List (Record (List ℕ))) → KeysAreToldApart → ((key : Key (List ℕ)) → is_some (machine_at key records) ≡ true → key.port ≡ port) → count_on port records ≡ length records
+all_on : (port : ℕ) (records : List (Record (List ℕ))) → KeysAreDistinct → ((key : Key (List ℕ)) → is_some (machine_at key records) ≡ true → key.port ≡ port) → count_on port records ≡ length records
 unfolding count_on machine_at
 all_on port [] keys on = refl
 all_on port (held ∷ records) keys on =
@@ -186,29 +186,29 @@ all_on port (held ∷ records) keys on =
     later key true e = refl
     later key false e = e
 
-module _ (keys : KeysAreToldApart) (port : ℕ) (records : List (Record (List ℕ))) where
+module _ (keys : KeysAreDistinct) (port : ℕ) (records : List (Record (List ℕ))) where
   -- each of these names its own machine
-  names_own : (event : Event) (events : List Event) → is_named port (key_of port event) (event ∷ events) ≡ true
-  names_own event events = ap (λ b. b || is_named port (key_of port event) events) (same_itself keys port (key_of port event))
+  names_own : (event : Event) (events : List Event) → has_unit_of port (key_of port event) (event ∷ events) ≡ true
+  names_own event events = ap (λ b. b || has_unit_of port (key_of port event) events) (same_itself keys port (key_of port event))
 
-  names_later : (key : Key (List ℕ)) (event : Event) (events : List Event) → is_named port key events ≡ true → is_named port key (event ∷ events) ≡ true
-  names_later key event events named = ap (λ b. same_key (key_of port event) key || b) named ∙ or_true (same_key (key_of port event) key)
+  names_later : (key : Key (List ℕ)) (event : Event) (events : List Event) → has_unit_of port key events ≡ true → has_unit_of port key (event ∷ events) ≡ true
+  names_later key event events has_unit = ap (λ b. same_key (key_of port event) key || b) has_unit ∙ or_true (same_key (key_of port event) key)
 
-  all_new : (before events : List Event) → AreUnits port before events → ((key : Key (List ℕ)) → is_named port key events ≡ true → is_some (machine_at key records) ≡ false) → count_new port records events ≡ length events
+  all_new : (before events : List Event) → AreUnits port before events → ((key : Key (List ℕ)) → has_unit_of port key events ≡ true → is_some (machine_at key records) ≡ false) → count_new port records events ≡ length events
   unfolding count_new AreUnits
   all_new before [] units absent = refl
   all_new before (event ∷ events) units absent =
       let new : is_new port records event ≡ true = ap (λ b. creates event && not b) (absent (key_of port event) (names_own event events)) ∙ ap (λ b. b && true) units.0 in
-      let more = all_new (event ∷ before) events units.3 (λ key named. absent key (names_later key event events named)) in
+      let more = all_new (event ∷ before) events units.3 (λ key has_unit. absent key (names_later key event events has_unit)) in
       let one : count_new port records (event ∷ events) ≡ 1 + count_new port records events = ap (λ b. cond b 1 0 + count_new port records events) new in
       omega arith
 
-  none_new : (events : List Event) → ((key : Key (List ℕ)) → is_named port key events ≡ true → is_some (machine_at key records) ≡ true) → count_new port records events ≡ 0
+  none_new : (events : List Event) → ((key : Key (List ℕ)) → has_unit_of port key events ≡ true → is_some (machine_at key records) ≡ true) → count_new port records events ≡ 0
   unfolding count_new
   none_new [] held = refl
   none_new (event ∷ events) held =
       let old : is_new port records event ≡ false = ap (λ b. creates event && not b) (held (key_of port event) (names_own event events)) ∙ and_false (creates event) in
-      let more = none_new events (λ key named. held key (names_later key event events named)) in
+      let more = none_new events (λ key has_unit. held key (names_later key event events has_unit)) in
       let none : count_new port records (event ∷ events) ≡ 0 + count_new port records events = ap (λ b. cond b 1 0 + count_new port records events) old in
       omega arith
     where
@@ -216,7 +216,7 @@ module _ (keys : KeysAreToldApart) (port : ℕ) (records : List (Record (List �
       and_false true = refl
       and_false false = refl
 
-module _ (laws : Machines) (exchange : Exchange) (tells : TellsUnitsOnce exchange) (ports limit : ℕ) (delivery : Delivery) (earlier : List Delivery) (before : Downstream) (is : IsExpected laws exchange tells ports limit earlier delivery.moment before) where
+module _ (laws : Machines) (exchange : Exchange) (tells : HasUnitsOnce exchange) (ports limit : ℕ) (delivery : Delivery) (earlier : List Delivery) (before : Downstream) (is : IsExpected laws exchange tells ports limit earlier delivery.moment before) where
   spanned : (key : Key (List ℕ)) → is_some (machine_at key before.records) ≡ is_some (span_of exchange key earlier)
   spanned key = held_named laws.keys exchange tells laws ports limit earlier delivery.moment before is key
 
@@ -224,7 +224,7 @@ module _ (laws : Machines) (exchange : Exchange) (tells : TellsUnitsOnce exchang
   span_on key None e some = absurd (false≢true some)
   span_on key (Some span) e some =
       let that = comes exchange key earlier span e in
-      named_port laws.keys exchange.port key (exchange.messages that.message) that.named
+      named_port laws.keys exchange.port key (exchange.messages that.message) that.has_unit
 
   held_count : count_on exchange.port before.records ≡ length (units_of exchange earlier)
   held_count =
@@ -241,10 +241,10 @@ module _ (laws : Machines) (exchange : Exchange) (tells : TellsUnitsOnce exchang
           length (units_of exchange earlier) + count_new exchange.port before.records (exchange.messages delivery.message)
           ≡ length (cond d [] (exchange.messages delivery.message) ++ units_of exchange earlier)
       by true d =
-          let none = none_new laws.keys exchange.port before.records (exchange.messages delivery.message) (λ key named. spanned key ∙ was_named exchange key delivery.message earlier d named) in
+          let none = none_new laws.keys exchange.port before.records (exchange.messages delivery.message) (λ key has_unit. spanned key ∙ was_named exchange key delivery.message earlier d has_unit) in
           omega arith
       by false d =
-          let all = all_new laws.keys exchange.port before.records [] (exchange.messages delivery.message) (tells.units delivery.message) (λ key named. spanned key ∙ no_span_yet laws.keys exchange tells delivery.message earlier key d named) in
+          let all = all_new laws.keys exchange.port before.records [] (exchange.messages delivery.message) (tells.units delivery.message) (λ key has_unit. spanned key ∙ no_span_yet laws.keys exchange tells delivery.message earlier key d has_unit) in
           let both = length-append (exchange.messages delivery.message) (units_of exchange earlier) in
           omega arith
 

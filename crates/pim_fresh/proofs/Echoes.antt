@@ -13,11 +13,11 @@ use Rattle.pim_down.specs.Records.{IsAscending, machine_at}
 use Rattle.pim_down.specs.Hearing.{is_rpt}
 use Rattle.pim_down.specs.Time.{Downstream, Runs, echoes_at}
 use Rattle.pim_down.specs.Laws.{EveryStateHasARun, EchoNamesAMachine}
-use Rattle.pim_fresh.specs.Exchange.{Exchange, TellsUnitsOnce, starts}
+use Rattle.pim_fresh.specs.Exchange.{Exchange, HasUnitsOnce, starts}
 use Rattle.pim_fresh.specs.Deliveries.{Delivery, IsTimely}
 use Rattle.pim_fresh.specs.Hearing.{fresh, after_message, Leaves}
 use Rattle.pim_fresh.specs.Expected.{Span, span_of, unit_of}
-use Rattle.pim_fresh.specs.Laws.{NoEchoIsTold, HasLeft, EveryHearingReaches}
+use Rattle.pim_fresh.specs.Laws.{NoEchoIsDue, HasLeft, EveryHearingReaches}
 use Rattle.pim_fresh.proofs.Heard.{message_star}
 use Rattle.pim_fresh.proofs.Hearings.{Machines, IsExpected, middle_at, middle_order, is_expected}
 
@@ -38,10 +38,10 @@ pub reaches : EchoNamesAMachine → (moment : ℕ) (state after : Downstream) (a
 unfolding IsMute
 reaches echo moment state after Reached ascending mute runs = refl
 reaches echo moment state after (Echo port group what) ascending mute runs =
-    let told = echo moment state after port group what ascending runs in
-    let none = mute (record { port = port; group = group; what = what }) (echo_of_others what told.echoes) in
-    let held : timer_of (machine_at (record { port = port; group = group; what = what }) state.records) ≡ told.machine.pending = ap timer_of told.held in
-    absurd (false≢true (ap is_some (sym none ∙ held ∙ told.timer)))
+    let reported = echo moment state after port group what ascending runs in
+    let none = mute (record { port = port; group = group; what = what }) (echo_of_others what reported.echoes) in
+    let held : timer_of (machine_at (record { port = port; group = group; what = what }) state.records) ≡ reported.machine.pending = ap timer_of reported.held in
+    absurd (false≢true (ap is_some (sym none ∙ held ∙ reported.timer)))
 
 mute_unit : (exchange : Exchange) (what : What (List ℕ)) (moment : ℕ) (o : Option Span) → is_rpt what ≡ false → timer_of (unit_of exchange moment what o) ≡ None
 mute_unit exchange what moment None r = refl
@@ -53,7 +53,7 @@ fresh_mute : (ports limit : ℕ) → IsMute (fresh ports limit)
 unfolding IsMute machine_at
 fresh_mute ports limit key r = refl
 
-module _ (laws : Machines) (echo : EchoNamesAMachine) (exchange : Exchange) (tells : TellsUnitsOnce exchange) (ports limit : ℕ) where
+module _ (laws : Machines) (echo : EchoNamesAMachine) (exchange : Exchange) (tells : HasUnitsOnce exchange) (ports limit : ℕ) where
   pub expected_mute : (deliveries : List Delivery) (moment : ℕ) (state : Downstream) → IsExpected laws exchange tells ports limit deliveries moment state → IsMute state
   unfolding IsMute
   expected_mute deliveries moment state is key r = ap timer_of (is.machines key) ∙ mute_unit exchange key.what moment (span_of exchange key deliveries) r
@@ -89,7 +89,7 @@ module _ (laws : Machines) (echo : EchoNamesAMachine) (exchange : Exchange) (tel
       let answer = quiet_delivery delivery earlier moment left.after run.after run.answer timely left.leaves run.runs in
       record { after = run.after; leaves = record { before = left.after; was = left.leaves; runs = reached moment middle run.after run.answer answer run.runs } }
 
-pub no_echo : Machines → EchoNamesAMachine → NoEchoIsTold
+pub no_echo : Machines → EchoNamesAMachine → NoEchoIsDue
 no_echo laws echo exchange ports limit delivery earlier moment before after answer tells timely leaves runs =
     quiet_delivery laws echo exchange tells ports limit delivery earlier moment before after answer timely leaves runs
 

@@ -11,8 +11,8 @@ use Rattle.pim_down.specs.declared.machines.machine.Machine.{Machine}
 use Rattle.pim_down.specs.Key.{same_key}
 use Rattle.pim_down.specs.Tables.{Start, on_join, on_rpt_prune, on_star_join}
 use Rattle.pim_down.specs.Hearing.{Event, key_of, on_own, is_rpt, is_star, is_star_join, is_rpt_on, is_rpt_of, on_rpts, effect, effects, creates_by, creates}
-use Rattle.pim_down.specs.Laws.{KeysAreToldApart}
-use Rattle.pim_fresh.specs.Exchange.{is_named, star_at, AreUnits}
+use Rattle.pim_down.specs.Laws.{KeysAreDistinct}
+use Rattle.pim_fresh.specs.Exchange.{has_unit_of, star_at, AreUnits}
 use Rattle.pim_fresh.proofs.Named.{or_true, or_false, star_key, star_joins, same_keys, apart}
 
 -- ---- a creating event at its own machine
@@ -65,17 +65,17 @@ rpts_own port group key held on same r =
     let own : is_rpt_of port group key ≡ true = ap (λ b. (b && is_rpt key.what) && pointwise nat_eq key.group group) ports ∙ ap (λ b. b && pointwise nat_eq key.group group) r ∙ groups in
     ap (λ b. cond b (on_star_join held) held) own
 
-module _ (keys : KeysAreToldApart) (port : ℕ) (start : Start) where
+module _ (keys : KeysAreDistinct) (port : ℕ) (start : Start) where
   -- ---- events that don't touch a machine
 
   -- none of them names it, nor comes to it as a Join(*,G)
   abbrev pub Misses : Key (List ℕ) → List Event → Type 0
-  Misses key events = (is_named port key events ≡ false) × (is_rpt key.what ≡ true → is_named port (star_at port key.group) events ≡ false)
+  Misses key events = (has_unit_of port key events ≡ false) × (is_rpt key.what ≡ true → has_unit_of port (star_at port key.group) events ≡ false)
 
   misses_first : (key : Key (List ℕ)) (event : Event) (events : List Event) → Misses key (event ∷ events) → (same_key (key_of port event) key ≡ false) × (is_rpt key.what ≡ true → same_key (key_of port event) (star_at port key.group) ≡ false) × Misses key events
   misses_first key event events misses =
-      let own = or_false (same_key (key_of port event) key) (is_named port key events) misses.0 in
-      let star = λ (r : is_rpt key.what ≡ true). or_false (same_key (key_of port event) (star_at port key.group)) (is_named port (star_at port key.group) events) (misses.1 r) in
+      let own = or_false (same_key (key_of port event) key) (has_unit_of port key events) misses.0 in
+      let star = λ (r : is_rpt key.what ≡ true). or_false (same_key (key_of port event) (star_at port key.group)) (has_unit_of port (star_at port key.group) events) (misses.1 r) in
       (own.0, λ r. (star r).0, (own.1, λ r. (star r).1))
 
   -- a Join(*,G) of another group
@@ -113,11 +113,11 @@ module _ (keys : KeysAreToldApart) (port : ℕ) (start : Start) where
       by false = refl
       by true = rpts_none port event.group key
 
-  pub none : (key : Key (List ℕ)) (events : List Event) → is_named port key events ≡ false → effects port start events key None ≡ None
+  pub none : (key : Key (List ℕ)) (events : List Event) → has_unit_of port key events ≡ false → effects port start events key None ≡ None
   unfolding effects
-  none key [] named = refl
-  none key (event ∷ events) named =
-      let parts = or_false (same_key (key_of port event) key) (is_named port key events) named in
+  none key [] has_unit = refl
+  none key (event ∷ events) has_unit =
+      let parts = or_false (same_key (key_of port event) key) (has_unit_of port key events) has_unit in
       ap (effects port start events key) (none_one key event parts.0) ∙ none key events parts.1
 
   -- ---- (*,G) and (S,G)
@@ -128,42 +128,42 @@ module _ (keys : KeysAreToldApart) (port : ℕ) (start : Start) where
   rpt_of : (key : Key (List ℕ)) (event : Event) → same_key (key_of port event) key ≡ true → is_rpt event.what ≡ is_rpt key.what
   rpt_of key event s = ap (λ (k : Key (List ℕ)). is_rpt k.what) (same_keys keys port (key_of port event) key s)
 
-  pub joined : (key : Key (List ℕ)) (before events : List Event) (held : Option Machine) → AreUnits port before events → is_rpt key.what ≡ false → is_named port key events ≡ true → effects port start events key held ≡ on_join start held
+  pub joined : (key : Key (List ℕ)) (before events : List Event) (held : Option Machine) → AreUnits port before events → is_rpt key.what ≡ false → has_unit_of port key events ≡ true → effects port start events key held ≡ on_join start held
   unfolding effects AreUnits
-  joined key before [] held units r named = absurd (false≢true named)
-  joined key before (event ∷ events) held units r named =
-      elim (same_key (key_of port event) key) as (λ b. same_key (key_of port event) key ≡ b → (b || is_named port key events) ≡ true → effects port start events key (effect port start event key held) ≡ on_join start held) [
+  joined key before [] held units r has_unit = absurd (false≢true has_unit)
+  joined key before (event ∷ events) held units r has_unit =
+      elim (same_key (key_of port event) key) as (λ b. same_key (key_of port event) key ≡ b → (b || has_unit_of port key events) ≡ true → effects port start events key (effect port start event key held) ≡ on_join start held) [
         | true ↦ λ s f.
             let here : effect port start event key held ≡ on_join start held = own_first key event held s ∙ own_join start event held units.0 (rpt_of key event s ∙ r) in
-            let gone : is_named port key events ≡ false = apart keys port key (event ∷ before) events units.3 (ap (λ b. b || is_named port key before) s) in
+            let gone : has_unit_of port key events ≡ false = apart keys port key (event ∷ before) events units.3 (ap (λ b. b || has_unit_of port key before) s) in
             ap (effects port start events key) here ∙ quiet key events (on_join start held) (gone, λ t. absurd (false≢true (sym r ∙ t)))
         | false ↦ λ s f.
             ap (effects port start events key) (quiet_one key event held s (λ t. absurd (false≢true (sym r ∙ t))))
             ∙ joined key (event ∷ before) events held units.3 r f
-      ] refl named
+      ] refl has_unit
 
   -- ---- (S,G,rpt)
 
-  later : (key : Key (List ℕ)) (event : Event) (before : List Event) → is_named port key before ≡ true → is_named port key (event ∷ before) ≡ true
-  later key event before named = ap (λ b. same_key (key_of port event) key || b) named ∙ or_true (same_key (key_of port event) key)
+  later : (key : Key (List ℕ)) (event : Event) (before : List Event) → has_unit_of port key before ≡ true → has_unit_of port key (event ∷ before) ≡ true
+  later key event before has_unit = ap (λ b. same_key (key_of port event) key || b) has_unit ∙ or_true (same_key (key_of port event) key)
 
   -- behind the star of its group
-  pruned : (key : Key (List ℕ)) (before events : List Event) (held : Option Machine) → AreUnits port before events → is_rpt key.what ≡ true → is_named port (star_at port key.group) before ≡ true → is_named port key events ≡ true → effects port start events key held ≡ on_rpt_prune start held
+  pruned : (key : Key (List ℕ)) (before events : List Event) (held : Option Machine) → AreUnits port before events → is_rpt key.what ≡ true → has_unit_of port (star_at port key.group) before ≡ true → has_unit_of port key events ≡ true → effects port start events key held ≡ on_rpt_prune start held
   unfolding effects AreUnits
-  pruned key before [] held units r star named = absurd (false≢true named)
-  pruned key before (event ∷ events) held units r star named =
-      elim (same_key (key_of port event) key) as (λ b. same_key (key_of port event) key ≡ b → (b || is_named port key events) ≡ true → effects port start events key (effect port start event key held) ≡ on_rpt_prune start held) [
+  pruned key before [] held units r star has_unit = absurd (false≢true has_unit)
+  pruned key before (event ∷ events) held units r star has_unit =
+      elim (same_key (key_of port event) key) as (λ b. same_key (key_of port event) key ≡ b → (b || has_unit_of port key events) ≡ true → effects port start events key (effect port start event key held) ≡ on_rpt_prune start held) [
         | true ↦ λ s f.
             let here : effect port start event key held ≡ on_rpt_prune start held = own_first key event held s ∙ own_prune start event held units.0 (rpt_of key event s ∙ r) in
-            let gone : is_named port key events ≡ false = apart keys port key (event ∷ before) events units.3 (ap (λ b. b || is_named port key before) s) in
+            let gone : has_unit_of port key events ≡ false = apart keys port key (event ∷ before) events units.3 (ap (λ b. b || has_unit_of port key before) s) in
             ap (effects port start events key) here ∙ quiet key events (on_rpt_prune start held) (gone, λ t. stars.1)
         | false ↦ λ s f.
             ap (effects port start events key) (quiet_one key event held s (λ t. stars.0))
             ∙ pruned key (event ∷ before) events held units.3 r (later (star_at port key.group) event before star) f
-      ] refl named
+      ] refl has_unit
     where
-      stars : (same_key (key_of port event) (star_at port key.group) ≡ false) × (is_named port (star_at port key.group) events ≡ false)
-      stars = or_false (same_key (key_of port event) (star_at port key.group)) (is_named port (star_at port key.group) events) (apart keys port (star_at port key.group) before (event ∷ events) units star)
+      stars : (same_key (key_of port event) (star_at port key.group) ≡ false) × (has_unit_of port (star_at port key.group) events ≡ false)
+      stars = or_false (same_key (key_of port event) (star_at port key.group)) (has_unit_of port (star_at port key.group) events) (apart keys port (star_at port key.group) before (event ∷ events) units star)
 
   star_first : (key : Key (List ℕ)) (event : Event) (held : Option Machine) → creates event ≡ true → key.port ≡ port → is_rpt key.what ≡ true → same_key (key_of port event) (star_at port key.group) ≡ true → effect port start event key held ≡ on_star_join held
   star_first key event held creating on r s =
@@ -178,40 +178,40 @@ module _ (keys : KeysAreToldApart) (port : ℕ) (start : Start) where
       other false t n = refl
       other true t n = absurd (false≢true (sym n ∙ rpt_of key event t ∙ r))
 
-  pub starred : (key : Key (List ℕ)) (before events : List Event) (held : Option Machine) → AreUnits port before events → key.port ≡ port → is_rpt key.what ≡ true → is_named port (star_at port key.group) before ≡ false → is_named port key events ≡ true → effects port start events key held ≡ on_rpt_prune start (on_star_join held)
+  pub starred : (key : Key (List ℕ)) (before events : List Event) (held : Option Machine) → AreUnits port before events → key.port ≡ port → is_rpt key.what ≡ true → has_unit_of port (star_at port key.group) before ≡ false → has_unit_of port key events ≡ true → effects port start events key held ≡ on_rpt_prune start (on_star_join held)
   unfolding effects AreUnits
-  starred key before [] held units on r star named = absurd (false≢true named)
-  starred key before (event ∷ events) held units on r star named =
+  starred key before [] held units on r star has_unit = absurd (false≢true has_unit)
+  starred key before (event ∷ events) held units on r star has_unit =
       elim (same_key (key_of port event) (star_at port key.group)) as (λ b. same_key (key_of port event) (star_at port key.group) ≡ b → effects port start events key (effect port start event key held) ≡ on_rpt_prune start (on_star_join held)) [
         | true ↦ λ s.
             ap (effects port start events key) (star_first key event held units.0 on r s)
-            ∙ pruned key (event ∷ before) events (on_star_join held) units.3 r (ap (λ b. b || is_named port (star_at port key.group) before) s) (behind s)
+            ∙ pruned key (event ∷ before) events (on_star_join held) units.3 r (ap (λ b. b || has_unit_of port (star_at port key.group) before) s) (behind s)
         | false ↦ λ s.
             let own = not_own in
             ap (effects port start events key) (quiet_one key event held own.0 (λ t. s))
-            ∙ starred key (event ∷ before) events held units.3 on r (ap (λ b. b || is_named port (star_at port key.group) before) s ∙ star) own.1
+            ∙ starred key (event ∷ before) events held units.3 on r (ap (λ b. b || has_unit_of port (star_at port key.group) before) s ∙ star) own.1
       ] refl
     where
-      split : (b : Bool) → (b || is_named port key events) ≡ true → b ≡ false → is_named port key events ≡ true
+      split : (b : Bool) → (b || has_unit_of port key events) ≡ true → b ≡ false → has_unit_of port key events ≡ true
       split true e f = absurd (false≢true (sym f))
       split false e f = e
 
       -- the star is another machine
-      behind : same_key (key_of port event) (star_at port key.group) ≡ true → is_named port key events ≡ true
+      behind : same_key (key_of port event) (star_at port key.group) ≡ true → has_unit_of port key events ≡ true
       behind s =
           let not_rpt : is_rpt event.what ≡ false = ap (λ (k : Key (List ℕ)). is_rpt k.what) (same_keys keys port (key_of port event) (star_at port key.group) s) in
-          split (same_key (key_of port event) key) named (by (same_key (key_of port event) key) refl not_rpt)
+          split (same_key (key_of port event) key) has_unit (by (same_key (key_of port event) key) refl not_rpt)
         where
           by : (b : Bool) → same_key (key_of port event) key ≡ b → is_rpt event.what ≡ false → b ≡ false
           by false t n = refl
           by true t n = absurd (false≢true (sym n ∙ rpt_of key event t ∙ r))
 
       -- the machine itself comes behind its star alone
-      not_own : (same_key (key_of port event) key ≡ false) × (is_named port key events ≡ true)
-      not_own = by (same_key (key_of port event) key) refl named
+      not_own : (same_key (key_of port event) key ≡ false) × (has_unit_of port key events ≡ true)
+      not_own = by (same_key (key_of port event) key) refl has_unit
         where
-          by : (b : Bool) → same_key (key_of port event) key ≡ b → (b || is_named port key events) ≡ true → (b ≡ false) × (is_named port key events ≡ true)
+          by : (b : Bool) → same_key (key_of port event) key ≡ b → (b || has_unit_of port key events) ≡ true → (b ≡ false) × (has_unit_of port key events ≡ true)
           by false t f = (refl, f)
           by true t f =
               let group : event.group ≡ key.group = ap (λ (k : Key (List ℕ)). k.group) (same_keys keys port (key_of port event) key t) in
-              absurd (false≢true (sym star ∙ subst (λ (g : List ℕ). is_named port (star_at port g) before ≡ true) group (units.2 (rpt_of key event t ∙ r))))
+              absurd (false≢true (sym star ∙ subst (λ (g : List ℕ). has_unit_of port (star_at port g) before ≡ true) group (units.2 (rpt_of key event t ∙ r))))

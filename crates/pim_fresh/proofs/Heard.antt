@@ -10,8 +10,8 @@ use Rattle.pim_down.specs.declared.machines.machine.Machine.{Machine}
 use Rattle.pim_down.specs.Tables.{greater, machine_in, on_join, on_rpt_prune, on_star_join, on_end}
 use Rattle.pim_down.specs.Hearing.{is_rpt, is_rpt_on, effects, at_end, heard_at}
 use Rattle.pim_down.specs.Time.{expiry_after, settled_at, machine_after, after_silence}
-use Rattle.pim_down.specs.Laws.{KeysAreToldApart}
-use Rattle.pim_fresh.specs.Exchange.{Exchange, TellsUnitsOnce, starts, is_named, star_at}
+use Rattle.pim_down.specs.Laws.{KeysAreDistinct}
+use Rattle.pim_fresh.specs.Exchange.{Exchange, HasUnitsOnce, starts, has_unit_of, star_at}
 use Rattle.pim_fresh.specs.Deliveries.{Delivery, IsShorter, IsTimely}
 use Rattle.pim_fresh.specs.Expected.{Span, up_to, span_of, time_left, is_waiting, unit_at, unit_of, expected}
 use Rattle.pim_fresh.proofs.Named.{named_port, star_is_named}
@@ -143,37 +143,37 @@ module _ (exchange : Exchange) where
 
 -- ---- a delivery
 
-module _ (keys : KeysAreToldApart) (exchange : Exchange) (tells : TellsUnitsOnce exchange) where
+module _ (keys : KeysAreDistinct) (exchange : Exchange) (tells : HasUnitsOnce exchange) where
   abbrev pub message_at : ℕ → Key (List ℕ) → Option Machine → Option Machine
   message_at message key held = heard_at exchange.port (starts exchange) (exchange.messages message) key held
 
   -- an (S,G,rpt) machine of an earlier message isn't met by the star of another one
-  no_star : (key : Key (List ℕ)) (delivery : Delivery) (earlier : List Delivery) (span : Span) → names exchange key delivery ≡ false → span_of exchange key earlier ≡ Some span → is_rpt key.what ≡ true → is_named exchange.port (star_at exchange.port key.group) (exchange.messages delivery.message) ≡ false
-  no_star key delivery earlier span named e r = by (is_named exchange.port (star_at exchange.port key.group) (exchange.messages delivery.message)) refl
+  no_star : (key : Key (List ℕ)) (delivery : Delivery) (earlier : List Delivery) (span : Span) → names exchange key delivery ≡ false → span_of exchange key earlier ≡ Some span → is_rpt key.what ≡ true → has_unit_of exchange.port (star_at exchange.port key.group) (exchange.messages delivery.message) ≡ false
+  no_star key delivery earlier span has_unit e r = by (has_unit_of exchange.port (star_at exchange.port key.group) (exchange.messages delivery.message)) refl
     where
-      by : (b : Bool) → is_named exchange.port (star_at exchange.port key.group) (exchange.messages delivery.message) ≡ b → b ≡ false
+      by : (b : Bool) → has_unit_of exchange.port (star_at exchange.port key.group) (exchange.messages delivery.message) ≡ b → b ≡ false
       by false s = refl
       by true s =
           let that = comes exchange key earlier span e in
-          let star = star_is_named keys exchange.port key [] (exchange.messages that.message) (tells.units that.message) r that.named in
+          let star = star_is_named keys exchange.port key [] (exchange.messages that.message) (tells.units that.message) r that.has_unit in
           let same = tells.once that.message delivery.message (star_at exchange.port key.group) star s in
-          absurd (false≢true (sym named ∙ subst (λ (i : ℕ). is_named exchange.port key (exchange.messages i) ≡ true) same that.named))
+          absurd (false≢true (sym has_unit ∙ subst (λ (i : ℕ). has_unit_of exchange.port key (exchange.messages i) ≡ true) same that.has_unit))
 
   -- a message that doesn't name a machine leaves it
   pub message_passes : (key : Key (List ℕ)) (delivery : Delivery) (earlier : List Delivery) → names exchange key delivery ≡ false → message_at delivery.message key (expected exchange earlier delivery.moment key) ≡ expected exchange earlier delivery.moment key
-  message_passes key delivery earlier named =
+  message_passes key delivery earlier has_unit =
       ap (at_end exchange.port key) (by (span_of exchange key earlier) refl)
       ∙ end_stays exchange.port key (expected exchange earlier delivery.moment key) (end_unit exchange key.what delivery.moment (span_of exchange key earlier))
     where
       by : (o : Option Span) → span_of exchange key earlier ≡ o → effects exchange.port (starts exchange) (exchange.messages delivery.message) key (unit_of exchange delivery.moment key.what o) ≡ unit_of exchange delivery.moment key.what o
-      by None e = none keys exchange.port (starts exchange) key (exchange.messages delivery.message) named
-      by (Some span) e = quiet keys exchange.port (starts exchange) key (exchange.messages delivery.message) (unit_at exchange delivery.moment key.what span) (named, no_star key delivery earlier span named e)
+      by None e = none keys exchange.port (starts exchange) key (exchange.messages delivery.message) has_unit
+      by (Some span) e = quiet keys exchange.port (starts exchange) key (exchange.messages delivery.message) (unit_at exchange delivery.moment key.what span) (has_unit, no_star key delivery earlier span has_unit e)
 
   -- one that names a (*,G) or (S,G) machine
-  pub message_joins : (key : Key (List ℕ)) (message now : ℕ) (o : Option Span) → is_rpt key.what ≡ false → is_named exchange.port key (exchange.messages message) ≡ true → message_at message key (unit_of exchange now key.what o) ≡ unit_at exchange now key.what (up_to now o)
-  message_joins key message now o r named =
+  pub message_joins : (key : Key (List ℕ)) (message now : ℕ) (o : Option Span) → is_rpt key.what ≡ false → has_unit_of exchange.port key (exchange.messages message) ≡ true → message_at message key (unit_of exchange now key.what o) ≡ unit_at exchange now key.what (up_to now o)
+  message_joins key message now o r has_unit =
       end_star exchange.port key (effects exchange.port (starts exchange) (exchange.messages message) key (unit_of exchange now key.what o)) r
-      ∙ joined keys exchange.port (starts exchange) key [] (exchange.messages message) (unit_of exchange now key.what o) (tells.units message) r named
+      ∙ joined keys exchange.port (starts exchange) key [] (exchange.messages message) (unit_of exchange now key.what o) (tells.units message) r has_unit
       ∙ join_renews exchange key.what now o r
 
   -- so the (*,G) and (S,G) machines are as expected before any time passes
@@ -185,11 +185,11 @@ module _ (keys : KeysAreToldApart) (exchange : Exchange) (tells : TellsUnitsOnce
       by false n = message_passes key delivery earlier n ∙ ap (unit_of exchange delivery.moment key.what) (sym (span_other exchange key delivery earlier n))
 
   -- one that names an (S,G,rpt) machine
-  message_prunes : (key : Key (List ℕ)) (source : List ℕ) (message now : ℕ) (o : Option Span) → key.what ≡ Rpt source → is_named exchange.port key (exchange.messages message) ≡ true → message_at message key (unit_of exchange now (Rpt source) o) ≡ raw exchange now o
-  message_prunes key source message now o what named =
+  message_prunes : (key : Key (List ℕ)) (source : List ℕ) (message now : ℕ) (o : Option Span) → key.what ≡ Rpt source → has_unit_of exchange.port key (exchange.messages message) ≡ true → message_at message key (unit_of exchange now (Rpt source) o) ≡ raw exchange now o
+  message_prunes key source message now o what has_unit =
       let r : is_rpt key.what ≡ true = ap is_rpt what in
-      let on = named_port keys exchange.port key (exchange.messages message) named in
-      let value = starred keys exchange.port (starts exchange) key [] (exchange.messages message) (unit_of exchange now (Rpt source) o) (tells.units message) on r refl named ∙ prune_renews exchange source now o in
+      let on = named_port keys exchange.port key (exchange.messages message) has_unit in
+      let value = starred keys exchange.port (starts exchange) key [] (exchange.messages message) (unit_of exchange now (Rpt source) o) (tells.units message) on r refl has_unit ∙ prune_renews exchange source now o in
       ap (at_end exchange.port key) value ∙ end_stays exchange.port key (raw exchange now o) (raw_stays exchange now o)
 
   -- ---- the silence behind a delivery
@@ -208,45 +208,45 @@ module _ (keys : KeysAreToldApart) (exchange : Exchange) (tells : TellsUnitsOnce
     before = timely.2
 
     passes_later : (key : Key (List ℕ)) → names exchange key delivery ≡ false → after_silence (moment - delivery.moment) key (expected exchange earlier delivery.moment key) ≡ expected exchange earlier moment key
-    passes_later key named = by (span_of exchange key earlier) refl
+    passes_later key has_unit = by (span_of exchange key earlier) refl
       where
         by : (o : Option Span) → span_of exchange key earlier ≡ o → after_silence (moment - delivery.moment) key (unit_of exchange delivery.moment key.what o) ≡ unit_of exchange moment key.what o
         by None e = refl
         by (Some span) e =
             let order = in_order exchange key (starts exchange).expires_in delivery.moment earlier span before e in
-            unit_later exchange key delivery.moment moment span order.first order.last later (shorter key span (span_other exchange key delivery earlier named ∙ e))
+            unit_later exchange key delivery.moment moment span order.first order.last later (shorter key span (span_other exchange key delivery earlier has_unit ∙ e))
 
     up_to_last : (now : ℕ) (o : Option Span) → (up_to now o).last ≡ now
     up_to_last now None = refl
     up_to_last now (Some s) = refl
 
     still : (key : Key (List ℕ)) → names exchange key delivery ≡ true → IsShorter (moment - delivery.moment) (starts exchange).expires_in
-    still key named = subst (λ (last : ℕ). IsShorter (moment - last) (starts exchange).expires_in) (up_to_last delivery.moment (span_of exchange key earlier)) (shorter key (up_to delivery.moment (span_of exchange key earlier)) (span_named exchange key delivery earlier named))
+    still key has_unit = subst (λ (last : ℕ). IsShorter (moment - last) (starts exchange).expires_in) (up_to_last delivery.moment (span_of exchange key earlier)) (shorter key (up_to delivery.moment (span_of exchange key earlier)) (span_named exchange key delivery earlier has_unit))
 
     joins_later : (key : Key (List ℕ)) → is_rpt key.what ≡ false → names exchange key delivery ≡ true → after_silence (moment - delivery.moment) key (message_at delivery.message key (expected exchange earlier delivery.moment key)) ≡ unit_at exchange moment key.what (up_to delivery.moment (span_of exchange key earlier))
-    joins_later key r named =
-        let here = span_named exchange key delivery earlier named in
+    joins_later key r has_unit =
+        let here = span_named exchange key delivery earlier has_unit in
         let order = in_order exchange key (starts exchange).expires_in moment (delivery ∷ earlier) (up_to delivery.moment (span_of exchange key earlier)) timely here in
         let last = up_to_last delivery.moment (span_of exchange key earlier) in
-        ap (after_silence (moment - delivery.moment) key) (message_joins key delivery.message delivery.moment (span_of exchange key earlier) r named)
+        ap (after_silence (moment - delivery.moment) key) (message_joins key delivery.message delivery.moment (span_of exchange key earlier) r has_unit)
         ∙ unit_later exchange key delivery.moment moment (up_to delivery.moment (span_of exchange key earlier)) order.first (omega arith) later (shorter key (up_to delivery.moment (span_of exchange key earlier)) here)
 
     prunes_later : (key : Key (List ℕ)) (source : List ℕ) → key.what ≡ Rpt source → names exchange key delivery ≡ true → after_silence (moment - delivery.moment) key (message_at delivery.message key (expected exchange earlier delivery.moment key)) ≡ unit_at exchange moment key.what (up_to delivery.moment (span_of exchange key earlier))
-    prunes_later key source what named =
+    prunes_later key source what has_unit =
         let whole : key ≡ record { port = key.port; group = key.group; what = Rpt source } = (λ i. record { port = key.port; group = key.group; what = what i }) in
         ap (λ w. after_silence (moment - delivery.moment) key (message_at delivery.message key (unit_of exchange delivery.moment w (span_of exchange key earlier)))) what
-        ∙ ap (after_silence (moment - delivery.moment) key) (message_prunes key source delivery.message delivery.moment (span_of exchange key earlier) what named)
+        ∙ ap (after_silence (moment - delivery.moment) key) (message_prunes key source delivery.message delivery.moment (span_of exchange key earlier) what has_unit)
         ∙ ap (λ (k : Key (List ℕ)). after_silence (moment - delivery.moment) k (raw exchange delivery.moment (span_of exchange key earlier))) whole
-        ∙ raw_later exchange delivery.moment moment later (still key named) key.port key.group source (span_of exchange key earlier)
+        ∙ raw_later exchange delivery.moment moment later (still key has_unit) key.port key.group source (span_of exchange key earlier)
         ∙ ap (λ w. unit_at exchange moment w (up_to delivery.moment (span_of exchange key earlier))) (sym what)
 
     named_later : (key : Key (List ℕ)) → names exchange key delivery ≡ true → after_silence (moment - delivery.moment) key (message_at delivery.message key (expected exchange earlier delivery.moment key)) ≡ unit_at exchange moment key.what (up_to delivery.moment (span_of exchange key earlier))
-    named_later key named = by key.what refl
+    named_later key has_unit = by key.what refl
       where
         by : (what : What (List ℕ)) → key.what ≡ what → after_silence (moment - delivery.moment) key (message_at delivery.message key (expected exchange earlier delivery.moment key)) ≡ unit_at exchange moment key.what (up_to delivery.moment (span_of exchange key earlier))
-        by Star e = joins_later key (ap is_rpt e) named
-        by (Source source) e = joins_later key (ap is_rpt e) named
-        by (Rpt source) e = prunes_later key source e named
+        by Star e = joins_later key (ap is_rpt e) has_unit
+        by (Source source) e = joins_later key (ap is_rpt e) has_unit
+        by (Rpt source) e = prunes_later key source e has_unit
 
     -- the delivery and the silence behind it leave what is expected
     pub delivered : (key : Key (List ℕ)) → after_silence (moment - delivery.moment) key (message_at delivery.message key (expected exchange earlier delivery.moment key)) ≡ expected exchange (delivery ∷ earlier) moment key

@@ -4,8 +4,8 @@ use Rattle.pim_down.specs.declared.machines.key.Key.{Key}
 use Rattle.pim_down.specs.declared.machines.step.Step.TheVariants.{Reached}
 use Rattle.pim_down.specs.Records.{IsAscending, machine_at}
 use Rattle.pim_down.specs.Time.{Downstream, Runs, after_silence}
-use Rattle.pim_down.specs.Laws.{KeysAreToldApart, HearingKeepsTheOrder, HearingActsAtEachKey, RunKeepsTheOrder, RunKeepsItsBounds, SilenceActsAtEachKey}
-use Rattle.pim_fresh.specs.Exchange.{Exchange, TellsUnitsOnce, starts}
+use Rattle.pim_down.specs.Laws.{KeysAreDistinct, HearingKeepsTheOrder, HearingActsAtEachKey, RunKeepsTheOrder, RunKeepsItsBounds, SilenceActsAtEachKey}
+use Rattle.pim_fresh.specs.Exchange.{Exchange, HasUnitsOnce, starts}
 use Rattle.pim_fresh.specs.Deliveries.{Delivery, IsTimely}
 use Rattle.pim_fresh.specs.Hearing.{fresh, after_message, Leaves}
 use Rattle.pim_fresh.specs.Expected.{span_of, expected, IsAsExpected}
@@ -14,14 +14,14 @@ use Rattle.pim_fresh.proofs.Heard.{message_at, delivered}
 
 -- the laws of the machines that this rests on
 pub record Machines : Type 0 where
-  pub keys : KeysAreToldApart
+  pub keys : KeysAreDistinct
   pub order : HearingKeepsTheOrder
   pub hears : HearingActsAtEachKey
   pub run_order : RunKeepsTheOrder
   pub bounds : RunKeepsItsBounds
   pub silence : SilenceActsAtEachKey
 
-module _ (laws : Machines) (exchange : Exchange) (tells : TellsUnitsOnce exchange) (ports limit : ℕ) where
+module _ (laws : Machines) (exchange : Exchange) (tells : HasUnitsOnce exchange) (ports limit : ℕ) where
   -- at this moment the machines stand in key order and are as expected
   pub record IsExpected (deliveries : List Delivery) (moment : ℕ) (state : Downstream) : Type 0 where
     pub moment_is : state.moment ≡ moment

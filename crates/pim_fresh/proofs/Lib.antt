@@ -7,6 +7,6 @@ pub mod Hearings
 pub mod Echoes
 pub mod Staying
 pub mod Counts
-pub mod Asking
+pub mod Demanding
 pub mod OneEnd
 pub mod ItsMessage

@@ -6,8 +6,8 @@ use Rattle.pim_down.specs.declared.machines.key.What.TheVariants.{Star, Source, 
 use Rattle.pim_down.specs.declared.machines.key.Key.{Key}
 use Rattle.pim_down.specs.Key.{same_key}
 use Rattle.pim_down.specs.Hearing.{Event, key_of, is_rpt, is_star, is_star_join, creates_by, creates}
-use Rattle.pim_down.specs.Laws.{KeysAreToldApart}
-use Rattle.pim_fresh.specs.Exchange.{is_named, star_at, AreUnits}
+use Rattle.pim_down.specs.Laws.{KeysAreDistinct}
+use Rattle.pim_fresh.specs.Exchange.{has_unit_of, star_at, AreUnits}
 
 -- ---- tests
 
@@ -42,7 +42,7 @@ star_joins event c s = by event.joins event.what c s
     by false (Source source) c s = absurd (false≢true s)
     by false (Rpt source) c s = absurd (false≢true s)
 
-module _ (keys : KeysAreToldApart) (port : ℕ) where
+module _ (keys : KeysAreDistinct) (port : ℕ) where
   pub same_keys : (a b : Key (List ℕ)) → same_key a b ≡ true → a ≡ b
   same_keys a b e = (keys a b).1.0 e
 
@@ -50,42 +50,42 @@ module _ (keys : KeysAreToldApart) (port : ℕ) where
   same_itself a = (keys a a).1.1 refl
 
   -- what is named is on the port
-  pub named_port : (key : Key (List ℕ)) (events : List Event) → is_named port key events ≡ true → key.port ≡ port
+  pub named_port : (key : Key (List ℕ)) (events : List Event) → has_unit_of port key events ≡ true → key.port ≡ port
   named_port key [] e = absurd (false≢true e)
   named_port key (event ∷ events) e =
-      elim (same_key (key_of port event) key) as (λ b. same_key (key_of port event) key ≡ b → (b || is_named port key events) ≡ true → key.port ≡ port) [
+      elim (same_key (key_of port event) key) as (λ b. same_key (key_of port event) key ≡ b → (b || has_unit_of port key events) ≡ true → key.port ≡ port) [
         | true ↦ λ s f. ap (λ (k : Key (List ℕ)). k.port) (sym (same_keys (key_of port event) key s))
         | false ↦ λ s f. named_port key events f
       ] refl e
 
   -- what was named before isn't named again
-  pub apart : (key : Key (List ℕ)) (before events : List Event) → AreUnits port before events → is_named port key before ≡ true → is_named port key events ≡ false
+  pub apart : (key : Key (List ℕ)) (before events : List Event) → AreUnits port before events → has_unit_of port key before ≡ true → has_unit_of port key events ≡ false
   unfolding AreUnits
-  apart key before [] units named = refl
-  apart key before (event ∷ events) units named =
-      elim (same_key (key_of port event) key) as (λ b. same_key (key_of port event) key ≡ b → (b || is_named port key events) ≡ false) [
-        | true ↦ λ s. absurd (false≢true (sym (subst (λ (k : Key (List ℕ)). is_named port k before ≡ false) (same_keys (key_of port event) key s) units.1) ∙ named))
-        | false ↦ λ s. apart key (event ∷ before) events units.3 (ap (λ b. same_key (key_of port event) key || b) named ∙ or_true (same_key (key_of port event) key))
+  apart key before [] units has_unit = refl
+  apart key before (event ∷ events) units has_unit =
+      elim (same_key (key_of port event) key) as (λ b. same_key (key_of port event) key ≡ b → (b || has_unit_of port key events) ≡ false) [
+        | true ↦ λ s. absurd (false≢true (sym (subst (λ (k : Key (List ℕ)). has_unit_of port k before ≡ false) (same_keys (key_of port event) key s) units.1) ∙ has_unit))
+        | false ↦ λ s. apart key (event ∷ before) events units.3 (ap (λ b. same_key (key_of port event) key || b) has_unit ∙ or_true (same_key (key_of port event) key))
       ] refl
 
   -- an (S,G,rpt) machine is named only where the star of its group is
-  pub star_is_named : (key : Key (List ℕ)) (before events : List Event) → AreUnits port before events → is_rpt key.what ≡ true → is_named port key events ≡ true →
-      (is_named port (star_at port key.group) before || is_named port (star_at port key.group) events) ≡ true
+  pub star_is_named : (key : Key (List ℕ)) (before events : List Event) → AreUnits port before events → is_rpt key.what ≡ true → has_unit_of port key events ≡ true →
+      (has_unit_of port (star_at port key.group) before || has_unit_of port (star_at port key.group) events) ≡ true
   unfolding AreUnits
-  star_is_named key before [] units rpt named = absurd (false≢true named)
-  star_is_named key before (event ∷ events) units rpt named =
-      elim (same_key (key_of port event) key) as (λ b. same_key (key_of port event) key ≡ b → (b || is_named port key events) ≡ true → (is_named port star before || is_named port star (event ∷ events)) ≡ true) [
-        | true ↦ λ s f. ap (λ b. b || is_named port star (event ∷ events)) (here (same_keys (key_of port event) key s))
-        | false ↦ λ s f. moved (same_key (key_of port event) star) (is_named port star before) (is_named port star events) (star_is_named key (event ∷ before) events units.3 rpt f)
-      ] refl named
+  star_is_named key before [] units rpt has_unit = absurd (false≢true has_unit)
+  star_is_named key before (event ∷ events) units rpt has_unit =
+      elim (same_key (key_of port event) key) as (λ b. same_key (key_of port event) key ≡ b → (b || has_unit_of port key events) ≡ true → (has_unit_of port star before || has_unit_of port star (event ∷ events)) ≡ true) [
+        | true ↦ λ s f. ap (λ b. b || has_unit_of port star (event ∷ events)) (here (same_keys (key_of port event) key s))
+        | false ↦ λ s f. moved (same_key (key_of port event) star) (has_unit_of port star before) (has_unit_of port star events) (star_is_named key (event ∷ before) events units.3 rpt f)
+      ] refl has_unit
     where
       star : Key (List ℕ)
       star = star_at port key.group
 
-      here : key_of port event ≡ key → is_named port star before ≡ true
+      here : key_of port event ≡ key → has_unit_of port star before ≡ true
       here e =
           let rpt_event : is_rpt event.what ≡ true = ap (λ (k : Key (List ℕ)). is_rpt k.what) e ∙ rpt in
-          subst (λ (group : List ℕ). is_named port (star_at port group) before ≡ true) (ap (λ (k : Key (List ℕ)). k.group) e) (units.2 rpt_event)
+          subst (λ (group : List ℕ). has_unit_of port (star_at port group) before ≡ true) (ap (λ (k : Key (List ℕ)). k.group) e) (units.2 rpt_event)
 
       moved : (a b c : Bool) → ((a || b) || c) ≡ true → (b || (a || c)) ≡ true
       moved true b c e = or_true b

@@ -3,7 +3,7 @@ use Rattle.std.proofs.Common.{◌≡◌, ℕ, ◌-◌, ◌≤◌, Bool, true, fa
 use Rattle.std.specs.Option.{is_some}
 use Rattle.std.proofs.lemmas.Bool.{false≢true, eq-eqb, eqb-true}
 use Rattle.pim_down.specs.declared.machines.key.Key.{Key}
-use Rattle.pim_fresh.specs.Exchange.{Exchange, is_named}
+use Rattle.pim_fresh.specs.Exchange.{Exchange, has_unit_of}
 use Rattle.pim_fresh.specs.Deliveries.{Delivery, last_of, IsShorter, AreAlive, IsTimely}
 use Rattle.pim_fresh.specs.Expected.{Span, up_to, span_of}
 
@@ -15,29 +15,29 @@ no_span a e = false≢true (ap is_some e)
 
 module _ (exchange : Exchange) (key : Key (List ℕ)) where
   abbrev pub names : Delivery → Bool
-  names delivery = is_named exchange.port key (exchange.messages delivery.message)
+  names delivery = has_unit_of exchange.port key (exchange.messages delivery.message)
 
   pub span_named : (delivery : Delivery) (earlier : List Delivery) → names delivery ≡ true → span_of exchange key (delivery ∷ earlier) ≡ Some (up_to delivery.moment (span_of exchange key earlier))
   unfolding span_of
-  span_named delivery earlier named = rw named refl
+  span_named delivery earlier has_unit = rw has_unit refl
 
   pub span_other : (delivery : Delivery) (earlier : List Delivery) → names delivery ≡ false → span_of exchange key (delivery ∷ earlier) ≡ span_of exchange key earlier
   unfolding span_of
-  span_other delivery earlier named = rw named refl
+  span_other delivery earlier has_unit = rw has_unit refl
 
   -- a message that names the machine came last when the span ends
   pub record Comes (deliveries : List Delivery) (span : Span) : Type 0 where
     pub message : ℕ
-    pub named : is_named exchange.port key (exchange.messages message) ≡ true
+    pub has_unit : has_unit_of exchange.port key (exchange.messages message) ≡ true
     pub last : last_of message deliveries ≡ Some span.last
 
   -- a message that names the machine isn't one that doesn't
-  pub other_message : (this that : ℕ) → is_named exchange.port key (exchange.messages this) ≡ false → is_named exchange.port key (exchange.messages that) ≡ true → eqb this that ≡ false
+  pub other_message : (this that : ℕ) → has_unit_of exchange.port key (exchange.messages this) ≡ false → has_unit_of exchange.port key (exchange.messages that) ≡ true → eqb this that ≡ false
   other_message this that n m = by (eqb this that) refl
     where
       by : (b : Bool) → eqb this that ≡ b → b ≡ false
       by false e = refl
-      by true e = absurd (false≢true (sym (subst (λ (i : ℕ). is_named exchange.port key (exchange.messages i) ≡ false) (eqb-true this that e) n) ∙ m))
+      by true e = absurd (false≢true (sym (subst (λ (i : ℕ). has_unit_of exchange.port key (exchange.messages i) ≡ false) (eqb-true this that e) n) ∙ m))
 
   last_upper : (moment : ℕ) (o : Option Span) → moment ≡ (up_to moment o).last
   last_upper moment None = refl
@@ -51,10 +51,10 @@ module _ (exchange : Exchange) (key : Key (List ℕ)) where
         | true ↦ λ n.
             let same = the_span (up_to delivery.moment (span_of exchange key earlier)) span (sym (span_named delivery earlier n) ∙ e) in
             let last : delivery.moment ≡ span.last = last_upper delivery.moment (span_of exchange key earlier) ∙ ap (λ (s : Span). s.last) same in
-            record { message = delivery.message; named = n; last = ap (λ b. cond b (Some delivery.moment) (last_of delivery.message earlier)) (eq-eqb delivery.message delivery.message refl) ∙ ap (λ m. Some m) last }
+            record { message = delivery.message; has_unit = n; last = ap (λ b. cond b (Some delivery.moment) (last_of delivery.message earlier)) (eq-eqb delivery.message delivery.message refl) ∙ ap (λ m. Some m) last }
         | false ↦ λ n.
             let later = comes earlier span (sym (span_other delivery earlier n) ∙ e) in
-            record { message = later.message; named = later.named; last = ap (λ b. cond b (Some delivery.moment) (last_of later.message earlier)) (other_message delivery.message later.message n later.named) ∙ later.last }
+            record { message = later.message; has_unit = later.has_unit; last = ap (λ b. cond b (Some delivery.moment) (last_of later.message earlier)) (other_message delivery.message later.message n later.has_unit) ∙ later.last }
       ] refl
 
   -- ---- timely deliveries

@@ -14,11 +14,11 @@ use Rattle.pim_down.specs.Records.{machine_at, state_of_machine}
 use Rattle.pim_down.specs.Tables.{machine_in}
 use Rattle.pim_down.specs.Time.{Downstream, machine_after, Runs}
 use Rattle.pim_down.specs.Laws.{RunGoesOn, EchoNamesAMachine}
-use Rattle.pim_fresh.specs.Exchange.{Exchange, TellsUnitsOnce, starts, is_named}
+use Rattle.pim_fresh.specs.Exchange.{Exchange, HasUnitsOnce, starts, has_unit_of}
 use Rattle.pim_fresh.specs.Deliveries.{Delivery, IsShorter, IsTimely, is_delivered, final_moment}
 use Rattle.pim_fresh.specs.Hearing.{fresh, after_message, Leaves}
-use Rattle.pim_fresh.specs.Expected.{Span, up_to, span_of, time_left, unit_of, asked_state, asked_of}
-use Rattle.pim_fresh.specs.Laws.{Stays, StaysAsAsked}
+use Rattle.pim_fresh.specs.Expected.{Span, up_to, span_of, time_left, unit_of, state_wanted, machine_wanted}
+use Rattle.pim_fresh.specs.Laws.{Stays, StaysAsWanted}
 use Rattle.pim_fresh.proofs.Waiting.{left_later}
 use Rattle.pim_fresh.proofs.Spans.{the_span, no_span, names, span_named, span_other, in_order}
 use Rattle.pim_fresh.proofs.Hearings.{Machines, IsExpected, is_expected}
@@ -35,12 +35,12 @@ module _ (exchange : Exchange) (key : Key (List ℕ)) where
       by false n = ap is_some (span_other exchange key delivery earlier n) ∙ some
 
   -- a machine that a delivered message names has a span
-  pub was_named : (message : ℕ) (deliveries : List Delivery) → is_delivered message deliveries ≡ true → is_named exchange.port key (exchange.messages message) ≡ true → is_some (span_of exchange key deliveries) ≡ true
-  was_named message [] d named = absurd (false≢true d)
-  was_named message (delivery ∷ earlier) d named =
+  pub was_named : (message : ℕ) (deliveries : List Delivery) → is_delivered message deliveries ≡ true → has_unit_of exchange.port key (exchange.messages message) ≡ true → is_some (span_of exchange key deliveries) ≡ true
+  was_named message [] d has_unit = absurd (false≢true d)
+  was_named message (delivery ∷ earlier) d has_unit =
       elim (eqb delivery.message message) as (λ b. eqb delivery.message message ≡ b → (b || is_delivered message earlier) ≡ true → is_some (span_of exchange key (delivery ∷ earlier)) ≡ true) [
-        | true ↦ λ e f. ap is_some (span_named exchange key delivery earlier (subst (λ (i : ℕ). is_named exchange.port key (exchange.messages i) ≡ true) (sym (eqb-true delivery.message message e)) named))
-        | false ↦ λ e f. some_named delivery earlier (was_named message earlier f named)
+        | true ↦ λ e f. ap is_some (span_named exchange key delivery earlier (subst (λ (i : ℕ). has_unit_of exchange.port key (exchange.messages i) ≡ true) (sym (eqb-true delivery.message message e)) has_unit))
+        | false ↦ λ e f. some_named delivery earlier (was_named message earlier f has_unit)
       ] refl d
 
   pub first_over : (deliveries : List Delivery) (span : Span) → span_of exchange key deliveries ≡ Some span → span.first + exchange.timing.override_ms ≤ final_moment exchange.timing.override_ms deliveries
@@ -91,7 +91,7 @@ and_none : (a b : Bool) → b ≡ false → (a && b) ≡ false
 and_none true b e = e
 and_none false b e = refl
 
-unit_asked : (exchange : Exchange) (moment : ℕ) (what : What (List ℕ)) (o : Option Span) → ((span : Span) → o ≡ Some span → span.first + exchange.timing.override_ms ≤ moment) → unit_of exchange moment what o ≡ asked_of exchange moment what o
+unit_asked : (exchange : Exchange) (moment : ℕ) (what : What (List ℕ)) (o : Option Span) → ((span : Span) → o ≡ Some span → span.first + exchange.timing.override_ms ≤ moment) → unit_of exchange moment what o ≡ machine_wanted exchange moment what o
 unit_asked exchange moment what None over = refl
 unit_asked exchange moment Star (Some span) over = refl
 unit_asked exchange moment (Source source) (Some span) over = refl
@@ -101,17 +101,17 @@ unit_asked exchange moment (Rpt source) (Some span) over =
     ap (λ b. cond b (machine_in PrunePending (time_left exchange moment span) (Some (record { ends_in = (span.first + exchange.timing.override_ms) - moment; several = true }))) (machine_in Prune (time_left exchange moment span) None))
     (and_none exchange.timing.several (ltb moment (span.first + exchange.timing.override_ms)) none)
 
-asked_later : (exchange : Exchange) (moment later : ℕ) (what : What (List ℕ)) (o : Option Span) → moment ≤ later → ((span : Span) → o ≡ Some span → span.last ≤ moment) → asked_of exchange later what o ≡ option_map (machine_after (later - moment)) (asked_of exchange moment what o)
+asked_later : (exchange : Exchange) (moment later : ℕ) (what : What (List ℕ)) (o : Option Span) → moment ≤ later → ((span : Span) → o ≡ Some span → span.last ≤ moment) → machine_wanted exchange later what o ≡ option_map (machine_after (later - moment)) (machine_wanted exchange moment what o)
 asked_later exchange moment later what None before last = refl
-asked_later exchange moment later what (Some span) before last = ap (λ e. machine_in (asked_state what) e None) (sym (left_later exchange moment later span (last span refl) before))
+asked_later exchange moment later what (Some span) before last = ap (λ e. machine_in (state_wanted what) e None) (sym (left_later exchange moment later span (last span refl) before))
 
-same_state : (exchange : Exchange) (moment later : ℕ) (what : What (List ℕ)) (o : Option Span) → state_of_machine (asked_of exchange later what o) ≡ state_of_machine (asked_of exchange moment what o)
+same_state : (exchange : Exchange) (moment later : ℕ) (what : What (List ℕ)) (o : Option Span) → state_of_machine (machine_wanted exchange later what o) ≡ state_of_machine (machine_wanted exchange moment what o)
 same_state exchange moment later what None = refl
 same_state exchange moment later what (Some span) = refl
 
 -- ---- the run
 
-module _ (laws : Machines) (echo : EchoNamesAMachine) (goes_on : RunGoesOn) (exchange : Exchange) (tells : TellsUnitsOnce exchange) (ports limit : ℕ) where
+module _ (laws : Machines) (echo : EchoNamesAMachine) (goes_on : RunGoesOn) (exchange : Exchange) (tells : HasUnitsOnce exchange) (ports limit : ℕ) where
   leaves_later : (deliveries : List Delivery) (moment later : ℕ) (state after : Downstream) → moment ≤ later → Leaves exchange ports limit deliveries moment state → Runs later state Reached after → Leaves exchange ports limit deliveries later after
   unfolding Leaves
   leaves_later [] moment later state after before leaves runs = goes_on moment later (fresh ports limit) state after Reached before leaves runs
@@ -121,7 +121,7 @@ module _ (laws : Machines) (echo : EchoNamesAMachine) (goes_on : RunGoesOn) (exc
     runs = goes_on moment later (after_message exchange delivery.message leaves.before) state after Reached before leaves.runs runs;
   }
 
-  asked_at : (deliveries : List Delivery) (moment : ℕ) (state : Downstream) → final_moment exchange.timing.override_ms deliveries ≤ moment → IsExpected laws exchange tells ports limit deliveries moment state → (key : Key (List ℕ)) → machine_at key state.records ≡ asked_of exchange moment key.what (span_of exchange key deliveries)
+  asked_at : (deliveries : List Delivery) (moment : ℕ) (state : Downstream) → final_moment exchange.timing.override_ms deliveries ≤ moment → IsExpected laws exchange tells ports limit deliveries moment state → (key : Key (List ℕ)) → machine_at key state.records ≡ machine_wanted exchange moment key.what (span_of exchange key deliveries)
   asked_at deliveries moment state over is key =
       is.machines key ∙ unit_asked exchange moment key.what (span_of exchange key deliveries) (λ span e. let first = first_over exchange key deliveries span e in omega arith)
 
@@ -147,6 +147,6 @@ module _ (laws : Machines) (echo : EchoNamesAMachine) (goes_on : RunGoesOn) (exc
             ∙ ap state_of_machine (sym (asked_at deliveries moment state over now key));
       }
 
-pub stays_as_asked : Machines → EchoNamesAMachine → RunGoesOn → StaysAsAsked
-stays_as_asked laws echo goes_on exchange ports limit deliveries moment later state after answer tells over before timely leaves runs =
+pub stays_as_wanted : Machines → EchoNamesAMachine → RunGoesOn → StaysAsWanted
+stays_as_wanted laws echo goes_on exchange ports limit deliveries moment later state after answer tells over before timely leaves runs =
     stays laws echo goes_on exchange tells ports limit deliveries moment later state after answer over before timely leaves runs

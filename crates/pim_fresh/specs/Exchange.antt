@@ -24,8 +24,8 @@ abbrev pub starts : Exchange → Start
 starts exchange = start_of exchange.holdtime exchange.timing
 
 -- Whether one of these events names the machine.
-abbrev pub is_named : ℕ → Key (List ℕ) → List Event → Bool
-is_named port key events = list_any (λ event. same_key (key_of port event) key) events
+abbrev pub has_unit_of : ℕ → Key (List ℕ) → List Event → Bool
+has_unit_of port key events = list_any (λ event. same_key (key_of port event) key) events
 
 -- The (*,G) machine of a group on the port.
 abbrev pub star_at : ℕ → List ℕ → Key (List ℕ)
@@ -37,14 +37,14 @@ unfoldable pub AreUnits : ℕ → List Event → List Event → Type 0
 AreUnits port before [] = Unit {0}
 AreUnits port before (event ∷ events) =
     (creates event ≡ true)
-    × (is_named port (key_of port event) before ≡ false)
-    × (is_rpt event.what ≡ true → is_named port (star_at port event.group) before ≡ true)
+    × (has_unit_of port (key_of port event) before ≡ false)
+    × (is_rpt event.what ≡ true → has_unit_of port (star_at port event.group) before ≡ true)
     × AreUnits port (event ∷ before) events
 
 -- The events of each message create different machines, an exception only after its star, and no
 -- machine is named by two messages.
-pub record TellsUnitsOnce (exchange : Exchange) : Type 0 where
+pub record HasUnitsOnce (exchange : Exchange) : Type 0 where
   pub units : (i : ℕ) → AreUnits exchange.port [] (exchange.messages i)
   pub once : (i j : ℕ) (key : Key (List ℕ)) →
-      is_named exchange.port key (exchange.messages i) ≡ true →
-      is_named exchange.port key (exchange.messages j) ≡ true → i ≡ j
+      has_unit_of exchange.port key (exchange.messages i) ≡ true →
+      has_unit_of exchange.port key (exchange.messages j) ≡ true → i ≡ j

@@ -13,7 +13,7 @@ use Rattle.pim_down.specs.Records.{machine_at}
 use Rattle.pim_down.specs.Tables.{machine_in}
 use Rattle.pim_down.specs.Hearing.{Event}
 use Rattle.pim_down.specs.Time.{Downstream, expiry_after}
-use Rattle.pim_fresh.specs.Exchange.{Exchange, starts, is_named}
+use Rattle.pim_fresh.specs.Exchange.{Exchange, starts, has_unit_of}
 use Rattle.pim_fresh.specs.Deliveries.{Delivery, is_delivered}
 
 -- The moments of the first and of the last delivery that names a machine.
@@ -30,7 +30,7 @@ up_to moment (Some span) = record { first = span.first; last = moment }
 unfoldable pub span_of : Exchange → Key (List ℕ) → List Delivery → Option Span
 span_of exchange key [] = None
 span_of exchange key (delivery ∷ earlier) =
-    if is_named exchange.port key (exchange.messages delivery.message)
+    if has_unit_of exchange.port key (exchange.messages delivery.message)
     then Some (up_to delivery.moment (span_of exchange key earlier))
     else span_of exchange key earlier
 
@@ -72,22 +72,22 @@ IsAsExpected exchange deliveries moment state =
 -- ---- from the final moment on
 
 -- The state that a unit asks for: Join for (*,G) and (S,G), Prune for (S,G,rpt).
-abbrev pub asked_state : What (List ℕ) → State
-asked_state Star = Join
-asked_state (Source source) = Join
-asked_state (Rpt source) = Prune
+abbrev pub state_wanted : What (List ℕ) → State
+state_wanted Star = Join
+state_wanted (Source source) = Join
+state_wanted (Rpt source) = Prune
 
 -- A unit that was delivered, in the state that it asks for and without a Prune-Pending Timer. Other
 -- machines aren't held.
-abbrev pub asked_of : Exchange → ℕ → What (List ℕ) → Option Span → Option Machine
-asked_of exchange moment what None = None
-asked_of exchange moment what (Some span) = machine_in (asked_state what) (time_left exchange moment span) None
+abbrev pub machine_wanted : Exchange → ℕ → What (List ℕ) → Option Span → Option Machine
+machine_wanted exchange moment what None = None
+machine_wanted exchange moment what (Some span) = machine_in (state_wanted what) (time_left exchange moment span) None
 
 -- Each unit that was delivered is in the state that it asks for, without a Prune-Pending Timer, and
 -- no other machine is held.
-abbrev pub IsAsAsked : Exchange → List Delivery → ℕ → Downstream → Type 0
-IsAsAsked exchange deliveries moment state = (key : Key (List ℕ)) →
-    machine_at key state.records ≡ asked_of exchange moment key.what (span_of exchange key deliveries)
+abbrev pub IsAsWanted : Exchange → List Delivery → ℕ → Downstream → Type 0
+IsAsWanted exchange deliveries moment state = (key : Key (List ℕ)) →
+    machine_at key state.records ≡ machine_wanted exchange moment key.what (span_of exchange key deliveries)
 
 -- ---- the number of units
 

@@ -2,5 +2,5 @@ pub mod Exchange
 pub mod Deliveries
 pub mod Hearing
 pub mod Expected
-pub mod Asking
+pub mod Demanding
 pub mod Laws

@@ -15,11 +15,11 @@ use Rattle.pim_hello.specs.Hello.{Parameters, Delays}
 use Rattle.pim_hello.specs.Interval.{greatest, delays_sent, all_sent_delays}
 use Rattle.pim_hello.specs.Delays.{delays_seen}
 use Rattle.pim_hello.specs.Kept.{hello_of_kept}
-use Rattle.pim_hello.specs.Told.{ComesTo}
+use Rattle.pim_hello.specs.KeptDelays.{ComesTo}
 use Rattle.pim_hello.specs.declared.delay.LanDelay.{LanDelay}
 use Rattle.pim_hello.specs.declared.parameters.Kept.{Kept}
-use Rattle.pim_hello.specs.declared.told.DelaysTold.{DelaysTold}
-use Rattle.pim_hello.specs.declared.told.DelaysTold.TheVariants.{NotByAll, ByAll}
+use Rattle.pim_hello.specs.declared.delays_heard.DelaysHeard.{DelaysHeard}
+use Rattle.pim_hello.specs.declared.delays_heard.DelaysHeard.TheVariants.{NotByAll, ByAll}
 
 abbrev numbers : ℕ → ℕ → Option (ℕ × ℕ)
 numbers p o = Some (p, o)
@@ -94,11 +94,11 @@ swapped one other hellos = two_in_front one other hellos ∙ both_swap one.lan o
 none≢some : {X Y : Type 0} (x : X) → None ≡ Some x → Y
 none≢some x e = cc
 
-abbrev greatest_told : DelaysTold → Option (ℕ × ℕ)
+abbrev greatest_told : DelaysHeard → Option (ℕ × ℕ)
 greatest_told NotByAll = None
 greatest_told (ByAll most) = numbers most.propagation most.override_ms
 
-sent_of : (told : DelaysTold) (hellos : List Parameters) → ComesTo told hellos → greatest_sent hellos ≡ greatest_told told
+sent_of : (delays_heard : DelaysHeard) (hellos : List Parameters) → ComesTo delays_heard hellos → greatest_sent hellos ≡ greatest_told delays_heard
 sent_of NotByAll hellos h = ap (λ all. if_all all (propagation_sent hellos) (override_sent hellos)) h
 sent_of (ByAll most) hellos h = ap (λ all. if_all all (propagation_sent hellos) (override_sent hellos)) h.0
     ∙ sym (pair _ _ _ _ h.1 h.2)
@@ -111,7 +111,7 @@ all_with : (all : Bool) (p o g h : ℕ) → if_all all p o ≡ numbers g h → (
 all_with true p o g h e = let pairs : (p, o) ≡ (g, h) = cc in (refl, sym (ap (λ (n : ℕ × ℕ). n.0) pairs), sym (ap (λ (n : ℕ × ℕ). n.1) pairs))
 all_with false p o g h e = none≢some (g, h) e
 
-comes_to : (told : DelaysTold) (hellos : List Parameters) → greatest_sent hellos ≡ greatest_told told → ComesTo told hellos
+comes_to : (delays_heard : DelaysHeard) (hellos : List Parameters) → greatest_sent hellos ≡ greatest_told delays_heard → ComesTo delays_heard hellos
 comes_to NotByAll hellos e = not_all (all_sent_delays hellos) _ _ e
 comes_to (ByAll most) hellos e = all_with (all_sent_delays hellos) _ _ most.propagation most.override_ms e
 
@@ -147,14 +147,14 @@ hides (Some n) (Some b) (Some m) first both =
     pair _ _ _ _ (greater_stays n.propagation b.propagation m.0 e.0) (greater_stays n.override_ms b.override_ms m.1 e.1)
 
 -- what the delays come to is that of all Hellos with the same greatest delays
-comes_same : (told : DelaysTold) (one other : List Parameters) → SameGreatest one other → ComesTo told one → ComesTo told other
-comes_same told one other same h = comes_to told other (sym same ∙ sent_of told one h)
+comes_same : (delays_heard : DelaysHeard) (one other : List Parameters) → SameGreatest one other → ComesTo delays_heard one → ComesTo delays_heard other
+comes_same delays_heard one other same h = comes_to delays_heard other (sym same ∙ sent_of delays_heard one h)
 
 -- in the place of what was told before
-pub in_its_place : (told : DelaysTold) (now before : Option LanDelay) (old hello : Parameters) (hellos : List Parameters) → IfNone before (IsSome now → true ≡ false) →
+pub in_its_place : (delays_heard : DelaysHeard) (now before : Option LanDelay) (old hello : Parameters) (hellos : List Parameters) → IfNone before (IsSome now → true ≡ false) →
     IfSome now (λ now. IfSome before (λ before. true ≡ (nat_le before.propagation now.propagation && nat_le before.override_ms now.override_ms))) →
-    old.lan ≡ option_map delays_seen before → hello.lan ≡ option_map delays_seen now → ComesTo told (hello ∷ old ∷ hellos) → ComesTo told (hello ∷ hellos)
-in_its_place told now before old hello hellos first both k l h = comes_same told (hello ∷ old ∷ hellos) (hello ∷ hellos)
+    old.lan ≡ option_map delays_seen before → hello.lan ≡ option_map delays_seen now → ComesTo delays_heard (hello ∷ old ∷ hellos) → ComesTo delays_heard (hello ∷ hellos)
+in_its_place delays_heard now before old hello hellos first both k l h = comes_same delays_heard (hello ∷ old ∷ hellos) (hello ∷ hellos)
     (two_in_front hello old hellos ∙ ap (λ lan. with_delays lan (with_delays old.lan (greatest_sent hellos))) l ∙ ap (λ lan. with_delays (option_map delays_seen now) (with_delays lan (greatest_sent hellos))) k
     ∙ hides now before (greatest_sent hellos) first both ∙ ap (λ lan. with_delays lan (greatest_sent hellos)) (sym l) ∙ sym (one_in_front hello hellos)) h
 
@@ -163,9 +163,9 @@ in_its_place told now before old hello hellos first both k l h = comes_same told
 abbrev pub hellos_kept : {A : Type 0} → List (A × Kept) → List Parameters
 hellos_kept es = map hello_of_kept (values_of es)
 
-if_same : (told : Option DelaysTold) (one other : List Parameters) → SameGreatest one other → IfSome told (λ told. ComesTo told one) → IfSome told (λ told. ComesTo told other)
+if_same : (delays_heard : Option DelaysHeard) (one other : List Parameters) → SameGreatest one other → IfSome delays_heard (λ delays_heard. ComesTo delays_heard one) → IfSome delays_heard (λ delays_heard. ComesTo delays_heard other)
 if_same None one other same h = tt
-if_same (Some told) one other same h = comes_same told one other same h
+if_same (Some delays_heard) one other same h = comes_same delays_heard one other same h
 
 module _ {A : Type 0} (cmp : A → A → Ordering) where
   -- what isn't there is removed in vain
@@ -217,18 +217,18 @@ module _ {A : Type 0} (cmp : A → A → Ordering) where
           ∙ swapped (hello_of_kept e.1) (hello_of_kept old) (hellos_kept (remove_entry (is_at (cmp a)) es))
 
   -- what is known once a neighbour, of which this was kept, tells these delays
-  pub known_after : IsTotalOrder cmp → (told then : Option DelaysTold) (known : Option Kept) (a : A) (kept : Kept) (es new : List (A × Kept)) → IsStrictlySortedBy cmp (keys_of es) →
-      known ≡ lookup (is_at (cmp a)) es → new ≡ insert_entry cmp es a kept → IfSome told (λ told. ComesTo told (hellos_kept es)) →
+  pub known_after : IsTotalOrder cmp → (delays_heard then : Option DelaysHeard) (known : Option Kept) (a : A) (kept : Kept) (es new : List (A × Kept)) → IsStrictlySortedBy cmp (keys_of es) →
+      known ≡ lookup (is_at (cmp a)) es → new ≡ insert_entry cmp es a kept → IfSome delays_heard (λ delays_heard. ComesTo delays_heard (hellos_kept es)) →
       (known ≡ None → (hello : Parameters) (hellos : List Parameters) → hello.lan ≡ option_map delays_seen kept.parameters.lan →
-      IfSome told (λ told. ComesTo told hellos) → IfSome then (λ told. ComesTo told (hello ∷ hellos))) →
+      IfSome delays_heard (λ delays_heard. ComesTo delays_heard hellos) → IfSome then (λ delays_heard. ComesTo delays_heard (hello ∷ hellos))) →
       IfSome known (λ old. (before hello : Parameters) (hellos : List Parameters) → before.lan ≡ option_map delays_seen old.parameters.lan → hello.lan ≡ option_map delays_seen kept.parameters.lan →
-      IfSome told (λ told. ComesTo told (before ∷ hellos)) → IfSome then (λ told. ComesTo told (hello ∷ hellos))) →
-      IfSome then (λ told. ComesTo told (hellos_kept new))
-  known_after total told then None a kept es new s k n h first again =
+      IfSome delays_heard (λ delays_heard. ComesTo delays_heard (before ∷ hellos)) → IfSome then (λ delays_heard. ComesTo delays_heard (hello ∷ hellos))) →
+      IfSome then (λ delays_heard. ComesTo delays_heard (hellos_kept new))
+  known_after total delays_heard then None a kept es new s k n h first again =
       if_same then (hello_of_kept kept ∷ hellos_kept es) (hellos_kept new)
       (ap (λ es. greatest_sent (hello_of_kept kept ∷ hellos_kept es)) (sym (without_unknown a es (sym k))) ∙ sym (kept_in_front total a kept es s) ∙ ap (λ es. greatest_sent (hellos_kept es)) (sym n))
       (first refl (hello_of_kept kept) (hellos_kept es) refl h)
-  known_after total told then (Some old) a kept es new s k n h first again =
+  known_after total delays_heard then (Some old) a kept es new s k n h first again =
       if_same then (hello_of_kept kept ∷ hellos_kept (remove_entry (is_at (cmp a)) es)) (hellos_kept new) (sym (kept_in_front total a kept es s) ∙ ap (λ es. greatest_sent (hellos_kept es)) (sym n))
       (again (hello_of_kept old) (hello_of_kept kept) (hellos_kept (remove_entry (is_at (cmp a)) es)) refl refl
-      (if_same told (hellos_kept es) (hello_of_kept old ∷ hellos_kept (remove_entry (is_at (cmp a)) es)) (old_in_front a old es (sym k)) h))
+      (if_same delays_heard (hellos_kept es) (hello_of_kept old ∷ hellos_kept (remove_entry (is_at (cmp a)) es)) (old_in_front a old es (sym k)) h))

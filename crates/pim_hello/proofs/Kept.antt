@@ -14,7 +14,7 @@ use Rattle.std.specs.BTreeMap.{BTreeMap, IsOrdered, is_at, insert_entry}
 use Rattle.std.specs.Map.{lookup, remove_entry, keys_of, values_of}
 use Rattle.std.specs.List.Sorted.{IsStrictlySortedBy}
 use Rattle.pim_hello.specs.Hello.{Parameters}
-use Rattle.pim_hello.specs.Neighbours.{Neighbour, Table, is_address, waited, passed_to, is_over, without_ended, lifetime, says_goodbye, told_unless_goodbye, told, is_full, needs_no_memory, IsAscending, heard_from, hellos_of}
+use Rattle.pim_hello.specs.Neighbours.{Neighbour, Table, is_address, waited, passed_to, is_over, without_ended, lifetime, says_goodbye, heard_unless_goodbye, heard_as, is_full, needs_no_memory, IsAscending, heard_from, hellos_of}
 use Rattle.pim_hello.specs.Index.{end_kept, ended_by, NoneEnded}
 use Rattle.pim_hello.specs.Kept.{parameters_seen, kept_seen, entry_seen, table_seen, hello_of_kept}
 use Rattle.pim_hello.specs.declared.parameters.Parameters.{Parameters as Sent}
@@ -45,9 +45,9 @@ is_some_map : {X Y : Type 0} (f : X → Y) (o : Option X) → is_some (option_ma
 is_some_map f None = refl
 is_some_map f (Some x) = refl
 
-told_at : (m n : ℕ) (kept : Option Kept) (hello : Parameters) → told_unless_goodbye (option_map (kept_seen m) kept) hello ≡ told_unless_goodbye (option_map (kept_seen n) kept) hello
-told_at m n None hello = refl
-told_at m n (Some kept) hello = refl
+with_place : (m n : ℕ) (kept : Option Kept) (hello : Parameters) → heard_unless_goodbye (option_map (kept_seen m) kept) hello ≡ heard_unless_goodbye (option_map (kept_seen n) kept) hello
+with_place m n None hello = refl
+with_place m n (Some kept) hello = refl
 
 length_seen : {A : Type 0} (bytes_of : A → List ℕ) (moment : ℕ) (es : List (A × Kept)) → length (entries_seen bytes_of moment es) ≡ length es
 length_seen bytes_of moment [] = refl
@@ -79,9 +79,9 @@ module _ {A : Type 0} (cmp : A → A → Ordering) (bytes_of : A → List ℕ) (
   known_seen moment a es = sym (is_some_map (kept_seen moment) (lookup (is_at (cmp a)) es)) ∙ sym (ap is_some (lookup_seen moment a es))
 
   -- what is told doesn't rest on the moment at which the neighbour is seen
-  pub told_seen : (moment : ℕ) (a : A) (es : List (A × Kept)) (hello : Parameters) → says_goodbye hello ≡ false →
-      told_unless_goodbye (option_map (kept_seen 0) (lookup (is_at (cmp a)) es)) hello ≡ told (lookup (is_address (bytes_of a)) (entries_seen bytes_of moment es)) hello
-  told_seen moment a es hello stays = rw stays (told_at 0 moment (lookup (is_at (cmp a)) es) hello ∙ ap (λ o. told_unless_goodbye o hello) (sym (lookup_seen moment a es)))
+  pub record_of_seen : (moment : ℕ) (a : A) (es : List (A × Kept)) (hello : Parameters) → says_goodbye hello ≡ false →
+      heard_unless_goodbye (option_map (kept_seen 0) (lookup (is_at (cmp a)) es)) hello ≡ heard_as (lookup (is_address (bytes_of a)) (entries_seen bytes_of moment es)) hello
+  record_of_seen moment a es hello stays = rw stays (with_place 0 moment (lookup (is_at (cmp a)) es) hello ∙ ap (λ o. heard_unless_goodbye o hello) (sym (lookup_seen moment a es)))
 
   -- whether there is no room
   pub full_seen : (moment : ℕ) (a : A) (es : List (A × Kept)) (hello : Parameters) (known : Option Kept) (count : ℕ) (full : Bool) → says_goodbye hello ≡ false →

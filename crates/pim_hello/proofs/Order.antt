@@ -4,14 +4,14 @@ use Rattle.std.specs.Prelude.{◌==◌}
 use Rattle.std.specs.List.{AllByRecursion}
 use Rattle.std.proofs.lemmas.List.{map-append}
 use Rattle.pim_addr.specs.Faults.{fault_if}
-use Rattle.pim_addr.specs.Order.{Place, IsToldBefore, FirstIsLeast, NumbersRise, OffsetsRise, places_at, places, FirstOfPartsIsLeast}
+use Rattle.pim_addr.specs.Order.{Place, IsReportedBefore, FirstIsLeast, NumbersRise, OffsetsRise, places_at, places, FirstOfPartsIsLeast}
 use Rattle.pim_hello.specs.declared.fault.HelloKind.{HelloKind}
 use Rattle.pim_hello.specs.declared.fault.HelloKind.TheVariants.{OptionLength, Address}
 use Rattle.pim_hello.specs.declared.fault.HelloFault.{HelloFault}
 use Rattle.pim_hello.specs.Options.{Content, whole, partial, content_at, Part, part_then, parts_within, parts, value_length, behind_option}
 use Rattle.pim_hello.specs.Row.{is_row}
 use Rattle.pim_hello.specs.Faults.{number_of, has_other_length, kinds_at, part_faults, faults_of, faults}
-use Rattle.pim_hello.specs.Laws.{place, ToldBefore}
+use Rattle.pim_hello.specs.Laws.{place, ReportedBefore}
 
 -- a part as the order sees it
 abbrev numbered : Part → ℕ × List ℕ
@@ -52,11 +52,11 @@ places_of_parts (part ∷ ps) =
     ∙ ap (λ (others : List Place). others ++ map place (faults_of ps)) (places_of_kinds part.at (kinds_at part.content))
     ∙ ap (λ (others : List Place). places_at (numbered part) ++ others) (places_of_parts ps)
 
-told_before : (first : HelloFault) (others : List HelloFault) → AllByRecursion (IsToldBefore (place first)) (map place others) → AllByRecursion (ToldBefore first) others
+told_before : (first : HelloFault) (others : List HelloFault) → AllByRecursion (IsReportedBefore (place first)) (map place others) → AllByRecursion (ReportedBefore first) others
 told_before first [] h = tt
 told_before first (other ∷ others) h = (h.0, told_before first others h.1)
 
-pub first_of_faults : FirstOfPartsIsLeast → (body : List ℕ) (first : HelloFault) (others : List HelloFault) → faults body ≡ first ∷ others → AllByRecursion (ToldBefore first) others
+pub first_of_faults : FirstOfPartsIsLeast → (body : List ℕ) (first : HelloFault) (others : List HelloFault) → faults body ≡ first ∷ others → AllByRecursion (ReportedBefore first) others
 first_of_faults law body first others e =
     let least : FirstIsLeast (places (map numbered (parts body))) = law (map numbered (parts body)) (parts_rise 0 (length body) 0 body (omega arith)) in
     told_before first others (subst FirstIsLeast (sym (places_of_parts (parts body)) ∙ ap (map place) e) least)

@@ -196,6 +196,6 @@ read_start family hello body e =
 
 pub read_end : (family : AddressFamily) (hello : Hello) (body rest : List ℕ) → length rest ≡ 0 → faults_of (parts_left body rest) ≡ faults body
     → over family hello (parts_left body rest) ≡ hello_of family body → judged (faults body) (hello_of family body) ≡ Ok hello
-read_end family hello body rest e told said =
-    ap (λ (fs : List HelloFault). judged fs (hello_of family body)) (sym told ∙ ap faults_of (left_end body rest e))
+read_end family hello body rest e delays_heard said =
+    ap (λ (fs : List HelloFault). judged fs (hello_of family body)) (sym delays_heard ∙ ap faults_of (left_end body rest e))
     ∙ ap {B = Result Hello HelloFault} Ok (sym said ∙ ap (over family hello) (left_end body rest e) ∙ over_end family hello)

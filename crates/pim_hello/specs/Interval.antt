@@ -22,8 +22,8 @@ all_sent_delays (hello ∷ hellos) = elim hello.lan as (λ _. Bool) [ None ↦ f
 -- J/P_Override_Interval(I) in milliseconds: Effective_Propagation_Delay(I) plus
 -- Effective_Override_Interval(I). Each is the greatest delay of the port and its neighbours. If
 -- lan_delay_enabled(I) is false, they are 500 and 2,500 ms, without the port's own delays.
-abbrev pub override_interval : ℕ → ℕ → List Parameters → ℕ
-override_interval propagation override_ms hellos = if all_sent_delays hellos
+abbrev pub jp_override_interval : ℕ → ℕ → List Parameters → ℕ
+jp_override_interval propagation override_ms hellos = if all_sent_delays hellos
     then greatest (propagation ∷ map (λ (d : Delays). d.propagation) (delays_sent hellos))
     + greatest (override_ms ∷ map (λ (d : Delays). d.override_ms) (delays_sent hellos))
     else 3000

@@ -2,7 +2,7 @@
 use Rattle.std.specs.Prelude.{◌≡◌, ◌≤◌, ℕ, ◌-◌, max, Bool, false, nat_le, if◌then◌else◌}
 use Rattle.std.specs.Prelude.{List, ◌∷◌, Option, Some, None, option_map}
 use Rattle.std.specs.List.{AllByRecursion, list_any}
-use Rattle.pim_addr.specs.Order.{Place, IsToldBefore}
+use Rattle.pim_addr.specs.Order.{Place, IsReportedBefore}
 use Rattle.pim_hello.specs.declared.fault.HelloFault.{HelloFault}
 use Rattle.pim_hello.specs.Faults.{number_of, faults}
 use Rattle.pim_hello.specs.Hello.{Parameters}
@@ -15,13 +15,13 @@ place fault = (fault.at, number_of fault.kind)
 
 -- The first fault precedes the other: it has the lesser offset, or the same offset and the lesser
 -- number of its kind.
-abbrev pub ToldBefore : HelloFault → HelloFault → Type 0
-ToldBefore first other = IsToldBefore (place first) (place other)
+abbrev pub ReportedBefore : HelloFault → HelloFault → Type 0
+ReportedBefore first other = IsReportedBefore (place first) (place other)
 
 -- The first of all faults of a body precedes the others.
 abbrev pub FirstFaultIsLeast : Type 0
 FirstFaultIsLeast = (body : List ℕ) (first : HelloFault) (others : List HelloFault) →
-    faults body ≡ first ∷ others → AllByRecursion (ToldBefore first) others
+    faults body ≡ first ∷ others → AllByRecursion (ReportedBefore first) others
 
 -- What the table has of the sender after this Hello.
 abbrev pub kept_of_sender : Parameters → Option Neighbour

@@ -12,7 +12,7 @@ pub mod Spelling
 pub mod Neighbours
 pub mod Laws
 pub mod Interval
-pub mod Told
+pub mod KeptDelays
 pub mod Kept
 pub mod Index
 pub mod Walk

@@ -113,17 +113,17 @@ heard_from sender hello table = record {
 
 -- What the Generation ID of a known sender means (RFC 7761, 4.3.1). The sender is `Same` if it is
 -- equal or absent both times, else `Restarted`.
-abbrev pub told_of_known : Option ℕ → Option ℕ → Heard
-told_of_known kept generation = if option_eq nat_eq kept generation then Same else Restarted
+abbrev pub heard_of_known : Option ℕ → Option ℕ → Heard
+heard_of_known kept generation = if option_eq nat_eq kept generation then Same else Restarted
 
 -- What a Hello that is no goodbye means: its sender is new, the same, or has restarted.
-abbrev pub told_unless_goodbye : Option Neighbour → Parameters → Heard
-told_unless_goodbye None hello = New
-told_unless_goodbye (Some known) hello = told_of_known known.parameters.generation hello.generation
+abbrev pub heard_unless_goodbye : Option Neighbour → Parameters → Heard
+heard_unless_goodbye None hello = New
+heard_unless_goodbye (Some known) hello = heard_of_known known.parameters.generation hello.generation
 
 -- What a Hello means for its sender, by what the table has of it.
-abbrev pub told : Option Neighbour → Parameters → Heard
-told known hello = if says_goodbye hello then Gone else told_unless_goodbye known hello
+abbrev pub heard_as : Option Neighbour → Parameters → Heard
+heard_as known hello = if says_goodbye hello then Gone else heard_unless_goodbye known hello
 
 -- There is no room: the sender is new, says no goodbye, and the port has `neighbour_limit`
 -- neighbours.
@@ -140,7 +140,7 @@ needs_no_memory sender hello table =
 -- `Full` comes exactly where there is no room, and a Hello that needs no memory is never refused.
 pub record Hears (sender : List ℕ) (hello : Parameters) (now : ℕ) (old : Table)
     (result : Result Heard NeighbourFault) (new : Table) : Type 0 where
-  pub answer : IfOk result (λ heard. heard ≡ told (neighbour_at sender old) hello)
+  pub answer : IfOk result (λ heard. heard ≡ heard_as (neighbour_at sender old) hello)
   pub table : OnOk result (new ≡ heard_from sender hello (passed_to now old))
   pub full : (result ≡ Err Full) ↔ IsTrue (is_full sender hello old)
   pub memory : IsTrue (needs_no_memory sender hello old) → IsOk result

@@ -3,7 +3,7 @@
 
 ghost use Rattle.std.specs.Prelude.{◌≡◌, ◌≤◌, ◌^◌, ◌+◌, option_map};
 ghost use Rattle.pim_hello.specs.Kept.{parameters_seen, kept_seen};
-ghost use Rattle.pim_hello.specs.Neighbours.{says_goodbye, lifetime, told_unless_goodbye};
+ghost use Rattle.pim_hello.specs.Neighbours.{says_goodbye, lifetime, heard_unless_goodbye};
 
 use crate::heard::Heard;
 use crate::parameters::{Kept, Parameters};
@@ -29,9 +29,9 @@ pub(crate) fn end_of_time(hello: &Parameters, moment: u64) -> Option<u64>
 }
 
 /// What a Hello that is no goodbye means, by what was kept of its sender.
-pub(crate) fn told(known: Option<Kept>, hello: &Parameters) -> Heard
+pub(crate) fn heard_as(known: Option<Kept>, hello: &Parameters) -> Heard
     ensures { result
-        ≡ told_unless_goodbye (option_map (kept_seen 0) known) (parameters_seen hello.now) }
+        ≡ heard_unless_goodbye (option_map (kept_seen 0) known) (parameters_seen hello.now) }
 {
     match known {
         None => Heard::New,

@@ -44,7 +44,7 @@ impl PortDelays {
     }
 
     /// The delays of a neighbour's LAN Prune Delay.
-    pub(crate) fn told_by(lan: LanDelay) -> PortDelays
+    pub(crate) fn heard_in(lan: LanDelay) -> PortDelays
         ensures propagation { result.propagation ≡ lan.propagation }
         ensures override_ms { result.override_ms ≡ lan.override_ms }
     {

@@ -1,7 +1,7 @@
 //! The neighbours of one port (RFC 7761, 4.3.1 and 4.3.2).
 
 ghost use Rattle.std.specs.Prelude.{◌≡◌, ◌≤◌, ◌^◌, length, is_some, option_map, not, ◌&&◌, nat_le};
-ghost use Rattle.pim_hello.specs.Interval.{override_interval};
+ghost use Rattle.pim_hello.specs.Interval.{jp_override_interval};
 ghost use Rattle.pim_hello.specs.Kept.{parameters_seen};
 ghost use Rattle.pim_hello.specs.Seen.{hello_seen};
 ghost use Rattle.pim_hello.specs.Neighbours.{no_neighbours, neighbour_at, passed_to, without_ended};
@@ -10,7 +10,7 @@ ghost use Rattle.pim_hello.specs.Neighbours.{IsAscending, IsSound, entry_at, nex
 ghost use Rattle.pim_hello.specs.Walk.{neighbour_seen};
 
 use crate::heard::{Heard, NeighbourFault};
-use crate::hearing::{end_of_time, says_goodbye, told};
+use crate::hearing::{end_of_time, heard_as, says_goodbye};
 use crate::hello::Hello;
 use crate::interval::PortDelays;
 use crate::parameters::{Kept, Parameters};
@@ -167,7 +167,7 @@ impl<F: Family> Neighbours<F> {
             return Err(NeighbourFault::Memory);
         };
         self.moment = moment;
-        Ok(told(known, hello))
+        Ok(heard_as(known, hello))
     }
 
     /// Lets time pass up to the moment `now`, in milliseconds, and removes the neighbours whose
@@ -193,7 +193,7 @@ impl<F: Family> Neighbours<F> {
     /// 4.3.3): at most 98,302. It walks over the neighbours only where `gather_delays` would.
     pub fn override_interval(&self, own: PortDelays) -> u32
         ensures interval { result
-            ≡ override_interval own.propagation own.override_ms (hellos_of self.now) }
+            ≡ jp_override_interval own.propagation own.override_ms (hellos_of self.now) }
         ensures bound { result ≤ 98302 }
     {
         self.roster.override_interval(own)

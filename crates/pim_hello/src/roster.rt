@@ -7,32 +7,33 @@ ghost use Rattle.std.specs.Prelude.{is_some, true, if◌then◌else◌};
 ghost use Rattle.std.specs.Option.{OnSome, IfNone};
 ghost use Rattle.std.specs.BTreeMap.{get, insert_entry, is_at, IsOrdered, values};
 ghost use Rattle.std.specs.Map.{remove_entry};
-ghost use Rattle.pim_hello.specs.Interval.{override_interval};
+ghost use Rattle.pim_hello.specs.Interval.{jp_override_interval};
 ghost use Rattle.pim_hello.specs.Kept.{hello_of_kept};
-ghost use Rattle.pim_hello.specs.Told.{ComesTo, props};
+ghost use Rattle.pim_hello.specs.KeptDelays.{ComesTo, props};
 ghost use Rattle.pim_hello.specs.Index.{AddsEnd, RemovesEnd, IndexesEnds, NoneEnded, end_kept};
 ghost use Rattle.pim_hello.specs.Index.{ended_by};
 ghost use Rattle.pim_hello.specs.Index.{least_end};
 
+use crate::delays_heard::{DelaysHeard, known_with, known_without};
 use crate::interval::PortDelays;
 use crate::parameters::Kept;
-use crate::told::{DelaysTold, known_with, known_without};
 use std::alloc::{AllocError, Global};
 use std::collections::btree_map::Iter;
 use std::collections::{BTreeMap, BTreeSet};
 
 /// What is kept of the neighbours of one port, by their addresses. `ends` has the end of each time
-/// with its address, in ascending order. `told` is what the neighbours' delays come to.
+/// with its address, in ascending order. `delays_heard` is what the neighbours' delays come to.
 #[derive(Drop)]
 pub(crate) struct Roster<A: Ord + Copy> {
     neighbours: BTreeMap<A, Kept>,
     ends: BTreeSet<(u64, A)>,
     /// `None` if it isn't known: a neighbour was removed, sent a lesser delay, or sent delays after
     /// none since the last walk over all.
-    told: Option<DelaysTold>,
+    delays_heard: Option<DelaysHeard>,
     ghost indexed: { IndexesEnds A.cmp ends.keys neighbours.entries },
     ghost ascending: { IsOrdered A.cmp neighbours } by { Prim.hlevel props },
-    ghost delays: { IfSome told (λ told. ComesTo told (map hello_of_kept (values neighbours))) } by { Prim.hlevel props },
+    ghost delays: { IfSome delays_heard (λ delays. ComesTo delays
+        (map hello_of_kept (values neighbours))) } by { Prim.hlevel props },
 }
 
 /// Adds an end to the index, if there is one.
@@ -68,7 +69,7 @@ impl<A: Ord + Copy> Roster<A> {
         Roster {
             neighbours: BTreeMap::new(alloc),
             ends: BTreeSet::new(alloc),
-            told: Some(DelaysTold::of_none()),
+            delays_heard: Some(DelaysHeard::of_none()),
         }
     }
 
@@ -122,7 +123,7 @@ impl<A: Ord + Copy> Roster<A> {
             remove_end(&mut self.ends, kept.end, address);
             return Err(AllocError);
         };
-        self.told = known_with(self.told, known, kept.parameters.lan);
+        self.delays_heard = known_with(self.delays_heard, known, kept.parameters.lan);
         if old_end != kept.end {
             remove_end(&mut self.ends, old_end, address);
         }
@@ -140,7 +141,7 @@ impl<A: Ord + Copy> Roster<A> {
         let end = self.end_of(address);
         remove_end(&mut self.ends, end, address);
         let known = self.neighbours.remove(&address);
-        self.told = known_without(self.told, known);
+        self.delays_heard = known_without(self.delays_heard, known);
     }
 
     /// The moment at which the first of the neighbours' times ends; `None` if none ever ends.
@@ -173,38 +174,38 @@ impl<A: Ord + Copy> Roster<A> {
     }
 
     /// What the neighbours' delays come to, by a walk over all.
-    fn gathered(&self) -> DelaysTold
+    fn gathered(&self) -> DelaysHeard
         ensures { ComesTo result (map hello_of_kept (values self.now.neighbours)) }
     {
         let mut greatest = PortDelays::zero();
         for kept in self.neighbours.values() {
             let Some(lan) = kept.parameters.lan else {
-                return DelaysTold::NotByAll;
+                return DelaysHeard::NotByAll;
             };
-            greatest = greatest.or_greater(PortDelays::told_by(lan));
+            greatest = greatest.or_greater(PortDelays::heard_in(lan));
         }
-        DelaysTold::ByAll(greatest)
+        DelaysHeard::ByAll(greatest)
     }
 
     /// Walks over all neighbours if it isn't known what their delays come to.
     pub(crate) fn gather_delays(&mut self)
         ensures unchanged { self.new.neighbours.entries ≡ self.old.neighbours.entries }
-        ensures known { IsSome self.new.told }
+        ensures known { IsSome self.new.delays_heard }
     {
-        if self.told.is_none() {
-            self.told = Some(self.gathered());
+        if self.delays_heard.is_none() {
+            self.delays_heard = Some(self.gathered());
         }
     }
 
     /// J/P_Override_Interval(I) of a port with these delays of its own, in milliseconds (RFC 7761,
     /// 4.3.3).
     pub(crate) fn override_interval(&self, own: PortDelays) -> u32
-        ensures interval { result ≡ override_interval own.propagation own.override_ms
+        ensures interval { result ≡ jp_override_interval own.propagation own.override_ms
             (map hello_of_kept (values self.now.neighbours)) }
         ensures bound { result ≤ 98302 }
     {
-        if let Some(told) = self.told {
-            return told.interval(own);
+        if let Some(delays_heard) = self.delays_heard {
+            return delays_heard.interval(own);
         }
         self.gathered().interval(own)
     }

@@ -12,7 +12,7 @@ use Rattle.pim_jp.specs.declared.fault.JpKind.{JpKind}
 use Rattle.pim_jp.specs.declared.fault.JpKind.TheVariants.{Flags, NotSource, SecondStar, BothLists}
 use Rattle.pim_jp.specs.Message.{entry_of, entries_of}
 use Rattle.pim_jp.specs.Spelling.{source_of, AreEntries, is_star, same_source}
-use Rattle.pim_jp.specs.Parts.{Shape, entry, Part, part_then, is_typeless, named_entry, entry_parts}
+use Rattle.pim_jp.specs.Parts.{Shape, entry, Part, part_then, is_typeless, entry_of_bytes, entry_parts}
 use Rattle.pim_jp.specs.Faults.{address_kind, entry_kinds, kinds_at, faults_of}
 use Rattle.pim_jp.proofs.Front.{append_none, map_none, none_if}
 use Rattle.pim_jp.proofs.Forms.{source_legal}
@@ -56,17 +56,17 @@ source_of-entry_of address false true h = refl
 source_of-entry_of address false false h = refl
 
 entry_allowed : (family : AddressFamily) (earlier other : List (Entry (List ℕ))) (source : SourceValue) → entry_kinds family earlier other source ≡ []
-    → (named_entry source ≡ entry_of source ∷ []) × (source_of (entry_of source) ≡ source) × (is_source family source.address ≡ true) × Allowed earlier other (entry_of source)
+    → (entry_of_bytes source ≡ entry_of source ∷ []) × (source_of (entry_of source) ≡ source) × (is_source family source.address ≡ true) × Allowed earlier other (entry_of source)
 entry_allowed family earlier other source h =
     let kindless : List JpKind = fault_if (is_typeless source) Flags in
     let invalid : List JpKind = fault_if (not (is_source family source.address)) NotSource in
-    let again : List JpKind = fault_if (list_any is_star (named_entry source) && list_any is_star earlier) SecondStar in
-    let twice : List JpKind = fault_if (list_any (λ this. list_any (same_source this) other) (named_entry source)) BothLists in
+    let again : List JpKind = fault_if (list_any is_star (entry_of_bytes source) && list_any is_star earlier) SecondStar in
+    let twice : List JpKind = fault_if (list_any (λ this. list_any (same_source this) other) (entry_of_bytes source)) BothLists in
     let three = append_none ((kindless ++ invalid) ++ again) twice h in
     let two = append_none (kindless ++ invalid) again three.0 in
     let one = append_none kindless invalid two.0 in
     let kind : is_typeless source ≡ false = none_if _ Flags one.0 in
-    let named : named_entry source ≡ entry_of source ∷ [] = rw kind refl in
+    let named : entry_of_bytes source ≡ entry_of source ∷ [] = rw kind refl in
     let first : list_any is_star (entry_of source ∷ []) && list_any is_star earlier ≡ false = subst (λ (these : List (Entry (List ℕ))). list_any is_star these && list_any is_star earlier ≡ false) named (none_if _ SecondStar two.1) in
     let apart : list_any (λ this. list_any (same_source this) other) (entry_of source ∷ []) ≡ false = subst (λ (these : List (Entry (List ℕ))). list_any (λ this. list_any (same_source this) other) these ≡ false) named (none_if _ BothLists three.1) in
     (named, source_of-entry_of source.address source.wildcard source.rpt kind, not-false _ (none_if _ NotSource one.1), (rw or_false at first, rw or_false at apart))
@@ -111,7 +111,7 @@ entries_legal family (suc count) earlier other at bytes next h =
     let size = source_length family in
     let source = source_value family bytes in
     let this = entry_of source in
-    let part = part_legal family (entry earlier other) size at bytes (λ at bytes'. entry_parts family count (earlier ++ named_entry source) other at bytes' next) h in
+    let part = part_legal family (entry earlier other) size at bytes (λ at bytes'. entry_parts family count (earlier ++ entry_of_bytes source) other at bytes' next) h in
     let whole = entry_whole family earlier other bytes part.0 in
     let form = source_legal family bytes whole.0 in
     let kind = entry_allowed family earlier other source whole.1 in

@@ -15,9 +15,9 @@ use Rattle.pim_jp.specs.declared.fault.JpKind.TheVariants.{Flags, NotSource, Sec
 use Rattle.pim_jp.specs.declared.fault.JpFault.{JpFault}
 use Rattle.pim_jp.specs.Message.{entry_of, entries_of}
 use Rattle.pim_jp.specs.Spelling.{is_star, same_source}
-use Rattle.pim_jp.specs.Parts.{Part, entry, entry_parts, is_typeless, named_entry}
+use Rattle.pim_jp.specs.Parts.{Part, entry, entry_parts, is_typeless, entry_of_bytes}
 use Rattle.pim_jp.specs.Faults.{address_kind, kinds_at, part_faults, faults_of}
-use Rattle.pim_jp.specs.Reading.{Tells, Stops, own_kinds, lone_kinds, kinds_at_place, entry_at, AreClean, StopsAt, is_in, AreApart, ClashesAt, is_source_entry, is_rpt_entry, EntriesPass}
+use Rattle.pim_jp.specs.Reading.{Reports, Stops, own_kinds, lone_kinds, kinds_at_place, entry_at, AreClean, StopsAt, is_in, AreApart, ClashesAt, is_source_entry, is_rpt_entry, EntriesPass}
 use Rattle.pim_jp.proofs.Front.{append_none, map_none, none_if}
 use Rattle.pim_jp.proofs.Forms.{source_legal}
 use Rattle.pim_jp.proofs.Judged.{judged_first}
@@ -34,7 +34,7 @@ split_kinds false a b c d e = simp append_assoc refl
 -- its kinds are those but for the other list, and then that of the other list
 abbrev both_kinds : AddressFamily → List (Entry (List ℕ)) → List ℕ → List JpKind
 both_kinds family other bytes =
-    if nat_lt (length bytes) (source_length family) then [] else fault_if (list_any (λ this. list_any (same_source this) other) (named_entry (source_value family bytes))) BothLists
+    if nat_lt (length bytes) (source_length family) then [] else fault_if (list_any (λ this. list_any (same_source this) other) (entry_of_bytes (source_value family bytes))) BothLists
 
 entry_split : (family : AddressFamily) (earlier other : List (Entry (List ℕ))) (bytes : List ℕ)
     → kinds_at family (entry earlier other) bytes ≡ lone_kinds family (list_any is_star earlier) bytes ++ both_kinds family other bytes
@@ -42,8 +42,8 @@ entry_split family earlier other bytes =
     split_kinds (nat_lt (length bytes) (source_length family)) (map address_kind (source_faults family bytes))
     (fault_if (is_typeless (source_value family bytes)) Flags)
     (fault_if (not (is_source family (source_value family bytes).address)) NotSource)
-    (fault_if (list_any is_star (named_entry (source_value family bytes)) && list_any is_star earlier) SecondStar)
-    (fault_if (list_any (λ this. list_any (same_source this) other) (named_entry (source_value family bytes))) BothLists)
+    (fault_if (list_any is_star (entry_of_bytes (source_value family bytes)) && list_any is_star earlier) SecondStar)
+    (fault_if (list_any (λ this. list_any (same_source this) other) (entry_of_bytes (source_value family bytes))) BothLists)
 
 -- an entry without such a fault is whole and of a kind
 clean_entry : (family : AddressFamily) (has_star : Bool) (bytes : List ℕ) → lone_kinds family has_star bytes ≡ []
@@ -69,9 +69,9 @@ both_is family has_star other bytes none =
 
 -- what is told of it but for the other list stands first
 entry_told : (family : AddressFamily) (earlier other : List (Entry (List ℕ))) (bytes : List ℕ) (kind : JpKind)
-    → Tells (lone_kinds family (list_any is_star earlier) bytes) kind → Tells (kinds_at family (entry earlier other) bytes) kind
-entry_told family earlier other bytes kind told =
-    ap (λ kinds. judged kinds tt) (entry_split family earlier other bytes) ∙ judged_first _ (both_kinds family other bytes) tt tt kind told
+    → Reports (lone_kinds family (list_any is_star earlier) bytes) kind → Reports (kinds_at family (entry earlier other) bytes) kind
+entry_told family earlier other bytes kind reported =
+    ap (λ kinds. judged kinds tt) (entry_split family earlier other bytes) ∙ judged_first _ (both_kinds family other bytes) tt tt kind reported
 
 entry_apart : (family : AddressFamily) (earlier other : List (Entry (List ℕ))) (bytes : List ℕ) → lone_kinds family (list_any is_star earlier) bytes ≡ []
     → is_in other (entry_of (source_value family bytes)) ≡ false → kinds_at family (entry earlier other) bytes ≡ []
@@ -79,15 +79,15 @@ entry_apart family earlier other bytes none apart =
     entry_split family earlier other bytes ∙ rw (none, both_is family (list_any is_star earlier) other bytes none, apart) refl
 
 entry_clash : (family : AddressFamily) (earlier other : List (Entry (List ℕ))) (bytes : List ℕ) → lone_kinds family (list_any is_star earlier) bytes ≡ []
-    → is_in other (entry_of (source_value family bytes)) ≡ true → Tells (kinds_at family (entry earlier other) bytes) BothLists
+    → is_in other (entry_of (source_value family bytes)) ≡ true → Reports (kinds_at family (entry earlier other) bytes) BothLists
 entry_clash family earlier other bytes none clash =
     ap (λ kinds. judged kinds tt) (entry_split family earlier other bytes) ∙ rw (none, both_is family (list_any is_star earlier) other bytes none, clash) refl
 
 -- ---- a part, and those behind it
 
-told_at : (at : ℕ) (kinds : List JpKind) (kind : JpKind) → Tells kinds kind → Tells {E = JpFault} (map (λ kind. record { at = at; kind = kind }) kinds) (record { at = at; kind = kind })
-told_at at [] kind told = absurd cc
-told_at at (first ∷ kinds) kind told = cc
+with_place : (at : ℕ) (kinds : List JpKind) (kind : JpKind) → Reports kinds kind → Reports {E = JpFault} (map (λ kind. record { at = at; kind = kind }) kinds) (record { at = at; kind = kind })
+with_place at [] kind reported = absurd cc
+with_place at (first ∷ kinds) kind reported = cc
 
 entry_step : (family : AddressFamily) (count : ℕ) (earlier other : List (Entry (List ℕ))) (at : ℕ) (bytes : List ℕ) (next : List (Entry (List ℕ)) → ℕ → List ℕ → List Part)
     → kinds_at family (entry earlier other) bytes ≡ []
@@ -96,20 +96,20 @@ entry_step : (family : AddressFamily) (count : ℕ) (earlier other : List (Entry
     ≡ faults_of family (entry_parts family count (earlier ++ entry_of (source_value family bytes) ∷ []) other (at + source_length family) (drop (source_length family) bytes) next)
 unfolding entry_parts
 entry_step family count earlier other at bytes next none kind whole =
-    let named : named_entry (source_value family bytes) ≡ entry_of (source_value family bytes) ∷ [] = rw kind refl in
+    let named : entry_of_bytes (source_value family bytes) ≡ entry_of (source_value family bytes) ∷ [] = rw kind refl in
     let none' : part_faults family (record { shape = entry earlier other; at = at; bytes = bytes }) ≡ [] = rw none refl in
     part_passes family (entry earlier other) (source_length family) at bytes
-    (λ at bytes'. entry_parts family count (earlier ++ named_entry (source_value family bytes)) other at bytes' next) none' whole
+    (λ at bytes'. entry_parts family count (earlier ++ entry_of_bytes (source_value family bytes)) other at bytes' next) none' whole
     ∙ ap (λ kinds. faults_of family (entry_parts family count (earlier ++ kinds) other (at + source_length family) (drop (source_length family) bytes) next)) named
 
 entry_stop : (family : AddressFamily) (count : ℕ) (earlier other : List (Entry (List ℕ))) (at : ℕ) (bytes : List ℕ) (next : List (Entry (List ℕ)) → ℕ → List ℕ → List Part) (kind : JpKind)
-    → Tells (kinds_at family (entry earlier other) bytes) kind
-    → Tells (faults_of family (entry_parts family (suc count) earlier other at bytes next)) (record { at = at; kind = kind })
+    → Reports (kinds_at family (entry earlier other) bytes) kind
+    → Reports (faults_of family (entry_parts family (suc count) earlier other at bytes next)) (record { at = at; kind = kind })
 unfolding entry_parts
-entry_stop family count earlier other at bytes next kind told =
+entry_stop family count earlier other at bytes next kind reported =
     part_stops family (entry earlier other) (source_length family) at bytes
-    (λ at bytes'. entry_parts family count (earlier ++ named_entry (source_value family bytes)) other at bytes' next) (record { at = at; kind = kind })
-    (told_at at (kinds_at family (entry earlier other) bytes) kind told)
+    (λ at bytes'. entry_parts family count (earlier ++ entry_of_bytes (source_value family bytes)) other at bytes' next) (record { at = at; kind = kind })
+    (with_place at (kinds_at family (entry earlier other) bytes) kind reported)
 
 entry_end : (family : AddressFamily) (count : ℕ) (earlier other : List (Entry (List ℕ))) (at : ℕ) (bytes : List ℕ) (next : List (Entry (List ℕ)) → ℕ → List ℕ → List Part)
     → count ≡ 0 → entry_parts family count earlier other at bytes next ≡ next earlier at bytes
@@ -166,24 +166,24 @@ list_passes family count joined has_star at bytes star clean apart = λ next.
 
 stop_at : (family : AddressFamily) (count : ℕ) (joined : List (Entry (List ℕ))) (has_star : Bool) (at : ℕ) (bytes : List ℕ) (place : ℕ) (kind : JpKind)
     → list_any is_star joined ≡ has_star → place < count → AreClean family has_star place bytes → AreApart family joined place bytes
-    → Tells (kinds_at family (entry (joined ++ entries_of family place bytes) joined) (drop (place * source_length family) bytes)) kind
+    → Reports (kinds_at family (entry (joined ++ entries_of family place bytes) joined) (drop (place * source_length family) bytes)) kind
     → Stops family (entry_parts family count joined joined at bytes) (record { at = at + place * source_length family; kind = kind })
-stop_at family count joined has_star at bytes place kind star below clean apart told = λ next.
+stop_at family count joined has_star at bytes place kind star below clean apart reported = λ next.
     let step : count - place ≡ suc (count - suc place) = omega arith in
     let rest = drop (place * source_length family) bytes in
     ap (λ faults. judged faults tt)
     (pass_to family count joined joined has_star at bytes place star (omega arith) clean apart next
     ∙ ap (λ n. faults_of family (entry_parts family n (joined ++ entries_of family place bytes) joined (at + place * source_length family) rest next)) step)
-    ∙ entry_stop family (count - suc place) (joined ++ entries_of family place bytes) joined (at + place * source_length family) rest next kind told
+    ∙ entry_stop family (count - suc place) (joined ++ entries_of family place bytes) joined (at + place * source_length family) rest next kind reported
 
 -- the first fault is one that an entry has but for the other list
 pub list_stops : (family : AddressFamily) (count : ℕ) (joined : List (Entry (List ℕ))) (has_star : Bool) (at : ℕ) (bytes : List ℕ) (place : ℕ) (kind : JpKind)
     → list_any is_star joined ≡ has_star → StopsAt family has_star count bytes place kind → AreApart family joined place bytes
     → Stops family (entry_parts family count joined joined at bytes) (record { at = at + place * source_length family; kind = kind })
-list_stops family count joined has_star at bytes place kind star (below, clean, told) apart =
-    let told' = entry_told family (joined ++ entries_of family place bytes) joined (drop (place * source_length family) bytes) kind
-    (rw (← star_before family joined has_star place bytes star) at told) in
-    stop_at family count joined has_star at bytes place kind star below clean apart told'
+list_stops family count joined has_star at bytes place kind star (below, clean, reported) apart =
+    let reported' = entry_told family (joined ++ entries_of family place bytes) joined (drop (place * source_length family) bytes) kind
+    (rw (← star_before family joined has_star place bytes star) at reported) in
+    stop_at family count joined has_star at bytes place kind star below clean apart reported'
 
 -- the first fault is that a source is in both lists
 pub list_clashes : (family : AddressFamily) (count : ℕ) (joined : List (Entry (List ℕ))) (has_star : Bool) (at : ℕ) (bytes : List ℕ) (few place : ℕ)
@@ -192,8 +192,8 @@ pub list_clashes : (family : AddressFamily) (count : ℕ) (joined : List (Entry 
     → Stops family (entry_parts family count joined joined at bytes) (record { at = at + place * source_length family; kind = BothLists })
 list_clashes family count joined has_star at bytes few place star clean within below apart clash =
     let none = star_before family joined has_star place bytes star ∙ clean place below in
-    let told = entry_clash family (joined ++ entries_of family place bytes) joined (drop (place * source_length family) bytes) none clash in
-    stop_at family count joined has_star at bytes place BothLists star (omega arith) (λ i h. clean i (omega arith)) apart told
+    let reported = entry_clash family (joined ++ entries_of family place bytes) joined (drop (place * source_length family) bytes) none clash in
+    stop_at family count joined has_star at bytes place BothLists star (omega arith) (λ i h. clean i (omega arith)) apart reported
 
 pub list_clashed : (family : AddressFamily) (count : ℕ) (joined : List (Entry (List ℕ))) (has_star : Bool) (at : ℕ) (bytes : List ℕ) (few : ℕ) (fault : JpFault)
     → list_any is_star joined ≡ has_star → AreClean family has_star few bytes → few ≤ count → ClashesAt family joined few at bytes fault

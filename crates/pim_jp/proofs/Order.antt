@@ -9,16 +9,16 @@ use Rattle.pim_addr.specs.declared.encoded.AddrFault.{AddrFault}
 use Rattle.pim_addr.specs.declared.encoded.AddrFault.TheVariants as address
 use Rattle.pim_addr.specs.Address.{is_source}
 use Rattle.pim_addr.specs.Faults.{fault_if}
-use Rattle.pim_addr.specs.Order.{Place, IsToldBefore, FirstIsLeast, NumbersRise, OffsetsRise, places_at, places, FirstOfPartsIsLeast}
+use Rattle.pim_addr.specs.Order.{Place, IsReportedBefore, FirstIsLeast, NumbersRise, OffsetsRise, places_at, places, FirstOfPartsIsLeast}
 use Rattle.pim_addr.specs.Encoded.{SourceValue, unicast_length, group_length, source_length, family_faults, mask_faults, unicast_faults, source_value}
 use Rattle.pim_jp.specs.declared.entry.Entry.{Entry}
 use Rattle.pim_jp.specs.declared.fault.JpKind.{JpKind}
 use Rattle.pim_jp.specs.declared.fault.JpKind.TheVariants.{Short, NotGroup, Flags, NotSource, SecondStar, BothLists, Trailing}
 use Rattle.pim_jp.specs.declared.fault.JpFault.{JpFault}
 use Rattle.pim_jp.specs.Spelling.{is_star, same_source}
-use Rattle.pim_jp.specs.Parts.{Shape, upstream, head, group, counts, entry, rest, Part, part_then, is_typeless, named_entry, entry_parts, set_parts, body_parts}
+use Rattle.pim_jp.specs.Parts.{Shape, upstream, head, group, counts, entry, rest, Part, part_then, is_typeless, entry_of_bytes, entry_parts, set_parts, body_parts}
 use Rattle.pim_jp.specs.Faults.{number_of, address_kind, entry_kinds, kinds_at, part_faults, faults_of, faults}
-use Rattle.pim_jp.specs.Laws.{place, ToldBefore}
+use Rattle.pim_jp.specs.Laws.{place, ReportedBefore}
 
 -- ---- the numbers at one part rise
 
@@ -74,8 +74,8 @@ entry_rises : (family : AddressFamily) (earlier other : List (Entry (List ℕ)))
 entry_rises family earlier other source =
     let flags = rises_if number_of 6 7 (is_typeless source) Flags (omega arith) (omega arith) in
     let invalid = rises_if number_of 7 8 (not (is_source family source.address)) NotSource (omega arith) (omega arith) in
-    let again = rises_if number_of 8 9 (list_any is_star (named_entry source) && list_any is_star earlier) SecondStar (omega arith) (omega arith) in
-    let twice = rises_if number_of 9 10 (list_any (λ this. list_any (same_source this) other) (named_entry source)) BothLists (omega arith) (omega arith) in
+    let again = rises_if number_of 8 9 (list_any is_star (entry_of_bytes source) && list_any is_star earlier) SecondStar (omega arith) (omega arith) in
+    let twice = rises_if number_of 9 10 (list_any (λ this. list_any (same_source this) other) (entry_of_bytes source)) BothLists (omega arith) (omega arith) in
     rises_then number_of 6 9 10 _ _ (rises_then number_of 6 8 9 _ _ (rises_then number_of 6 7 8 _ _ flags invalid) again) twice
 
 rises_none : (low high : ℕ) → low ≤ high → RisesWithin number_of low high []
@@ -123,8 +123,8 @@ entries_from : (family : AddressFamily) (count : ℕ) (earlier other : List (Ent
 unfolding entry_parts
 entries_from family zero earlier other at bytes next behind = behind earlier at bytes
 entries_from family (suc count) earlier other at bytes next behind =
-    from_then (entry earlier other) (source_length family) at bytes (λ at bytes'. entry_parts family count (earlier ++ named_entry (source_value family bytes)) other at bytes' next) (omega arith)
-    (λ at bytes'. entries_from family count (earlier ++ named_entry (source_value family bytes)) other at bytes' next behind)
+    from_then (entry earlier other) (source_length family) at bytes (λ at bytes'. entry_parts family count (earlier ++ entry_of_bytes (source_value family bytes)) other at bytes' next) (omega arith)
+    (λ at bytes'. entries_from family count (earlier ++ entry_of_bytes (source_value family bytes)) other at bytes' next behind)
 
 from_one : (shape : Shape) (at : ℕ) (bytes : List ℕ) → FromOn at (record { shape = shape; at = at; bytes = bytes } ∷ [])
 unfolding FromOn
@@ -170,11 +170,11 @@ places_of_parts family (part ∷ parts) =
     ∙ ap (λ (others : List Place). others ++ map place (faults_of family parts)) (places_of_kinds part.at (kinds_at family part.shape part.bytes))
     ∙ ap (λ (others : List Place). places_at (numbered family part) ++ others) (places_of_parts family parts)
 
-told_before : (first : JpFault) (others : List JpFault) → AllByRecursion (IsToldBefore (place first)) (map place others) → AllByRecursion (ToldBefore first) others
+told_before : (first : JpFault) (others : List JpFault) → AllByRecursion (IsReportedBefore (place first)) (map place others) → AllByRecursion (ReportedBefore first) others
 told_before first [] h = tt
 told_before first (other ∷ others) h = (h.0, told_before first others h.1)
 
-pub first_of_faults : FirstOfPartsIsLeast → (family : AddressFamily) (body : List ℕ) (first : JpFault) (others : List JpFault) → faults family body ≡ first ∷ others → AllByRecursion (ToldBefore first) others
+pub first_of_faults : FirstOfPartsIsLeast → (family : AddressFamily) (body : List ℕ) (first : JpFault) (others : List JpFault) → faults family body ≡ first ∷ others → AllByRecursion (ReportedBefore first) others
 first_of_faults law family body first others e =
     let rise : OffsetsRise 0 (map (numbered family) (body_parts family body)) = offsets_rise family 0 (body_parts family body) (body_from family body) in
     let least : FirstIsLeast (places (map (numbered family) (body_parts family body))) = law (map (numbered family) (body_parts family body)) rise in

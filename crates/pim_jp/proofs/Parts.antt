@@ -5,7 +5,7 @@ use Rattle.pim_addr.specs.declared.family.AddressFamily.{AddressFamily}
 use Rattle.pim_jp.specs.declared.fault.JpFault.{JpFault}
 use Rattle.pim_jp.specs.Parts.{Shape, Part, part_then}
 use Rattle.pim_jp.specs.Faults.{part_faults, faults_of}
-use Rattle.pim_jp.specs.Reading.{Tells}
+use Rattle.pim_jp.specs.Reading.{Reports}
 use Rattle.pim_jp.proofs.Judged.{judged_first}
 
 pub part_passes : (family : AddressFamily) (shape : Shape) (size at : ℕ) (bytes : List ℕ) (next : ℕ → List ℕ → List Part)
@@ -16,6 +16,6 @@ part_passes family shape size at bytes next none whole =
     rw (none, not_short) refl
 
 pub part_stops : (family : AddressFamily) (shape : Shape) (size at : ℕ) (bytes : List ℕ) (next : ℕ → List ℕ → List Part) (fault : JpFault)
-    → Tells (part_faults family (record { shape = shape; at = at; bytes = bytes })) fault
-    → Tells (faults_of family (part_then shape size at bytes next)) fault
-part_stops family shape size at bytes next fault told = judged_first _ _ _ _ _ told
+    → Reports (part_faults family (record { shape = shape; at = at; bytes = bytes })) fault
+    → Reports (faults_of family (part_then shape size at bytes next)) fault
+part_stops family shape size at bytes next fault reported = judged_first _ _ _ _ _ reported

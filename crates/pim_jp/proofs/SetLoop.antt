@@ -8,7 +8,7 @@ use Rattle.pim_jp.specs.Message.{joined_count, pruned_count, after_set}
 use Rattle.pim_jp.specs.Parts.{group, rest, set_parts}
 use Rattle.pim_jp.specs.Faults.{part_faults, faults_of}
 use Rattle.pim_jp.specs.Whole.{set_length, HoldsSets}
-use Rattle.pim_jp.specs.Reading.{Tells, Passes, Stops, lists_then, lists_end, set_then}
+use Rattle.pim_jp.specs.Reading.{Reports, Passes, Stops, lists_then, lists_end, set_then}
 use Rattle.pim_jp.proofs.Parts.{part_passes}
 
 -- ---- a set
@@ -65,7 +65,7 @@ unfolding set_parts
 sets_step family count at bytes end passes = passes (set_parts family count)
 
 sets_stopped : (family : AddressFamily) (count at : ℕ) (bytes : List ℕ) (fault : JpFault) → Stops family (set_then family at bytes) fault
-    → Tells (faults_of family (set_parts family (suc count) at bytes)) fault
+    → Reports (faults_of family (set_parts family (suc count) at bytes)) fault
 unfolding set_parts
 sets_stopped family count at bytes fault stops = stops (set_parts family count)
 
@@ -90,7 +90,7 @@ sets_more family count start bytes done at left reached some passes whole =
 
 pub sets_stop : (family : AddressFamily) (count start : ℕ) (bytes : List ℕ) (done at : ℕ) (left : List ℕ) (fault : JpFault)
     → SetsReached family count start bytes done at left → done < count → Stops family (set_then family at left) fault
-    → Tells (faults_of family (set_parts family count start bytes)) fault
+    → Reports (faults_of family (set_parts family count start bytes)) fault
 sets_stop family count start bytes done at left fault reached some stops =
     let step : count - done ≡ suc (count - (done + 1)) = omega arith in
     ap (λ faults. judged faults tt) (reached.passes ∙ ap (λ n. faults_of family (set_parts family n at left)) step)
@@ -106,7 +106,7 @@ sets_all family count start bytes done at left reached all =
 
 pub sets_told : (family : AddressFamily) (count start : ℕ) (bytes : List ℕ) (done at : ℕ) (left : List ℕ) (fault : JpFault)
     → SetsReached family count start bytes done at left → count ≤ done
-    → Tells (part_faults family (record { shape = rest; at = at; bytes = left })) fault
-    → Tells (faults_of family (set_parts family count start bytes)) fault
-sets_told family count start bytes done at left fault reached all told =
-    ap (λ faults. judged faults tt) (sets_all family count start bytes done at left reached all).0 ∙ told
+    → Reports (part_faults family (record { shape = rest; at = at; bytes = left })) fault
+    → Reports (faults_of family (set_parts family count start bytes)) fault
+sets_told family count start bytes done at left fault reached all reported =
+    ap (λ faults. judged faults tt) (sets_all family count start bytes done at left reached all).0 ∙ reported

@@ -11,7 +11,7 @@ use Rattle.pim_jp.specs.declared.entry.Entry.TheVariants.{Star, Source, Rpt}
 use Rattle.pim_jp.specs.Message.{GroupSet, Message, entry_of, entries_of, counts_of, joined_count, pruned_count, joined_bytes, pruned_bytes, after_set, set_of, sets_of, head_of, set_count, message_of}
 use Rattle.pim_jp.specs.Spelling.{source_of, AreEntries, IsSet, AreSets, IsHead, Spells}
 use Rattle.pim_jp.specs.Laws.{ReadsHead}
-use Rattle.pim_jp.specs.Parts.{Part, upstream, head, group, counts, entry, part_then, named_entry, entry_parts, set_parts}
+use Rattle.pim_jp.specs.Parts.{Part, upstream, head, group, counts, entry, part_then, entry_of_bytes, entry_parts, set_parts}
 use Rattle.pim_jp.specs.Faults.{entry_kinds, kinds_at, faults_of, faults}
 use Rattle.pim_jp.proofs.Forms.{unicast_spelled, group_spelled, source_spelled}
 use Rattle.pim_jp.proofs.EntryParts.{part_spelled, Allowed, AllAllowed}
@@ -24,10 +24,10 @@ entry_of-source_of (Star rp) = refl
 entry_of-source_of (Source source) = refl
 entry_of-source_of (Rpt source) = refl
 
-named_entry-source_of : (this : Entry (List ℕ)) → named_entry (source_of this) ≡ this ∷ []
-named_entry-source_of (Star rp) = refl
-named_entry-source_of (Source source) = refl
-named_entry-source_of (Rpt source) = refl
+entry_of_bytes-source_of : (this : Entry (List ℕ)) → entry_of_bytes (source_of this) ≡ this ∷ []
+entry_of_bytes-source_of (Star rp) = refl
+entry_of_bytes-source_of (Source source) = refl
+entry_of_bytes-source_of (Rpt source) = refl
 
 no_entry_kinds : (family : AddressFamily) (earlier other : List (Entry (List ℕ))) (this : Entry (List ℕ)) → is_source family (source_of this).address ≡ true → Allowed earlier other this → entry_kinds family earlier other (source_of this) ≡ []
 no_entry_kinds family earlier other (Star rp) valid allowed = rw (valid, allowed.0, allowed.1) refl
@@ -69,14 +69,14 @@ entries_told family (this ∷ entries) earlier other at bytes behind next h allo
     let long' : ltb (length whole) size ≡ false = le-ltb _ _ long in
     let fine : entry_kinds family earlier other (source_value family whole) ≡ [] = ap (entry_kinds family earlier other) one.1 ∙ no_entry_kinds family earlier other this h.3.1 allowed.0 in
     let none : kinds_at family (entry earlier other) whole ≡ [] = rw (one.0, long') fine in
-    let kind : named_entry (source_value family whole) ≡ this ∷ [] = ap named_entry one.1 ∙ named_entry-source_of this in
+    let kind : entry_of_bytes (source_value family whole) ≡ this ∷ [] = ap entry_of_bytes one.1 ∙ entry_of_bytes-source_of this in
     let moved : drop size whole ≡ h.1 ++ behind = drop_at h.0 (h.1 ++ behind) size one.2 in
     let last' : (at : ℕ) → faults_of family (next ((earlier ++ this ∷ []) ++ entries) at behind) ≡ [] = λ at. rw (append_assoc earlier (this ∷ []) entries) (last at) in
     let others = entries_told family entries (earlier ++ this ∷ []) other (at + size) h.1 behind next h.4 allowed.1 last' in
-    let rest : faults_of family (entry_parts family (length entries) (earlier ++ named_entry (source_value family whole)) other (at + size) (drop size whole) next) ≡ [] =
+    let rest : faults_of family (entry_parts family (length entries) (earlier ++ entry_of_bytes (source_value family whole)) other (at + size) (drop size whole) next) ≡ [] =
     ap₂ (λ (these : List (Entry (List ℕ))) (xs : List ℕ). faults_of family (entry_parts family (length entries) (earlier ++ these) other (at + size) xs next)) kind moved ∙ others in
-    let told = part_spelled family (entry earlier other) size at whole (λ at bytes'. entry_parts family (length entries) (earlier ++ named_entry (source_value family whole)) other at bytes' next) none long rest in
-    ap (λ (xs : List ℕ). faults_of family (entry_parts family (suc (length entries)) earlier other at xs next)) cut ∙ told
+    let reported = part_spelled family (entry earlier other) size at whole (λ at bytes'. entry_parts family (length entries) (earlier ++ entry_of_bytes (source_value family whole)) other at bytes' next) none long rest in
+    ap (λ (xs : List ℕ). faults_of family (entry_parts family (suc (length entries)) earlier other at xs next)) cut ∙ reported
 
 -- ---- a set at the front of bytes
 
@@ -209,8 +209,8 @@ sets_told family [] at bytes h = rw h (no_rest family at)
 sets_told family (set ∷ sets) at bytes h =
     let stands = stands_at family set h.0 h.1 h.3 in
     let allowed = allowed_from_legal set h.3.0 in
-    let told = set_told family set (length sets) at (h.0 ++ h.1) h.1 stands h.3.1 allowed.0 allowed.1 (λ at. sets_told family sets at h.1 h.4) in
-    ap (λ (xs : List ℕ). faults_of family (set_parts family (suc (length sets)) at xs)) h.2 ∙ told
+    let reported = set_told family set (length sets) at (h.0 ++ h.1) h.1 stands h.3.1 allowed.0 allowed.1 (λ at. sets_told family sets at h.1 h.4) in
+    ap (λ (xs : List ℕ). faults_of family (set_parts family (suc (length sets)) at xs)) h.2 ∙ reported
 
 -- ---- the body
 

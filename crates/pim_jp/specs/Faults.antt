@@ -14,7 +14,7 @@ use Rattle.pim_jp.specs.declared.fault.JpKind.TheVariants.{Short, Family, Encodi
 use Rattle.pim_jp.specs.declared.fault.JpKind.TheVariants.{SecondStar, BothLists, Trailing}
 use Rattle.pim_jp.specs.declared.fault.JpFault.{JpFault}
 use Rattle.pim_jp.specs.Spelling.{is_star, same_source}
-use Rattle.pim_jp.specs.Parts.{Shape, upstream, head, group, counts, entry, rest, Part, is_typeless, named_entry}
+use Rattle.pim_jp.specs.Parts.{Shape, upstream, head, group, counts, entry, rest, Part, is_typeless, entry_of_bytes}
 use Rattle.pim_jp.specs.Parts.{body_parts}
 
 -- The number of a kind. It orders the faults of one part.
@@ -47,8 +47,8 @@ abbrev pub entry_kinds : AddressFamily → List (Entry (List ℕ)) → List (Ent
 entry_kinds family earlier other source =
     fault_if (is_typeless source) Flags
     ++ fault_if (not (is_source family source.address)) NotSource
-    ++ fault_if (list_any is_star (named_entry source) && list_any is_star earlier) SecondStar
-    ++ fault_if (list_any (λ this. list_any (same_source this) other) (named_entry source)) BothLists
+    ++ fault_if (list_any is_star (entry_of_bytes source) && list_any is_star earlier) SecondStar
+    ++ fault_if (list_any (λ this. list_any (same_source this) other) (entry_of_bytes source)) BothLists
 
 -- The kinds of fault at one part, in the order of their numbers.
 abbrev pub kinds_at : AddressFamily → Shape → List ℕ → List JpKind

@@ -2,7 +2,7 @@
 use Rattle.std.specs.Prelude.{◌≡◌, ℕ, List, [], drop}
 use Rattle.byteorder.specs.Endian.{big_number}
 use Rattle.pim_addr.specs.declared.family.AddressFamily.{AddressFamily}
-use Rattle.pim_addr.specs.Order.{Place, IsToldBefore}
+use Rattle.pim_addr.specs.Order.{Place, IsReportedBefore}
 use Rattle.pim_addr.specs.Encoded.{unicast_faults, unicast_address}
 use Rattle.pim_jp.specs.declared.fault.JpFault.{JpFault}
 use Rattle.pim_jp.specs.Message.{GroupSet, head_of, set_count, set_of, after_set}
@@ -14,8 +14,8 @@ place fault = (fault.at, number_of fault.kind)
 
 -- The first fault precedes the other: it has the lesser offset, or the same offset and the lesser
 -- number of its kind.
-abbrev pub ToldBefore : JpFault → JpFault → Type 0
-ToldBefore first other = IsToldBefore (place first) (place other)
+abbrev pub ReportedBefore : JpFault → JpFault → Type 0
+ReportedBefore first other = IsReportedBefore (place first) (place other)
 
 -- The bytes start with an upstream neighbour without a fault, a reserved byte, Num groups and a
 -- holdtime, and `behind` are the bytes after them.

@@ -36,8 +36,8 @@ abbrev pub is_typeless : SourceValue → Bool
 is_typeless source = source.wildcard && not source.rpt
 
 -- The entry that the W and R bits name, or none if the source is typeless.
-abbrev pub named_entry : SourceValue → List (Entry (List ℕ))
-named_entry source = if is_typeless source then [] else entry_of source ∷ []
+abbrev pub entry_of_bytes : SourceValue → List (Entry (List ℕ))
+entry_of_bytes source = if is_typeless source then [] else entry_of source ∷ []
 
 -- The parts of `count` entries of one list. `next` takes all entries of the group set up to there
 -- and gives the parts after them. Typeless entries don't count.
@@ -46,7 +46,7 @@ unfoldable pub entry_parts : AddressFamily → ℕ → List (Entry (List ℕ)) �
 entry_parts family zero earlier other at bytes next = next earlier at bytes
 entry_parts family (suc count) earlier other at bytes next =
     part_then (entry earlier other) (source_length family) at bytes
-    (λ at bytes'. entry_parts family count (earlier ++ named_entry (source_value family bytes)) other at bytes' next)
+    (λ at bytes'. entry_parts family count (earlier ++ entry_of_bytes (source_value family bytes)) other at bytes' next)
 
 -- The parts of `count` group sets, and the rest of the body after them.
 unfoldable pub set_parts : AddressFamily → ℕ → ℕ → List ℕ → List Part

@@ -16,17 +16,17 @@ use Rattle.pim_jp.specs.declared.fault.JpKind.TheVariants.{Flags, NotSource, Sec
 use Rattle.pim_jp.specs.declared.fault.JpFault.{JpFault}
 use Rattle.pim_jp.specs.Message.{entry_of, entries_of}
 use Rattle.pim_jp.specs.Spelling.{is_star, same_source}
-use Rattle.pim_jp.specs.Parts.{Part, group, counts, part_then, entry_parts, is_typeless, named_entry}
+use Rattle.pim_jp.specs.Parts.{Part, group, counts, part_then, entry_parts, is_typeless, entry_of_bytes}
 use Rattle.pim_jp.specs.Faults.{address_kind, faults_of}
 
 -- This fault is the first of the faults.
-abbrev pub Tells : {E : Type 0} → List E → E → Type 0
-Tells faults fault = judged faults (tt {0}) ≡ Err fault
+abbrev pub Reports : {E : Type 0} → List E → E → Type 0
+Reports faults fault = judged faults (tt {0}) ≡ Err fault
 
 -- Ok means that there are no faults, and Err gives the first of them.
 abbrev pub Judges : {A E : Type 0} → Result A E → List E → Type 0
 Judges (Ok x) faults = faults ≡ []
-Judges (Err fault) faults = Tells faults fault
+Judges (Err fault) faults = Reports faults fault
 
 -- The kinds of fault that an entry has by itself: in its encoding, its type or its address.
 abbrev pub own_kinds : AddressFamily → List ℕ → List JpKind
@@ -42,7 +42,7 @@ abbrev pub lone_kinds : AddressFamily → Bool → List ℕ → List JpKind
 lone_kinds family has_star bytes =
     own_kinds family bytes
     ++ (if nat_lt (length bytes) (source_length family) then [] else
-    fault_if (list_any is_star (named_entry (source_value family bytes)) && has_star) SecondStar)
+    fault_if (list_any is_star (entry_of_bytes (source_value family bytes)) && has_star) SecondStar)
 
 -- The entry at index `place` of a list.
 abbrev pub entry_at : AddressFamily → ℕ → List ℕ → Entry (List ℕ)
@@ -63,7 +63,7 @@ AreClean family has_star count bytes = (place : ℕ) → place < count → kinds
 -- of those faults.
 abbrev pub StopsAt : AddressFamily → Bool → ℕ → List ℕ → ℕ → JpKind → Type 0
 StopsAt family has_star count bytes place kind =
-    (place < count) × AreClean family has_star place bytes × Tells (kinds_at_place family has_star place bytes) kind
+    (place < count) × AreClean family has_star place bytes × Reports (kinds_at_place family has_star place bytes) kind
 
 -- The other list has the entry's source too, in an entry of the same type.
 abbrev pub is_in : List (Entry (List ℕ)) → Entry (List ℕ) → Bool
@@ -100,7 +100,7 @@ Passes {Next} family run after = (next : Next) → faults_of family (run next) �
 
 -- This is the first fault of the run and of all parts after it, with any `next`.
 abbrev pub Stops : {Next : Type 0} → AddressFamily → (Next → List Part) → JpFault → Type 0
-Stops {Next} family run fault = (next : Next) → Tells (faults_of family (run next)) fault
+Stops {Next} family run fault = (next : Next) → Reports (faults_of family (run next)) fault
 
 -- The `count` entries after the joined ones have no fault, and the parts of `next` start at their
 -- end.

@@ -2,6 +2,12 @@
 //! are compared pair by pair. Otherwise the shorter list is sorted, since sorting a number costs
 //! more than looking one up.
 
+mod blocks;
+mod marked;
+mod pairs;
+mod sorting;
+mod swapped;
+
 ghost use Rattle.std.specs.Prelude.{◌≡◌, ◌*◌, ◌≤◌, ◌<◌, true, length};
 ghost use Rattle.std.specs.List.{list_any};
 ghost use Rattle.pim_addr.specs.Encoded.{source_length};
@@ -9,10 +15,10 @@ ghost use Rattle.pim_jp.specs.Spelling.{same_source};
 ghost use Rattle.pim_jp.specs.Seen.{entry_seen};
 ghost use Rattle.pim_jp.specs.Reading.{is_in, entry_at, AreApart};
 
-use crate::blocks::{TOGETHER, first_clash_by_blocks};
+use crate::clashes::blocks::{TOGETHER, first_clash_by_blocks};
+use crate::clashes::swapped::first_clash_by_pruned;
 use crate::entries::{Entries, first_entry};
 use crate::entry::Entry;
-use crate::swapped::first_clash_by_pruned;
 use pim_addr::{AddressFamily, Family, source_length};
 use std::mem::size_of_val;
 

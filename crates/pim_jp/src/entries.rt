@@ -15,7 +15,7 @@ use std::marker::{Model, PhantomData};
 
 /// The entry that a source and its bits name. W without R, which no legal message has, counts as
 /// (S,G).
-fn entry_named<A>(source: SourceAddress<A>) -> Entry<A>
+fn entry_of_source<A>(source: SourceAddress<A>) -> Entry<A>
     ensures { (bytes_of : A → List ℕ) → entry_seen bytes_of result
         ≡ entry_of (source_seen bytes_of source) }
 {
@@ -36,7 +36,7 @@ pub(crate) fn first_entry<F: Family>(bytes: &[u8]) -> Entry<F::Addr>
     let (_, behind) = bytes.split_at(4);
     // A compiler knows this length, so that loops over entries have no test of it.
     let (address, _) = behind.split_at(F::LEN);
-    entry_named(SourceAddress {
+    entry_of_source(SourceAddress {
         address: F::take(address),
         bits,
     })

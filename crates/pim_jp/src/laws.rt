@@ -15,14 +15,14 @@ ghost use Rattle.pim_jp.specs.Canonical.{canonical};
 ghost use Rattle.pim_jp.specs.Canonical.{canonical_head_length, canonical_set_length};
 ghost use Rattle.pim_jp.specs.Canonical.{canonical_sets_length};
 ghost use Rattle.pim_jp.specs.Plain.{SpellsPlainly};
-ghost use Rattle.pim_jp.specs.Laws.{ToldBefore, ReadsHead, ReadsSet};
+ghost use Rattle.pim_jp.specs.Laws.{ReportedBefore, ReadsHead, ReadsSet};
 
 use pim_addr::first_of_parts_is_least;
 
 /// Of all faults of a body, the first has the least offset, and the least number at that offset.
 pub fn first_fault_is_least()
     ensures { (family : AddressFamily) (body : List ℕ) (first : JpFault) (others : List JpFault) →
-        faults family body ≡ first ∷ others → AllByRecursion (ToldBefore first) others }
+        faults family body ≡ first ∷ others → AllByRecursion (ReportedBefore first) others }
 {
     first_of_parts_is_least();
 }

@@ -40,7 +40,7 @@ impl From<AddrFault> for JpKind {
 
 /// Checks the upstream neighbour.
 fn check_upstream<F: Family>(bytes: &[u8]) -> Result<(), JpKind>
-    ensures told { Judges result (kinds_at F.family upstream bytes.now) }
+    ensures reported { Judges result (kinds_at F.family upstream bytes.now) }
     ensures whole { IfOk result (λ _. unicast_length F.family ≤ length bytes.now) }
 {
     read_unicast::<F>(bytes)?;
@@ -50,7 +50,7 @@ fn check_upstream<F: Family>(bytes: &[u8]) -> Result<(), JpKind>
 /// Checks a part of four bytes with no illegal value: the head of a message, or the counts of a
 /// group set.
 fn check_four(bytes: &[u8]) -> Result<(), JpKind>
-    ensures told { Judges result (short_kinds 4 bytes.now) }
+    ensures reported { Judges result (short_kinds 4 bytes.now) }
     ensures whole { IfOk result (λ _. 4 ≤ length bytes.now) }
 {
     if bytes.len() < 4 {
@@ -61,7 +61,7 @@ fn check_four(bytes: &[u8]) -> Result<(), JpKind>
 
 /// Checks the group of a group set.
 fn check_group<F: Family>(bytes: &[u8]) -> Result<(), JpKind>
-    ensures told { Judges result (kinds_at F.family group bytes.now) }
+    ensures reported { Judges result (kinds_at F.family group bytes.now) }
     ensures whole { IfOk result (λ _. group_length F.family ≤ length bytes.now) }
 {
     let address = read_group::<F>(bytes)?;
@@ -82,8 +82,8 @@ fn check_rest<F: Family>(bytes: &[u8]) -> Result<(), JpKind>
 }
 
 /// The same result, with the fault at this offset.
-fn told_at<T>(at: usize, part: Result<T, JpKind>) -> Result<T, JpFault>
-    ensures told { (kinds : List JpKind) → Judges part kinds
+fn with_place<T>(at: usize, part: Result<T, JpKind>) -> Result<T, JpFault>
+    ensures reported { (kinds : List JpKind) → Judges part kinds
         → Judges result (map (λ kind. record { at = at; kind = kind }) kinds) }
     ensures value { IfOk result (λ value. part ≡ Ok value) }
 {
@@ -186,7 +186,7 @@ fn check_lists<F: Family>(at: usize, bytes: &[u8]) -> Result<&[u8], JpFault>
     ensures after { IfOk result (λ after. after.now ≡ after_lists F.family bytes.now) }
     ensures stops { IfErr result (Stops F.family (lists_then F.family at bytes.now)) }
 {
-    told_at(at, check_four(bytes))?;
+    with_place(at, check_four(bytes))?;
     let (_, second) = bytes.split_at(2);
     let (_, joined) = bytes.split_at(4);
     let joined_count = BigEndian::read_u16(bytes);
@@ -211,7 +211,7 @@ fn check_set<F: Family>(at: usize, bytes: &[u8]) -> Result<&[u8], JpFault>
     ensures after { IfOk result (λ after. after.now ≡ after_set F.family bytes.now) }
     ensures stops { IfErr result (Stops F.family (set_then F.family at bytes.now)) }
 {
-    told_at(at, check_group::<F>(bytes))?;
+    with_place(at, check_group::<F>(bytes))?;
     let size = group_length::<F>();
     let (_, counts) = bytes.split_at(size);
     let after = check_lists::<F>(at + size, counts)?;
@@ -221,7 +221,7 @@ fn check_set<F: Family>(at: usize, bytes: &[u8]) -> Result<&[u8], JpFault>
 /// Checks `count` group sets and what is left after them.
 fn check_sets<F: Family>(mut at: usize, count: u8, bytes: &[u8]) -> Result<(), JpFault>
     requires fits { at + length bytes.now < 2 ^ 64 }
-    ensures told { Judges result (faults_of F.family (set_parts F.family count at bytes.now)) }
+    ensures reported { Judges result (faults_of F.family (set_parts F.family count at bytes.now)) }
     ensures whole { IfOk result (λ _. HoldsSets F.family count bytes.now) }
 {
     let mut left = bytes;
@@ -230,19 +230,19 @@ fn check_sets<F: Family>(mut at: usize, count: u8, bytes: &[u8]) -> Result<(), J
         at += left.len() - after.len();
         left = after;
     }
-    told_at(at, check_rest::<F>(left))?;
+    with_place(at, check_rest::<F>(left))?;
     Ok(())
 }
 
 /// Checks a whole body. The error is its first fault.
 pub(crate) fn check_body<F: Family>(body: &[u8]) -> Result<(), JpFault>
-    ensures told { Judges result (faults F.family body.now) }
+    ensures reported { Judges result (faults F.family body.now) }
     ensures whole { IfOk result (λ _. HoldsMessage F.family body.now) }
 {
-    told_at(0, check_upstream::<F>(body))?;
+    with_place(0, check_upstream::<F>(body))?;
     let at = unicast_length::<F>();
     let (_, head) = body.split_at(at);
-    told_at(at, check_four(head))?;
+    with_place(at, check_four(head))?;
     let (_, sets) = head.split_at(4);
     check_sets::<F>(at + 4, head[1], sets)?;
     Ok(())

@@ -50,7 +50,7 @@ pub(crate) fn entries_size<F: Family>(count: u16) -> usize
 
 /// Checks the front of an entry, up to its address, except its flags.
 fn check_front<F: Family>(bytes: &[u8]) -> Result<(), JpKind>
-    ensures told { Judges result (map address_kind (source_faults F.family bytes.now)) }
+    ensures reported { Judges result (map address_kind (source_faults F.family bytes.now)) }
     ensures whole { IfOk result (λ _. source_length F.family ≤ length bytes.now) }
 {
     if bytes.len() < source_length::<F>() {
@@ -83,7 +83,7 @@ fn check_star<F: Family>(bytes: &[u8], has_star: bool) -> Result<EntryTypes, JpK
     requires front { source_faults F.family bytes.now ≡ [] }
     requires whole { source_length F.family ≤ length bytes.now }
     requires star { (source_value F.family bytes.now).wildcard ≡ true }
-    ensures told { Judges result (lone_kinds F.family has_star bytes.now) }
+    ensures reported { Judges result (lone_kinds F.family has_star bytes.now) }
     ensures star { IfOk result (λ types. types.star
         ≡ is_star (entry_of (source_value F.family bytes.now))) }
     ensures source { IfOk result (λ types. types.source
@@ -111,7 +111,7 @@ fn check_star<F: Family>(bytes: &[u8], has_star: bool) -> Result<EntryTypes, JpK
 /// Checks an entry, except for a source in the other list, and returns its type. `has_star` says
 /// whether a (*,G) entry precedes it in its group set.
 fn check_entry<F: Family>(bytes: &[u8], has_star: bool) -> Result<EntryTypes, JpKind>
-    ensures told { Judges result (lone_kinds F.family has_star bytes.now) }
+    ensures reported { Judges result (lone_kinds F.family has_star bytes.now) }
     ensures star { IfOk result (λ types. types.star
         ≡ is_star (entry_of (source_value F.family bytes.now))) }
     ensures source { IfOk result (λ types. types.source

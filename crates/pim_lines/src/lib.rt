@@ -1,5 +1,5 @@
-//! What lines are made of: pieces, numbers, texts of addresses, hexadecimal digits, and the names of
-//! ports.
+//! What lines are made of: pieces, numbers, texts of addresses, hexadecimal digits, and the names
+//! of ports.
 //!
 //! - `write_pieces` writes a text piece by piece, `write_hex` writes bytes as hexadecimal digits,
 //!   and `number_or` has the text of a number.
@@ -7,8 +7,8 @@
 //! - `AnyAddress` is an address of either family, and `read_any_address` reads it.
 //! - `Name` is the name of a port. It has no byte that a JSON string has to escape.
 //!
-//! Reports, events, faults, texts of messages and the words of a command line use them. Nothing here
-//! needs memory.
+//! Reports, events, faults, texts of messages and the words of a command line use them. Nothing
+//! here needs memory.
 #![tactic(auto)]
 
 mod buffers;

@@ -48,8 +48,8 @@ fn are_name_bytes(bytes: &[u8]) -> bool
     true
 }
 
-/// Returns whether a text is a name that a user may give to a port: a letter, then up to 31 letters,
-/// digits, `.`, `_` or `-`.
+/// Returns whether a text is a name that a user may give to a port: a letter, then up to 31
+/// letters, digits, `.`, `_` or `-`.
 pub fn is_port_name(text: &[u8]) -> bool
     ensures { result ≡ is_port_name text.now }
 {

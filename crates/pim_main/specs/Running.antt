@@ -1,5 +1,5 @@
--- How the run of a task ends: what its command did, whether its output was passed on, and whether its
--- warnings were written.
+-- How the run of a task ends: what its command did, whether its output was passed on, and whether
+-- its warnings were written.
 use Rattle.std.specs.Prelude.{◌≡◌, ◌≢◌, ◌+◌, ℕ, List, [], Option, Some, Result, Ok, Err, IfOk, IfErr, MatchResult, min}
 use Rattle.std.specs.Io.KnownBytes.{Keeps}
 use Rattle.pim_addr.specs.declared.family.AddressFamily.{AddressFamily}
@@ -40,9 +40,10 @@ module _ {A R : Type 0} (family : AddressFamily) (bytes_of : A → List ℕ) (re
     (failures : R → ℕ) (known known' : Known) (input : Option (List ℕ))
     (Writes : Result (Unit {0}) Fault → List ℕ → Type 0) (before : ℕ) (Fails : ℕ → Type 0)
     (old new : Option (List ℕ)) (result : Result ℕ Fault) (task : Task A) where
-  -- The task was done, then its output was passed on, then its warnings. `old` and `new` are the bytes of
-  -- the output, `before` is how often it had failed. `Writes` says of warnings what the device for errors
-  -- took of them, `Fails` of the failures of the output that it or that device failed once more.
+  -- The task was done, then its output was passed on, then its warnings. `old` and `new` are the
+  -- bytes of the output, `before` is how often it had failed. `Writes` says of warnings what the
+  -- device for errors took of them, `Fails` of the failures of the output that it or that device
+  -- failed once more.
   pub record Runs : Type 0 where
     -- what the command returned, and what passing on did
     pub answer : Result ℕ Fault

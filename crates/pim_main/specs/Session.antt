@@ -2,7 +2,7 @@
 use Rattle.std.specs.Prelude.{◌≡◌, ◌⊎◌, ℕ, List, Option, Result, Ok, Err}
 use Rattle.std.specs.Io.KnownBytes.{Appends}
 use Rattle.pim_device.specs.Device.{AppendsFront}
-use Rattle.pim_items.specs.Items.{items_of}
+use Rattle.pim_request.specs.Items.{items_of}
 use Rattle.pim_session.specs.Dialog.{AnswersAll, AnswersFirst, Wrote}
 use Rattle.pim_session.specs.State.{new_session}
 use Rattle.pim_faults.specs.declared.fault.Fault.{Fault}
@@ -13,8 +13,8 @@ abbrev pub IsAnswered : List ℕ → Option (List ℕ) → Option (List ℕ) →
 IsAnswered input old new = Wrote (AnswersAll new_session (items_of input)) (Appends old new)
 
 -- The program's result for a session over an input. The status is 0 where all was answered. At
--- `Output` the device failed with a front of answers written, or when it had to pass on the last ones.
--- At `Memory` nothing was written.
+-- `Output` the device failed with a front of answers written, or when it had to pass on the last
+-- ones. At `Memory` nothing was written.
 abbrev pub EndsSession : List ℕ → Option (List ℕ) → Option (List ℕ) → Result ℕ Fault → Type 0
 EndsSession input old new (Ok status) = (status ≡ 0) × IsAnswered input old new
 EndsSession input old new (Err InputRead) =

@@ -2,7 +2,7 @@
 
 ghost use Rattle.pim_files.specs.Files.{nothing_known};
 
-use crate::progress::{Line, Progress, Watched};
+use crate::progress::{Line, RunProgress, Watched};
 use crate::source::Source;
 use pim_files::{FileCause, Opener, Unopened};
 use std::alloc::Global;
@@ -78,7 +78,7 @@ impl<'r> Opener for SystemFiles<'r> {
             Ok(file) => Source::of_file(file),
             Err(cause) => return Err(Unopened::File(cause)),
         };
-        let progress = Progress::of(self.rt, self.line, name, source.size());
+        let progress = RunProgress::of(self.rt, self.line, name, source.size());
         match BufReader::new(alloc, source) {
             Ok(reader) => Ok(Watched::new(reader, progress)),
             Err(_) => Err(Unopened::Memory),

@@ -10,6 +10,8 @@
 //!   is read.
 //! - `Output` is the device that takes the output, in blocks or line by line.
 //! - `run_session` answers a session.
+//!
+//! Callers: `pimtree`.
 #![tactic(auto)]
 
 mod files;
@@ -29,7 +31,7 @@ pub use inputs::WithInput;
 pub use output::{Output, task_reads_any};
 use pim_addr::{Counted, Family, V4, V6};
 use pim_commands::{FAULTY, Fault, report_fault};
-use pim_words::{Plan, Task, plan};
+use pim_words::{CommandPlan, Task, plan};
 pub use running::run_on_devices;
 pub use session::run_session;
 use std::io::IsTerminal;
@@ -84,9 +86,9 @@ fn run_on_system<'a, F: Family>(
 /// Does what the words ask for, and returns the status.
 fn run<'a>(rt: &'a HostRuntime, words: &'a [String]) -> Result<u8, Fault<'a>> {
     match &plan(rt.alloc(), words)? {
-        Plan::V4(task) => run_on_system::<V4>(rt, task),
-        Plan::V6(task) => run_on_system::<V6>(rt, task),
-        Plan::Session => answer_input(rt),
+        CommandPlan::V4(task) => run_on_system::<V4>(rt, task),
+        CommandPlan::V6(task) => run_on_system::<V6>(rt, task),
+        CommandPlan::Session => answer_input(rt),
     }
 }
 

@@ -4,7 +4,7 @@ ghost use Rattle.std.specs.Prelude.{◌≡◌, ◌≤◌, ◌+◌, ◌⊎◌, �
 ghost use Rattle.pim_device.specs.Device.{top_count};
 
 use pim_addr::{Drain, Failed};
-use pim_items::Answers;
+use pim_request::Answers;
 use pim_words::{Captures, STANDARD_INPUT, Task, reads_any};
 use std::alloc::Global;
 use std::fs::metadata;

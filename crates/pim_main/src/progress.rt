@@ -82,7 +82,7 @@ impl<W: Write> Write for Clearing<'_, W> {
 
 /// The progress of a file.
 #[derive(Drop)]
-pub struct Progress<'r> {
+pub struct RunProgress<'r> {
     rt: &'r HostRuntime,
     line: &'r Line,
     /// The name of the file.
@@ -95,14 +95,14 @@ pub struct Progress<'r> {
     records: u64,
 }
 
-impl<'r> Progress<'r> {
+impl<'r> RunProgress<'r> {
     /// Returns the progress of a file of this length, if it is to be shown. Where memory or the
     /// clock is refused, it isn't.
     pub fn of(rt: &'r HostRuntime, line: &'r Line, name: &str, size: u64) -> Option<Self> {
         if size <= LARGE || !rt.stderr().is_terminal() {
             return None;
         }
-        Some(Progress {
+        Some(RunProgress {
             rt,
             line,
             name: String::from_str(rt.alloc(), name).ok()?,
@@ -146,12 +146,12 @@ pub struct Watched<'r> {
     device: Counted<BufReader<Source>>,
     /// The number of records that were passed on.
     records: u64,
-    progress: Option<Progress<'r>>,
+    progress: Option<RunProgress<'r>>,
 }
 
 impl<'r> Watched<'r> {
     /// Returns a device over a reader that has not failed.
-    pub fn new(reader: BufReader<Source>, progress: Option<Progress<'r>>) -> Self {
+    pub fn new(reader: BufReader<Source>, progress: Option<RunProgress<'r>>) -> Self {
         Watched {
             device: Counted::new(reader),
             records: 0,

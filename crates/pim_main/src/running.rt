@@ -13,7 +13,7 @@ ghost use Rattle.pim_main.specs.Running.{first_fault};
 use pim_addr::{Counted, Drain, Family, Feed, write_all};
 use pim_commands::{Fault, run_task};
 use pim_files::Opener;
-use pim_items::Answers;
+use pim_request::Answers;
 use pim_words::Task;
 use std::alloc::Global;
 

@@ -6,7 +6,7 @@ ghost use Rattle.pim_main.specs.Session.{EndsSession};
 
 use pim_addr::Feed;
 use pim_commands::Fault;
-use pim_items::{Answers, Items, Stopped};
+use pim_request::{Answers, InputItems, Stopped};
 use pim_session::session_into;
 use std::alloc::Global;
 
@@ -25,7 +25,7 @@ pub fn run_session<R: Feed + Drop, W: Answers>(
     ensures passed_on { IfOk result (λ _. W.passed_on answers.new ≡ W.contents answers.new) }
     ensures count { W.failures answers.new ≡ write_failures_after (W.failures answers.old) result }
 {
-    let Ok(mut items) = Items::new(alloc, input) else {
+    let Ok(mut items) = InputItems::new(alloc, input) else {
         return Err(Fault::Memory);
     };
     match session_into(alloc, &mut items, answers) {

@@ -5,16 +5,16 @@ use std::io::{self, Read, Stdin};
 
 /// A file of the system, or standard input.
 #[derive(Drop)]
-enum Origin {
+enum InputOrigin {
     File(File),
     Input(Stdin),
 }
 
-impl Read for Origin {
+impl Read for InputOrigin {
     fn read(&mut self, buffer: &mut [u8]) -> io::Result<usize> {
         match self {
-            Origin::File(file) => file.read(buffer),
-            Origin::Input(input) => input.read(buffer),
+            InputOrigin::File(file) => file.read(buffer),
+            InputOrigin::Input(input) => input.read(buffer),
         }
     }
 }
@@ -22,7 +22,7 @@ impl Read for Origin {
 /// What a capture is read from, with the number of bytes that were read.
 #[derive(Drop)]
 pub struct Source {
-    origin: Origin,
+    origin: InputOrigin,
     bytes: u64,
 }
 
@@ -30,7 +30,7 @@ impl Source {
     /// Returns a file of the system, of which nothing was read.
     pub fn of_file(file: File) -> Self {
         Source {
-            origin: Origin::File(file),
+            origin: InputOrigin::File(file),
             bytes: 0,
         }
     }
@@ -38,7 +38,7 @@ impl Source {
     /// Returns standard input.
     pub fn of_input(input: Stdin) -> Self {
         Source {
-            origin: Origin::Input(input),
+            origin: InputOrigin::Input(input),
             bytes: 0,
         }
     }
@@ -46,7 +46,7 @@ impl Source {
     /// Returns the length of the file in bytes; 0 for standard input, and if the system doesn't say
     /// it.
     pub fn size(&self) -> u64 {
-        let Origin::File(file) = &self.origin else {
+        let InputOrigin::File(file) = &self.origin else {
             return 0;
         };
         match file.metadata() {

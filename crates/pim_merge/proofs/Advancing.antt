@@ -12,32 +12,32 @@ use Rattle.pim_merge.specs.declared.merge.MergeFault.{MergeFault}
 use Rattle.pim_merge.specs.declared.merge.Turn.{Turn}
 use Rattle.pim_merge.specs.Ends.{last_of, clock_of, Takes, AreAll}
 use Rattle.pim_merge.specs.Lane.{LaneState, IsComing, lane_at, failures_of, tallies_of}
-use Rattle.pim_merge.specs.declared.tally.Place.{Place}
+use Rattle.pim_merge.specs.declared.tally.RecordPlace.{RecordPlace}
 use Rattle.pim_merge.specs.Tally.{tallies_with, place_next}
 use Rattle.pim_merge.proofs.Tallies.{tallies_more}
 use Rattle.pim_merge.specs.Merge.{Taken, Outcome, IsMergeBy, turn, turn_by, until, takes, fails, ending, after_turn}
-use Rattle.pim_merge.specs.Merge.{clock_after, moment_of, time_told}
-use Rattle.pim_merge.specs.Next.{MergeState, TellsTurnBy, IsCause, CountsFailures, KeepsTime, with_fault, KeepsTallies, IsNumbered}
+use Rattle.pim_merge.specs.Merge.{clock_after, moment_of, event_time}
+use Rattle.pim_merge.specs.Next.{MergeState, GivesTurnBy, IsCause, CountsFailures, KeepsTime, with_fault, KeepsTallies, IsNumbered}
 use Rattle.pim_merge.specs.Run.{taken_by, IsBehind, HasTaken, Advances, IsTallied}
 
 -- ---- one turn more
 
 takes_more : (last : Option Time) (clock : Option Clock) (captures : List (List Answer)) (taken : List Taken)
     (clock' : Option Clock) (rest : List (List Answer)) (next : Taken) → Takes last clock captures taken clock' rest →
-    turn_by last clock' rest ≡ takes next.capture next.told →
-    next.moment ≡ moment_of (clock_after clock' (time_told next.told)) →
-    Takes last clock captures (taken ++ next ∷ []) (clock_after clock' (time_told next.told))
+    turn_by last clock' rest ≡ takes next.capture next.reported →
+    next.moment ≡ moment_of (clock_after clock' (event_time next.reported)) →
+    Takes last clock captures (taken ++ next ∷ []) (clock_after clock' (event_time next.reported))
     (after_turn next.capture rest)
 unfolding Takes
 takes_more last clock captures [] clock' rest next (same, all) is now = (
   ap (turn_by last clock) (sym all) ∙ (ap (λ c. turn_by last c rest) (sym same) ∙ is),
-  now ∙ ap (λ c. moment_of (clock_after c (time_told next.told))) same,
-  (ap (λ c. clock_after c (time_told next.told)) same, ap (after_turn next.capture) all),
+  now ∙ ap (λ c. moment_of (clock_after c (event_time next.reported))) same,
+  (ap (λ c. clock_after c (event_time next.reported)) same, ap (after_turn next.capture) all),
 )
 takes_more last clock captures (first ∷ others) clock' rest next (one, at, more) is now = (
   one,
   at,
-  takes_more last (clock_after clock (time_told first.told)) (after_turn first.capture captures) others clock' rest
+  takes_more last (clock_after clock (event_time first.reported)) (after_turn first.capture captures) others clock' rest
       next more is now,
 )
 
@@ -51,16 +51,16 @@ takes_all last clock captures [] clock' rest fault (same, all) is =
 takes_all last clock captures (first ∷ others) clock' rest fault (one, at, more) is = (
   one,
   at,
-  takes_all last (clock_after clock (time_told first.told)) (after_turn first.capture captures) others clock' rest
+  takes_all last (clock_after clock (event_time first.reported)) (after_turn first.capture captures) others clock' rest
       fault more is,
 )
 
 -- the clock after one record more
 clock_more : (clock : Option Clock) (taken : List Taken) (next : Taken) →
-    clock_of clock (taken ++ next ∷ []) ≡ clock_after (clock_of clock taken) (time_told next.told)
+    clock_of clock (taken ++ next ∷ []) ≡ clock_after (clock_of clock taken) (event_time next.reported)
 unfolding clock_of
 clock_more clock [] next = refl
-clock_more clock (first ∷ others) next = clock_more (clock_after clock (time_told first.told)) others next
+clock_more clock (first ∷ others) next = clock_more (clock_after clock (event_time first.reported)) others next
 
 -- a fault comes before the end of the run
 fails_by : (last : Option Time) (clock : Option Clock) (number : ℕ) (fault : CaptureFault) (outcome : Outcome) →
@@ -87,7 +87,7 @@ module _ (end : End) (start : MergeState) (taken : List Taken) (merge merge' : M
   Coming P = (captures : List (List Answer)) → IsComing merge.lanes captures → P captures
 
   -- no further one
-  no_more : Coming (λ captures. TellsTurnBy (last_of end) merge.clock captures (Ok None) merge') →
+  no_more : Coming (λ captures. GivesTurnBy (last_of end) merge.clock captures (Ok None) merge') →
       merge'.clock ≡ merge.clock → tallies_of merge'.lanes ≡ tallies_of merge.lanes → Advances end start taken merge' (Ok None)
   no_more tells keeps tallies = (
     λ captures coming.
@@ -99,10 +99,10 @@ module _ (end : End) (start : MergeState) (taken : List Taken) (merge merge' : M
   )
 
   -- a fault
-  stops : (told : MergeFault) → Coming (λ captures. turn (with_fault told captures) ≡ fails told.capture told.fault) →
-      IsCause merge.lanes merge'.lanes told → tallies_of merge'.lanes ≡ tallies_of merge.lanes →
-      IsNumbered (tallies_of merge.lanes) told → Advances end start taken merge' (Err told)
-  stops told fault cause tallies numbered = record {
+  stops : (reported : MergeFault) → Coming (λ captures. turn (with_fault reported captures) ≡ fails reported.capture reported.fault) →
+      IsCause merge.lanes merge'.lanes reported → tallies_of merge'.lanes ≡ tallies_of merge.lanes →
+      IsNumbered (tallies_of merge.lanes) reported → Advances end start taken merge' (Err reported)
+  stops reported fault cause tallies numbered = record {
     are = λ captures coming.
         let b = has.turns captures coming in record {
           clock_then = merge.clock;
@@ -113,27 +113,27 @@ module _ (end : End) (start : MergeState) (taken : List Taken) (merge merge' : M
     cause = by cause;
     tallies = tallies ∙ has.tallies;
     numbered =
-        let same = ap (place_next told.capture) (sym tallies) in
-        (numbered.0 ∙ ap (λ (p : Place). p.file) same, numbered.1 ∙ ap (λ (p : Place). p.«record») same);
+        let same = ap (place_next reported.capture) (sym tallies) in
+        (numbered.0 ∙ ap (λ (p : RecordPlace). p.file) same, numbered.1 ∙ ap (λ (p : RecordPlace). p.«record») same);
   }
     where
-      by : IsCause merge.lanes merge'.lanes told →
-          IsRefusal {A = ⊤} (lane_at told.capture start.lanes).failures (lane_at told.capture merge'.lanes).failures
-          (Err told.fault) ⊎ AreAll end start (Some (told.capture, told.fault)) taken
+      by : IsCause merge.lanes merge'.lanes reported →
+          IsRefusal {A = ⊤} (lane_at reported.capture start.lanes).failures (lane_at reported.capture merge'.lanes).failures
+          (Err reported.fault) ⊎ AreAll end start (Some (reported.capture, reported.fault)) taken
       by (inl refused) =
           inl (subst
-          (λ n. IsRefusal {A = ⊤} n (lane_at told.capture merge'.lanes).failures (Err told.fault))
-          (same_failures merge.lanes start.lanes told.capture has.reads) refused)
+          (λ n. IsRefusal {A = ⊤} n (lane_at reported.capture merge'.lanes).failures (Err reported.fault))
+          (same_failures merge.lanes start.lanes reported.capture has.reads) refused)
       by (inr is) = inr (λ captures coming.
           let b = has.turns captures coming in
-          takes_all (last_of end) start.clock captures taken merge.clock b.rest (Some (told.capture, told.fault))
+          takes_all (last_of end) start.clock captures taken merge.clock b.rest (Some (reported.capture, reported.fault))
           b.takes_them
-          (fails_by (last_of end) merge.clock told.capture told.fault (turn b.rest)
+          (fails_by (last_of end) merge.clock reported.capture reported.fault (turn b.rest)
           (ap turn (sym (is b.rest b.coming)) ∙ fault b.rest b.coming)))
 
   -- one more
   one_more : (next : Turn) →
-      Coming (λ captures. TellsTurnBy (last_of end) merge.clock captures (Ok (Some next)) merge') →
+      Coming (λ captures. GivesTurnBy (last_of end) merge.clock captures (Ok (Some next)) merge') →
       KeepsTime merge.clock (Ok (Some next)) merge' → failures_of merge'.lanes ≡ failures_of merge.lanes →
       KeepsTallies (tallies_of merge.lanes) (Ok (Some next)) merge' → Advances end start taken merge' (Ok (Some next))
   one_more next tells keeps reads tallies = record {
@@ -141,9 +141,9 @@ module _ (end : End) (start : MergeState) (taken : List Taken) (merge merge' : M
     first = λ captures coming.
         let b = more captures coming in
         record { clock_then = merge'.clock; rest = b.rest; takes_them = b.takes_them; is_rest = tt };
-    clock = keeps.0 ∙ (ap (λ c. clock_after c (time_told this.told)) has.clock ∙ sym (clock_more start.clock taken this));
+    clock = keeps.0 ∙ (ap (λ c. clock_after c (event_time this.reported)) has.clock ∙ sym (clock_more start.clock taken this));
     reads = reads ∙ has.reads;
-    tallies = tallies ∙ (ap (tallies_with this.capture this.told) has.tallies ∙ sym (tallies_more (tallies_of start.lanes) taken this));
+    tallies = tallies ∙ (ap (tallies_with this.capture this.reported) has.tallies ∙ sym (tallies_more (tallies_of start.lanes) taken this));
   }
     where
       this : Taken
@@ -164,23 +164,23 @@ module _ (end : End) (start : MergeState) (taken : List Taken) (merge merge' : M
           }
 
   pub advances : (last : Option Time) (result : Result (Option Turn) MergeFault) → last ≡ last_of end →
-      Coming (λ captures. TellsTurnBy last merge.clock captures result merge') →
+      Coming (λ captures. GivesTurnBy last merge.clock captures result merge') →
       IfErr result (IsCause merge.lanes merge'.lanes) → CountsFailures merge.lanes result merge'.lanes →
       KeepsTime merge.clock result merge' → KeepsTallies (tallies_of merge.lanes) result merge' →
       IfErr result (IsNumbered (tallies_of merge.lanes)) → Advances end start taken merge' result
   advances last result same tells cause reads keeps tallies numbered =
       by result
-      (subst (λ (l : Option Time). Coming (λ captures. TellsTurnBy l merge.clock captures result merge')) same tells)
+      (subst (λ (l : Option Time). Coming (λ captures. GivesTurnBy l merge.clock captures result merge')) same tells)
       cause reads keeps tallies numbered
     where
       by : (result : Result (Option Turn) MergeFault) →
-          Coming (λ captures. TellsTurnBy (last_of end) merge.clock captures result merge') →
+          Coming (λ captures. GivesTurnBy (last_of end) merge.clock captures result merge') →
           IfErr result (IsCause merge.lanes merge'.lanes) → CountsFailures merge.lanes result merge'.lanes →
           KeepsTime merge.clock result merge' → KeepsTallies (tallies_of merge.lanes) result merge' →
           IfErr result (IsNumbered (tallies_of merge.lanes)) → Advances end start taken merge' result
       by (Ok None) tells cause reads keeps tallies numbered = no_more tells keeps tallies
       by (Ok (Some next)) tells cause reads keeps tallies numbered = one_more next tells keeps reads tallies
-      by (Err told) tells cause reads keeps tallies numbered = stops told tells cause tallies numbered
+      by (Err reported) tells cause reads keeps tallies numbered = stops reported tells cause tallies numbered
 
 -- the tallies after that turn
 pub tallied : (end : End) (start : MergeState) (taken : List Taken) (merge merge' : MergeState) (result : Result (Option Turn) MergeFault) →
@@ -190,5 +190,5 @@ tallied end start taken merge merge' (Ok None) has advances keeps =
     record { taken = taken; first = has.first; tallies = keeps ∙ has.tallies }
 tallied end start taken merge merge' (Ok (Some next)) has advances keeps =
     record { taken = taken ++ taken_by merge' next ∷ []; first = advances.first; tallies = advances.tallies }
-tallied end start taken merge merge' (Err told) has advances keeps =
+tallied end start taken merge merge' (Err reported) has advances keeps =
     record { taken = taken; first = has.first; tallies = keeps ∙ has.tallies }

@@ -6,12 +6,12 @@ use Rattle.pim_addr.specs.declared.family.AddressFamily.{AddressFamily}
 use Rattle.pim_time.specs.declared.reading.Time.{Time}
 use Rattle.pim_capture.specs.declared.fault.CaptureFault.{CaptureFault}
 use Rattle.pim_capture.specs.declared.fault.CaptureFault.TheVariants as fault
-use Rattle.pim_capture.specs.Capture.{Told, packet, skipped, ended, Answer}
+use Rattle.pim_capture.specs.Capture.{EventSeen, packet, skipped, ended, Answer}
 use Rattle.pim_capture.specs.Next.{in_front}
 use Rattle.pim_merge.specs.declared.clock.Clock.{Clock}
-use Rattle.pim_merge.specs.Merge.{head_of, behind_head, time_told, rank_told, rank_of, or_fault, fault_from, sooner, numbered, earliest_from, Outcome, fails, takes, ends, taken, turn_at, turn_or, turn, after_turn, clock_after, moment_of, is_past, until, turn_by, Taken, ending, IsMergeBy}
+use Rattle.pim_merge.specs.Merge.{head_of, behind_head, event_time, event_rank, rank_of, or_fault, fault_from, sooner, numbered, earliest_from, Outcome, fails, takes, ends, taken, turn_at, turn_or, turn, after_turn, clock_after, moment_of, is_past, until, turn_by, Taken, ending, IsMergeBy}
 use Rattle.pim_merge.specs.Content.{content_in}
-use Rattle.pim_merge.specs.OneLink.{told_as_any, as_any, all_as_any, is_truncated, IsWhole, taken_as_any}
+use Rattle.pim_merge.specs.OneLink.{event_as_any, as_any, all_as_any, is_truncated, IsWhole, taken_as_any}
 
 -- ---- one head
 
@@ -58,38 +58,38 @@ err_alike (fault.Vlans one two) whole = refl
 err_alike fault.Memory whole = refl
 err_alike fault.Failed whole = refl
 
-rank_told_alike : (told : Told) → rank_told (told_as_any told) ≡ rank_told told
+rank_told_alike : (reported : EventSeen) → event_rank (event_as_any reported) ≡ event_rank reported
 rank_told_alike (packet millis frame datagram) = refl
 rank_told_alike (skipped millis why) = refl
 rank_told_alike ended = refl
 
-pub content_alike : (family : AddressFamily) (told : Told) → content_in family (told_as_any told) ≡ content_in family told
+pub content_alike : (family : AddressFamily) (reported : EventSeen) → content_in family (event_as_any reported) ≡ content_in family reported
 content_alike family (packet millis frame datagram) = refl
 content_alike family (skipped millis why) = refl
 content_alike family ended = refl
 
-pub time_alike : (told : Told) → time_told (told_as_any told) ≡ time_told told
+pub time_alike : (reported : EventSeen) → event_time (event_as_any reported) ≡ event_time reported
 time_alike (packet millis frame datagram) = refl
 time_alike (skipped millis why) = refl
 time_alike ended = refl
 
 rank_alike : (answer : Answer) → is_truncated answer ≡ false → rank_of (as_any answer) ≡ rank_of answer
-rank_alike (Ok told) whole = rank_told_alike told
+rank_alike (Ok reported) whole = rank_told_alike reported
 rank_alike (Err fault) whole = ap rank_of (err_alike fault whole)
 
 fault_alike : (number : ℕ) (answer : Answer) (later : Option (ℕ × CaptureFault)) → is_truncated answer ≡ false → or_fault number (as_any answer) later ≡ or_fault number answer later
-fault_alike number (Ok told) later whole = refl
+fault_alike number (Ok reported) later whole = refl
 fault_alike number (Err fault) later whole = ap (λ it. or_fault number it later) (err_alike fault whole)
 
 -- the turn that takes a head
 outcome_as_any : Outcome → Outcome
-outcome_as_any (takes number told) = takes number (told_as_any told)
+outcome_as_any (takes number reported) = takes number (event_as_any reported)
 outcome_as_any (fails number fault) = fails number fault
 outcome_as_any ends = ends
 
 taken_alike : (number : ℕ) (answer : Answer) → is_truncated answer ≡ false → taken number (as_any answer) ≡ outcome_as_any (taken number answer)
 unfolding outcome_as_any
-taken_alike number (Ok told) whole = refl
+taken_alike number (Ok reported) whole = refl
 taken_alike number (Err fault) whole = ap (taken number) (err_alike fault whole)
 
 -- ---- all heads
@@ -139,17 +139,17 @@ turn_alike : (captures : List (List Answer)) → AllByRecursion IsWhole captures
 unfolding turn
 turn_alike captures whole = ap (turn_or (map all_as_any captures)) (faults_alike 0 captures whole) ∙ or_alike captures (fault_from 0 (map head_of captures)) whole
 
-if_ends : (past : Bool) (number : ℕ) (told : Told) → (if past then ends else takes number (told_as_any told)) ≡ outcome_as_any (if past then ends else takes number told)
+if_ends : (past : Bool) (number : ℕ) (reported : EventSeen) → (if past then ends else takes number (event_as_any reported)) ≡ outcome_as_any (if past then ends else takes number reported)
 unfolding outcome_as_any
-if_ends true number told = refl
-if_ends false number told = refl
+if_ends true number reported = refl
+if_ends false number reported = refl
 
 until_alike : (last : Option Time) (clock : Option Clock) (outcome : Outcome) → until last clock (outcome_as_any outcome) ≡ outcome_as_any (until last clock outcome)
 unfolding outcome_as_any
 until_alike None clock outcome = refl
-until_alike (Some last) clock (takes number told) =
-    ap (λ it. if is_past (Some last) (clock_after clock it) then ends else takes number (told_as_any told)) (time_alike told)
-    ∙ if_ends (is_past (Some last) (clock_after clock (time_told told))) number told
+until_alike (Some last) clock (takes number reported) =
+    ap (λ it. if is_past (Some last) (clock_after clock it) then ends else takes number (event_as_any reported)) (time_alike reported)
+    ∙ if_ends (is_past (Some last) (clock_after clock (event_time reported))) number reported
 until_alike (Some last) clock (fails number fault) = refl
 until_alike (Some last) clock ends = refl
 
@@ -158,22 +158,22 @@ turn_by_alike last clock captures whole = ap (until last clock) (turn_alike capt
 
 -- ---- a head that is taken is a record
 
-takes_same : (one other : ℕ) (told told' : Told) → takes one told ≡ takes other told' → one ≡ other
-takes_same one other told told' e = cc
+takes_same : (one other : ℕ) (reported reported' : EventSeen) → takes one reported ≡ takes other reported' → one ≡ other
+takes_same one other reported reported' e = cc
 
-number_of_taken : (number' number : ℕ) (answer : Answer) (told : Told) → taken number' answer ≡ takes number told → number' ≡ number
-number_of_taken number' number (Ok it) told e = takes_same number' number it told e
-number_of_taken number' number (Err fault) told e = absurd cc
+number_of_taken : (number' number : ℕ) (answer : Answer) (reported : EventSeen) → taken number' answer ≡ takes number reported → number' ≡ number
+number_of_taken number' number (Ok it) reported e = takes_same number' number it reported e
+number_of_taken number' number (Err fault) reported e = absurd cc
 
-if_takes : (past : Bool) (number number' : ℕ) (told told' : Told) → (if past then ends else takes number told) ≡ takes number' told' → takes number told ≡ takes number' told'
-if_takes true number number' told told' e = absurd cc
-if_takes false number number' told told' e = e
+if_takes : (past : Bool) (number number' : ℕ) (reported reported' : EventSeen) → (if past then ends else takes number reported) ≡ takes number' reported' → takes number reported ≡ takes number' reported'
+if_takes true number number' reported reported' e = absurd cc
+if_takes false number number' reported reported' e = e
 
-until_takes : (last : Option Time) (clock : Option Clock) (outcome : Outcome) (number : ℕ) (told : Told) → until last clock outcome ≡ takes number told → outcome ≡ takes number told
-until_takes None clock outcome number told e = e
-until_takes (Some last) clock (takes number' told') number told e = if_takes (is_past (Some last) (clock_after clock (time_told told'))) number' number told' told e
-until_takes (Some last) clock (fails number' fault) number told e = absurd cc
-until_takes (Some last) clock ends number told e = absurd cc
+until_takes : (last : Option Time) (clock : Option Clock) (outcome : Outcome) (number : ℕ) (reported : EventSeen) → until last clock outcome ≡ takes number reported → outcome ≡ takes number reported
+until_takes None clock outcome number reported e = e
+until_takes (Some last) clock (takes number' reported') number reported e = if_takes (is_past (Some last) (clock_after clock (event_time reported'))) number' number reported' reported e
+until_takes (Some last) clock (fails number' fault) number reported e = absurd cc
+until_takes (Some last) clock ends number reported e = absurd cc
 
 if_either : (test : Bool) (one other found : ℕ × ℕ) → (if test then Some other else Some one) ≡ Some found → (Some one ≡ Some found) ⊎ (Some other ≡ Some found)
 if_either true one other found e = inr e
@@ -233,24 +233,24 @@ whole_after [] number whole = tt
 whole_after (capture ∷ captures) zero whole = (whole_behind capture whole.0, whole.1)
 whole_after (capture ∷ captures) (suc number) whole = (whole.0, whole_after captures number whole.1)
 
-taken_at : (captures : List (List Answer)) (found : Option (ℕ × ℕ)) (number : ℕ) (told : Told) → earliest_from 0 (ranks captures) ≡ found → turn_at captures found ≡ takes number told
+taken_at : (captures : List (List Answer)) (found : Option (ℕ × ℕ)) (number : ℕ) (reported : EventSeen) → earliest_from 0 (ranks captures) ≡ found → turn_at captures found ≡ takes number reported
     → after_turn number (map all_as_any captures) ≡ map all_as_any (after_turn number captures)
-taken_at captures None number told is e = absurd cc
-taken_at captures (Some (number', time)) number told is e =
+taken_at captures None number reported is e = absurd cc
+taken_at captures (Some (number', time)) number reported is e =
     let f = has_rank 0 captures number' time is in
-    let same : number' ≡ number = number_of_taken number' number (head_of (slice_index_or captures number' [])) told e in
+    let same : number' ≡ number = number_of_taken number' number (head_of (slice_index_or captures number' [])) reported e in
     let here : f.at ≡ number = omega (arith, f.is, same) in
     after_alike captures number time (subst (λ it. rank_of (head_of (slice_index_or captures it [])) ≡ Some time) here f.ranked)
 
-taken_or : (captures : List (List Answer)) (failed : Option (ℕ × CaptureFault)) (number : ℕ) (told : Told) → turn_or captures failed ≡ takes number told
+taken_or : (captures : List (List Answer)) (failed : Option (ℕ × CaptureFault)) (number : ℕ) (reported : EventSeen) → turn_or captures failed ≡ takes number reported
     → after_turn number (map all_as_any captures) ≡ map all_as_any (after_turn number captures)
 unfolding ranks
-taken_or captures (Some (number', fault)) number told e = absurd cc
-taken_or captures None number told e = taken_at captures (earliest_from 0 (ranks captures)) number told refl e
+taken_or captures (Some (number', fault)) number reported e = absurd cc
+taken_or captures None number reported e = taken_at captures (earliest_from 0 (ranks captures)) number reported refl e
 
-after_taken : (captures : List (List Answer)) (number : ℕ) (told : Told) → turn captures ≡ takes number told → after_turn number (map all_as_any captures) ≡ map all_as_any (after_turn number captures)
+after_taken : (captures : List (List Answer)) (number : ℕ) (reported : EventSeen) → turn captures ≡ takes number reported → after_turn number (map all_as_any captures) ≡ map all_as_any (after_turn number captures)
 unfolding turn
-after_taken captures number told e = taken_or captures (fault_from 0 (map head_of captures)) number told e
+after_taken captures number reported e = taken_or captures (fault_from 0 (map head_of captures)) number reported e
 
 -- ---- the whole merge
 
@@ -264,11 +264,11 @@ pub merges_alike : (last : Option Time) (clock : Option Clock) (captures : List 
 unfolding IsMergeBy outcome_as_any
 merges_alike last clock captures [] fault whole is = turn_by_alike last clock captures whole ∙ ap outcome_as_any is ∙ ending_alike fault
 merges_alike last clock captures (first ∷ others) fault whole (turns, moment, more) =
-    let same : clock_after clock (time_told (told_as_any first.told)) ≡ clock_after clock (time_told first.told) = ap (clock_after clock) (time_alike first.told) in
-    let later = merges_alike last (clock_after clock (time_told first.told)) (after_turn first.capture captures) others fault (whole_after captures first.capture whole) more in
-    let behind = after_taken captures first.capture first.told (until_takes last clock (turn captures) first.capture first.told turns) in (
+    let same : clock_after clock (event_time (event_as_any first.reported)) ≡ clock_after clock (event_time first.reported) = ap (clock_after clock) (time_alike first.reported) in
+    let later = merges_alike last (clock_after clock (event_time first.reported)) (after_turn first.capture captures) others fault (whole_after captures first.capture whole) more in
+    let behind = after_taken captures first.capture first.reported (until_takes last clock (turn captures) first.capture first.reported turns) in (
       turn_by_alike last clock captures whole ∙ ap outcome_as_any turns,
       moment ∙ ap moment_of (sym same),
       subst (λ it. IsMergeBy last it (after_turn first.capture (map all_as_any captures)) (map taken_as_any others) fault) (sym same)
-          (subst (λ it. IsMergeBy last (clock_after clock (time_told first.told)) it (map taken_as_any others) fault) (sym behind) later),
+          (subst (λ it. IsMergeBy last (clock_after clock (event_time first.reported)) it (map taken_as_any others) fault) (sym behind) later),
     )

@@ -10,26 +10,26 @@ use Rattle.pim_capture.specs.declared.event.Event.TheVariants as event
 use Rattle.pim_capture.specs.declared.event.Why.TheVariants.{CutShort, NextFile}
 use Rattle.pim_capture.specs.Capture.{Answer, skipped, ended}
 use Rattle.pim_capture.specs.Next.{IsNext, IsRefusal, CountsReads, PayloadLiesIn, IsBy, latest_moment}
-use Rattle.pim_container.specs.declared.fault.Fault.{Fault}
-use Rattle.pim_container.specs.declared.fault.Fault.TheVariants as of_any
-use Rattle.pim_container.specs.declared.event.Event as piece
-use Rattle.pim_container.specs.declared.event.Event.TheVariants as piece_kind
+use Rattle.pim_container.specs.declared.fault.ContainerFault.{ContainerFault}
+use Rattle.pim_container.specs.declared.fault.ContainerFault.TheVariants as of_any
+use Rattle.pim_container.specs.declared.event.ContainerEvent as piece
+use Rattle.pim_container.specs.declared.event.ContainerEvent.TheVariants as piece_kind
 use Rattle.pim_container.specs.declared.event.Origin.{Origin}
 use Rattle.pim_container.specs.declared.choice.Choice.{Choice}
-use Rattle.pim_container.specs.declared.reader.State.{State}
-use Rattle.pim_container.specs.Told as any
+use Rattle.pim_container.specs.declared.reader.ReaderState.{ReaderState}
+use Rattle.pim_container.specs.EventSeen as any
 use Rattle.pim_container.specs.Pieces as pieces
 use Rattle.pim_container.specs.Next as next
-use Rattle.pim_merge.specs.Chosen.{fault_of, is_cut, fault_given, told_given, first_then, put, chosen, next_files, known_too}
+use Rattle.pim_merge.specs.Chosen.{fault_of, is_cut, fault_given, event_given, first_then, put, chosen, next_files, known_too}
 use Rattle.pim_merge.specs.Source.{IsGiven, StaysComing, Steps, unless_cut, none_left, chosen_known, is_end, cut_left, step_count, failed}
 use Rattle.pim_merge.proofs.Failures.{Moves}
 
 -- ---- the results of a container
 
-pub put_is : (choice : Choice) (behind : Option Origin → List Answer) (begun : Bool) (first : Option Origin) (told : any.Told)
-    (later : List pieces.Answer) → (told ≡ any.ended → ⊥) →
-    chosen choice behind begun first (next.in_front (Ok told) later)
-    ≡ put (told_given choice first told) (chosen choice behind true (first_then choice first (Ok told)) later)
+pub put_is : (choice : Choice) (behind : Option Origin → List Answer) (begun : Bool) (first : Option Origin) (reported : any.EventSeen)
+    (later : List pieces.Answer) → (reported ≡ any.ended → ⊥) →
+    chosen choice behind begun first (next.in_front (Ok reported) later)
+    ≡ put (event_given choice first reported) (chosen choice behind true (first_then choice first (Ok reported)) later)
 unfolding chosen
 put_is choice behind begun first (any.packet millis origin datagram) later more = refl
 put_is choice behind begun first (any.skipped millis why) later more = refl
@@ -39,7 +39,7 @@ put_is choice behind begun first (any.described name) later more = refl
 put_is choice behind begun first any.passed later more = refl
 put_is choice behind begun first any.ended later more = absurd (more refl)
 
-fault_is : (choice : Choice) (behind : Option Origin → List Answer) (begun : Bool) (first : Option Origin) (fault : Fault) →
+fault_is : (choice : Choice) (behind : Option Origin → List Answer) (begun : Bool) (first : Option Origin) (fault : ContainerFault) →
     chosen choice behind begun first (Err fault ∷ []) ≡ put (Some (fault_given begun fault)) (behind first)
 unfolding chosen
 fault_is choice behind begun first fault = refl
@@ -64,27 +64,27 @@ given_fault n n' all later given bytes (fault.LinkNumber number) is gives = inr 
 
 -- one piece was read, and gave this
 one_step : (n n' : ℕ) (choice : Choice) (begun : Bool) (first first' : Option Origin)
-    (old new : Option (List pieces.Answer)) (files : Option (List (List ℕ))) (told : any.Told) (bytes : List ℕ)
-    (result : Result (Option Event) CaptureFault) → (told ≡ any.ended → ⊥) →
-    next.IsNext old (Ok told) new → first' ≡ first_then choice first (Ok told) →
-    IsGiven (told_given choice first told) bytes result →
+    (old new : Option (List pieces.Answer)) (files : Option (List (List ℕ))) (reported : any.EventSeen) (bytes : List ℕ)
+    (result : Result (Option Event) CaptureFault) → (reported ≡ any.ended → ⊥) →
+    next.IsNext old (Ok reported) new → first' ≡ first_then choice first (Ok reported) →
+    IsGiven (event_given choice first reported) bytes result →
     Steps n n' (chosen_known choice begun first old files) (chosen_known choice true first' new files) bytes result
-one_step n n' choice begun first first' None new files told bytes (Ok None) more is after gives = tt
-one_step n n' choice begun first first' None new files told bytes (Ok (Some event)) more is after gives = tt
-one_step n n' choice begun first first' None new files told bytes (Err f) more is after gives = inr tt
-one_step n n' choice begun first first' (Some xs) None files told bytes result more is after gives = absurd is
-one_step n n' choice begun first first' (Some xs) (Some ys) None told bytes (Ok None) more is after gives = tt
-one_step n n' choice begun first first' (Some xs) (Some ys) None told bytes (Ok (Some event)) more is after gives = tt
-one_step n n' choice begun first first' (Some xs) (Some ys) None told bytes (Err f) more is after gives = inr tt
-one_step n n' choice begun first first' (Some xs) (Some ys) (Some files) told bytes result more is after gives =
+one_step n n' choice begun first first' None new files reported bytes (Ok None) more is after gives = tt
+one_step n n' choice begun first first' None new files reported bytes (Ok (Some event)) more is after gives = tt
+one_step n n' choice begun first first' None new files reported bytes (Err f) more is after gives = inr tt
+one_step n n' choice begun first first' (Some xs) None files reported bytes result more is after gives = absurd is
+one_step n n' choice begun first first' (Some xs) (Some ys) None reported bytes (Ok None) more is after gives = tt
+one_step n n' choice begun first first' (Some xs) (Some ys) None reported bytes (Ok (Some event)) more is after gives = tt
+one_step n n' choice begun first first' (Some xs) (Some ys) None reported bytes (Err f) more is after gives = inr tt
+one_step n n' choice begun first first' (Some xs) (Some ys) (Some files) reported bytes result more is after gives =
     let behind = next_files choice files in
     by result gives
-    (ap (chosen choice behind begun first) is ∙ put_is choice behind begun first told ys more
-    ∙ ap (λ f. put (told_given choice first told) (chosen choice behind true f ys)) (sym after))
+    (ap (chosen choice behind begun first) is ∙ put_is choice behind begun first reported ys more
+    ∙ ap (λ f. put (event_given choice first reported) (chosen choice behind true f ys)) (sym after))
   where
-    by : (result : Result (Option Event) CaptureFault) → IsGiven (told_given choice first told) bytes result →
+    by : (result : Result (Option Event) CaptureFault) → IsGiven (event_given choice first reported) bytes result →
         chosen choice (next_files choice files) begun first xs
-        ≡ put (told_given choice first told) (chosen choice (next_files choice files) true first' ys) →
+        ≡ put (event_given choice first reported) (chosen choice (next_files choice files) true first' ys) →
         Steps n n' (Some (chosen choice (next_files choice files) begun first xs))
         (Some (chosen choice (next_files choice files) true first' ys)) bytes result
     by (Ok None) gives all =
@@ -92,9 +92,9 @@ one_step n n' choice begun first first' (Some xs) (Some ys) (Some files) told by
     by (Ok (Some event)) gives all = all ∙ ap (λ g. put g (chosen choice (next_files choice files) true first' ys)) gives
     by (Err f) gives all =
         given_fault n n' (chosen choice (next_files choice files) begun first xs)
-        (chosen choice (next_files choice files) true first' ys) (told_given choice first told) bytes f all gives
+        (chosen choice (next_files choice files) true first' ys) (event_given choice first reported) bytes f all gives
 
-pub not_end : (event : piece.Event) (bytes : List ℕ) → is_end event ≡ false → any.event_seen bytes event ≡ any.ended → ⊥
+pub not_end : (event : piece.ContainerEvent) (bytes : List ℕ) → is_end event ≡ false → any.event_seen bytes event ≡ any.ended → ⊥
 not_end (piece_kind.Packet millis origin ip) bytes is same = cc
 not_end (piece_kind.Skipped millis why) bytes is same = cc
 not_end piece_kind.Untimed bytes is same = cc
@@ -104,11 +104,11 @@ not_end piece_kind.Passed bytes is same = cc
 not_end piece_kind.End bytes is same = false≢true (sym is)
 
 pub stepped : (n n' : ℕ) (cut begun : Bool) (choice choice' : Choice) (first first' : Option Origin)
-    (old new : Option (List pieces.Answer)) (files : Option (List (List ℕ))) (event : piece.Event) (seen bytes : List ℕ)
+    (old new : Option (List pieces.Answer)) (files : Option (List (List ℕ))) (event : piece.ContainerEvent) (seen bytes : List ℕ)
     (result : Result (Option Event) CaptureFault) → cut ≡ false → is_end event ≡ false →
     ⊥ ⊎ next.IsNext old (Ok (any.event_seen seen event)) new → choice' ≡ choice →
     first' ≡ first_then choice first (Ok (any.event_seen seen event)) →
-    IsGiven (told_given choice first (any.event_seen seen event)) bytes result →
+    IsGiven (event_given choice first (any.event_seen seen event)) bytes result →
     Steps n n' (chosen_known choice begun first (unless_cut cut old) files)
     (chosen_known choice' true first' (unless_cut cut new) files) bytes result
 stepped n n' cut begun choice choice' first first' old new files event seen bytes result uncut more (inl never) same after
@@ -132,19 +132,19 @@ after_cut choice begun true first left files answer later is goes = goes
 after_cut choice begun false first left files answer later is goes = absurd (false≢true is)
 
 at_last : (choice : Choice) (begun : Bool) (first : Option Origin) (old new : Option (List pieces.Answer))
-    (files : Option (List (List ℕ))) (told : any.Told) (answer : Answer) (later : Option (List Answer)) →
-    told ≡ any.ended → next.IsNext old (Ok told) new →
+    (files : Option (List (List ℕ))) (reported : any.EventSeen) (answer : Answer) (later : Option (List Answer)) →
+    reported ≡ any.ended → next.IsNext old (Ok reported) new →
     IsNext (chosen_known choice true first (none_left new) files) answer later →
     IsNext (chosen_known choice begun first old files) answer later
 unfolding chosen
-at_last choice begun first None new files told answer later ends is goes = tt
-at_last choice begun first (Some xs) None files told answer later ends is goes = absurd is
-at_last choice begun first (Some xs) (Some ys) None told answer later ends is goes = tt
-at_last choice begun first (Some xs) (Some ys) (Some files) told answer later ends is goes =
+at_last choice begun first None new files reported answer later ends is goes = tt
+at_last choice begun first (Some xs) None files reported answer later ends is goes = absurd is
+at_last choice begun first (Some xs) (Some ys) None reported answer later ends is goes = tt
+at_last choice begun first (Some xs) (Some ys) (Some files) reported answer later ends is goes =
     let all : xs ≡ Ok any.ended ∷ [] = is ∙ ap (λ t. next.in_front (Ok t) ys) ends in
     subst (λ l. IsNext (Some (chosen choice (next_files choice files) begun first l)) answer later) (sym all) goes
 
-end_seen : (event : piece.Event) (bytes : List ℕ) → is_end event ≡ true → any.event_seen bytes event ≡ any.ended
+end_seen : (event : piece.ContainerEvent) (bytes : List ℕ) → is_end event ≡ true → any.event_seen bytes event ≡ any.ended
 end_seen (piece_kind.Packet millis origin ip) bytes is = absurd (false≢true is)
 end_seen (piece_kind.Skipped millis why) bytes is = absurd (false≢true is)
 end_seen piece_kind.Untimed bytes is = absurd (false≢true is)
@@ -155,7 +155,7 @@ end_seen piece_kind.End bytes is = refl
 
 -- the end of the file was read
 pub after_end : (choice : Choice) (begun cut : Bool) (first : Option Origin) (old new : Option (List pieces.Answer))
-    (files : Option (List (List ℕ))) (event : piece.Event) (seen : List ℕ) (answer : Answer)
+    (files : Option (List (List ℕ))) (event : piece.ContainerEvent) (seen : List ℕ) (answer : Answer)
     (later : Option (List Answer)) → cut ≡ false → is_end event ≡ true →
     ⊥ ⊎ next.IsNext old (Ok (any.event_seen seen event)) new →
     IsNext (chosen_known choice true first (none_left (unless_cut cut new)) files) answer later →
@@ -202,7 +202,7 @@ next_file choice begun first left begins_now file files files' all begins same a
     (chosen_known choice false first n files)) (sym begins) (next_known choice begun first left file files)))
 
 -- the container has a fault
-refused : (n n' m m' : ℕ) (f : Fault) → Moves n n' m m' → next.IsRefusal {A = piece.Event} n n' (Err f) →
+refused : (n n' m m' : ℕ) (f : ContainerFault) → Moves n n' m m' → next.IsRefusal {A = piece.ContainerEvent} n n' (Err f) →
     IsRefusal {A = ⊤} m m' (Err (fault_of f))
 refused n n' m m' of_any.Magic moves is = absurd is
 refused n n' m m' (of_any.LinkType number) moves is = absurd is
@@ -215,8 +215,8 @@ refused n n' m m' of_any.Memory moves is = tt
 refused n n' m m' of_any.Failed moves is = absurd is
 
 -- a file that is cut is no failed read
-cut_is_read : (n n' : ℕ) (begun : Bool) (f : Fault) → is_cut begun f ≡ true →
-    next.IsRefusal {A = piece.Event} n n' (Err f) → ⊥
+cut_is_read : (n n' : ℕ) (begun : Bool) (f : ContainerFault) → is_cut begun f ≡ true →
+    next.IsRefusal {A = piece.ContainerEvent} n n' (Err f) → ⊥
 cut_is_read n n' begun of_any.Magic cut is = is
 cut_is_read n n' begun (of_any.LinkType number) cut is = is
 cut_is_read n n' begun of_any.Truncated cut is = is
@@ -228,8 +228,8 @@ cut_is_read n n' begun of_any.Memory cut is = false≢true cut
 cut_is_read n n' begun of_any.Failed cut is = is
 
 fails_by : (n n' m m' : ℕ) (b begun : Bool) (choice : Choice) (first : Option Origin) (old new : Option (List pieces.Answer))
-    (files : Option (List (List ℕ))) (f : Fault) (bytes : List ℕ) → is_cut begun f ≡ b → Moves n n' m m' →
-    next.IsRefusal {A = piece.Event} n n' (Err f) ⊎ next.IsNext old (Err f) new →
+    (files : Option (List (List ℕ))) (f : ContainerFault) (bytes : List ℕ) → is_cut begun f ≡ b → Moves n n' m m' →
+    next.IsRefusal {A = piece.ContainerEvent} n n' (Err f) ⊎ next.IsNext old (Err f) new →
     Steps m m' (chosen_known choice begun first old files) (chosen_known choice begun first (unless_cut b new) files)
     bytes (failed b f)
 unfolding chosen
@@ -251,8 +251,8 @@ fails_by n n' m m' true begun choice first (Some xs) (Some ys) (Some files) f by
     ∙ ap (λ (c : Bool). put (Some (if c then Ok (skipped 0 CutShort) else Err (fault_of f))) (behind first)) cut
 
 pub fails : (n n' m m' : ℕ) (cut b begun : Bool) (choice : Choice) (first : Option Origin) (old new : Option (List pieces.Answer))
-    (files : Option (List (List ℕ))) (f : Fault) (bytes : List ℕ) → cut ≡ false → is_cut begun f ≡ b → Moves n n' m m' →
-    next.IsRefusal {A = piece.Event} n n' (Err f) ⊎ next.IsNext old (Err f) new →
+    (files : Option (List (List ℕ))) (f : ContainerFault) (bytes : List ℕ) → cut ≡ false → is_cut begun f ≡ b → Moves n n' m m' →
+    next.IsRefusal {A = piece.ContainerEvent} n n' (Err f) ⊎ next.IsNext old (Err f) new →
     Steps m m' (chosen_known choice begun first (unless_cut cut old) files)
     (chosen_known choice begun first (unless_cut b new) files) bytes (failed b f)
 fails n n' m m' cut b begun choice first old new files f bytes uncut is moves answer =
@@ -260,7 +260,7 @@ fails n n' m m' cut b begun choice first old new files f bytes uncut is moves an
     (chosen_known choice begun first (unless_cut b new) files) bytes (failed b f)) (sym uncut)
     (fails_by n n' m m' b begun choice first old new files f bytes is moves answer)
 
-fault_reads : (P : Type 0) (n n' m m' : ℕ) (f : Fault) → Moves n n' m m' → next.CountsReads {A = piece.Event} P n n' (Err f) →
+fault_reads : (P : Type 0) (n n' m m' : ℕ) (f : ContainerFault) → Moves n n' m m' → next.CountsReads {A = piece.ContainerEvent} P n n' (Err f) →
     CountsReads {A = Option Event} ⊤ m m' (Err (fault_of f))
 fault_reads P n n' m m' of_any.Magic moves reads = moves.stays reads
 fault_reads P n n' m m' (of_any.LinkType number) moves reads = moves.stays reads
@@ -273,8 +273,8 @@ fault_reads P n n' m m' of_any.Read moves (inr is) = inr (tt, moves.stays is.1)
 fault_reads P n n' m m' of_any.Memory moves reads = moves.stays reads
 fault_reads P n n' m m' of_any.Failed moves reads = moves.stays reads
 
-cut_reads : (P : Type 0) (n n' : ℕ) (begun : Bool) (f : Fault) → is_cut begun f ≡ true →
-    next.CountsReads {A = piece.Event} P n n' (Err f) → n' ≡ n
+cut_reads : (P : Type 0) (n n' : ℕ) (begun : Bool) (f : ContainerFault) → is_cut begun f ≡ true →
+    next.CountsReads {A = piece.ContainerEvent} P n n' (Err f) → n' ≡ n
 cut_reads P n n' begun of_any.Magic is reads = reads
 cut_reads P n n' begun (of_any.LinkType number) is reads = reads
 cut_reads P n n' begun of_any.Truncated is reads = reads
@@ -285,8 +285,8 @@ cut_reads P n n' begun of_any.Read is reads = absurd (false≢true is)
 cut_reads P n n' begun of_any.Memory is reads = reads
 cut_reads P n n' begun of_any.Failed is reads = reads
 
-pub fails_reads : (P : Type 0) (n n' m m' : ℕ) (b begun : Bool) (f : Fault) → is_cut begun f ≡ b → Moves n n' m m' →
-    next.CountsReads {A = piece.Event} P n n' (Err f) → CountsReads {A = Option Event} ⊤ m m' (failed b f)
+pub fails_reads : (P : Type 0) (n n' m m' : ℕ) (b begun : Bool) (f : ContainerFault) → is_cut begun f ≡ b → Moves n n' m m' →
+    next.CountsReads {A = piece.ContainerEvent} P n n' (Err f) → CountsReads {A = Option Event} ⊤ m m' (failed b f)
 fails_reads P n n' m m' true begun f is moves reads = moves.stays (cut_reads P n n' begun f is reads)
 fails_reads P n n' m m' false begun f is moves reads = fault_reads P n n' m m' f moves reads
 
@@ -307,16 +307,16 @@ no_reads m m' (Err (fault.Interfaces one other)) same = same
 no_reads m m' (Err (fault.InterfaceNames one other)) same = same
 no_reads m m' (Err (fault.LinkNumber number)) same = same
 
-pub fails_left : (old new more : ℕ) (cut b : Bool) (f : Fault) → cut ≡ false → new ≡ 0 →
+pub fails_left : (old new more : ℕ) (cut b : Bool) (f : ContainerFault) → cut ≡ false → new ≡ 0 →
     (new + cut_left b + more) + step_count (failed b f) ≤ old + cut_left cut + more
 fails_left old new more cut true f uncut over = let one : cut_left cut ≡ 1 = ap cut_left uncut in omega (arith, one, over)
 fails_left old new more cut false f uncut over = let one : cut_left cut ≡ 1 = ap cut_left uncut in omega (arith, one, over)
 
-pub fails_payload : (b : Bool) (f : Fault) (bytes : List ℕ) → IfOk (failed b f) (λ it. IfSome it (PayloadLiesIn bytes))
+pub fails_payload : (b : Bool) (f : ContainerFault) (bytes : List ℕ) → IfOk (failed b f) (λ it. IfSome it (PayloadLiesIn bytes))
 fails_payload true f bytes = tt
 fails_payload false f bytes = tt
 
-pub fails_moment : (b : Bool) (f : Fault) → IfOk (failed b f) (λ it. IfSome it (IsBy latest_moment))
+pub fails_moment : (b : Bool) (f : ContainerFault) → IfOk (failed b f) (λ it. IfSome it (IsBy latest_moment))
 fails_moment true f = omega arith
 fails_moment false f = tt
 
@@ -327,12 +327,12 @@ step_one (Ok (Some (event.Packet millis ip))) = omega arith
 step_one (Ok (Some (event.Skipped millis why))) = omega arith
 step_one (Err f) = omega arith
 
-fewer_by : (event : piece.Event) (old new : ℕ) → is_end event ≡ false → (event ≡ piece_kind.End) ⊎ (new < old) → new < old
+fewer_by : (event : piece.ContainerEvent) (old new : ℕ) → is_end event ≡ false → (event ≡ piece_kind.End) ⊎ (new < old) → new < old
 fewer_by event old new more (inl ends) = absurd (false≢true (sym more ∙ ap is_end ends))
 fewer_by event old new more (inr less) = less
 
 -- a piece that isn't the end was read
-pub stepped_left : (old new more : ℕ) (cut : Bool) (event : piece.Event) (result : Result (Option Event) CaptureFault) →
+pub stepped_left : (old new more : ℕ) (cut : Bool) (event : piece.ContainerEvent) (result : Result (Option Event) CaptureFault) →
     is_end event ≡ false → (event ≡ piece_kind.End) ⊎ (new < old) →
     (new + cut_left cut + more) + step_count result ≤ old + cut_left cut + more
 stepped_left old new more cut event result is fewer =
@@ -341,7 +341,7 @@ stepped_left old new more cut event result is fewer =
     omega (arith, less, one)
 
 -- the end of the file was read
-pub ended_left : (state : State) (event : piece.Event) (old : ℕ) → is_end event ≡ true → next.StaysOver (Ok event) state →
+pub ended_left : (state : ReaderState) (event : piece.ContainerEvent) (old : ℕ) → is_end event ≡ true → next.StaysOver (Ok event) state →
     next.pieces_left state ≤ old
 ended_left state piece_kind.End old is over = let none : next.pieces_left state ≡ 0 = ap next.pieces_left over in omega (arith, none)
 ended_left state (piece_kind.Packet millis origin ip) old is over = absurd (false≢true is)

@@ -4,7 +4,7 @@ use Rattle.std.specs.Option.{option_map}
 use Rattle.pim_addr.specs.declared.family.AddressFamily.{AddressFamily}
 use Rattle.pim_addr.specs.Families.{is_same}
 use Rattle.pim_capture.specs.Frame.{Datagram}
-use Rattle.pim_merge.specs.declared.content.Ends.{Ends}
+use Rattle.pim_merge.specs.declared.content.ContentEnds.{ContentEnds}
 use Rattle.pim_merge.specs.Content.{holds, of_other_family, datagram_in, ends_seen, ends_in}
 
 abbrev Pair : Type 0
@@ -13,7 +13,7 @@ Pair = List ℕ × List ℕ
 abbrev there_if : Bool → Pair → Option Pair
 there_if b ends = if b then Some ends else None
 
-module _ {A : Type 0} (bytes_of : A → List ℕ) (family : AddressFamily) (datagram : Datagram) (ends : Option (Ends A))
+module _ {A : Type 0} (bytes_of : A → List ℕ) (family : AddressFamily) (datagram : Datagram) (ends : Option (ContentEnds A))
     (is : option_map (ends_seen bytes_of) ends ≡ ends_in family datagram) where
   -- a packet of the other family
   pub of_other : ends ≡ None → of_other_family ≡ datagram_in family datagram
@@ -26,7 +26,7 @@ module _ {A : Type 0} (bytes_of : A → List ℕ) (family : AddressFamily) (data
       by false e = refl
 
   -- a packet of the router's family
-  pub of_family : (two : Ends A) (bytes : List ℕ) → ends ≡ Some two → bytes ≡ datagram.payload →
+  pub of_family : (two : ContentEnds A) (bytes : List ℕ) → ends ≡ Some two → bytes ≡ datagram.payload →
       holds (bytes_of two.source) (bytes_of two.destination) bytes ≡ datagram_in family datagram
   of_family two bytes there same =
       by (is_same family datagram.family) (ap (option_map (ends_seen bytes_of)) (sym there) ∙ is)

@@ -8,25 +8,25 @@ use Rattle.pim_capture.specs.declared.fault.CaptureFault.TheVariants as fault
 use Rattle.pim_capture.specs.declared.event.Event.{Event}
 use Rattle.pim_capture.specs.Capture.{Answer, packet, skipped, ended, most_records}
 use Rattle.pim_capture.specs.Next.{OnMemory, IsNext, IsRefusal}
-use Rattle.pim_container.specs.declared.link.Endianness.TheVariants.{Big}
-use Rattle.pim_container.specs.declared.fault.Fault.{Fault}
-use Rattle.pim_container.specs.declared.fault.Fault.TheVariants as of_any
-use Rattle.pim_container.specs.declared.event.Event as piece
-use Rattle.pim_container.specs.declared.event.Event.TheVariants as piece_kind
+use Rattle.pim_container.specs.declared.link.BlockEndianness.TheVariants.{Big}
+use Rattle.pim_container.specs.declared.fault.ContainerFault.{ContainerFault}
+use Rattle.pim_container.specs.declared.fault.ContainerFault.TheVariants as of_any
+use Rattle.pim_container.specs.declared.event.ContainerEvent as piece
+use Rattle.pim_container.specs.declared.event.ContainerEvent.TheVariants as piece_kind
 use Rattle.pim_container.specs.declared.event.Origin.{Origin}
 use Rattle.pim_container.specs.declared.choice.Choice.{Choice}
 use Rattle.pim_container.specs.declared.interface.Interface.{Interface}
 use Rattle.pim_container.specs.declared.container.Container.{Container}
 use Rattle.pim_container.specs.declared.container.Container.TheVariants.{Classic, Blocks}
-use Rattle.pim_container.specs.declared.reader.State.{State}
-use Rattle.pim_container.specs.declared.reader.State.TheVariants.{Unbegun, Pieces, Ended, Failed}
-use Rattle.pim_container.specs.Told as any
+use Rattle.pim_container.specs.declared.reader.ReaderState.{ReaderState}
+use Rattle.pim_container.specs.declared.reader.ReaderState.TheVariants.{Unbegun, Pieces, Ended, Failed}
+use Rattle.pim_container.specs.EventSeen as any
 use Rattle.pim_container.specs.Pieces as pieces
 use Rattle.pim_container.specs.Block.{is_section}
 use Rattle.pim_container.specs.Next as next
-use Rattle.pim_container.specs.Room.{Need, LacksRoom, GrowsBy, GrowsFor, GrowsList, named_in, first_named, next_named, count_in, DescribesFirst, DescribesNext, PassesNeed, describes, first_need, needs, needs_in, header_need, classic_needs}
-use Rattle.pim_merge.specs.Chosen.{told_given, first_then, put, chosen, next_files}
-use Rattle.pim_merge.specs.Source.{IsGiven, is_end, failed, SomeExceeds, PassesNeeds, GrowsWithin, longest, Asks, IsLonger, first_answer, needs_unless, StaysComing, chosen_known, unless_cut}
+use Rattle.pim_container.specs.Room.{Need, LacksRoom, GrowsBy, GrowsFor, GrowsList, length_in, first_length, next_length, count_in, DescribesFirst, DescribesNext, PassesNeed, describes, first_need, needs, needs_in, header_need, classic_needs}
+use Rattle.pim_merge.specs.Chosen.{event_given, first_then, put, chosen, next_files}
+use Rattle.pim_merge.specs.Source.{IsGiven, is_end, failed, SomeExceeds, PassesNeeds, GrowsWithin, longest, Allocates, IsLonger, first_answer, needs_unless, StaysComing, chosen_known, unless_cut}
 use Rattle.pim_merge.proofs.Choosing.{put_is, not_end, next_after}
 
 -- ---- a fault that isn't refused memory
@@ -50,7 +50,7 @@ pub memory_of : {A : Type 0} (r : Result A CaptureFault) (P Q : Type 0) → (P �
 memory_of (Ok value) P Q h p = tt
 memory_of {A = A} (Err f) P Q h p = memory_weaker A A f P Q h p
 
-pub fails_memory : (b : Bool) (f : Fault) (P Q : Type 0) → (P → Q) → next.OnMemory {A = piece.Event} (Err f) P → OnMemory (failed b f) Q
+pub fails_memory : (b : Bool) (f : ContainerFault) (P Q : Type 0) → (P → Q) → next.OnMemory {A = piece.ContainerEvent} (Err f) P → OnMemory (failed b f) Q
 fails_memory true f P Q h p = tt
 fails_memory false of_any.Memory P Q h p = h p
 fails_memory false of_any.Magic P Q h p = tt
@@ -89,35 +89,35 @@ describes_true : (c : Container) (bytes : List ℕ) → next.Describes c bytes �
 describes_true (Classic format) bytes d = absurd d
 describes_true (Blocks order) bytes d = grind (arith, common_steps)
 
-no_more : (left : ℕ) (c : Container) (bytes : List ℕ) → left ≡ 0 → next_named left c bytes ≡ None
+no_more : (left : ℕ) (c : Container) (bytes : List ℕ) → left ≡ 0 → next_length left c bytes ≡ None
 no_more left c bytes none = grind (arith, common_steps)
 
 lacks_none : (capacity : ℕ) (named : Option ℕ) → named ≡ None → LacksRoom capacity (Some named) → ⊥
 lacks_none capacity named none lacks = subst (λ it. LacksRoom capacity (Some it)) none lacks
 
 asks_pieces : (capacity room left : ℕ) (c : Container) (count : ℕ) (is : List Interface) (bytes : List ℕ)
-    → LacksRoom capacity (Some (next_named left c bytes)) ⊎ ((room ≤ count) × ((0 < left) × DescribesFirst c bytes))
+    → LacksRoom capacity (Some (next_length left c bytes)) ⊎ ((room ≤ count) × ((0 < left) × DescribesFirst c bytes))
     → SomeExceeds capacity room (needs left c count is bytes)
 unfolding needs SomeExceeds
-asks_pieces capacity room zero c count is bytes (inl lacks) = lacks_none capacity (next_named 0 c bytes) (no_more 0 c bytes refl) lacks
+asks_pieces capacity room zero c count is bytes (inl lacks) = lacks_none capacity (next_length 0 c bytes) (no_more 0 c bytes refl) lacks
 asks_pieces capacity room zero c count is bytes (inr full) = absurd (omega (arith, full.1.0))
 asks_pieces capacity room (suc left) c count is bytes (inl lacks) = inl (inl lacks)
 asks_pieces capacity room (suc left) c count is bytes (inr full) = inl (inr (full.0, describes_true _ _ full.1.1))
 
 asks_begun : (capacity room : ℕ) (xs : List ℕ) (b : Bool) → is_section xs ≡ b
-    → LacksRoom capacity (Some (if b then next_named most_records (Blocks Big) xs else (if nat_lt (length xs) 12 then None else Some 24)))
+    → LacksRoom capacity (Some (if b then next_length most_records (Blocks Big) xs else (if nat_lt (length xs) 12 then None else Some 24)))
     ⊎ ((room ≤ 0) × ((b ≡ true) × DescribesFirst (Blocks Big) xs))
     → SomeExceeds capacity room (if b then needs most_records (Blocks Big) 0 [] xs else classic_needs xs)
 unfolding SomeExceeds
 asks_begun capacity room xs true e (inl lacks) = asks_pieces capacity room most_records (Blocks Big) 0 [] xs (inl lacks)
 asks_begun capacity room xs true e (inr full) = asks_pieces capacity room most_records (Blocks Big) 0 [] xs (inr (full.0, (omega arith, full.1.1)))
 asks_begun capacity room xs false e (inl lacks) =
-    let same = ap (λ (t : Bool). if t then next_named most_records (Blocks Big) xs else (if nat_lt (length xs) 12 then None else Some 24)) e in
+    let same = ap (λ (t : Bool). if t then next_length most_records (Blocks Big) xs else (if nat_lt (length xs) 12 then None else Some 24)) e in
     inl (inl (subst (λ it. LacksRoom capacity (Some it)) (sym same) lacks))
 asks_begun capacity room xs false e (inr full) = absurd (false≢true full.1.0)
 
-pub asks_need : (capacity room : ℕ) (state : State) (count : ℕ) (is : List Interface) (old : Option (List ℕ))
-    → LacksRoom capacity (option_map (named_in state) old) ⊎ ((room ≤ count_in state count) × IfSome old (DescribesNext state))
+pub asks_need : (capacity room : ℕ) (state : ReaderState) (count : ℕ) (is : List Interface) (old : Option (List ℕ))
+    → LacksRoom capacity (option_map (length_in state) old) ⊎ ((room ≤ count_in state count) × IfSome old (DescribesNext state))
     → IfSome (option_map (needs_in state count is) old) (SomeExceeds capacity room)
 asks_need capacity room state count is None h = tt
 asks_need capacity room Unbegun count is (Some xs) (inl h) =
@@ -144,22 +144,22 @@ longest_is need rest = refl
 bound_first : (need : Need) (rest : List Need) (old new : ℕ) → new ≤ max old (unwrap_or need.size 0) → new ≤ max old (longest (need ∷ rest))
 bound_first need rest old new h = let e = longest_is need rest in omega (arith, e, h)
 
-grows_pieces : (left : ℕ) (c : Container) (count : ℕ) (is : List Interface) (bytes : List ℕ) (old new : ℕ) → GrowsBy (next_named left c bytes) old new → new ≤ max old (longest (needs left c count is bytes))
+grows_pieces : (left : ℕ) (c : Container) (count : ℕ) (is : List Interface) (bytes : List ℕ) (old new : ℕ) → GrowsBy (next_length left c bytes) old new → new ≤ max old (longest (needs left c count is bytes))
 unfolding needs
 grows_pieces zero c count is bytes old new g =
     let same : new ≡ old = subst (λ it. GrowsBy it old new) (no_more 0 c bytes refl) g in omega (arith, same)
 grows_pieces (suc left) c count is bytes old new g =
-    bound_first (first_need (suc left) c count bytes) _ old new (grows_bound (next_named (suc left) c bytes) old new g)
+    bound_first (first_need (suc left) c count bytes) _ old new (grows_bound (next_length (suc left) c bytes) old new g)
 
 grows_begun : (xs : List ℕ) (b : Bool) (old new : ℕ) → is_section xs ≡ b
-    → GrowsBy (if b then next_named most_records (Blocks Big) xs else (if nat_lt (length xs) 12 then None else Some 24)) old new
+    → GrowsBy (if b then next_length most_records (Blocks Big) xs else (if nat_lt (length xs) 12 then None else Some 24)) old new
     → new ≤ max old (longest (if b then needs most_records (Blocks Big) 0 [] xs else classic_needs xs))
 grows_begun xs true old new e g = grows_pieces most_records (Blocks Big) 0 [] xs old new g
 grows_begun xs false old new e g =
-    let same = ap (λ (t : Bool). if t then next_named most_records (Blocks Big) xs else (if nat_lt (length xs) 12 then None else Some 24)) e in
-    bound_first (header_need xs) _ old new (grows_bound (first_named xs) old new (subst (λ it. GrowsBy it old new) (sym same) g))
+    let same = ap (λ (t : Bool). if t then next_length most_records (Blocks Big) xs else (if nat_lt (length xs) 12 then None else Some 24)) e in
+    bound_first (header_need xs) _ old new (grows_bound (first_length xs) old new (subst (λ it. GrowsBy it old new) (sym same) g))
 
-pub grows_need : (old new : ℕ) (state : State) (count : ℕ) (is : List Interface) (bytes : Option (List ℕ)) → GrowsFor (option_map (named_in state) bytes) old new
+pub grows_need : (old new : ℕ) (state : ReaderState) (count : ℕ) (is : List Interface) (bytes : Option (List ℕ)) → GrowsFor (option_map (length_in state) bytes) old new
     → GrowsWithin old new (option_map (needs_in state count is) bytes)
 grows_need old new state count is None g = tt
 grows_need old new Unbegun count is (Some xs) g = grows_begun xs (is_section xs) old new refl g
@@ -173,7 +173,7 @@ within_same room (Some all) = omega arith
 
 -- ---- a piece that gives no record
 
-pub passes_given : (choice : Choice) (first : Option Origin) (e : piece.Event) (bytes : List ℕ) (old new : Option (List Need)) → told_given choice first (any.event_seen bytes e) ≡ None → is_end e ≡ false
+pub passes_given : (choice : Choice) (first : Option Origin) (e : piece.ContainerEvent) (bytes : List ℕ) (old new : Option (List Need)) → event_given choice first (any.event_seen bytes e) ≡ None → is_end e ≡ false
     → PassesNeed e old new → PassesNeeds old new
 passes_given choice first (piece_kind.Packet millis origin ip) bytes old new none more h = absurd cc
 passes_given choice first (piece_kind.Skipped millis why) bytes old new none more h = absurd cc
@@ -213,7 +213,7 @@ longer_less r r' (Some (Ok (skipped millis why))) le h = h
 longer_less r r' (Some (Ok ended)) le h = h
 
 asks_back : (r r' p p' l l' : ℕ) (all later : Option (List Answer)) (needs needs' : Option (List Need)) → r ≤ r' → p ≤ p' → l ≤ l' → StaysComing all later → PassesNeeds needs needs'
-    → Asks r' p' l' later needs' → Asks r p l all needs
+    → Allocates r' p' l' later needs' → Allocates r p l all needs
 asks_back r r' p p' l l' None later ns ns' a b c stays passes h = inl tt
 asks_back r r' p p' l l' (Some xs) later ns ns' a b c stays passes (inl h) =
     inl (longer_less r r' (first_answer xs) a (subst (λ (it : Option (List Answer)). IfSome it (λ answers. IsLonger r' (first_answer answers))) stays h))
@@ -234,7 +234,7 @@ within_back p p' p'' (Some ns) needs' g passes g' =
 
 -- Some pieces were read that gave no record. What is asked for from here on was so from the start.
 pub record HasHeld (r r' p p' l l' : ℕ) (all later : Option (List Answer)) (needs needs' : Option (List Need)) : Type 0 where
-  pub asks : Asks r' p' l' later needs' → Asks r p l all needs
+  pub asks : Allocates r' p' l' later needs' → Allocates r p l all needs
   pub grown : GrowsWithin p p' needs
   pub within : (top : ℕ) → GrowsWithin p' top needs' → GrowsWithin p top needs
 
@@ -258,23 +258,23 @@ longer_given r (Some (Ok (packet millis bytes datagram))) later h = h
 longer_given r (Some (Ok (skipped millis why))) later h = absurd h
 longer_given r (Some (Ok ended)) later h = absurd h
 
-longer_known : (r p l : ℕ) (choice : Choice) (begun : Bool) (first : Option Origin) (old new : Option (List pieces.Answer)) (files : Option (List (List ℕ))) (told : any.Told) (needs : Option (List Need))
-    → (told ≡ any.ended → ⊥) → next.IsNext old (Ok told) new → IsLonger r (told_given choice first told) → Asks r p l (chosen_known choice begun first old files) needs
-longer_known r p l choice begun first None new files told needs more is h = inl tt
-longer_known r p l choice begun first (Some xs) None files told needs more is h = absurd is
-longer_known r p l choice begun first (Some xs) (Some ys) None told needs more is h = inl tt
-longer_known r p l choice begun first (Some xs) (Some ys) (Some files) told needs more is h =
+longer_known : (r p l : ℕ) (choice : Choice) (begun : Bool) (first : Option Origin) (old new : Option (List pieces.Answer)) (files : Option (List (List ℕ))) (reported : any.EventSeen) (needs : Option (List Need))
+    → (reported ≡ any.ended → ⊥) → next.IsNext old (Ok reported) new → IsLonger r (event_given choice first reported) → Allocates r p l (chosen_known choice begun first old files) needs
+longer_known r p l choice begun first None new files reported needs more is h = inl tt
+longer_known r p l choice begun first (Some xs) None files reported needs more is h = absurd is
+longer_known r p l choice begun first (Some xs) (Some ys) None reported needs more is h = inl tt
+longer_known r p l choice begun first (Some xs) (Some ys) (Some files) reported needs more is h =
     let behind = next_files choice files in
-    let all = ap (chosen choice behind begun first) is ∙ put_is choice behind begun first told ys more in
+    let all = ap (chosen choice behind begun first) is ∙ put_is choice behind begun first reported ys more in
     inl (subst (λ it. IsLonger r (first_answer it)) (sym all)
-    (longer_given r (told_given choice first told) (chosen choice behind true (first_then choice first (Ok told)) ys) h))
+    (longer_given r (event_given choice first reported) (chosen choice behind true (first_then choice first (Ok reported)) ys) h))
 
-pub asks_record : (r p l : ℕ) (cut begun : Bool) (choice : Choice) (first : Option Origin) (old new : Option (List pieces.Answer)) (files : Option (List (List ℕ))) (e : piece.Event) (seen : List ℕ)
-    (needs : Option (List Need)) → cut ≡ false → is_end e ≡ false → ⊥ ⊎ next.IsNext old (Ok (any.event_seen seen e)) new → IsLonger r (told_given choice first (any.event_seen seen e))
-    → Asks r p l (chosen_known choice begun first (unless_cut cut old) files) needs
+pub asks_record : (r p l : ℕ) (cut begun : Bool) (choice : Choice) (first : Option Origin) (old new : Option (List pieces.Answer)) (files : Option (List (List ℕ))) (e : piece.ContainerEvent) (seen : List ℕ)
+    (needs : Option (List Need)) → cut ≡ false → is_end e ≡ false → ⊥ ⊎ next.IsNext old (Ok (any.event_seen seen e)) new → IsLonger r (event_given choice first (any.event_seen seen e))
+    → Allocates r p l (chosen_known choice begun first (unless_cut cut old) files) needs
 asks_record r p l cut begun choice first old new files e seen needs uncut more (inl never) h = absurd never
 asks_record r p l cut begun choice first old new files e seen needs uncut more (inr is) h =
-    subst (λ c. Asks r p l (chosen_known choice begun first (unless_cut c old) files) needs) (sym uncut)
+    subst (λ c. Allocates r p l (chosen_known choice begun first (unless_cut c old) files) needs) (sym uncut)
     (longer_known r p l choice begun first old new files (any.event_seen seen e) needs (not_end e seen more) is h)
 
 -- ---- the needs of a file that isn't cut
@@ -302,7 +302,7 @@ grows_up (Some None) old new g = omega (arith, g)
 grows_up (Some (Some size)) old new (inl g) = omega (arith, g)
 grows_up (Some (Some size)) old new (inr g) = omega (arith, g)
 
-pub list_up : (e : piece.Event) (count old new : ℕ) → GrowsList e count old new → old ≤ new
+pub list_up : (e : piece.ContainerEvent) (count old new : ℕ) → GrowsList e count old new → old ≤ new
 list_up (piece_kind.Packet millis origin ip) count old new g = omega (arith, g)
 list_up (piece_kind.Skipped millis why) count old new g = omega (arith, g)
 list_up piece_kind.Untimed count old new g = omega (arith, g)

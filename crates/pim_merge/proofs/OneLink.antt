@@ -10,16 +10,16 @@ use Rattle.pim_capture.specs.declared.fault.CaptureFault.TheVariants as fault
 use Rattle.pim_capture.specs.declared.header.Format.{Format}
 use Rattle.pim_capture.specs.declared.vlan.Vlan.{Vlan}
 use Rattle.pim_capture.specs.Frame.{Datagram, judge_frame}
-use Rattle.pim_capture.specs.Capture.{Told, packet, skipped, ended, Answer, answers, records, most_records, told_of, unless_fault, record_faults, record_told, millis_of, frame_of, after_record}
+use Rattle.pim_capture.specs.Capture.{EventSeen, packet, skipped, ended, Answer, answers, records, most_records, event_by, unless_fault, record_faults, record_event, millis_of, frame_of, after_record}
 use Rattle.pim_capture.specs.Header.{judge_header}
 use Rattle.pim_capture.specs.Next.{in_front}
 use Rattle.pim_container.specs.declared.choice.Mixed.TheVariants.{Vlans}
 use Rattle.pim_container.specs.declared.event.Origin.{Origin}
-use Rattle.pim_container.specs.declared.fault.Fault.{Fault}
+use Rattle.pim_container.specs.declared.fault.ContainerFault.{ContainerFault}
 use Rattle.pim_container.specs.Agreement.{SameFault, of_vlan, ExactAnswers, ExactAfterSection, lacks_further_tags, AgreesExactly}
 use Rattle.pim_container.specs.Block.{is_section}
 use Rattle.pim_container.specs.Choice.{judge_origin, first_after, is_same_vlan}
-use Rattle.pim_container.specs.Told as any
+use Rattle.pim_container.specs.EventSeen as any
 use Rattle.pim_container.specs.Pieces as pieces
 use Rattle.pim_merge.specs.Chosen.{chosen, next_files, answers_by, fault_given, packet_given}
 use Rattle.pim_merge.specs.OneLink.{no_choice, IsOfVlan, as_any, all_as_any}
@@ -33,15 +33,15 @@ EndIsLast (Ok (skipped millis why) ∷ later) = EndIsLast later
 EndIsLast (Ok ended ∷ later) = later ≡ []
 EndIsLast (Err fault ∷ later) = EndIsLast later
 
-after_told : (millis : ℕ) (frame : List ℕ) (judgment : Result Datagram Why) (later : List Answer) → EndIsLast later → EndIsLast (Ok (told_of millis frame judgment) ∷ later)
+after_told : (millis : ℕ) (frame : List ℕ) (judgment : Result Datagram Why) (later : List Answer) → EndIsLast later → EndIsLast (Ok (event_by millis frame judgment) ∷ later)
 unfolding EndIsLast
 after_told millis frame (Ok datagram) later h = h
 after_told millis frame (Err why) later h = h
 
-after_judged : (found : List CaptureFault) (told : Told) (later : List Answer) → EndIsLast (Ok told ∷ later) → EndIsLast (unless_fault (judged found told) (λ it. Ok it ∷ later))
+after_judged : (found : List CaptureFault) (reported : EventSeen) (later : List Answer) → EndIsLast (Ok reported ∷ later) → EndIsLast (unless_fault (judged found reported) (λ it. Ok it ∷ later))
 unfolding EndIsLast
-after_judged [] told later h = h
-after_judged (one ∷ others) told later h = tt
+after_judged [] reported later h = h
+after_judged (one ∷ others) reported later h = tt
 
 end_is_last : (left : ℕ) (format : Format) (bytes : List ℕ) → EndIsLast (records left format bytes)
 unfolding EndIsLast records
@@ -52,7 +52,7 @@ end_is_last (suc left) format (byte ∷ bytes) =
     let all : List ℕ = byte ∷ bytes in
     let later = records left format (after_record format all) in
     let judgment : Result Datagram Why = judge_frame format.link (frame_of format all) in
-    after_judged (record_faults format all) (record_told format all) later
+    after_judged (record_faults format all) (record_event format all) later
     (after_told (millis_of format (take 16 all)) (frame_of format all) judgment later (end_is_last left format (after_record format all)))
 
 -- ---- a packet of the same VLAN is taken
@@ -79,7 +79,7 @@ is_first vlan (Some first) is = is
 
 -- ---- result by result
 
-fault_alike : (one : CaptureFault) (other : Fault) → SameFault one other → fault_given true other ≡ as_any (Err one)
+fault_alike : (one : CaptureFault) (other : ContainerFault) → SameFault one other → fault_given true other ≡ as_any (Err one)
 fault_alike fault.Truncated other e = ap (fault_given true) e
 fault_alike fault.TooLong other e = ap (fault_given true) e
 fault_alike fault.Read other e = ap (fault_given true) e
@@ -120,8 +120,8 @@ alike vlan (Ok (skipped millis why) ∷ ones) (Ok other ∷ others) first is las
 alike vlan (Ok (packet millis frame datagram) ∷ ones) (Ok other ∷ others) first is last same of =
     let own = same.0.0 in
     let of_it : own ≡ vlan = subst (λ it. IsOfVlan vlan (Ok it)) same.0.1 of.0 in
-    let told : other ≡ any.packet millis (of_vlan vlan) datagram = same.0.1 ∙ ap (λ it. any.packet millis (of_vlan it) datagram) of_it in
-    ap (λ it. chosen no_choice (next_files no_choice []) true first (Ok it ∷ others)) told
+    let reported : other ≡ any.packet millis (of_vlan vlan) datagram = same.0.1 ∙ ap (λ it. any.packet millis (of_vlan it) datagram) of_it in
+    ap (λ it. chosen no_choice (next_files no_choice []) true first (Ok it ∷ others)) reported
     ∙ ap (λ it. in_front (packet_given millis datagram it) (chosen no_choice (next_files no_choice []) true (first_after no_choice first (of_vlan vlan)) others)) (is_taken vlan first is)
     ∙ ap (λ it. Ok (packet millis datagram.payload datagram) ∷ it) (alike vlan ones others (first_after no_choice first (of_vlan vlan)) (is_first vlan first is) last same.1 of.1)
 

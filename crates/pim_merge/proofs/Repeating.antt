@@ -5,8 +5,8 @@ use Rattle.std.specs.Bool.{⊤}
 use Rattle.std.proofs.lemmas.Bool.{cases_lt, false≢true}
 use Rattle.std.proofs.lemmas.List.{get_or_past, length-drop, take_at}
 use Rattle.pim_capture.specs.declared.fault.CaptureFault.{CaptureFault}
-use Rattle.pim_capture.specs.Capture.{Told}
-use Rattle.pim_merge.specs.declared.tally.Place.{Place}
+use Rattle.pim_capture.specs.Capture.{EventSeen}
+use Rattle.pim_merge.specs.declared.tally.RecordPlace.{RecordPlace}
 use Rattle.pim_merge.specs.Lane.{LaneState, IsLooked, HasFailed, FailsAt, lane_at, no_lane, IsFailedHead}
 use Rattle.pim_merge.specs.Next.{IsFailed}
 use Rattle.pim_merge.proofs.Looking.{as_before, IsLookedUpTo}
@@ -43,16 +43,16 @@ module _ (number : ℕ) (old now : List LaneState) (d : LaneState) (below : numb
       omega (arith, below, one, length-drop number now, length-drop number old)
 
   -- this head could not be read, so the capture that failed before is this one
-  pub failed_again : (fault : CaptureFault) (at : Place) (n : ℕ) → (get_or now number d).head ≡ None → (HasFailed (get_or now number d) → IsFailedHead {A = ⊤} (Err fault)) → FailsAt n old
+  pub failed_again : (fault : CaptureFault) (at : RecordPlace) (n : ℕ) → (get_or now number d).head ≡ None → (HasFailed (get_or now number d) → IsFailedHead {A = ⊤} (Err fault)) → FailsAt n old
       → IsFailed {A = ⊤} n (Err (record { capture = number; file = at.file; «record» = at.«record»; fault = fault }))
   failed_again fault at n none repeated fails = (same, repeated (subst HasFailed (sym (lane_before ∙ ap (λ k. lane_at k old) same)) fails.1))
     where
       later : number < n → ⊥
       later less = headless (lane_at number old).head (ap (λ (l : LaneState). l.head) (sym lane_before) ∙ none) (looked_at old number n no_lane fails.0 less below_old)
         where
-          headless : (head : Option Told) → head ≡ None → IsSome head → ⊥
+          headless : (head : Option EventSeen) → head ≡ None → IsSome head → ⊥
           headless None e some = false≢true some
-          headless (Some told) e some = absurd cc
+          headless (Some reported) e some = absurd cc
 
       same : number ≡ n
       same = let early = w.early n fails in ⊎_elim (λ less. absurd (later less)) (λ e. omega (arith, e, early)) (cases_lt number n)

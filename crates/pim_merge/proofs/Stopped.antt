@@ -7,15 +7,15 @@ use Rattle.pim_capture.specs.Capture.{Answer}
 use Rattle.pim_capture.specs.Next.{IsRefusal, CountsReads, OnMemory}
 use Rattle.pim_merge.specs.Merge.{turn, fails}
 use Rattle.pim_merge.specs.Lane.{LaneState, IsComing, lane_left, records_to_come, lane_at, no_lane, failures_of, LacksHeadRoom, HadAll, KeepsRoom, KeepRooms, tallies_of}
-use Rattle.pim_merge.specs.Looks.{IsToldOrRefused}
-use Rattle.pim_merge.specs.declared.tally.Place.{Place}
+use Rattle.pim_merge.specs.Looks.{IsReadOrRefused}
+use Rattle.pim_merge.specs.declared.tally.RecordPlace.{RecordPlace}
 use Rattle.pim_merge.specs.Tally.{next_place}
 use Rattle.pim_merge.specs.Next.{IsCause, CountsFailures, LacksMemory, IsNumbered}
 use Rattle.pim_merge.proofs.Looking.{one_comes, total_with, as_before, set_keeps, same_tallies, IsLookedUpTo}
 use Rattle.pim_merge.proofs.Tallies.{tally_there}
 use Rattle.pim_merge.proofs.Turning.{turns_to_fault}
 
-module _ (number : ℕ) (old now : List LaneState) (lane d : LaneState) (fault : CaptureFault) (at : Place) (below : number < length now) (w : IsLookedUpTo number old now) where
+module _ (number : ℕ) (old now : List LaneState) (lane d : LaneState) (fault : CaptureFault) (at : RecordPlace) (below : number < length now) (w : IsLookedUpTo number old now) where
   same_before : get_or now number d ≡ lane_at number old
   same_before = as_before number old now d below w.rest
 
@@ -28,11 +28,11 @@ module _ (number : ℕ) (old now : List LaneState) (lane d : LaneState) (fault :
   pub stopped_left : lane_left lane ≤ lane_left (get_or now number d) → records_to_come (set now number lane) ≤ records_to_come old
   stopped_left lighter = let total = total_with now number lane d below in omega (arith, total, w.lighter, lighter)
 
-  pub stopped_cause : IsToldOrRefused (get_or now number d) lane fault → IsCause old (set now number lane) (record { capture = number; file = at.file; «record» = at.«record»; fault = fault })
+  pub stopped_cause : IsReadOrRefused (get_or now number d) lane fault → IsCause old (set now number lane) (record { capture = number; file = at.file; «record» = at.«record»; fault = fault })
   stopped_cause (inl refused) = inl (subst (λ (l : LaneState). IsRefusal {A = ⊤} (lane_at number old).failures l.failures (Err fault)) is_new
       (subst (λ (l : LaneState). IsRefusal {A = ⊤} l.failures lane.failures (Err fault)) same_before refused))
-  stopped_cause (inr told) = inr (λ captures coming.
-      ap (set captures number) (sym (told (get_or captures number []) (one_comes now captures number d [] below (w.coming captures coming)))) ∙ set-get_or captures number [])
+  stopped_cause (inr reported) = inr (λ captures coming.
+      ap (set captures number) (sym (reported (get_or captures number []) (one_comes now captures number d [] below (w.coming captures coming)))) ∙ set-get_or captures number [])
 
   pub stopped_reads : CountsReads {A = ⊤} (HadAll (get_or now number d)) (get_or now number d).failures lane.failures (Err fault)
       → CountsFailures {A = ⊤} old (Err (record { capture = number; file = at.file; «record» = at.«record»; fault = fault })) (set now number lane)
@@ -55,4 +55,4 @@ module _ (number : ℕ) (old now : List LaneState) (lane d : LaneState) (fault :
       → IsNumbered (tallies_of old) (record { capture = number; file = at.file; «record» = at.«record»; fault = fault })
   stopped_record is same =
       let all = is ∙ ap next_place (same ∙ (ap (λ (l : LaneState). l.tally) same_before ∙ tally_there old number)) in
-      (ap (λ (p : Place). p.file) all, ap (λ (p : Place). p.«record») all)
+      (ap (λ (p : RecordPlace). p.file) all, ap (λ (p : RecordPlace). p.«record») all)

@@ -7,9 +7,9 @@ use Rattle.pim_capture.specs.declared.event.Event.{Event}
 use Rattle.pim_capture.specs.declared.event.Event.TheVariants.{Packet, Skipped, End}
 use Rattle.pim_capture.specs.declared.event.Why.{Why}
 use Rattle.pim_capture.specs.declared.event.Why.TheVariants.{Cut, NotIp, BadHeader, NotPim, Fragment, NoTime, LinkType, NotChosen, CutShort, NextFile}
-use Rattle.pim_capture.specs.Capture.{Told, packet, skipped, ended, Answer}
+use Rattle.pim_capture.specs.Capture.{EventSeen, packet, skipped, ended, Answer}
 use Rattle.pim_capture.specs.Next.{in_front, event_seen, IsBy}
-use Rattle.pim_merge.specs.Merge.{behind_head, time_told, time_by, rank_told, earliest_from, taken, turn, takes, ends, after_turn}
+use Rattle.pim_merge.specs.Merge.{behind_head, event_time, time_by, event_rank, earliest_from, taken, turn, takes, ends, after_turn}
 use Rattle.pim_merge.specs.Lane.{LaneState, with_head, IsComing, IsLooked, rank_at, head_rank, time_at, head_time, without_head, counted, records_to_come, no_lane, lane_at, failures_of, KeepRooms, tallies_of}
 use Rattle.pim_merge.specs.Tally.{tallies_with}
 use Rattle.pim_merge.proofs.Tallies.{tallies_moved}
@@ -22,14 +22,14 @@ pub no_turn : (lanes : List LaneState) (captures : List (List Answer)) → AllBy
 no_turn lanes captures looked none coming = (turns_by_times lanes captures None looked coming none, coming)
 
 -- what is behind a head that is a record
-behind_comes : (told : Told) (behind : Option (List Answer)) (capture : List Answer) (time : ℕ) → rank_told told ≡ Some time → option_map (in_front (Ok told)) behind ≡ Some capture
+behind_comes : (reported : EventSeen) (behind : Option (List Answer)) (capture : List Answer) (time : ℕ) → event_rank reported ≡ Some time → option_map (in_front (Ok reported)) behind ≡ Some capture
     → behind ≡ Some (behind_head capture)
-behind_comes told None capture time timed comes = absurd cc
+behind_comes reported None capture time timed comes = absurd cc
 behind_comes (packet millis frame datagram) (Some later) capture time timed comes = ap (λ o. Some (behind_head (some_list o))) comes
 behind_comes (skipped millis why) (Some later) capture time timed comes = ap (λ o. Some (behind_head (some_list o))) comes
 behind_comes ended (Some later) capture time timed comes = absurd cc
 
-counts_one : (told : Told) (time : ℕ) → rank_told told ≡ Some time → counted (Some told) ≡ 1
+counts_one : (reported : EventSeen) (time : ℕ) → event_rank reported ≡ Some time → counted (Some reported) ≡ 1
 counts_one (packet millis frame datagram) time timed = refl
 counts_one (skipped millis why) time timed = refl
 counts_one ended time timed = absurd cc
@@ -47,7 +47,7 @@ skipped_by CutShort millis latest by = tt
 skipped_by NextFile millis latest by = tt
 
 -- the time of a record is within the bound of its event
-pub by_then : (event : Event) (bytes : List ℕ) (time : Option ℕ) (latest : ℕ) → time ≡ time_told (event_seen bytes event) → IsBy latest event → IfSome time (λ it. it ≤ latest)
+pub by_then : (event : Event) (bytes : List ℕ) (time : Option ℕ) (latest : ℕ) → time ≡ event_time (event_seen bytes event) → IsBy latest event → IfSome time (λ it. it ≤ latest)
 by_then (Packet millis ip) bytes time latest is by = subst (λ it. IfSome it (λ t. t ≤ latest)) (sym is) by
 by_then (Skipped millis why) bytes time latest is by = subst (λ it. IfSome it (λ t. t ≤ latest)) (sym is) (skipped_by why millis latest by)
 by_then End bytes time latest is by = subst (λ it. IfSome it (λ t. t ≤ latest)) (sym is) tt
@@ -74,11 +74,11 @@ module _ (lanes : List LaneState) (capture time : ℕ) (found : Some (capture, t
     told_head : (lane_at capture lanes).head ≡ Some (event_seen (lane_at capture new).bytes event)
     told_head = sym (ap (λ bytes. Some (event_seen bytes event)) same_bytes ∙ head)
 
-    pub timed : rank_told (event_seen (lane_at capture new).bytes event) ≡ Some time
+    pub timed : event_rank (event_seen (lane_at capture new).bytes event) ≡ Some time
     timed = sym (ap rank_at told_head) ∙ found_time
 
     -- its time
-    pub stamped : head_time (lane_at capture lanes) ≡ time_told (event_seen (lane_at capture new).bytes event)
+    pub stamped : head_time (lane_at capture lanes) ≡ event_time (event_seen (lane_at capture new).bytes event)
     stamped = ap time_at told_head
 
     comes : (captures : List (List Answer)) → IsComing lanes captures → option_map (in_front (Ok (event_seen (lane_at capture new).bytes event))) (lane_at capture lanes).behind ≡ Some (get_or captures capture [])

@@ -1,7 +1,7 @@
 -- The tallies of captures.
 use Rattle.std.proofs.Common.{◌≡◌, ◌∙◌, ℕ, zero, suc, List, [], ◌∷◌, ◌++◌, set, Some, refl, ap}
 use Rattle.std.proofs.lemmas.List.{map-set}
-use Rattle.pim_capture.specs.Capture.{Told}
+use Rattle.pim_capture.specs.Capture.{EventSeen}
 use Rattle.pim_merge.specs.declared.tally.Tally.{Tally}
 use Rattle.pim_merge.specs.Merge.{Taken}
 use Rattle.pim_merge.specs.Lane.{LaneState, lane_at, tallies_of, without_head}
@@ -13,15 +13,15 @@ tally_there (lane ∷ lanes) zero = refl
 tally_there (lane ∷ lanes) (suc number) = tally_there lanes number
 
 -- a head was taken
-pub tallies_moved : (lanes : List LaneState) (capture : ℕ) (told : Told) → (lane_at capture lanes).head ≡ Some told
-    → tallies_of (set lanes capture (without_head (lane_at capture lanes))) ≡ tallies_with capture told (tallies_of lanes)
-tallies_moved lanes capture told head =
+pub tallies_moved : (lanes : List LaneState) (capture : ℕ) (reported : EventSeen) → (lane_at capture lanes).head ≡ Some reported
+    → tallies_of (set lanes capture (without_head (lane_at capture lanes))) ≡ tallies_with capture reported (tallies_of lanes)
+tallies_moved lanes capture reported head =
     map-set (λ (l : LaneState). l.tally) lanes capture (without_head (lane_at capture lanes))
-    ∙ ap (set (tallies_of lanes) capture) (ap (tally_taken (lane_at capture lanes).tally) head ∙ ap (λ (t : Tally). tally_after t told) (tally_there lanes capture))
+    ∙ ap (set (tallies_of lanes) capture) (ap (tally_taken (lane_at capture lanes).tally) head ∙ ap (λ (t : Tally). tally_after t reported) (tally_there lanes capture))
 
 -- one record more
 pub tallies_more : (tallies : List Tally) (taken : List Taken) (next : Taken) → tallies_after tallies (taken ++ next ∷ [])
-    ≡ tallies_with next.capture next.told (tallies_after tallies taken)
+    ≡ tallies_with next.capture next.reported (tallies_after tallies taken)
 unfolding tallies_after
 tallies_more tallies [] next = refl
-tallies_more tallies (first ∷ others) next = tallies_more (tallies_with first.capture first.told tallies) others next
+tallies_more tallies (first ∷ others) next = tallies_more (tallies_with first.capture first.reported tallies) others next

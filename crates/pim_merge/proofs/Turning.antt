@@ -3,7 +3,7 @@ use Rattle.std.proofs.Common.{◌≡◌, ◌<◌, ◌+◌, ◌∙◌, ◌∷◌,
 use Rattle.std.specs.List.{AllByRecursion}
 use Rattle.std.specs.Option.{option_map}
 use Rattle.pim_capture.specs.declared.fault.CaptureFault.{CaptureFault}
-use Rattle.pim_capture.specs.Capture.{Told, packet, skipped, ended, Answer}
+use Rattle.pim_capture.specs.Capture.{EventSeen, packet, skipped, ended, Answer}
 use Rattle.pim_capture.specs.Next.{in_front}
 use Rattle.pim_merge.specs.Merge.{head_of, rank_of, or_fault, fault_from, sooner, numbered, earliest_from, turn_at, turn, fails}
 use Rattle.pim_merge.specs.Lane.{LaneState, coming_on, IsComing, IsLooked, rank_at, head_rank, with_head}
@@ -14,8 +14,8 @@ abbrev pub some_list : Option (List Answer) → List Answer
 some_list None = []
 some_list (Some answers) = answers
 
-pub told_comes : (told : Told) (behind : Option (List Answer)) (capture : List Answer) → option_map (in_front (Ok told)) behind ≡ Some capture → head_of capture ≡ Ok told
-told_comes told None capture comes = absurd cc
+pub told_comes : (reported : EventSeen) (behind : Option (List Answer)) (capture : List Answer) → option_map (in_front (Ok reported)) behind ≡ Some capture → head_of capture ≡ Ok reported
+told_comes reported None capture comes = absurd cc
 told_comes (packet millis frame datagram) (Some later) capture comes = subst (λ c. head_of c ≡ Ok (packet millis frame datagram)) (ap some_list comes) refl
 told_comes (skipped millis why) (Some later) capture comes = subst (λ c. head_of c ≡ Ok (skipped millis why)) (ap some_list comes) refl
 told_comes ended (Some later) capture comes = subst (λ c. head_of c ≡ Ok ended) (ap some_list comes) refl
@@ -24,16 +24,16 @@ told_comes ended (Some later) capture comes = subst (λ c. head_of c ≡ Ok ende
 reads_no_fault : (lane : LaneState) (capture : List Answer) (number : ℕ) (later : Option (ℕ × CaptureFault)) → IsLooked lane → coming_on lane ≡ Some capture → or_fault number (head_of capture) later ≡ later
 reads_no_fault lane capture number later looked comes = by lane.head lane.behind looked comes
   where
-    by : (head : Option Told) (behind : Option (List Answer)) → is_some head ≡ true → with_head head behind ≡ Some capture → or_fault number (head_of capture) later ≡ later
+    by : (head : Option EventSeen) (behind : Option (List Answer)) → is_some head ≡ true → with_head head behind ≡ Some capture → or_fault number (head_of capture) later ≡ later
     by None behind looked comes = absurd cc
-    by (Some told) behind looked comes = rw (told_comes told behind capture comes) refl
+    by (Some reported) behind looked comes = rw (told_comes reported behind capture comes) refl
 
 same_time : (lane : LaneState) (capture : List Answer) → IsLooked lane → coming_on lane ≡ Some capture → rank_of (head_of capture) ≡ head_rank lane
 same_time lane capture looked comes = by lane.head lane.behind looked comes
   where
-    by : (head : Option Told) (behind : Option (List Answer)) → is_some head ≡ true → with_head head behind ≡ Some capture → rank_of (head_of capture) ≡ rank_at head
+    by : (head : Option EventSeen) (behind : Option (List Answer)) → is_some head ≡ true → with_head head behind ≡ Some capture → rank_of (head_of capture) ≡ rank_at head
     by None behind looked comes = absurd cc
-    by (Some told) behind looked comes = rw (told_comes told behind capture comes) refl
+    by (Some reported) behind looked comes = rw (told_comes reported behind capture comes) refl
 
 -- ---- a fault
 

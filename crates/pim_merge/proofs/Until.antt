@@ -1,14 +1,14 @@
 -- The turn of a merge that ends at a time.
 use Rattle.std.proofs.Common.{◌≡◌, ◌∙◌, [], ℕ, List, Option, None, Some, Result, Ok, Err, true, false, get_or, map, refl, sym, ap, cond}
 use Rattle.std.specs.List.{AllByRecursion}
-use Rattle.pim_capture.specs.Capture.{Told, Answer}
+use Rattle.pim_capture.specs.Capture.{EventSeen, Answer}
 use Rattle.pim_time.specs.declared.reading.Time.{Time}
 use Rattle.pim_merge.specs.declared.clock.Clock.{Clock}
 use Rattle.pim_merge.specs.declared.merge.Turn.{Turn}
 use Rattle.pim_merge.specs.declared.merge.MergeFault.{MergeFault}
-use Rattle.pim_merge.specs.Merge.{Outcome, takes, ends, taken, turn, turn_by, until, is_past, clock_after, time_told, earliest_from}
+use Rattle.pim_merge.specs.Merge.{Outcome, takes, ends, taken, turn, turn_by, until, is_past, clock_after, event_time, earliest_from}
 use Rattle.pim_merge.specs.Lane.{LaneState, IsComing, IsLooked, with_head, time_at, head_time, head_rank, lane_at, no_lane}
-use Rattle.pim_merge.specs.Next.{MergeState, TellsTurn, TellsTurnBy}
+use Rattle.pim_merge.specs.Next.{MergeState, GivesTurn, GivesTurnBy}
 use Rattle.pim_merge.proofs.Looking.{one_comes}
 use Rattle.pim_merge.proofs.Turning.{told_comes, turns_by_times}
 use Rattle.pim_merge.proofs.Taking.{found_within, found_head}
@@ -18,22 +18,22 @@ ends_by None clock outcome is = is
 ends_by (Some last) clock outcome is = ap (until (Some last) clock) is
 
 -- a record whose moment isn't later is taken
-pub takes_by : (last : Option Time) (clock : Option Clock) (number : ℕ) (told : Told) (outcome : Outcome) → outcome ≡ takes number told → is_past last (clock_after clock (time_told told)) ≡ false
-    → until last clock outcome ≡ takes number told
-takes_by None clock number told outcome is by = is
-takes_by (Some last) clock number told outcome is by = ap (until (Some last) clock) is ∙ ap (λ b. cond b ends (takes number told)) by
+pub takes_by : (last : Option Time) (clock : Option Clock) (number : ℕ) (reported : EventSeen) (outcome : Outcome) → outcome ≡ takes number reported → is_past last (clock_after clock (event_time reported)) ≡ false
+    → until last clock outcome ≡ takes number reported
+takes_by None clock number reported outcome is by = is
+takes_by (Some last) clock number reported outcome is by = ap (until (Some last) clock) is ∙ ap (λ b. cond b ends (takes number reported)) by
 
 -- at a record whose moment is later the merge ends
-pub past_by : (last : Option Time) (clock : Option Clock) (number : ℕ) (told : Told) (outcome : Outcome) → outcome ≡ takes number told → is_past last (clock_after clock (time_told told)) ≡ true
+pub past_by : (last : Option Time) (clock : Option Clock) (number : ℕ) (reported : EventSeen) (outcome : Outcome) → outcome ≡ takes number reported → is_past last (clock_after clock (event_time reported)) ≡ true
     → until last clock outcome ≡ ends
-past_by None clock number told outcome is past = absurd cc
-past_by (Some last) clock number told outcome is past = ap (until (Some last) clock) is ∙ ap (λ b. cond b ends (takes number told)) past
+past_by None clock number reported outcome is past = absurd cc
+past_by (Some last) clock number reported outcome is past = ap (until (Some last) clock) is ∙ ap (λ b. cond b ends (takes number reported)) past
 
 -- without a time
-pub without_time : (clock : Option Clock) (captures : List (List Answer)) (r : Result (Option Turn) MergeFault) (new : MergeState) → TellsTurnBy None clock captures r new → TellsTurn captures r new
+pub without_time : (clock : Option Clock) (captures : List (List Answer)) (r : Result (Option Turn) MergeFault) (new : MergeState) → GivesTurnBy None clock captures r new → GivesTurn captures r new
 without_time clock captures (Ok None) new tells = tells
 without_time clock captures (Ok (Some next)) new tells = tells
-without_time clock captures (Err told) new tells = tells
+without_time clock captures (Err reported) new tells = tells
 
 -- the head that was found is past the time
 pub passes_turn : (lanes : List LaneState) (capture rank : ℕ) → Some (capture, rank) ≡ earliest_from 0 (map head_rank lanes) → (last : Option Time) (clock : Option Clock)
@@ -41,9 +41,9 @@ pub passes_turn : (lanes : List LaneState) (capture rank : ℕ) → Some (captur
     → (turn_by last clock captures ≡ ends) × IsComing lanes captures
 passes_turn lanes capture rank found last clock past captures looked coming = (at (lane_at capture lanes).head refl, coming)
   where
-    at : (head : Option Told) → (lane_at capture lanes).head ≡ head → turn_by last clock captures ≡ ends
+    at : (head : Option EventSeen) → (lane_at capture lanes).head ≡ head → turn_by last clock captures ≡ ends
     at None is = absurd (found_head lanes capture rank found is)
-    at (Some told) is =
+    at (Some reported) is =
         let comes = ap (λ h. with_head h (lane_at capture lanes).behind) (sym is) ∙ one_comes lanes captures capture no_lane [] (found_within lanes capture rank found) coming in
-        let taking = turns_by_times lanes captures (Some (capture, rank)) looked coming found ∙ ap (taken capture) (told_comes told (lane_at capture lanes).behind (get_or captures capture []) comes) in
-        past_by last clock capture told (turn captures) taking (ap (λ h. is_past last (clock_after clock (time_at h))) (sym is) ∙ past)
+        let taking = turns_by_times lanes captures (Some (capture, rank)) looked coming found ∙ ap (taken capture) (told_comes reported (lane_at capture lanes).behind (get_or captures capture []) comes) in
+        past_by last clock capture reported (turn captures) taking (ap (λ h. is_past last (clock_after clock (time_at h))) (sym is) ∙ past)

@@ -4,12 +4,12 @@ use Rattle.pim_addr.specs.declared.family.AddressFamily.{AddressFamily}
 use Rattle.pim_addr.specs.Families.{is_same}
 use Rattle.pim_capture.specs.declared.event.Why.{Why}
 use Rattle.pim_capture.specs.declared.event.Why.TheVariants.{NextFile}
-use Rattle.pim_capture.specs.Capture.{Told, packet, skipped, ended}
+use Rattle.pim_capture.specs.Capture.{EventSeen, packet, skipped, ended}
 use Rattle.pim_capture.specs.Frame.{Datagram}
 use Rattle.pim_merge.specs.declared.content.Content.{Content as Given}
 use Rattle.pim_merge.specs.declared.content.Content.TheVariants as given
 use Rattle.pim_merge.specs.declared.content.Datagram.{Datagram as Carried}
-use Rattle.pim_merge.specs.declared.content.Ends.{Ends}
+use Rattle.pim_merge.specs.declared.content.ContentEnds.{ContentEnds}
 
 -- A record holds a packet of the family with this source, destination and PIM message; one of the
 -- other family; no packet, for this reason; or it is no record, but the end of its capture or the
@@ -32,7 +32,7 @@ skipped_in NextFile = no_record
 skipped_in why = without_packet why
 
 -- What a record holds.
-abbrev pub content_in : AddressFamily → Told → Content
+abbrev pub content_in : AddressFamily → EventSeen → Content
 content_in family (packet millis frame datagram) = datagram_in family datagram
 content_in family (skipped millis why) = skipped_in why
 content_in family ended = no_record
@@ -55,7 +55,7 @@ IfDatagram (given.Skipped why) P = Unit {0}
 IfDatagram given.End P = Unit {0}
 
 -- The source and the destination of a packet, as bytes.
-abbrev pub ends_seen : {A : Type 0} → (A → List ℕ) → Ends A → List ℕ × List ℕ
+abbrev pub ends_seen : {A : Type 0} → (A → List ℕ) → ContentEnds A → List ℕ × List ℕ
 ends_seen bytes_of ends = (bytes_of ends.source, bytes_of ends.destination)
 
 -- The source and the destination of a datagram of the router's family; nothing for the other

@@ -9,7 +9,7 @@ use Rattle.pim_merge.specs.declared.end.End.{End}
 use Rattle.pim_merge.specs.declared.end.End.TheVariants.{After, At}
 use Rattle.pim_merge.specs.declared.merge.MergeFault.{MergeFault}
 use Rattle.pim_merge.specs.Merge.{Taken, IsMergeBy, turn, turn_by, takes, fails, after_turn, clock_after, moment_of}
-use Rattle.pim_merge.specs.Merge.{moment_at, time_told}
+use Rattle.pim_merge.specs.Merge.{moment_at, event_time}
 use Rattle.pim_merge.specs.Lane.{IsComing}
 use Rattle.pim_merge.specs.Next.{MergeState, with_fault}
 
@@ -29,7 +29,7 @@ end_moment (At time) clock moment = moment_at time clock
 -- The clock after these records.
 unfoldable pub clock_of : Option Clock → List Taken → Option Clock
 clock_of clock [] = clock
-clock_of clock (first ∷ others) = clock_of (clock_after clock (time_told first.told)) others
+clock_of clock (first ∷ others) = clock_of (clock_after clock (event_time first.reported)) others
 
 -- The run ends at most 10^9 milliseconds after the last record, or at a time below 10^15
 -- milliseconds.
@@ -45,9 +45,9 @@ unfoldable pub Takes : Option Time → Option Clock → List (List Answer) → L
     List (List Answer) → Type 0
 Takes last clock captures [] clock' rest = (clock' ≡ clock) × (rest ≡ captures)
 Takes last clock captures (first ∷ others) clock' rest =
-    (turn_by last clock captures ≡ takes first.capture first.told)
-    × (first.moment ≡ moment_of (clock_after clock (time_told first.told)))
-    × Takes last (clock_after clock (time_told first.told)) (after_turn first.capture captures) others clock' rest
+    (turn_by last clock captures ≡ takes first.capture first.reported)
+    × (first.moment ≡ moment_of (clock_after clock (event_time first.reported)))
+    × Takes last (clock_after clock (event_time first.reported)) (after_turn first.capture captures) others clock' rest
 
 -- ---- the turns, for all answers that the captures can still give
 
@@ -75,6 +75,6 @@ AreFirst end merge taken = (captures : List (List Answer)) → IsComing merge.la
 -- of a capture don't say when its reader fails. So the fault takes the place of everything that its
 -- capture has left.
 abbrev pub AreBefore : End → MergeState → MergeFault → List Taken → Type 0
-AreBefore end merge told taken = (captures : List (List Answer)) → IsComing merge.lanes captures →
+AreBefore end merge reported taken = (captures : List (List Answer)) → IsComing merge.lanes captures →
     GoesOn (last_of end) merge.clock captures taken
-    (λ rest. turn (with_fault told rest) ≡ fails told.capture told.fault)
+    (λ rest. turn (with_fault reported rest) ≡ fails reported.capture reported.fault)

@@ -7,19 +7,19 @@ use Rattle.pim_addr.specs.declared.family.AddressFamily.{AddressFamily}
 use Rattle.pim_capture.specs.declared.event.Event.{Event}
 use Rattle.pim_capture.specs.declared.fault.CaptureFault.{CaptureFault}
 use Rattle.pim_capture.specs.declared.fault.CaptureFault.TheVariants as fault
-use Rattle.pim_capture.specs.Capture.{Told, packet, skipped, ended, Answer}
+use Rattle.pim_capture.specs.Capture.{EventSeen, packet, skipped, ended, Answer}
 use Rattle.pim_capture.specs.Next.{event_seen, in_front, LacksRoom}
 use Rattle.pim_merge.specs.declared.source.Source.{Source}
 use Rattle.pim_merge.specs.Source.{coming, failures_in, left_in, passes_over, room_in, size_in}
-use Rattle.pim_merge.specs.Source.{is_over_in, HadAllIf, Store, begun_store, store_in, AsksIf, GrowsWithin}
-use Rattle.pim_merge.specs.Merge.{time_told, rank_told}
+use Rattle.pim_merge.specs.Source.{is_over_in, HadAllIf, Store, begun_store, store_in, AllocatesIf, GrowsWithin}
+use Rattle.pim_merge.specs.Merge.{event_time, event_rank}
 use Rattle.pim_merge.specs.declared.tally.Tally.{Tally}
 use Rattle.pim_merge.specs.Tally.{no_tally, tally_taken, census_begun}
 
 -- A capture of a merge.
 pub record LaneState : Type 0 where
   -- what its next record holds, or that it is at its end, if that was read
-  pub head : Option Told
+  pub head : Option EventSeen
   -- the results that it has to return after the head, if the bytes of its reader are known
   pub behind : Option (List Answer)
   -- the reader's count of failures
@@ -43,7 +43,8 @@ pub record LaneState : Type 0 where
   -- what was taken of it
   pub tally : Tally
 
--- What contracts see of a source, its head, the bytes and the capacity of its buffer, and its tally.
+-- What contracts see of a source, its head, the bytes and the capacity of its buffer, and its
+-- tally.
 abbrev pub lane_seen : {R : Type 0} → (R → Option (List ℕ)) → (R → ℕ) → Source R → Option Event
     → List ℕ → ℕ → Tally → LaneState
 lane_seen remaining failures source head bytes capacity tally = record {
@@ -63,9 +64,9 @@ lane_seen remaining failures source head bytes capacity tally = record {
 -- ---- the results to come, the head first
 
 -- The results that a capture has still to return, with its head in front if it was read.
-abbrev pub with_head : Option Told → Option (List Answer) → Option (List Answer)
+abbrev pub with_head : Option EventSeen → Option (List Answer) → Option (List Answer)
 with_head None behind = behind
-with_head (Some told) behind = option_map (in_front (Ok told)) behind
+with_head (Some reported) behind = option_map (in_front (Ok reported)) behind
 
 -- The results that a capture has still to return, whether its head was read or not. `None` if the
 -- bytes of its reader aren't known.
@@ -108,38 +109,39 @@ HasFailed lane = (lane.head ≡ None) × (lane.is_over ≡ true)
 -- The result of a call for the head is `Failed`.
 abbrev pub IsFailedHead : {A : Type 0} → Result A CaptureFault → Type 0
 IsFailedHead (Ok value) = ⊥
-IsFailedHead (Err told) = told ≡ fault.Failed
+IsFailedHead (Err reported) = reported ≡ fault.Failed
 
 -- All records that are read of a capture were read before. Of any container nothing is said.
 abbrev pub HadAll : LaneState → Type 0
 HadAll lane = HadAllIf lane.passes lane.left
 
 -- The head of the capture wasn't read, and its buffer has less room than that record needs. Any
--- container has less room for the record, for a piece up to it, or for an interface described there.
+-- container has less room for the record, for a piece up to it, or for an interface described
+-- there.
 abbrev pub LacksHeadRoom : LaneState → Type 0
 LacksHeadRoom lane =
-    (lane.head ≡ None) × LacksRoom lane.room lane.size × AsksIf lane.passes lane.behind lane.store
+    (lane.head ≡ None) × LacksRoom lane.room lane.size × AllocatesIf lane.passes lane.behind lane.store
 
--- The buffer of the capture keeps its capacity, or that grows to exactly the bytes in it. The buffer of
--- pieces grows to the longest piece up to the next record at most.
+-- The buffer of the capture keeps its capacity, or that grows to exactly the bytes in it. The
+-- buffer of pieces grows to the longest piece up to the next record at most.
 abbrev pub KeepsRoom : LaneState → LaneState → Type 0
 KeepsRoom old new =
     ((new.room ≡ old.room) ⊎ (new.room ≡ max old.room (length new.bytes)))
     × GrowsWithin old.store.piece_room new.store.piece_room old.store.needs
 
 -- The time by which a head is taken, if it was read and is a record.
-abbrev pub rank_at : Option Told → Option ℕ
+abbrev pub rank_at : Option EventSeen → Option ℕ
 rank_at None = None
-rank_at (Some told) = rank_told told
+rank_at (Some reported) = event_rank reported
 
 -- The time by which the head of a capture is taken, if it was read and is a record.
 abbrev pub head_rank : LaneState → Option ℕ
 head_rank lane = rank_at lane.head
 
 -- The time of a head, if it was read and has one.
-abbrev pub time_at : Option Told → Option ℕ
+abbrev pub time_at : Option EventSeen → Option ℕ
 time_at None = None
-time_at (Some told) = time_told told
+time_at (Some reported) = event_time reported
 
 -- The time of the head of a capture, if it was read and has one.
 abbrev pub head_time : LaneState → Option ℕ
@@ -148,7 +150,7 @@ head_time lane = time_at lane.head
 -- ---- the number of records that may still be taken
 
 -- 1 for a head that is a record, else 0.
-abbrev pub counted : Option Told → ℕ
+abbrev pub counted : Option EventSeen → ℕ
 counted None = 0
 counted (Some (packet millis frame datagram)) = 1
 counted (Some (skipped millis why)) = 1
@@ -185,8 +187,8 @@ no_lane = record {
 abbrev pub lane_at : ℕ → List LaneState → LaneState
 lane_at number lanes = slice_index_or lanes number no_lane
 
--- The capture with this number returned a fault in place of its head, after the heads of those before
--- it were read.
+-- The capture with this number returned a fault in place of its head, after the heads of those
+-- before it were read.
 abbrev pub FailsAt : ℕ → List LaneState → Type 0
 FailsAt number lanes = AllByRecursion IsLooked (take number lanes) × HasFailed (lane_at number lanes)
 

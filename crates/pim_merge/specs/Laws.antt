@@ -10,12 +10,12 @@ use Rattle.pim_merge.specs.Merge.{Taken, IsMerge, IsMergeBy}
 -- and how it ends.
 abbrev pub MergeHasOneEnd : Type 0
 MergeHasOneEnd = (clock : Option Clock) (captures : List (List Answer)) (taken other : List Taken)
-    (fault told : Option (ℕ × CaptureFault)) → IsMerge clock captures taken fault → IsMerge clock captures other told →
-    (taken ≡ other) × (fault ≡ told)
+    (fault reported : Option (ℕ × CaptureFault)) → IsMerge clock captures taken fault → IsMerge clock captures other reported →
+    (taken ≡ other) × (fault ≡ reported)
 
 -- The same for a merge that ends at a time, if there is one.
 abbrev pub MergeByHasOneEnd : Type 0
 MergeByHasOneEnd = (last : Option Time) (clock : Option Clock) (captures : List (List Answer))
-    (taken other : List Taken) (fault told : Option (ℕ × CaptureFault)) →
-    IsMergeBy last clock captures taken fault → IsMergeBy last clock captures other told →
-    (taken ≡ other) × (fault ≡ told)
+    (taken other : List Taken) (fault reported : Option (ℕ × CaptureFault)) →
+    IsMergeBy last clock captures taken fault → IsMergeBy last clock captures other reported →
+    (taken ≡ other) × (fault ≡ reported)

@@ -11,6 +11,6 @@ StillComes old new = (answers : List Answer) → coming_on old ≡ Some answers 
 
 -- A read failed, memory was refused, or the fault was all that the capture had still to return
 -- (said where that is known).
-abbrev pub IsToldOrRefused : LaneState → LaneState → CaptureFault → Type 0
-IsToldOrRefused old new fault = IsRefusal {A = ⊤} old.failures new.failures (Err fault)
+abbrev pub IsReadOrRefused : LaneState → LaneState → CaptureFault → Type 0
+IsReadOrRefused old new fault = IsRefusal {A = ⊤} old.failures new.failures (Err fault)
     ⊎ ((answers : List Answer) → coming_on old ≡ Some answers → answers ≡ Err fault ∷ [])

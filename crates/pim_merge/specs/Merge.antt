@@ -7,7 +7,7 @@ use Rattle.pim_time.specs.declared.reading.Time.TheVariants.{Moment, Epoch}
 use Rattle.pim_capture.specs.declared.fault.CaptureFault.{CaptureFault}
 use Rattle.pim_capture.specs.declared.event.Why.{Why}
 use Rattle.pim_capture.specs.declared.event.Why.TheVariants.{NoTime, NotChosen, CutShort, NextFile}
-use Rattle.pim_capture.specs.Capture.{Told, packet, skipped, ended, Answer}
+use Rattle.pim_capture.specs.Capture.{EventSeen, packet, skipped, ended, Answer}
 use Rattle.pim_merge.specs.declared.clock.Clock.{Clock}
 
 -- ---- the head of a capture, and the results after it
@@ -23,8 +23,8 @@ behind_head [] = []
 behind_head (answer ∷ later) = later
 
 -- The time of a record that is skipped for this reason, in milliseconds since 1970. One that isn't
--- chosen has none here: a run over chosen packets begins and ends with these. The beginning of the next
--- file is no record, and has none.
+-- chosen has none here: a run over chosen packets begins and ends with these. The beginning of the
+-- next file is no record, and has none.
 abbrev pub time_by : Why → ℕ → Option ℕ
 time_by NoTime millis = None
 time_by NotChosen millis = None
@@ -32,29 +32,30 @@ time_by CutShort millis = None
 time_by NextFile millis = None
 time_by _ millis = Some millis
 
--- The time of a record, in milliseconds since 1970. The end, and a record without a time, have none.
-abbrev pub time_told : Told → Option ℕ
-time_told (packet millis frame datagram) = Some millis
-time_told (skipped millis why) = time_by why millis
-time_told ended = None
+-- The time of a record, in milliseconds since 1970. The end, and a record without a time, have
+-- none.
+abbrev pub event_time : EventSeen → Option ℕ
+event_time (packet millis frame datagram) = Some millis
+event_time (skipped millis why) = time_by why millis
+event_time ended = None
 
 -- The time by which a record is taken: its own. That without a time has 0, so it comes before all
 -- others that are heads. The end has none.
-abbrev pub rank_told : Told → Option ℕ
-rank_told (packet millis frame datagram) = Some millis
-rank_told (skipped millis why) = Some millis
-rank_told ended = None
+abbrev pub event_rank : EventSeen → Option ℕ
+event_rank (packet millis frame datagram) = Some millis
+event_rank (skipped millis why) = Some millis
+event_rank ended = None
 
 -- The time by which a result is taken. A fault has none.
 abbrev pub rank_of : Answer → Option ℕ
-rank_of (Ok told) = rank_told told
+rank_of (Ok reported) = event_rank reported
 rank_of (Err fault) = None
 
 -- ---- the first fault among heads, with the number of its capture
 
 -- The fault of this result with the number of its capture, or else the fault of a later capture.
 abbrev pub or_fault : ℕ → Answer → Option (ℕ × CaptureFault) → Option (ℕ × CaptureFault)
-or_fault number (Ok told) later = later
+or_fault number (Ok reported) later = later
 or_fault number (Err fault) later = Some (number, fault)
 
 -- The first fault among these heads, with the number of its capture. The first head has this
@@ -87,12 +88,12 @@ earliest_from number (time ∷ times) = sooner (numbered number time) (earliest_
 -- ends.
 pub data Outcome : Type 0 where
   fails : ℕ → CaptureFault → Outcome
-  takes : ℕ → Told → Outcome
+  takes : ℕ → EventSeen → Outcome
   ends : Outcome
 
 -- The turn that takes this head of a capture.
 abbrev pub taken : ℕ → Answer → Outcome
-taken number (Ok told) = takes number told
+taken number (Ok reported) = takes number reported
 taken number (Err fault) = fails number fault
 
 -- The turn that takes the head of the capture with this number. Without a number all captures are
@@ -148,8 +149,8 @@ is_past (Some (Epoch last)) (Some clock) = nat_lt last (clock.begin + clock.mome
 -- merge is at its end. Without a time it is the turn itself.
 abbrev pub until : Option Time → Option Clock → Outcome → Outcome
 until None clock outcome = outcome
-until (Some last) clock (takes number told) =
-    if is_past (Some last) (clock_after clock (time_told told)) then ends else takes number told
+until (Some last) clock (takes number reported) =
+    if is_past (Some last) (clock_after clock (event_time reported)) then ends else takes number reported
 until (Some last) clock (fails number fault) = fails number fault
 until (Some last) clock ends = ends
 
@@ -172,7 +173,7 @@ moment_at (Epoch last) (Some clock) = last - clock.begin
 pub record Taken : Type 0 where
   pub capture : ℕ
   pub moment : ℕ
-  pub told : Told
+  pub reported : EventSeen
 
 -- The last turn of a merge: this fault of a capture, or the end of all captures.
 abbrev pub ending : Option (ℕ × CaptureFault) → Outcome
@@ -184,15 +185,15 @@ ending (Some (number, fault)) = fails number fault
 unfoldable pub IsMerge : Option Clock → List (List Answer) → List Taken → Option (ℕ × CaptureFault) → Type 0
 IsMerge clock captures [] fault = turn captures ≡ ending fault
 IsMerge clock captures (first ∷ others) fault =
-    (turn captures ≡ takes first.capture first.told)
-    × (first.moment ≡ moment_of (clock_after clock (time_told first.told)))
-    × IsMerge (clock_after clock (time_told first.told)) (after_turn first.capture captures) others fault
+    (turn captures ≡ takes first.capture first.reported)
+    × (first.moment ≡ moment_of (clock_after clock (event_time first.reported)))
+    × IsMerge (clock_after clock (event_time first.reported)) (after_turn first.capture captures) others fault
 
 -- The same for a merge that ends at the time `last`, if there is one.
 unfoldable pub IsMergeBy : Option Time → Option Clock → List (List Answer) → List Taken → Option (ℕ × CaptureFault) →
     Type 0
 IsMergeBy last clock captures [] fault = turn_by last clock captures ≡ ending fault
 IsMergeBy last clock captures (first ∷ others) fault =
-    (turn_by last clock captures ≡ takes first.capture first.told)
-    × (first.moment ≡ moment_of (clock_after clock (time_told first.told)))
-    × IsMergeBy last (clock_after clock (time_told first.told)) (after_turn first.capture captures) others fault
+    (turn_by last clock captures ≡ takes first.capture first.reported)
+    × (first.moment ≡ moment_of (clock_after clock (event_time first.reported)))
+    × IsMergeBy last (clock_after clock (event_time first.reported)) (after_turn first.capture captures) others fault

@@ -7,19 +7,19 @@ use Rattle.pim_capture.specs.declared.fault.CaptureFault.{CaptureFault}
 use Rattle.pim_capture.specs.declared.fault.CaptureFault.TheVariants as fault
 use Rattle.pim_capture.specs.declared.header.Format.{Format}
 use Rattle.pim_capture.specs.declared.vlan.Vlan.{Vlan}
-use Rattle.pim_capture.specs.Capture.{Told, packet, skipped, ended, Answer, answers, most_records}
+use Rattle.pim_capture.specs.Capture.{EventSeen, packet, skipped, ended, Answer, answers, most_records}
 use Rattle.pim_capture.specs.Header.{judge_header}
 use Rattle.pim_capture.specs.Next.{in_front}
 use Rattle.pim_container.specs.declared.choice.Choice.{Choice}
 use Rattle.pim_container.specs.Agreement.{lacks_further_tags}
 use Rattle.pim_container.specs.Block.{is_section}
-use Rattle.pim_container.specs.Told as any
+use Rattle.pim_container.specs.EventSeen as any
 use Rattle.pim_container.specs.Pieces as pieces
 use Rattle.pim_time.specs.declared.reading.Time.{Time}
 use Rattle.pim_merge.specs.declared.clock.Clock.{Clock}
 use Rattle.pim_merge.specs.Chosen.{answers_by}
 use Rattle.pim_merge.specs.Content.{content_in}
-use Rattle.pim_merge.specs.Merge.{Taken, IsMergeBy, time_told}
+use Rattle.pim_merge.specs.Merge.{Taken, IsMergeBy, event_time}
 
 -- The choice of each packet.
 abbrev pub no_choice : Choice
@@ -30,15 +30,15 @@ abbrev pub IsOfVlan : Vlan → pieces.Answer → Type 0
 IsOfVlan vlan (Ok (any.packet millis origin datagram)) = origin.vlan ≡ vlan
 IsOfVlan vlan _ = ⊤
 
--- What any container gives for this record of a classic capture. It keeps the message of a packet, and
--- not all bytes of the record.
-abbrev pub told_as_any : Told → Told
-told_as_any (packet millis frame datagram) = packet millis datagram.payload datagram
-told_as_any told = told
+-- What any container gives for this record of a classic capture. It keeps the message of a packet,
+-- and not all bytes of the record.
+abbrev pub event_as_any : EventSeen → EventSeen
+event_as_any (packet millis frame datagram) = packet millis datagram.payload datagram
+event_as_any reported = reported
 
 -- The same for a result. A record inside which the file ends is skipped, and is no fault.
 abbrev pub as_any : Answer → Answer
-as_any (Ok told) = Ok (told_as_any told)
+as_any (Ok reported) = Ok (event_as_any reported)
 as_any (Err fault.Truncated) = Ok (skipped 0 CutShort)
 as_any (Err fault) = Err fault
 
@@ -47,8 +47,8 @@ unfoldable pub all_as_any : List Answer → List Answer
 all_as_any [] = Ok ended ∷ []
 all_as_any (answer ∷ later) = in_front (as_any answer) (all_as_any later)
 
--- So it is for a classic file whose header `add` accepts, in which no frame has another tag than one of
--- 802.1Q, and all packets have the same VLAN. A VLAN of two zeros is none.
+-- So it is for a classic file whose header `add` accepts, in which no frame has another tag than
+-- one of 802.1Q, and all packets have the same VLAN. A VLAN of two zeros is none.
 abbrev pub OneLinkIsReadAlike : Type 0
 OneLinkIsReadAlike = (bytes : List ℕ) (format : Format) (vlan : Vlan) → is_section bytes ≡ false
     → judge_header (take 24 bytes) ≡ Ok format
@@ -69,10 +69,11 @@ IsWhole capture = list_any is_truncated capture ≡ false
 
 -- A record that was taken, as any container gives it.
 abbrev pub taken_as_any : Taken → Taken
-taken_as_any taken = record { capture = taken.capture; moment = taken.moment; told = told_as_any taken.told }
+taken_as_any taken = record { capture = taken.capture; moment = taken.moment; reported = event_as_any taken.reported }
 
--- A merge of what any container gives for classic captures takes the same records at the same moments
--- as a merge of these captures, and ends in the same way. None of their files ends inside a record.
+-- A merge of what any container gives for classic captures takes the same records at the same
+-- moments as a merge of these captures, and ends in the same way. None of their files ends inside a
+-- record.
 abbrev pub MergesAlike : Type 0
 MergesAlike = (last : Option Time) (clock : Option Clock) (captures : List (List Answer)) (taken : List Taken)
     (fault : Option (ℕ × CaptureFault)) → AllByRecursion IsWhole captures →
@@ -81,5 +82,5 @@ MergesAlike = (last : Option Time) (clock : Option Clock) (captures : List (List
 
 -- Such a record has the same content for a router, and the same time.
 abbrev pub RecordsHoldAlike : Type 0
-RecordsHoldAlike = (family : AddressFamily) (told : Told) →
-    (content_in family (told_as_any told) ≡ content_in family told) × (time_told (told_as_any told) ≡ time_told told)
+RecordsHoldAlike = (family : AddressFamily) (reported : EventSeen) →
+    (content_in family (event_as_any reported) ≡ content_in family reported) × (event_time (event_as_any reported) ≡ event_time reported)

@@ -16,7 +16,7 @@ use Rattle.pim_merge.specs.Tally.{tallies_after}
 -- A turn of the merge as a record, where these are the bytes of its capture.
 abbrev pub turn_seen : List ℕ → Turn → Taken
 turn_seen bytes turn =
-    record { capture = turn.capture; moment = turn.moment; told = event_seen bytes turn.event }
+    record { capture = turn.capture; moment = turn.moment; reported = event_seen bytes turn.event }
 
 -- The turn that was taken last, with the bytes that the merge keeps for it.
 abbrev pub taken_by : MergeState → Turn → Taken
@@ -42,14 +42,14 @@ pub record HasTaken (end : End) (start : MergeState) (taken : List Taken) (merge
 
 -- A fault of a capture ends a run after exactly these turns. It is the next answer of its capture,
 -- or a read of that capture failed, or memory was refused. `merge` is the merge after it.
-pub record StopsAfter (end : End) (start : MergeState) (taken : List Taken) (merge : MergeState) (told : MergeFault)
+pub record StopsAfter (end : End) (start : MergeState) (taken : List Taken) (merge : MergeState) (reported : MergeFault)
     : Type 0 where
-  pub are : AreBefore end start told taken
-  pub cause : IsRefusal {A = ⊤} (lane_at told.capture start.lanes).failures
-      (lane_at told.capture merge.lanes).failures (Err told.fault)
-      ⊎ AreAll end start (Some (told.capture, told.fault)) taken
+  pub are : AreBefore end start reported taken
+  pub cause : IsRefusal {A = ⊤} (lane_at reported.capture start.lanes).failures
+      (lane_at reported.capture merge.lanes).failures (Err reported.fault)
+      ⊎ AreAll end start (Some (reported.capture, reported.fault)) taken
   pub tallies : tallies_of merge.lanes ≡ tallies_after (tallies_of start.lanes) taken
-  pub numbered : IsNumbered (tallies_of merge.lanes) told
+  pub numbered : IsNumbered (tallies_of merge.lanes) reported
 
 -- What a call for the next turn of a run returns and leaves, where these turns were taken before.
 abbrev pub Advances : End → MergeState → List Taken → MergeState → Result (Option Turn) MergeFault → Type 0
@@ -57,7 +57,7 @@ Advances end start taken merge (Ok None) =
     AreAll end start None taken × (merge.clock ≡ clock_of start.clock taken)
     × (tallies_of merge.lanes ≡ tallies_after (tallies_of start.lanes) taken)
 Advances end start taken merge (Ok (Some next)) = HasTaken end start (taken ++ taken_by merge next ∷ []) merge
-Advances end start taken merge (Err told) = StopsAfter end start taken merge told
+Advances end start taken merge (Err reported) = StopsAfter end start taken merge reported
 
 -- All turns of a run over the merge `start` were taken, which ends without a fault. The tallies of
 -- `merge` count these.
@@ -66,7 +66,8 @@ pub record CountsAll (end : End) (start merge : MergeState) : Type 0 where
   pub are : AreAll end start None taken
   pub tallies : tallies_of merge.lanes ≡ tallies_after (tallies_of start.lanes) taken
 
--- Some first turns of a run over the merge `start` were taken, and the tallies of `merge` count these.
+-- Some first turns of a run over the merge `start` were taken, and the tallies of `merge` count
+-- these.
 pub record IsTallied (end : End) (start merge : MergeState) : Type 0 where
   pub taken : List Taken
   pub first : AreFirst end start taken

@@ -5,8 +5,8 @@ use Rattle.std.specs.Option.{IfSome}
 use Rattle.pim_capture.specs.declared.fault.CaptureFault.{CaptureFault}
 use Rattle.pim_capture.specs.declared.fault.CaptureFault.TheVariants as fault
 use Rattle.pim_capture.specs.declared.event.Event.{Event}
-use Rattle.pim_capture.specs.declared.capture.State.{State}
-use Rattle.pim_capture.specs.declared.capture.State.TheVariants.{Failed}
+use Rattle.pim_capture.specs.declared.capture.CaptureState.{CaptureState}
+use Rattle.pim_capture.specs.declared.capture.CaptureState.TheVariants.{Failed}
 use Rattle.pim_capture.specs.declared.event.Event.TheVariants.{Packet, Skipped, End}
 use Rattle.pim_capture.specs.declared.event.Why.TheVariants.{CutShort}
 use Rattle.pim_capture.specs.Capture.{Answer, packet}
@@ -15,13 +15,13 @@ use Rattle.pim_container.specs.Choice.{choice_of, first_of}
 use Rattle.pim_container.specs.Next as any
 use Rattle.pim_container.specs.Room as pieces_room
 use Rattle.pim_container.specs.Room.{Need, Exceeds}
-use Rattle.pim_container.specs.declared.fault.Fault.{Fault}
+use Rattle.pim_container.specs.declared.fault.ContainerFault.{ContainerFault}
 use Rattle.pim_merge.specs.declared.chosen.Chosen.{Chosen}
 use Rattle.pim_merge.specs.declared.source.Source.{Source}
 use Rattle.pim_merge.specs.declared.source.Source.TheVariants.{Classic, Any}
 use Rattle.pim_container.specs.Pieces as pieces
-use Rattle.pim_container.specs.declared.event.Event as piece
-use Rattle.pim_container.specs.declared.event.Event.TheVariants as piece_kind
+use Rattle.pim_container.specs.declared.event.ContainerEvent as piece
+use Rattle.pim_container.specs.declared.event.ContainerEvent.TheVariants as piece_kind
 use Rattle.pim_container.specs.declared.event.Origin.{Origin}
 use Rattle.pim_container.specs.declared.choice.Choice.{Choice}
 use Rattle.pim_merge.specs.Chosen.{chosen, next_files, all_known, all_failures, fault_of}
@@ -48,8 +48,8 @@ chosen_known choice begun first (Some left) None = None
 chosen_known choice begun first (Some left) (Some files) =
     Some (chosen choice (next_files choice files) begun first left)
 
--- The results that a container has to return for its choice, as long as it returned no fault, if the
--- bytes of its devices are known.
+-- The results that a container has to return for its choice, as long as it returned no fault, if
+-- the bytes of its devices are known.
 abbrev pub read_coming : {R : Type 0} → (R → Option (List ℕ)) → Chosen R → Option (List Answer)
 read_coming remaining it = chosen_known (choice_of it.chooser) it.is_begun (first_of it.chooser)
     (left_of_file remaining it) (all_known remaining (later_of it))
@@ -86,8 +86,8 @@ abbrev pub cut_left : Bool → ℕ
 cut_left false = 1
 cut_left true = 0
 
--- The number of pieces that may still be read. A further file has 4294967297, one for a record inside
--- which it ends, and one for its beginning.
+-- The number of pieces that may still be read. A further file has 4294967297, one for a record
+-- inside which it ends, and one for its beginning.
 abbrev pub chosen_left : {R : Type 0} → Chosen R → ℕ
 chosen_left it = any.pieces_left (any.state_of it.reader) + cut_left it.is_cut + length (later_of it) * 4294967298
 
@@ -104,7 +104,7 @@ failures_in failures (Classic capture) = failures (classic.reader_of capture)
 failures_in failures (Any it) = chosen_failures failures it
 
 -- A call of a classic capture returned a fault.
-abbrev pub has_failed : State → Bool
+abbrev pub has_failed : CaptureState → Bool
 has_failed Failed = true
 has_failed _ = false
 
@@ -156,7 +156,8 @@ read_needs remaining it = needs_unless it.is_cut (pieces_room.needs_of remaining
 abbrev pub chosen_needs : {R : Type 0} → (R → Option (List ℕ)) → Chosen R → Option (List Need)
 chosen_needs remaining it = needs_unless (chosen_is_over it) (read_needs remaining it)
 
--- One of these pieces needs more than this capacity of the buffer of pieces, or this room of the list.
+-- One of these pieces needs more than this capacity of the buffer of pieces, or this room of the
+-- list.
 unfoldable pub SomeExceeds : ℕ → ℕ → List Need → Type 0
 SomeExceeds capacity room [] = ⊥
 SomeExceeds capacity room (need ∷ needs) = Exceeds capacity room need ⊎ SomeExceeds capacity room needs
@@ -171,21 +172,21 @@ abbrev pub first_answer : List Answer → Option Answer
 first_answer [] = None
 first_answer (answer ∷ later) = Some answer
 
--- What memory is asked for up to the next record: room for the bytes of the record, room for a piece,
--- or a place for an interface. It says nothing if the bytes of the devices aren't known.
-abbrev pub Asks : ℕ → ℕ → ℕ → Option (List Answer) → Option (List Need) → Type 0
-Asks bytes capacity room all needs =
+-- What memory is asked for up to the next record: room for the bytes of the record, room for a
+-- piece, or a place for an interface. It says nothing if the bytes of the devices aren't known.
+abbrev pub Allocates : ℕ → ℕ → ℕ → Option (List Answer) → Option (List Need) → Type 0
+Allocates bytes capacity room all needs =
     IfSome all (λ answers. IsLonger bytes (first_answer answers)) ⊎ IfSome needs (SomeExceeds capacity room)
 
 -- The same of any container.
-abbrev pub ChosenAsks : {R : Type 0} → (R → Option (List ℕ)) → ℕ → Chosen R → Type 0
-ChosenAsks remaining room it =
-    Asks room (piece_capacity it) (places it) (chosen_coming remaining it) (chosen_needs remaining it)
+abbrev pub ChosenAllocates : {R : Type 0} → (R → Option (List ℕ)) → ℕ → Chosen R → Type 0
+ChosenAllocates remaining room it =
+    Allocates room (piece_capacity it) (places it) (chosen_coming remaining it) (chosen_needs remaining it)
 
 -- The same, as long as no call returned a fault.
-abbrev pub ReadAsks : {R : Type 0} → (R → Option (List ℕ)) → ℕ → Chosen R → Type 0
-ReadAsks remaining room it =
-    Asks room (piece_capacity it) (places it) (read_coming remaining it) (read_needs remaining it)
+abbrev pub ReadAllocates : {R : Type 0} → (R → Option (List ℕ)) → ℕ → Chosen R → Type 0
+ReadAllocates remaining room it =
+    Allocates room (piece_capacity it) (places it) (read_coming remaining it) (read_needs remaining it)
 
 -- The needs of the pieces after the first are left.
 abbrev pub PassesNeeds : Option (List Need) → Option (List Need) → Type 0
@@ -202,7 +203,7 @@ GrowsWithin old new needs = IfSome needs (λ all. new ≤ max old (longest all))
 
 -- The captured length of the next record of a classic capture, if it is known.
 abbrev pub size_in : {R : Type 0} → (R → Option (List ℕ)) → Source R → Option (Option ℕ)
-size_in remaining (Classic capture) = classic.named remaining capture
+size_in remaining (Classic capture) = classic.next_length remaining capture
 size_in remaining (Any it) = None
 
 -- What is held of any container from one record to the next, and what its pieces need up to that.
@@ -231,11 +232,11 @@ store_in remaining (Any it) capacity = record {
   needs = chosen_needs remaining it;
 }
 
--- Any container that has these results to return asks for memory up to its next record. Of a classic
--- capture nothing is said.
-abbrev pub AsksIf : Bool → Option (List Answer) → Store → Type 0
-AsksIf false all store = ⊤
-AsksIf true all store = Asks store.record_room store.piece_room store.list_room all store.needs
+-- Any container that has these results to return asks for memory up to its next record. Of a
+-- classic capture nothing is said.
+abbrev pub AllocatesIf : Bool → Option (List Answer) → Store → Type 0
+AllocatesIf false all store = ⊤
+AllocatesIf true all store = Allocates store.record_room store.piece_room store.list_room all store.needs
 
 -- All records that are read of a capture were read before. Of one that passes over pieces nothing
 -- is said.
@@ -281,13 +282,13 @@ step_count (Ok (Some event)) = 1
 step_count (Err fault) = 0
 
 -- The event is the end of the file.
-abbrev pub is_end : piece.Event → Bool
+abbrev pub is_end : piece.ContainerEvent → Bool
 is_end piece_kind.End = true
 is_end _ = false
 
 -- ---- a fault of a container
 
 -- What a call returns for a fault of the container: a record that is skipped, if the file is cut.
-abbrev pub failed : Bool → Fault → Result (Option Event) CaptureFault
+abbrev pub failed : Bool → ContainerFault → Result (Option Event) CaptureFault
 failed true fault = Ok (Some (Skipped 0 CutShort))
 failed false fault = Err (fault_of fault)

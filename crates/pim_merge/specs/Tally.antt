@@ -1,18 +1,18 @@
--- What was taken of a capture, counted record by record. A record has a place: the number of its file,
--- from 0, and its number in this file, from 1.
+-- What was taken of a capture, counted record by record. A record has a place: the number of its
+-- file, from 0, and its number in this file, from 1.
 use Rattle.std.specs.Prelude.{ℕ, ◌+◌, ◌-◌, min, nat_lt, Bool, true, false, List, [], ◌∷◌, slice_set, slice_index_or}
 use Rattle.std.specs.Prelude.{Option, None, Some}
 use Rattle.std.specs.Option.{option_map}
 use Rattle.pim_addr.specs.declared.family.AddressFamily.{AddressFamily}
 use Rattle.pim_capture.specs.declared.event.Why.{Why}
 use Rattle.pim_capture.specs.declared.event.Why.TheVariants.{Fragment, Cut, CutShort, NextFile}
-use Rattle.pim_capture.specs.Capture.{Told, packet, skipped, ended}
+use Rattle.pim_capture.specs.Capture.{EventSeen, packet, skipped, ended}
 use Rattle.pim_capture.specs.Frame.{Datagram}
 use Rattle.pim_census.specs.declared.census.Census.{Census}
 use Rattle.pim_census.specs.Census.{no_names, census_after}
-use Rattle.pim_merge.specs.declared.tally.Place.{Place}
+use Rattle.pim_merge.specs.declared.tally.RecordPlace.{RecordPlace}
 use Rattle.pim_merge.specs.declared.tally.Tally.{Tally}
-use Rattle.pim_merge.specs.Merge.{Taken, time_told}
+use Rattle.pim_merge.specs.Merge.{Taken, event_time}
 
 -- That of a capture of which nothing was taken. It has no census.
 abbrev pub no_tally : Tally
@@ -42,11 +42,11 @@ counted_if true count = one_more count
 counted_if false count = count
 
 -- The place of the record that is taken next.
-abbrev pub next_place : Tally → Place
+abbrev pub next_place : Tally → RecordPlace
 next_place tally = record { file = tally.file; «record» = one_more tally.records }
 
 -- The place of the first record of which something holds, after one more record at this place.
-abbrev pub first_place : Option Place → Bool → Place → Option Place
+abbrev pub first_place : Option RecordPlace → Bool → RecordPlace → Option RecordPlace
 first_place (Some first) holds place = Some first
 first_place None true place = Some place
 first_place None false place = None
@@ -116,22 +116,22 @@ in_next_file tally = record {
   census = tally.census;
 }
 
--- The tally after one more result of this time that is skipped for this reason. The beginning of the
--- next file is no record.
+-- The tally after one more result of this time that is skipped for this reason. The beginning of
+-- the next file is no record.
 abbrev pub tally_skipped : Tally → Why → Option ℕ → Tally
 tally_skipped tally NextFile time = in_next_file tally
 tally_skipped tally why time = tally_by tally (Some why) time
 
 -- The tally after one more result of the capture. The end leaves it.
-abbrev pub tally_after : Tally → Told → Tally
+abbrev pub tally_after : Tally → EventSeen → Tally
 tally_after tally (packet millis frame datagram) = tally_by (tally_with tally datagram) None (Some millis)
-tally_after tally (skipped millis why) = tally_skipped tally why (time_told (skipped millis why))
+tally_after tally (skipped millis why) = tally_skipped tally why (event_time (skipped millis why))
 tally_after tally ended = tally
 
 -- The tally after a head is taken, if there is one.
-abbrev pub tally_taken : Tally → Option Told → Tally
+abbrev pub tally_taken : Tally → Option EventSeen → Tally
 tally_taken tally None = tally
-tally_taken tally (Some told) = tally_after tally told
+tally_taken tally (Some reported) = tally_after tally reported
 
 -- ---- the tallies of all captures
 
@@ -140,14 +140,14 @@ abbrev pub tally_at : ℕ → List Tally → Tally
 tally_at number tallies = slice_index_or tallies number no_tally
 
 -- The place of the record that this capture gives next.
-abbrev pub place_next : ℕ → List Tally → Place
+abbrev pub place_next : ℕ → List Tally → RecordPlace
 place_next capture tallies = next_place (tally_at capture tallies)
 
 -- The tallies after this record of this capture.
-abbrev pub tallies_with : ℕ → Told → List Tally → List Tally
-tallies_with capture told tallies = slice_set tallies capture (tally_after (tally_at capture tallies) told)
+abbrev pub tallies_with : ℕ → EventSeen → List Tally → List Tally
+tallies_with capture reported tallies = slice_set tallies capture (tally_after (tally_at capture tallies) reported)
 
 -- The tallies after these records.
 unfoldable pub tallies_after : List Tally → List Taken → List Tally
 tallies_after tallies [] = tallies
-tallies_after tallies (first ∷ others) = tallies_after (tallies_with first.capture first.told tallies) others
+tallies_after tallies (first ∷ others) = tallies_after (tallies_with first.capture first.reported tallies) others

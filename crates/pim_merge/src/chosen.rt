@@ -19,21 +19,24 @@ ghost use Rattle.pim_capture.specs.Next.{event_seen, seen, PayloadLiesIn, IsBy, 
 ghost use Rattle.pim_capture.specs.Next.{IsNext, IsRefusal, CountsReads, OnMemory};
 ghost use Rattle.pim_capture.specs.Seen.{ip_seen, LiesIn, IsShort};
 ghost use Rattle.pim_container.specs.Choice.{choice_of, first_of, judge_origin, first_after};
-ghost use Rattle.pim_container.specs.declared.reader.State.TheVariants.{Unbegun};
+ghost use Rattle.pim_container.specs.declared.reader.ReaderState.TheVariants.{Unbegun};
 ghost use Rattle.pim_container.specs.Room.{needs_in};
-ghost use Rattle.pim_container.specs.Told as any;
-ghost use Rattle.pim_merge.specs.Chosen.{fault_of, is_cut, mixed_fault, told_given, first_then};
+ghost use Rattle.pim_container.specs.EventSeen as any;
+ghost use Rattle.pim_merge.specs.Chosen.{fault_of, is_cut, mixed_fault, event_given, first_then};
 ghost use Rattle.pim_merge.specs.Chosen.{packet_given, answers_of_files, all_known, all_failures};
 ghost use Rattle.pim_merge.specs.Source.{chosen_coming, chosen_failures, chosen_left, IsGiven};
 ghost use Rattle.pim_merge.specs.Source.{Steps, step_count, count_of, read_coming};
 ghost use Rattle.pim_merge.specs.Source.{coming_at_end, is_end};
 ghost use Rattle.pim_merge.specs.Source.{chosen_is_over, IsRepeatedIf, failed};
 ghost use Rattle.pim_merge.specs.Source.{piece_capacity, places, read_needs, chosen_needs};
-ghost use Rattle.pim_merge.specs.Source.{PassesNeeds, IsLonger, ReadAsks, ChosenAsks, GrowsWithin};
+ghost use Rattle.pim_merge.specs.Source.{PassesNeeds, IsLonger, ReadAllocates, ChosenAllocates};
+ghost use Rattle.pim_merge.specs.Source.{GrowsWithin};
 
 use pim_addr::Feed;
 use pim_capture::{CaptureFault, Event, Ip, Why};
-use pim_container::{Choice, Chooser, Event as Piece, Fault, Mixed, Origin, Reader};
+use pim_container::{
+    Choice, Chooser, ContainerEvent as Piece, ContainerFault, Mixed, Origin, Reader,
+};
 use std::alloc::Global;
 
 /// Any container in one or several files, of which packets are taken by a choice.
@@ -57,34 +60,34 @@ pub(crate) struct Chosen<R> {
 }
 
 /// A fault of a container, as one of a capture.
-fn fault_of(fault: Fault) -> CaptureFault
+fn fault_of(fault: ContainerFault) -> CaptureFault
     ensures { result ≡ fault_of fault }
 {
     match fault {
-        Fault::Magic => CaptureFault::Magic,
-        Fault::LinkType(number) => CaptureFault::LinkNumber(number),
-        Fault::Truncated => CaptureFault::Truncated,
-        Fault::TooLong => CaptureFault::TooLong,
-        Fault::Block => CaptureFault::Block,
-        Fault::Time => CaptureFault::Time,
-        Fault::Read => CaptureFault::Read,
-        Fault::Memory => CaptureFault::Memory,
-        Fault::Failed => CaptureFault::Failed,
+        ContainerFault::Magic => CaptureFault::Magic,
+        ContainerFault::LinkType(number) => CaptureFault::LinkNumber(number),
+        ContainerFault::Truncated => CaptureFault::Truncated,
+        ContainerFault::TooLong => CaptureFault::TooLong,
+        ContainerFault::Block => CaptureFault::Block,
+        ContainerFault::Time => CaptureFault::Time,
+        ContainerFault::Read => CaptureFault::Read,
+        ContainerFault::Memory => CaptureFault::Memory,
+        ContainerFault::Failed => CaptureFault::Failed,
     }
 }
 
 /// Whether a container with this fault ended inside a piece after its first one.
-fn is_cut(is_begun: bool, fault: Fault) -> bool
+fn is_cut(is_begun: bool, fault: ContainerFault) -> bool
     ensures { result ≡ is_cut is_begun fault }
 {
     match fault {
-        Fault::Truncated => is_begun,
+        ContainerFault::Truncated => is_begun,
         _ => false,
     }
 }
 
 /// What a call returns for a fault of the container: a record that is skipped, if the file is cut.
-fn failed(is_cut: bool, fault: Fault) -> Result<Option<Event>, CaptureFault>
+fn failed(is_cut: bool, fault: ContainerFault) -> Result<Option<Event>, CaptureFault>
     ensures { result ≡ failed is_cut fault }
 {
     if is_cut {
@@ -220,13 +223,13 @@ fn event_of(
     requires ranges { any.EventLiesIn piece.now piece_event }
     requires moment { any.IsBy latest_moment piece_event }
     requires length { vec_len buffer.old ≤ most_captured }
-    ensures answer { IsGiven (told_given (choice_of chooser.old) (first_of chooser.old)
+    ensures answer { IsGiven (event_given (choice_of chooser.old) (first_of chooser.old)
         (any.event_seen piece.now piece_event)) buffer.new.items result }
     ensures choice { choice_of chooser.new ≡ choice_of chooser.old }
     ensures first { first_of chooser.new ≡ first_then (choice_of chooser.old)
         (first_of chooser.old) (Ok (any.event_seen piece.now piece_event)) }
     ensures memory { OnMemory result (IsLonger (vec_capacity buffer.old)
-        (told_given (choice_of chooser.old) (first_of chooser.old)
+        (event_given (choice_of chooser.old) (first_of chooser.old)
         (any.event_seen piece.now piece_event))) }
     ensures room { vec_capacity buffer.old ≤ vec_capacity buffer.new }
     ensures payload { IfOk result (λ it. IfSome it (PayloadLiesIn buffer.new.items)) }
@@ -307,7 +310,7 @@ impl<R: Feed> Chosen<R> {
             (chosen_failures R.failures self.new) result }
         ensures left { chosen_left self.new + step_count result ≤ chosen_left self.old }
         ensures memory { OnMemory result
-            (ReadAsks R.remaining (vec_capacity buffer.old) self.old) }
+            (ReadAllocates R.remaining (vec_capacity buffer.old) self.old) }
         ensures piece { GrowsWithin (piece_capacity self.old) (piece_capacity self.new)
             (read_needs R.remaining self.old) }
         ensures needs { IfOk result (λ it. it ≡ None →
@@ -352,7 +355,7 @@ impl<R: Feed> Chosen<R> {
             (chosen_failures R.failures self.new) result }
         ensures left { chosen_left self.new + count_of result ≤ chosen_left self.old }
         ensures memory { OnMemory result
-            (ReadAsks R.remaining (vec_capacity buffer.old) self.old) }
+            (ReadAllocates R.remaining (vec_capacity buffer.old) self.old) }
         ensures piece { GrowsWithin (piece_capacity self.old) (piece_capacity self.new)
             (read_needs R.remaining self.old) }
         ensures payload { IfOk result (PayloadLiesIn buffer.new.items) }
@@ -381,7 +384,7 @@ impl<R: Feed> Chosen<R> {
             (chosen_failures R.failures self.new) result }
         ensures left { chosen_left self.new + count_of result ≤ chosen_left self.old }
         ensures memory { OnMemory result
-            (ChosenAsks R.remaining (vec_capacity buffer.old) self.old) }
+            (ChosenAllocates R.remaining (vec_capacity buffer.old) self.old) }
         ensures piece { GrowsWithin (piece_capacity self.old) (piece_capacity self.new)
             (chosen_needs R.remaining self.old) }
         ensures payload { IfOk result (PayloadLiesIn buffer.new.items) }

@@ -40,7 +40,7 @@ pub enum Content<'a, A> {
 
 /// The source and the destination of a packet.
 #[derive(Clone, Copy, Debug, PartialEq, Eq)]
-struct Ends<A> {
+struct ContentEnds<A> {
     source: A,
     destination: A,
 }
@@ -61,7 +61,7 @@ fn ends_in<F: Family>(
     family: AddressFamily,
     source: &[u8],
     destination: &[u8],
-) -> Option<Ends<F::Addr>>
+) -> Option<ContentEnds<F::Addr>>
     requires source { length source.now ≡ address_length family }
     requires destination { length destination.now ≡ address_length family }
     ensures { option_map (ends_seen F.bytes_of) result ≡
@@ -70,14 +70,14 @@ fn ends_in<F: Family>(
     if !is_of::<F>(family) {
         return None;
     }
-    Some(Ends {
+    Some(ContentEnds {
         source: F::take(source),
         destination: F::take(destination),
     })
 }
 
 /// The source and the destination of a packet, if it is of the router's family.
-fn ends_of<F: Family>(ip: &Ip) -> Option<Ends<F::Addr>>
+fn ends_of<F: Family>(ip: &Ip) -> Option<ContentEnds<F::Addr>>
     ensures { (bytes : List ℕ) →
         option_map (ends_seen F.bytes_of) result ≡ ends_in F.family (ip_seen bytes ip.now) }
 {

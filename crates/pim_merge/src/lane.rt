@@ -7,22 +7,22 @@ ghost use Rattle.std.specs.Option.{option_map, IfSome};
 ghost use Rattle.pim_capture.specs.Capture.{answers, most_captured, most_records, Answer};
 ghost use Rattle.pim_capture.specs.Next.{event_seen, PayloadLiesIn, IsBy, latest_moment, IsRefusal};
 ghost use Rattle.pim_capture.specs.Next.{CountsReads};
-ghost use Rattle.pim_capture.specs.Next.{OnMemory, named_in};
-ghost use Rattle.pim_capture.specs.declared.capture.State.TheVariants.{Unbegun};
+ghost use Rattle.pim_capture.specs.Next.{OnMemory, length_in};
+ghost use Rattle.pim_capture.specs.declared.capture.CaptureState.TheVariants.{Unbegun};
 ghost use Rattle.pim_merge.specs.Lane.{coming_on, without_head, IsLooked, head_time, lane_left};
 ghost use Rattle.pim_merge.specs.Lane.{LacksHeadRoom, KeepsRoom, HadAll, HasFailed};
 ghost use Rattle.pim_merge.specs.Lane.{IsFailedHead, head_rank, with_census};
 ghost use Rattle.pim_merge.specs.Source.{begun_store};
 ghost use Rattle.pim_container.specs.Room.{needs_in};
-ghost use Rattle.pim_container.specs.declared.reader.State.TheVariants as any;
-ghost use Rattle.pim_merge.specs.Merge.{time_told, time_by};
+ghost use Rattle.pim_container.specs.declared.reader.ReaderState.TheVariants as any;
+ghost use Rattle.pim_merge.specs.Merge.{event_time, time_by};
 ghost use Rattle.pim_merge.specs.Chosen.{answers_by, answers_of_files, all_known, all_failures};
-ghost use Rattle.pim_merge.specs.Looks.{StillComes, IsToldOrRefused};
+ghost use Rattle.pim_merge.specs.Looks.{StillComes, IsReadOrRefused};
 ghost use Rattle.pim_merge.specs.Tally.{no_tally, next_place};
 
 use crate::chosen::Chosen;
 use crate::source::Source;
-use crate::tally::{Place, Tally, count_head};
+use crate::tally::{RecordPlace, Tally, count_head};
 use pim_addr::{AddressFamily, Feed};
 use pim_capture::{Capture, CaptureFault, Event, Why};
 use pim_container::Choice;
@@ -76,7 +76,7 @@ fn time_by(why: Why, millis: u64) -> Option<u64>
 /// The time of a record in milliseconds since 1970. The end, and a record without a time, have
 /// none.
 pub(crate) fn time_of(event: &Event) -> Option<u64>
-    ensures { (bytes : List ℕ) → result ≡ time_told (event_seen bytes event.now) }
+    ensures { (bytes : List ℕ) → result ≡ event_time (event_seen bytes event.now) }
 {
     match event {
         Event::Packet { millis, .. } => Some(*millis),
@@ -94,7 +94,7 @@ impl<R: Feed + Drop> Lane<R> {
         ensures left { result.left ≡ most_records }
         ensures passes { result.passes ≡ false }
         ensures room { result.room ≡ 0 }
-        ensures size { result.size ≡ option_map (named_in Unbegun) (R.remaining reader) }
+        ensures size { result.size ≡ option_map (length_in Unbegun) (R.remaining reader) }
         ensures store { result.store ≡ begun_store (Some []) }
         ensures tally { result.tally ≡ no_tally }
     {
@@ -151,7 +151,7 @@ impl<R: Feed + Drop> Lane<R> {
     pub(crate) fn look(&mut self) -> Result<(), CaptureFault>
         ensures coming { IfOk result (λ _. StillComes self.old self.new) }
         ensures looked { IfOk result (λ _. IsLooked self.new) }
-        ensures fault { IfErr result (IsToldOrRefused self.old self.new) }
+        ensures fault { IfErr result (IsReadOrRefused self.old self.new) }
         ensures left { lane_left self.new ≤ lane_left self.old }
         ensures reads { CountsReads (HadAll self.old) self.old.failures self.new.failures result }
         ensures memory { OnMemory result (LacksHeadRoom self.old) }
@@ -207,7 +207,7 @@ impl<R: Feed + Drop> Lane<R> {
     }
 
     /// The place of the record that is taken next.
-    pub(crate) fn next_place(&self) -> Place
+    pub(crate) fn next_place(&self) -> RecordPlace
         ensures { result ≡ next_place self.now.tally }
     {
         self.tally.next_place()

@@ -20,7 +20,7 @@ pub fn merge_by_has_one_end()
 pub fn one_link_is_read_alike()
     ensures { OneLinkIsReadAlike }
 {
-    pim_container::classic_agrees_exactly();
+    pim_container::laws::classic_agrees_exactly();
 }
 
 /// A merge takes the same records of such captures at the same moments, and ends in the same way.

@@ -8,24 +8,24 @@ ghost use Rattle.std.specs.Prelude.{slice_set, vec_len};
 ghost use Rattle.std.specs.Option.{option_map, IfSome};
 ghost use Rattle.std.specs.List.{AllByRecursion};
 ghost use Rattle.pim_capture.specs.Capture.{answers, most_captured, most_records, Answer};
-ghost use Rattle.pim_capture.specs.Next.{latest_moment, event_seen, PayloadLiesIn, IsBy, named_in};
-ghost use Rattle.pim_capture.specs.declared.capture.State.TheVariants.{Unbegun};
+ghost use Rattle.pim_capture.specs.Next.{latest_moment, event_seen, PayloadLiesIn, IsBy, length_in};
+ghost use Rattle.pim_capture.specs.declared.capture.CaptureState.TheVariants.{Unbegun};
 ghost use Rattle.pim_time.specs.Text.{millis_of};
 ghost use Rattle.pim_merge.specs.Merge.{turn, fails, earliest_from, clock_after, is_past};
-ghost use Rattle.pim_merge.specs.Merge.{moment_of, moment_at, time_told};
+ghost use Rattle.pim_merge.specs.Merge.{moment_of, moment_at, event_time};
 ghost use Rattle.pim_merge.specs.Lane.{IsComing, IsLooked, coming_on, failures_of, records_to_come};
 ghost use Rattle.pim_merge.specs.Lane.{head_time, head_rank, lane_at};
 ghost use Rattle.pim_merge.specs.Lane.{without_head, rooms_of, sizes_of, KeepRooms, FailsAt};
-ghost use Rattle.pim_merge.specs.Next.{TellsTurn, IsCause, CountsFailures, KeepsTime, IfTaken};
+ghost use Rattle.pim_merge.specs.Next.{GivesTurn, IsCause, CountsFailures, KeepsTime, IfTaken};
 ghost use Rattle.pim_merge.specs.Next.{HoldsRecord, turns_left};
-ghost use Rattle.pim_merge.specs.Next.{TellsTurnBy, IsFailed};
+ghost use Rattle.pim_merge.specs.Next.{GivesTurnBy, IsFailed};
 ghost use Rattle.pim_merge.specs.Next.{bytes_at, with_fault, LacksMemory};
 ghost use Rattle.pim_merge.specs.Next.{KeepsTallies, IsNumbered};
 ghost use Rattle.pim_merge.specs.Chosen.{answers_by, answers_of_files, all_known, all_failures};
 ghost use Rattle.pim_merge.specs.Lane.{tallies_of, stores_of, with_census};
 ghost use Rattle.pim_merge.specs.Source.{begun_store};
 ghost use Rattle.pim_container.specs.Room.{needs_in};
-ghost use Rattle.pim_container.specs.declared.reader.State.TheVariants as any;
+ghost use Rattle.pim_container.specs.declared.reader.ReaderState.TheVariants as any;
 ghost use Rattle.pim_merge.specs.Tally.{no_tally, tally_at};
 
 use crate::clock::{Clock, moment_at, moment_of};
@@ -68,7 +68,7 @@ pub struct Turn {
 impl Turn {
     /// The time of its record, in milliseconds since 1970; `None` if it has none.
     pub fn time(&self) -> Option<u64>
-        ensures { (bytes : List ℕ) → result ≡ time_told (event_seen bytes self.now.event) }
+        ensures { (bytes : List ℕ) → result ≡ event_time (event_seen bytes self.now.event) }
     {
         time_of(&self.event)
     }
@@ -130,7 +130,7 @@ impl<R: Feed + Drop> Merge<R> {
         ensures rooms { IfOk result (λ _. rooms_of self.new.lanes ≡
             rooms_of self.old.lanes ++ 0 ∷ []) }
         ensures sizes { IfOk result (λ _. sizes_of self.new.lanes ≡
-            sizes_of self.old.lanes ++ option_map (named_in Unbegun) (R.remaining reader) ∷ []) }
+            sizes_of self.old.lanes ++ option_map (length_in Unbegun) (R.remaining reader) ∷ []) }
         ensures stores { IfOk result (λ _. stores_of self.new.lanes ≡
             stores_of self.old.lanes ++ begun_store (Some []) ∷ []) }
         ensures tallies { IfOk result (λ _. tallies_of self.new.lanes ≡
@@ -222,9 +222,9 @@ impl<R: Feed + Drop> Merge<R> {
         ensures coming { IfOk result (λ _. (captures : List (List Answer)) →
             IsComing self.old.lanes captures → IsComing self.new.lanes captures) }
         ensures looked { IfOk result (λ _. AllByRecursion IsLooked self.new.lanes) }
-        ensures fault { IfErr result (λ told. (captures : List (List Answer))
+        ensures fault { IfErr result (λ reported. (captures : List (List Answer))
             → IsComing self.old.lanes captures →
-            turn (with_fault told captures) ≡ fails told.capture told.fault) }
+            turn (with_fault reported captures) ≡ fails reported.capture reported.fault) }
         ensures cause { IfErr result (IsCause self.old.lanes self.new.lanes) }
         ensures left { records_to_come self.new.lanes ≤ records_to_come self.old.lanes }
         ensures reads { CountsFailures self.old.lanes result self.new.lanes }
@@ -232,7 +232,7 @@ impl<R: Feed + Drop> Merge<R> {
         ensures rooms { KeepRooms self.old.lanes self.new.lanes }
         ensures length { length self.new.lanes ≡ length self.old.lanes }
         ensures clock { self.new.clock ≡ self.old.clock }
-        ensures over { IfErr result (λ told. FailsAt told.capture self.new.lanes) }
+        ensures over { IfErr result (λ reported. FailsAt reported.capture self.new.lanes) }
         ensures repeated { (number : ℕ) → FailsAt number self.old.lanes → IsFailed number result }
         ensures tallies { tallies_of self.new.lanes ≡ tallies_of self.old.lanes }
         ensures record { IfErr result (IsNumbered (tallies_of self.old.lanes)) }
@@ -299,7 +299,7 @@ impl<R: Feed + Drop> Merge<R> {
     /// the first capture. Each later call returns `Failed` of this capture.
     pub fn next(&mut self) -> Result<Option<Turn>, MergeFault>
         ensures turn { (captures : List (List Answer)) → IsComing self.old.lanes captures →
-            TellsTurn captures result self.new }
+            GivesTurn captures result self.new }
         ensures cause { IfErr result (IsCause self.old.lanes self.new.lanes) }
         ensures reads { CountsFailures self.old.lanes result self.new.lanes }
         // Memory is refused only if a head wasn't read and its buffer had less room than it needs.
@@ -315,7 +315,7 @@ impl<R: Feed + Drop> Merge<R> {
         ensures nearer { IfTaken result (λ _. turns_left self.new < turns_left self.old) }
         ensures left { turns_left self.new ≤ turns_left self.old }
         // After a fault each call returns `Failed` of the same capture.
-        ensures over { IfErr result (λ told. FailsAt told.capture self.new.lanes) }
+        ensures over { IfErr result (λ reported. FailsAt reported.capture self.new.lanes) }
         ensures repeated { (number : ℕ) → FailsAt number self.old.lanes → IsFailed number result }
         // A turn moves on the tally of its capture by its record, and all else leaves them.
         ensures tallies { KeepsTallies (tallies_of self.old.lanes) result self.new }
@@ -334,7 +334,7 @@ impl<R: Feed + Drop> Merge<R> {
     /// moments.
     pub fn next_by(&mut self, last: Option<Time>) -> Result<Option<Turn>, MergeFault>
         ensures turn { (captures : List (List Answer)) → IsComing self.old.lanes captures →
-            TellsTurnBy last self.old.clock captures result self.new }
+            GivesTurnBy last self.old.clock captures result self.new }
         ensures by { IfTaken result (λ next. is_past last self.new.clock ≡ false) }
         ensures cause { IfErr result (IsCause self.old.lanes self.new.lanes) }
         ensures reads { CountsFailures self.old.lanes result self.new.lanes }
@@ -351,7 +351,7 @@ impl<R: Feed + Drop> Merge<R> {
         ensures nearer { IfTaken result (λ _. turns_left self.new < turns_left self.old) }
         ensures left { turns_left self.new ≤ turns_left self.old }
         // After a fault each call returns `Failed` of the same capture.
-        ensures over { IfErr result (λ told. FailsAt told.capture self.new.lanes) }
+        ensures over { IfErr result (λ reported. FailsAt reported.capture self.new.lanes) }
         ensures repeated { (number : ℕ) → FailsAt number self.old.lanes → IsFailed number result }
         // A turn moves on the tally of its capture by its record, and all else leaves them.
         ensures tallies { KeepsTallies (tallies_of self.old.lanes) result self.new }

@@ -23,15 +23,15 @@ pub(crate) fn look_at_all<R: Feed + Drop>(lanes: &mut [Lane<R>]) -> Result<(), M
     ensures coming { IfOk result (λ _. (captures : List (List Answer)) →
         IsComing lanes.old captures → IsComing lanes.new captures) }
     ensures looked { IfOk result (λ _. AllByRecursion IsLooked lanes.new) }
-    ensures fault { IfErr result (λ told. (captures : List (List Answer))
+    ensures fault { IfErr result (λ reported. (captures : List (List Answer))
         → IsComing lanes.old captures →
-        turn (with_fault told captures) ≡ fails told.capture told.fault) }
+        turn (with_fault reported captures) ≡ fails reported.capture reported.fault) }
     ensures cause { IfErr result (IsCause lanes.old lanes.new) }
     ensures left { records_to_come lanes.new ≤ records_to_come lanes.old }
     ensures reads { CountsFailures lanes.old result lanes.new }
     ensures memory { IfErr result (LacksMemory lanes.old) }
     ensures rooms { KeepRooms lanes.old lanes.new }
-    ensures over { IfErr result (λ told. FailsAt told.capture lanes.new) }
+    ensures over { IfErr result (λ reported. FailsAt reported.capture lanes.new) }
     ensures repeated { (number : ℕ) → FailsAt number lanes.old → IsFailed number result }
     ensures tallies { tallies_of lanes.new ≡ tallies_of lanes.old }
     ensures record { IfErr result (IsNumbered (tallies_of lanes.old)) }

@@ -6,7 +6,7 @@ ghost use Rattle.pim_capture.specs.Capture.{most_captured};
 ghost use Rattle.pim_capture.specs.Next.{seen, PayloadLiesIn, IsBy, latest_moment, LacksRoom};
 ghost use Rattle.pim_capture.specs.Next.{IsNext, IsRefusal, CountsReads, OnMemory};
 ghost use Rattle.pim_merge.specs.Source.{coming, failures_in, left_in, passes_over, HadAllIf};
-ghost use Rattle.pim_merge.specs.Source.{AsksIf, store_in, GrowsWithin};
+ghost use Rattle.pim_merge.specs.Source.{AllocatesIf, store_in, GrowsWithin};
 ghost use Rattle.pim_merge.specs.Source.{room_in, size_in, count_of, is_over_in, IsRepeatedIf};
 
 use crate::chosen::Chosen;
@@ -38,7 +38,7 @@ impl<R: Feed> Source<R> {
         ensures left { left_in self.new + count_of result ≤ left_in self.old }
         ensures memory { OnMemory result (LacksRoom (room_in self.old (vec_capacity buffer.old))
             (size_in R.remaining self.old)
-            × AsksIf (passes_over self.old) (coming R.remaining self.old)
+            × AllocatesIf (passes_over self.old) (coming R.remaining self.old)
             (store_in R.remaining self.old (vec_capacity buffer.old))) }
         ensures piece { GrowsWithin
             (store_in R.remaining self.old (vec_capacity buffer.old)).piece_room

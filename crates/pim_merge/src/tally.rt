@@ -18,7 +18,7 @@ use pim_census::Census;
 
 /// The place of a record in a capture.
 #[derive(Clone, Copy, Debug, PartialEq, Eq)]
-pub struct Place {
+pub struct RecordPlace {
     /// The number of its file, counted from 0.
     pub file: u64,
     /// Its number in this file, counted from 1.
@@ -38,13 +38,13 @@ pub struct Tally {
     /// name.
     pub cut_frames: u64,
     /// The place of the first record inside which its file ended.
-    pub cut_short: Option<Place>,
+    pub cut_short: Option<RecordPlace>,
     /// The time of the last record with a time, in milliseconds since 1970.
     pub last: Option<u64>,
     /// The place of the first record whose time is more than a second before `last`.
-    pub ran_back: Option<Place>,
+    pub ran_back: Option<RecordPlace>,
     /// The place of the first record whose time is more than a day after `last`.
-    pub jumped: Option<Place>,
+    pub jumped: Option<RecordPlace>,
     /// Whom its Join/Prune messages name, if that is counted.
     pub census: Option<Census>,
 }
@@ -64,7 +64,7 @@ fn counted_if(holds: bool, count: u64) -> u64
 }
 
 /// The place of the first record of which something holds, after one more.
-fn first_place(first: Option<Place>, holds: bool, place: Place) -> Option<Place>
+fn first_place(first: Option<RecordPlace>, holds: bool, place: RecordPlace) -> Option<RecordPlace>
     ensures { result ≡ first_place first holds place }
 {
     match first {
@@ -239,10 +239,10 @@ impl Tally {
     }
 
     /// The place of the record that is taken next.
-    pub(crate) fn next_place(&self) -> Place
+    pub(crate) fn next_place(&self) -> RecordPlace
         ensures { result ≡ next_place self.now }
     {
-        Place {
+        RecordPlace {
             file: self.file,
             record: one_more(self.records),
         }

@@ -11,8 +11,8 @@ use Rattle.pim_jp.specs.declared.entry.Entry.TheVariants.{Source, Rpt}
 use Rattle.pim_jp.specs.Message.{GroupSet}
 use Rattle.pim_form.specs.NormalForm.{GroupForm, AreAscending, same_address, groups_of}
 use Rattle.pim_form.specs.Rows.{exceptions_of}
-use Rattle.pim_form.specs.Messages.{Writing, IsRpOf, HaveRps, star_entries as told_star, excepted_entries, told_set, told_message}
-use Rattle.pim_fresh.specs.Asking.{AreDifferent, star_entries, excepted, IsKnownRp, Asks, IsAsking}
+use Rattle.pim_form.specs.Messages.{Writing, IsRpOf, HaveRps, star_entries as told_star, excepted_entries, written_set, written_message}
+use Rattle.pim_fresh.specs.Demanding.{AreDifferent, star_entries, excepted, IsKnownRp, Demands, IsDemanding}
 use Rattle.pim_mirror.specs.CanonicalParts.{HasListsInOrder, IsInOrder}
 use Rattle.pim_mirror.proofs.ListParts.{all_known}
 use Rattle.pim_mirror.proofs.SameAddresses.{less_apart}
@@ -41,7 +41,7 @@ unfolding IsDistinct
 different_exceptions None up = tt
 different_exceptions (Some exceptions) up = different exceptions up
 
-set_asks : (family : AddressFamily) (rps : List ℕ → Option (List ℕ)) (this : GroupForm) → HasListsInOrder this → IsRpOf family (rps this.group) this.star → Asks rps (told_set rps this)
+set_asks : (family : AddressFamily) (rps : List ℕ → Option (List ℕ)) (this : GroupForm) → HasListsInOrder this → IsRpOf family (rps this.group) this.star → Demands rps (written_set rps this)
 set_asks family rps this lists is =
     let star = star_is_told family (rps this.group) this.star is in
     record {
@@ -55,16 +55,16 @@ set_asks family rps this lists is =
       different_exceptions = different_exceptions this.star lists.exceptions;
     }
 
-sets_ask : (family : AddressFamily) (rps : List ℕ → Option (List ℕ)) (part : List GroupForm) → AllByRecursion HasListsInOrder part → HaveRps family rps part → AllByRecursion (Asks rps) (map (told_set rps) part)
+sets_ask : (family : AddressFamily) (rps : List ℕ → Option (List ℕ)) (part : List GroupForm) → AllByRecursion HasListsInOrder part → HaveRps family rps part → AllByRecursion (Demands rps) (map (written_set rps) part)
 sets_ask family rps [] lists have = tt
 sets_ask family rps (this ∷ part) lists have = (set_asks family rps this lists.0 have.0, sets_ask family rps part lists.1 have.1)
 
-groups_told : (rps : List ℕ → Option (List ℕ)) (part : List GroupForm) → map (λ (set : GroupSet). set.group) (map (told_set rps) part) ≡ groups_of part
+groups_told : (rps : List ℕ → Option (List ℕ)) (part : List GroupForm) → map (λ (set : GroupSet). set.group) (map (written_set rps) part) ≡ groups_of part
 groups_told rps [] = refl
 groups_told rps (this ∷ part) = ap (λ (groups : List (List ℕ)). this.group ∷ groups) (groups_told rps part)
 
-pub part_asks : (family : AddressFamily) (writing : Writing) (rps : List ℕ → Option (List ℕ)) (part : List GroupForm) → IsInOrder part → HaveRps family rps part → IsAsking rps (told_message writing rps part)
-part_asks family writing rps part order have = record {
+pub part_demands : (family : AddressFamily) (writing : Writing) (rps : List ℕ → Option (List ℕ)) (part : List GroupForm) → IsInOrder part → HaveRps family rps part → IsDemanding rps (written_message writing rps part)
+part_demands family writing rps part order have = record {
   sets = sets_ask family rps part order.lists have;
   different_groups = subst AreDifferent (sym (groups_told rps part)) (different (groups_of part) order.groups);
 }

@@ -7,14 +7,14 @@ use Rattle.pim_addr.specs.Routes.{RouteTable, IsRouteTable, rp_of}
 use Rattle.pim_down.specs.Time.{Downstream}
 use Rattle.pim_form.specs.Messages.{Writing, IsWriting, HaveRps, AreCanonical}
 use Rattle.pim_fresh.specs.Deliveries.{Delivery}
-use Rattle.pim_router.specs.Course.{Input, Telling, runs_to, takes, IsCourse}
+use Rattle.pim_router.specs.Course.{Input, RouterReport, runs_to, takes, IsCourse}
 use Rattle.pim_router.specs.State.{RouterState, new_router}
 use Rattle.pim_mirror.specs.Config.{Fresh, newest_first, end_of, setup_of}
 use Rattle.pim_mirror.specs.Fits.{Fits}
 use Rattle.pim_mirror.specs.CanonicalCourse.{AreOf, inputs_of}
 use Rattle.pim_mirror.specs.Hellos.{HasMet}
 use Rattle.pim_mirror.specs.HelloLaws.{WrittenHellosAreRead, HellosAreHeard}
-use Rattle.pim_mirror.specs.Laws.{AskedStarsHaveRps}
+use Rattle.pim_mirror.specs.Laws.{DemandedStarsHaveRps}
 use Rattle.pim_mirror.specs.Mirror.{delivery_inputs, GoesThrough}
 use Rattle.pim_mirror.specs.Headline.{AreMessagesOf}
 use Rattle.pim_mirror.proofs.CourseSteps.{parts}
@@ -39,39 +39,39 @@ module _ (family : AddressFamily) (writing : Writing) (messages : List (List ℕ
   newest_last fresh sender =
       ap (λ (own : List ℕ). flat_map (delivery_inputs family messages own) fresh.deliveries) sender ∙ sym (turned fresh.deliveries [])
 
-module _ (read : WrittenHellosAreRead) (hellos_heard : HellosAreHeard) (stars : AskedStarsHaveRps)
+module _ (read : WrittenHellosAreRead) (hellos_heard : HellosAreHeard) (stars : DemandedStarsHaveRps)
     (family : AddressFamily) (table : RouteTable) (writing : Writing) (state : Downstream) (messages : List (List ℕ)) (fresh : Fresh) (needed : Option ℕ) (router : RouterState)
-    (sound : IsRouteTable family table) (is_writing : IsWriting family writing) (asked : AreMessagesOf family table writing state messages) (fits : Fits messages writing table fresh) (goes : GoesThrough family messages fresh needed router) where
+    (sound : IsRouteTable family table) (is_writing : IsWriting family writing) (demanded : AreMessagesOf family table writing state messages) (fits : Fits messages writing table fresh) (goes : GoesThrough family messages fresh needed router) where
   pub record Begun : Type 0 where
     pub start : RouterState
-    pub told : List Telling
-    pub said : List Telling
-    pub joined : goes.told ≡ told ++ said
-    pub hellos : IsCourse family (map (λ packet. takes packet) goes.hellos) told (new_router (setup_of fresh)) start
+    pub reported : List RouterReport
+    pub said : List RouterReport
+    pub joined : goes.reported ≡ reported ++ said
+    pub hellos : IsCourse family (map (λ packet. takes packet) goes.hellos) reported (new_router (setup_of fresh)) start
     pub met : HasMet writing fresh start
     pub routes : start.routes ≡ table
-    pub have : HaveRps family (rp_of family start.routes) asked.form
-    pub messages_are : AreCanonical family writing (rp_of family start.routes) asked.form messages
+    pub have : HaveRps family (rp_of family start.routes) demanded.form
+    pub messages_are : AreCanonical family writing (rp_of family start.routes) demanded.form messages
     pub are_of : AreOf (length messages) (newest_first fresh)
     pub course : IsCourse family (inputs_of family writing 0 messages (newest_first fresh) ++ runs_to (end_of fresh) ∷ []) said start router
 
   pub begun : Begun
   begun =
       let hellos : List Input = map (λ packet. takes packet) goes.hellos in
-      let course = subst (λ (inputs : List Input). IsCourse family (hellos ++ (inputs ++ runs_to (end_of fresh) ∷ [])) goes.told (new_router (setup_of fresh)) router) (newest_last family writing messages fresh fits.sender) goes.course in
-      let two = parts family hellos (inputs_of family writing 0 messages (newest_first fresh) ++ runs_to (end_of fresh) ∷ []) goes.told (new_router (setup_of fresh)) router course in
-      let met : HasMet writing fresh two.between = hellos_heard family messages writing table fresh goes.hellos two.told two.between is_writing fits (read family _ goes.hellos goes.are_hellos) two.first in
+      let course = subst (λ (inputs : List Input). IsCourse family (hellos ++ (inputs ++ runs_to (end_of fresh) ∷ [])) goes.reported (new_router (setup_of fresh)) router) (newest_last family writing messages fresh fits.sender) goes.course in
+      let two = parts family hellos (inputs_of family writing 0 messages (newest_first fresh) ++ runs_to (end_of fresh) ∷ []) goes.reported (new_router (setup_of fresh)) router course in
+      let met : HasMet writing fresh two.between = hellos_heard family messages writing table fresh goes.hellos two.reported two.between is_writing fits (read family _ goes.hellos goes.are_hellos) two.first in
       let same : two.between.routes ≡ table = met.routes ∙ fits.routes in
       record {
         start = two.between;
-        told = two.told;
+        reported = two.reported;
         said = two.said;
         joined = two.joined;
         hellos = two.first;
         met = met;
         routes = same;
-        have = subst (λ (t : RouteTable). HaveRps family (rp_of family t) asked.form) (sym same) (stars family table writing.upstream state asked.form sound asked.is);
-        messages_are = subst (λ (t : RouteTable). AreCanonical family writing (rp_of family t) asked.form messages) (sym same) asked.told;
-        are_of = all_turned (λ (delivery : Delivery). delivery.message < length messages) fresh.deliveries [] fits.named tt;
+        have = subst (λ (t : RouteTable). HaveRps family (rp_of family t) demanded.form) (sym same) (stars family table writing.upstream state demanded.form sound demanded.is);
+        messages_are = subst (λ (t : RouteTable). AreCanonical family writing (rp_of family t) demanded.form messages) (sym same) demanded.reported;
+        are_of = all_turned (λ (delivery : Delivery). delivery.message < length messages) fresh.deliveries [] fits.listed tt;
         course = two.second;
       }

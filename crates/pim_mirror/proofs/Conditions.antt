@@ -72,9 +72,9 @@ module _ {A : Type 0} (bytes_of : A → List ℕ) where
 
 -- ---- the deliveries
 
-pub named : (deliveries : List code.Delivery) (count : ℕ) → list_all (λ (delivery : code.Delivery). ltb delivery.message count) deliveries ≡ true →
+pub listed : (deliveries : List code.Delivery) (count : ℕ) → list_all (λ (delivery : code.Delivery). ltb delivery.message count) deliveries ≡ true →
     AllByRecursion (λ (delivery : Delivery). delivery.message < count) (map delivery_seen deliveries)
-named deliveries count e =
+listed deliveries count e =
     each_seen_is delivery_seen (λ (delivery : code.Delivery). ltb delivery.message count) (λ (delivery : Delivery). delivery.message < count)
     (λ delivery t. ltb-true delivery.message count t) deliveries e
 
@@ -129,9 +129,9 @@ module _ (deliveries : List code.Delivery) (end last : ℕ) where
   pub timely_at : (count : ℕ) (expiry time : Option ℕ) → expiry ≡ time → end ≡ last → is_in_order end 0 (map delivery_seen deliveries) ≡ true →
       AllByRecursion (λ (delivery : Delivery). delivery.message < count) (map delivery_seen deliveries) →
       ((message : ℕ) → message < count → is_kept expiry end message None (map delivery_seen deliveries) ≡ true) → IsTimely time last (newest deliveries)
-  timely_at count expiry time same ends order named each =
+  timely_at count expiry time same ends order listed each =
       subst (λ (t : Option ℕ). IsTimely t last (newest deliveries)) same
-      (subst (λ (n : ℕ). IsTimely expiry n (newest deliveries)) ends (timely expiry end count (map delivery_seen deliveries) order named each))
+      (subst (λ (n : ℕ). IsTimely expiry n (newest deliveries)) ends (timely expiry end count (map delivery_seen deliveries) order listed each))
 
   pub order_test_at : (time : Option ℕ) → end ≡ last → IsTimely time last (newest deliveries) → is_in_order end 0 (map delivery_seen deliveries) ≡ true
   order_test_at time ends t = in_order time end (map delivery_seen deliveries) (subst (λ (n : ℕ). IsTimely time n (newest deliveries)) (sym ends) t)

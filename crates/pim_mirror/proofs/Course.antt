@@ -10,11 +10,11 @@ use Rattle.pim_down.specs.Time.{Downstream, Runs}
 use Rattle.pim_down.specs.Laws.{RunKeepsItsBounds, RunHasOneEnd}
 use Rattle.pim_form.specs.NormalForm.{GroupForm, IsNormal}
 use Rattle.pim_form.specs.Messages.{Writing, IsWriting, HaveRps, AreCanonical}
-use Rattle.pim_fresh.specs.Exchange.{Exchange, TellsUnitsOnce}
+use Rattle.pim_fresh.specs.Exchange.{Exchange, HasUnitsOnce}
 use Rattle.pim_fresh.specs.Deliveries.{Delivery, is_delivered, IsTimely}
 use Rattle.pim_fresh.specs.Expected.{units_of}
 use Rattle.pim_fresh.specs.Hearing.{fresh, after_message, Leaves}
-use Rattle.pim_fresh.specs.Laws.{NoEchoIsTold, EveryHearingReaches, NeedsTheUnits}
+use Rattle.pim_fresh.specs.Laws.{NoEchoIsDue, EveryHearingReaches, NeedsTheUnits}
 use Rattle.pim_router.specs.Course.{Reaches}
 use Rattle.pim_router.specs.State.{RouterState, with_machines}
 use Rattle.pim_router.specs.declared.verdict.Verdict.{Verdict}
@@ -23,7 +23,7 @@ use Rattle.pim_router.specs.declared.verdict.Store.TheVariants.{Records}
 use Rattle.pim_mirror.specs.CanonicalCourse.{HearsAll, IsTaken, AreOf, HoldsNothing}
 use Rattle.pim_mirror.specs.CanonicalExchange.{exchange_in}
 use Rattle.pim_mirror.specs.CanonicalPackets.{packet_of, HearsWriter, IsHeard}
-use Rattle.pim_mirror.specs.Laws.{CanonicalMessagesTellForm, CanonicalPacketIsHeard, RouterLeavesItsPort, DeliveryIsTaken}
+use Rattle.pim_mirror.specs.Laws.{CanonicalMessagesCarryForm, CanonicalPacketIsHeard, RouterLeavesItsPort, DeliveryIsTaken}
 use Rattle.pim_mirror.proofs.RouterRuns.{reaches_as}
 
 pub leaves_bounds : RunKeepsItsBounds → (exchange : Exchange) (ports limit : ℕ) (deliveries : List Delivery) (moment : ℕ) (after : Downstream) → Leaves exchange ports limit deliveries moment after
@@ -49,14 +49,14 @@ unfolding IsTimely
 timely_before expiry delivery earlier moment timely = timely.2
 
 -- no run of fresh machines tells an echo
-pub fresh_quiet : EveryHearingReaches → RunHasOneEnd → (exchange : Exchange) (limit : ℕ) → TellsUnitsOnce exchange → (machines : Downstream) → machines ≡ fresh 1 limit
+pub fresh_quiet : EveryHearingReaches → RunHasOneEnd → (exchange : Exchange) (limit : ℕ) → HasUnitsOnce exchange → (machines : Downstream) → machines ≡ fresh 1 limit
     → (moment : ℕ) (answer : Step (List ℕ)) (end : Downstream) → Runs moment machines answer end → answer ≡ Reached
 unfolding Leaves IsTimely
 fresh_quiet reaching one_end exchange limit once machines nothing moment answer end runs =
     let left = reaching exchange 1 limit [] moment once tt in
     (one_end moment (fresh 1 limit) end left.after answer Reached (subst (λ (m : Downstream). Runs moment m answer end) nothing runs) left.leaves).0
 
-module _ (tells : CanonicalMessagesTellForm) (heard : CanonicalPacketIsHeard) (needs : NeedsTheUnits) (bounds : RunKeepsItsBounds)
+module _ (tells : CanonicalMessagesCarryForm) (heard : CanonicalPacketIsHeard) (needs : NeedsTheUnits) (bounds : RunKeepsItsBounds)
     (family : AddressFamily) (writing : Writing) (form : List GroupForm) (messages : List (List ℕ)) (timing : Timing) (limit : ℕ) (routes : RouteTable)
     (is_writing : IsWriting family writing) (is : IsNormal family form) (have : HaveRps family (rp_of family routes) form) (are : AreCanonical family writing (rp_of family routes) form messages) where
   abbrev exchange : Exchange
@@ -82,7 +82,7 @@ module _ (tells : CanonicalMessagesTellForm) (heard : CanonicalPacketIsHeard) (n
         full = λ many. here.full (omega (arith, count, room, many)) ∙ ap (λ (n : ℕ). (Full (Records n), before)) count;
       }
 
-  module _ (quiet : NoEchoIsTold) (reaching : EveryHearingReaches) (one_end : RunHasOneEnd) (start : RouterState) (begins : start.routes ≡ routes) (nothing : HoldsNothing limit start) where
+  module _ (quiet : NoEchoIsDue) (reaching : EveryHearingReaches) (one_end : RunHasOneEnd) (start : RouterState) (begins : start.routes ≡ routes) (nothing : HoldsNothing limit start) where
     hears_leaves : (deliveries : List Delivery) (moment : ℕ) (after : RouterState) → AreOf (length messages) deliveries → IsTimely (start_of writing.holdtime timing).expires_in moment deliveries
         → length (units_of exchange deliveries) ≤ limit → HearsAll family writing 0 timing messages start deliveries moment after
         → Leaves exchange 1 limit deliveries moment after.machines × (after.routes ≡ routes)
@@ -93,18 +93,18 @@ module _ (tells : CanonicalMessagesTellForm) (heard : CanonicalPacketIsHeard) (n
     hears_leaves (delivery ∷ earlier) moment after of timely few all =
         let before = hears_leaves earlier delivery.moment all.before of.1 (timely_before (start_of writing.holdtime timing).expires_in delivery earlier moment timely) (fewer_units exchange limit delivery earlier few) all.was in
         let applied = (taken delivery earlier all.before before.1 of.0 all.hears (timely_before (start_of writing.holdtime timing).expires_in delivery earlier moment timely) before.0).applied few in
-        let reaches : Reaches moment all.told (with_machines all.before (after_message exchange delivery.message all.before.machines)) after =
-        subst (λ (end : Verdict × RouterState). Reaches moment all.told end.1 after) applied all.reaches in
-        let ends = reaches_as moment all.told (with_machines all.before (after_message exchange delivery.message all.before.machines)) after
+        let reaches : Reaches moment all.reported (with_machines all.before (after_message exchange delivery.message all.before.machines)) after =
+        subst (λ (end : Verdict × RouterState). Reaches moment all.reported end.1 after) applied all.reaches in
+        let ends = reaches_as moment all.reported (with_machines all.before (after_message exchange delivery.message all.before.machines)) after
         (λ answer end runs. quiet exchange 1 limit delivery earlier moment all.before.machines end answer
         (tells family writing (rp_of family routes) form messages 0 timing is_writing is have are).once timely before.0 runs) reaches in
         (record { before = all.before.machines; was = before.0; runs = ends.0 }, ends.1 ∙ before.1)
 
-pub leaves_its_port : CanonicalMessagesTellForm → CanonicalPacketIsHeard → NoEchoIsTold → EveryHearingReaches → NeedsTheUnits → RunKeepsItsBounds → RunHasOneEnd → RouterLeavesItsPort
+pub leaves_its_port : CanonicalMessagesCarryForm → CanonicalPacketIsHeard → NoEchoIsDue → EveryHearingReaches → NeedsTheUnits → RunKeepsItsBounds → RunHasOneEnd → RouterLeavesItsPort
 leaves_its_port tells heard quiet reaching needs bounds one_end family writing form messages timing limit start deliveries moment after is_writing is have are nothing of timely few all =
     hears_leaves tells heard needs bounds family writing form messages timing limit start.routes is_writing is have are quiet reaching one_end start refl nothing deliveries moment after of timely few all
 
-pub one_more_taken : RouterLeavesItsPort → CanonicalMessagesTellForm → CanonicalPacketIsHeard → NeedsTheUnits → RunKeepsItsBounds → DeliveryIsTaken
+pub one_more_taken : RouterLeavesItsPort → CanonicalMessagesCarryForm → CanonicalPacketIsHeard → NeedsTheUnits → RunKeepsItsBounds → DeliveryIsTaken
 one_more_taken leaves tells heard needs bounds family writing form messages timing limit start delivery earlier before is_writing is have are nothing of timely few all hears =
     let behind = leaves family writing form messages timing limit start earlier delivery.moment before is_writing is have are nothing of.1 timely few all in
     taken tells heard needs bounds family writing form messages timing limit start.routes is_writing is have are delivery earlier before behind.1 of.0 hears timely behind.0

@@ -7,15 +7,15 @@ use Rattle.std.specs.Cmp.{eq_by_cmp_equiv}
 use Rattle.std.specs.Cmp.Lexicographic.{nat_list_cmp_total, pointwise}
 use Rattle.std.proofs.lemmas.Bool.{false≢true, eqb-true, leb-true}
 use Rattle.pim_addr.specs.declared.family.AddressFamily.{AddressFamily}
-use Rattle.pim_hello.specs.Interval.{override_interval}
+use Rattle.pim_hello.specs.Interval.{jp_override_interval}
 use Rattle.pim_hello.specs.Neighbours.{no_neighbours, is_address, without_ended, lifetime, says_goodbye, is_full}
 use Rattle.pim_form.specs.Messages.{Writing}
 use Rattle.pim_form.specs.NormalForm.{same_address}
-use Rattle.pim_fresh.specs.Asking.{AreDifferent}
+use Rattle.pim_fresh.specs.Demanding.{AreDifferent}
 use Rattle.pim_fresh.specs.Deliveries.{IsShorter}
 use Rattle.pim_fresh.specs.Hearing.{fresh as no_machines}
-use Rattle.pim_router.specs.Course.{takes, Telling, IsCourse}
-use Rattle.pim_router.specs.Packets.{Packet, own_address, neighbours_on, timing_on, hello_taken}
+use Rattle.pim_router.specs.Course.{takes, RouterReport, IsCourse}
+use Rattle.pim_router.specs.Packets.{Packet, own_address, neighbours_on, timing_on, hello_heard}
 use Rattle.pim_router.specs.State.{Port, RouterState, new_router, refresh_period}
 use Rattle.pim_router.specs.declared.verdict.Verdict.{Verdict}
 use Rattle.pim_mirror.specs.Config.{Neighbour, Fresh, first_port, port_of, sender_hello, neighbours, interval_of, end_of, setup_of}
@@ -137,20 +137,20 @@ module _ (fresh : Fresh) where
         ∙ and_false (not (says_goodbye neighbour.hello) && not (is_known neighbour.address es))
 
     taken_is : (neighbour : Neighbour) (es : List Entry) → AllLast end es → IsShorter end (lifetime neighbour.hello.holdtime)
-        → (hello_taken 0 neighbour.address (knowing es) neighbour.hello).1 ≡ knowing (inserted es (kept neighbour))
+        → (hello_heard 0 neighbour.address (knowing es) neighbour.hello).1 ≡ knowing (inserted es (kept neighbour))
     unfolding AllLast
     taken_is neighbour es last stays =
         ap (λ (es : List Entry). knowing (if says_goodbye neighbour.hello then remove_entry (is_address neighbour.address) es else inserted es (kept neighbour))) (all_stay end es last)
         ∙ ap (λ b. knowing (if b then remove_entry (is_address neighbour.address) es else inserted es (kept neighbour))) (no_goodbye end neighbour.hello.holdtime stays)
 
-    met_all : (others : List Neighbour) (hellos : List Packet) (told : List Telling) (es : List Entry) (after : RouterState) → AreHellosFrom family others hellos
-        → IsCourse family (map (λ packet. takes packet) hellos) told (knowing es) after → AllByRecursion (CanBeMet (own_address 0 (knowing [])) end) others → AreApart es (map kept others) → AllLast end es
+    met_all : (others : List Neighbour) (hellos : List Packet) (reported : List RouterReport) (es : List Entry) (after : RouterState) → AreHellosFrom family others hellos
+        → IsCourse family (map (λ packet. takes packet) hellos) reported (knowing es) after → AllByRecursion (CanBeMet (own_address 0 (knowing [])) end) others → AreApart es (map kept others) → AllLast end es
         → length es + length others ≤ 1024 → after ≡ knowing (all_inserted es (map kept others))
     unfolding IsCourse AreHellosFrom AreApart all_inserted AllLast
-    met_all [] [] told es after are course can apart last few = course.1
-    met_all [] (packet ∷ packets) told es after are course can apart last few = absurd are
-    met_all (neighbour ∷ others) [] told es after are course can apart last few = absurd are
-    met_all (neighbour ∷ others) (packet ∷ packets) told es after are course can apart last few =
+    met_all [] [] reported es after are course can apart last few = course.1
+    met_all [] (packet ∷ packets) reported es after are course can apart last few = absurd are
+    met_all (neighbour ∷ others) [] reported es after are course can apart last few = absurd are
+    met_all (neighbour ∷ others) (packet ∷ packets) reported es after are course can apart last few =
         let heard = received_is family neighbour packet (knowing es) are.0 (apart_test neighbour.address (own_address 0 (knowing [])) can.0.other) (room_is neighbour es last (omega (arith, few))) in
         let next : course.between ≡ knowing (inserted es (kept neighbour)) =
         course.begins.1 ∙ ap (λ (end : Verdict × RouterState). end.1) heard ∙ taken_is neighbour es last can.0.stays in
@@ -196,15 +196,15 @@ module _ (fresh : Fresh) where
     stay : (without_ended (record { moment = 0; entries = entries })).entries ≡ entries
     stay = all_stay (end_of fresh) entries last
 
-    timing_is : override_interval (port_of fresh).propagation (port_of fresh).override_ms (hellos_in entries) ≡ interval_of fresh → length entries ≡ length (neighbours fresh)
+    timing_is : jp_override_interval (port_of fresh).propagation (port_of fresh).override_ms (hellos_in entries) ≡ interval_of fresh → length entries ≡ length (neighbours fresh)
         → timing_of fresh ≡ timing_on 0 (knowing fresh entries)
     timing_is interval count =
         ap₂ (λ (n m : ℕ). record { override_ms = n; several = ltb 1 m })
-        (sym interval ∙ ap₂ (λ (port : Port) (es : List Entry). override_interval port.propagation port.override_ms (hellos_in es)) (sym (only_port fresh.ports)) (sym stay))
+        (sym interval ∙ ap₂ (λ (port : Port) (es : List Entry). jp_override_interval port.propagation port.override_ms (hellos_in es)) (sym (only_port fresh.ports)) (sym stay))
         (sym count ∙ ap length (sym stay))
 
     met : ((end : ℕ) → OthersStay fresh end → AllLast end entries) → (port_of fresh).address ≡ writing.upstream → is_known writing.own entries ≡ true
-        → override_interval (port_of fresh).propagation (port_of fresh).override_ms (hellos_in entries) ≡ interval_of fresh → length entries ≡ length (neighbours fresh)
+        → jp_override_interval (port_of fresh).propagation (port_of fresh).override_ms (hellos_in entries) ≡ interval_of fresh → length entries ≡ length (neighbours fresh)
         → HasMet writing fresh (knowing fresh entries)
     met all address known interval count = record {
       nothing = refl;
@@ -222,17 +222,17 @@ same_key a = (eq_by_cmp_equiv nat_list_cmp_total).refl a
 
 pub hellos_are_heard : HellosAreHeard
 unfolding Differ AllLast
-hellos_are_heard family messages writing table fresh hellos told after is_writing fits are course =
+hellos_are_heard family messages writing table fresh hellos reported after is_writing fits are course =
     let own : own_address 0 (knowing fresh []) ≡ writing.upstream = ap (λ (port : Port). port.address) (only_port fresh fresh.ports) ∙ fits.address in
     let apart : AreApart [] (map kept (neighbours fresh)) = apart_from [] (neighbours fresh) (none_apart (neighbours fresh)) (differ fits) in
-    let end = met_all fresh family (end_of fresh) (neighbours fresh) hellos told [] after are
-    (subst (λ (state : RouterState). IsCourse family (map (λ packet. takes packet) hellos) told state after) (begins fresh fits.one_port) course)
+    let end = met_all fresh family (end_of fresh) (neighbours fresh) hellos reported [] after are
+    (subst (λ (state : RouterState). IsCourse family (map (λ packet. takes packet) hellos) reported state after) (begins fresh fits.one_port) course)
     (can fits own) apart (none_last (end_of fresh)) (omega (arith, fits.others_count)) in
     let entries : List Entry = all_inserted [] (map kept (neighbours fresh)) in
     subst (HasMet writing fresh) (sym end)
     (met fresh writing entries (lasting apart (end_of fresh) fits.others_stay) (lasting apart) fits.address
     (known_all writing.own [] (map kept (neighbours fresh)) apart ∙ known_first fits)
-    (interval_all (port_of fresh).propagation (port_of fresh).override_ms [] (map kept (neighbours fresh)) apart ∙ ap (override_interval (port_of fresh).propagation (port_of fresh).override_ms) (hellos_kept (neighbours fresh)))
+    (interval_all (port_of fresh).propagation (port_of fresh).override_ms [] (map kept (neighbours fresh)) apart ∙ ap (jp_override_interval (port_of fresh).propagation (port_of fresh).override_ms) (hellos_kept (neighbours fresh)))
     (count_all [] (map kept (neighbours fresh)) apart ∙ count_kept (neighbours fresh)))
   where
     differ : Fits messages writing table fresh → Differ (neighbours fresh)

@@ -9,10 +9,10 @@ use Rattle.pim_down.specs.Tables.{machine_in}
 use Rattle.pim_down.specs.Time.{Downstream, expiry_after}
 use Rattle.pim_form.specs.NormalForm.{GroupForm}
 use Rattle.pim_fresh.specs.Deliveries.{Delivery, last_of, is_delivered}
-use Rattle.pim_fresh.specs.Exchange.{Exchange, is_named}
-use Rattle.pim_fresh.specs.Expected.{Span, up_to, span_of, asked_state, asked_of, IsAsAsked}
+use Rattle.pim_fresh.specs.Exchange.{Exchange, has_unit_of}
+use Rattle.pim_fresh.specs.Expected.{Span, up_to, span_of, state_wanted, machine_wanted, IsAsWanted}
 use Rattle.pim_fresh.specs.Laws.{SpanIsOfItsMessage}
-use Rattle.pim_mirror.specs.CanonicalExchange.{IsTold, TellsForm}
+use Rattle.pim_mirror.specs.CanonicalExchange.{IsCarried, CarriesForm}
 use Rattle.pim_mirror.specs.CanonicalMirror.{AllCame}
 use Rattle.pim_mirror.specs.Fits.{expiry_of}
 use Rattle.pim_mirror.specs.Headline.{HoldsTheForm}
@@ -34,18 +34,18 @@ came_last message (delivery ∷ earlier) came = by (delivery.message == message)
         record { last = before.last; is = ap (λ b. if b then Some delivery.moment else last_of message earlier) e ∙ before.is }
 
 -- a machine that has a span is named by a message
-record IsNamedBy (exchange : Exchange) (key : Key (List ℕ)) : Type 0 where
+record HasLabel (exchange : Exchange) (key : Key (List ℕ)) : Type 0 where
   message : ℕ
-  named : is_named exchange.port key (exchange.messages message) ≡ true
+  listed : has_unit_of exchange.port key (exchange.messages message) ≡ true
 
-names_it : (exchange : Exchange) (key : Key (List ℕ)) (deliveries : List Delivery) → is_some (span_of exchange key deliveries) ≡ true → IsNamedBy exchange key
+names_it : (exchange : Exchange) (key : Key (List ℕ)) (deliveries : List Delivery) → is_some (span_of exchange key deliveries) ≡ true → HasLabel exchange key
 unfolding span_of
 names_it exchange key [] some = absurd (false≢true some)
-names_it exchange key (delivery ∷ earlier) some = by (is_named exchange.port key (exchange.messages delivery.message)) refl (λ before. names_it exchange key earlier before) some
+names_it exchange key (delivery ∷ earlier) some = by (has_unit_of exchange.port key (exchange.messages delivery.message)) refl (λ before. names_it exchange key earlier before) some
   where
-    by : (b : Bool) → is_named exchange.port key (exchange.messages delivery.message) ≡ b → (is_some (span_of exchange key earlier) ≡ true → IsNamedBy exchange key)
-        → is_some (if b then Some (up_to delivery.moment (span_of exchange key earlier)) else span_of exchange key earlier) ≡ true → IsNamedBy exchange key
-    by true e others f = record { message = delivery.message; named = e }
+    by : (b : Bool) → has_unit_of exchange.port key (exchange.messages delivery.message) ≡ b → (is_some (span_of exchange key earlier) ≡ true → HasLabel exchange key)
+        → is_some (if b then Some (up_to delivery.moment (span_of exchange key earlier)) else span_of exchange key earlier) ≡ true → HasLabel exchange key
+    by true e others f = record { message = delivery.message; listed = e }
     by false e others f = others f
 
 module _ (exchange : Exchange) (moment : ℕ) (what : What (List ℕ)) where
@@ -56,31 +56,31 @@ module _ (exchange : Exchange) (moment : ℕ) (what : What (List ℕ)) where
   same_last last other e = cc
 
   asked_by : (last : ℕ) (span : Option Span) → option_map (λ (span : Span). span.last) span ≡ Some last
-      → asked_of exchange moment what span ≡ machine_in (asked_state what) (expiry_after (moment - last) (expiry_of exchange.holdtime)) None
+      → machine_wanted exchange moment what span ≡ machine_in (state_wanted what) (expiry_after (moment - last) (expiry_of exchange.holdtime)) None
   asked_by last None e = absurd (no_span last e)
   asked_by last (Some span) e =
-      ap (λ (n : ℕ). machine_in (asked_state what) (expiry_after (moment - n) (expiry_of exchange.holdtime)) None) (same_last span.last last e)
+      ap (λ (n : ℕ). machine_in (state_wanted what) (expiry_after (moment - n) (expiry_of exchange.holdtime)) None) (same_last span.last last e)
 
-  held_span : (span : Option Span) → is_some (asked_of exchange moment what span) ≡ true → is_some span ≡ true
+  held_span : (span : Option Span) → is_some (machine_wanted exchange moment what span) ≡ true → is_some span ≡ true
   held_span None e = e
   held_span (Some span) e = refl
 
 pub holds_the_form : SpanIsOfItsMessage → (exchange : Exchange) (count : ℕ) (form : List GroupForm) (deliveries : List Delivery) (moment : ℕ) (state : Downstream)
-    → TellsForm exchange count form → AllCame count deliveries → IsAsAsked exchange deliveries moment state → HoldsTheForm exchange count form deliveries moment state
-holds_the_form span_is exchange count form deliveries moment state tells came asked = record {
-  held = λ key on named.
-      let told : IsTold exchange count key = tells.all key on named in
-      let last = came_last told.message deliveries (came told.message told.within) in
+    → CarriesForm exchange count form → AllCame count deliveries → IsAsWanted exchange deliveries moment state → HoldsTheForm exchange count form deliveries moment state
+holds_the_form span_is exchange count form deliveries moment state tells came demanded = record {
+  held = λ key on listed.
+      let reported : IsCarried exchange count key = tells.all key on listed in
+      let last = came_last reported.message deliveries (came reported.message reported.within) in
       record {
-        message = told.message;
-        within = told.within;
-        named = told.named;
+        message = reported.message;
+        within = reported.within;
+        listed = reported.listed;
         last = last.last;
         came = last.is;
-        is = asked key ∙ asked_by exchange moment key.what last.last (span_of exchange key deliveries) ((span_is exchange told.message key deliveries tells.once told.named).1 ∙ last.is);
+        is = demanded key ∙ asked_by exchange moment key.what last.last (span_of exchange key deliveries) ((span_is exchange reported.message key deliveries tells.once reported.listed).1 ∙ last.is);
       };
   no_others = λ key some.
-      let by = names_it exchange key deliveries (held_span exchange moment key.what (span_of exchange key deliveries) (sym (ap (λ (o : Option Machine). is_some o) (asked key)) ∙ some)) in
-      let of_form = tells.no_others by.message key by.named in
-      (of_form.port, of_form.named);
+      let by = names_it exchange key deliveries (held_span exchange moment key.what (span_of exchange key deliveries) (sym (ap (λ (o : Option Machine). is_some o) (demanded key)) ∙ some)) in
+      let of_form = tells.no_others by.message key by.listed in
+      (of_form.port, of_form.listed);
 }

@@ -8,22 +8,22 @@ use Rattle.pim_down.specs.Laws.{RunHasOneEnd, RunKeepsItsBounds}
 use Rattle.pim_down.specs.Time.{Downstream, Runs as MachineRuns}
 use Rattle.pim_form.specs.Messages.{Writing, IsWriting}
 use Rattle.pim_form.specs.Laws.{OneNormalForm}
-use Rattle.pim_form.specs.TowardLaws.{SameMessagesSameAsked}
+use Rattle.pim_form.specs.TowardLaws.{SameMessagesSameDemandToward}
 use Rattle.pim_fresh.specs.Deliveries.{Delivery, IsTimely, AreAlive}
-use Rattle.pim_fresh.specs.Exchange.{Exchange, TellsUnitsOnce}
+use Rattle.pim_fresh.specs.Exchange.{Exchange, HasUnitsOnce}
 use Rattle.pim_fresh.specs.Expected.{units_of}
 use Rattle.pim_fresh.specs.Hearing.{Leaves}
-use Rattle.pim_fresh.specs.Laws.{SpanIsOfItsMessage, NoEchoIsTold, EveryHearingReaches}
-use Rattle.pim_router.specs.Course.{Telling, takes, IsCourse}
+use Rattle.pim_fresh.specs.Laws.{SpanIsOfItsMessage, NoEchoIsDue, EveryHearingReaches}
+use Rattle.pim_router.specs.Course.{RouterReport, takes, IsCourse}
 use Rattle.pim_router.specs.Packets.{Packet}
 use Rattle.pim_router.specs.State.{RouterState, new_router}
 use Rattle.pim_mirror.specs.Config.{Fresh, newest_first, end_of, setup_of}
 use Rattle.pim_mirror.specs.Fits.{OthersStay, expiry_of}
-use Rattle.pim_mirror.specs.CanonicalExchange.{exchange_in, TellsForm}
+use Rattle.pim_mirror.specs.CanonicalExchange.{exchange_in, CarriesForm}
 use Rattle.pim_mirror.specs.Hellos.{timing_of}
 use Rattle.pim_mirror.specs.HelloLaws.{WrittenHellosAreRead, HellosAreHeard}
-use Rattle.pim_mirror.specs.Laws.{AskedStarsHaveRps, CanonicalMessagesTellForm, HeardMessagesAreAskedAgain, RouterLeavesItsPort, CourseHearsAll, DeliveryIsTaken}
-use Rattle.pim_mirror.specs.Headline.{AreMessagesOf, fresh_exchange, HearsAlone, IsInWindow, IsAt, MirrorsForm, NormalisingTwiceIsOnce, RoomIsForTheUnits, FreshRouterMirrors, FreshRouterTellsNoEcho, KnowsItsWriter, FreshRouterKnowsTheWriter, Headline}
+use Rattle.pim_mirror.specs.Laws.{DemandedStarsHaveRps, CanonicalMessagesCarryForm, HeardMessagesAreDemandedAgain, RouterLeavesItsPort, CourseHearsAll, DeliveryIsTaken}
+use Rattle.pim_mirror.specs.Headline.{AreMessagesOf, fresh_exchange, HearsAlone, IsInWindow, IsAt, MirrorsForm, NormalisingTwiceIsOnce, RoomIsForTheUnits, FreshRouterMirrors, FreshRouterSendsNoEcho, KnowsItsWriter, FreshRouterKnowsTheWriter, Headline}
 use Rattle.pim_mirror.proofs.Begun.{Begun, begun}
 use Rattle.pim_mirror.proofs.Course.{fresh_quiet, leaves_bounds}
 use Rattle.pim_mirror.proofs.FormHeld.{holds_the_form}
@@ -46,11 +46,11 @@ timely_later expiry (delivery ∷ earlier) moment later timely order alive =
     let by = timely.0 in
     (omega (arith, by, order), alive, timely.2)
 
-hellos_quiet : (family : AddressFamily) (hellos : List Packet) (told : List Telling) (start after : RouterState) → IsCourse family (map (λ packet. takes packet) hellos) told start after → IsQuiet told
+hellos_quiet : (family : AddressFamily) (hellos : List Packet) (reported : List RouterReport) (start after : RouterState) → IsCourse family (map (λ packet. takes packet) hellos) reported start after → IsQuiet reported
 unfolding IsCourse
-hellos_quiet family [] told start after course = subst IsQuiet (sym course.0) refl
-hellos_quiet family (hello ∷ hellos) told start after course =
-    quiet_as told course.before course.behind course.joined (subst IsQuiet (sym course.begins.0) refl) (hellos_quiet family hellos course.behind course.between after course.goes_on)
+hellos_quiet family [] reported start after course = subst IsQuiet (sym course.0) refl
+hellos_quiet family (hello ∷ hellos) reported start after course =
+    quiet_as reported course.before course.behind course.joined (subst IsQuiet (sym course.begins.0) refl) (hellos_quiet family hellos course.behind course.between after course.goes_on)
 
 -- ---- a fresh router
 
@@ -58,31 +58,31 @@ hellos_quiet family (hello ∷ hellos) told start after course =
 pub record Laws : Type 0 where
   pub read : WrittenHellosAreRead
   pub hellos_heard : HellosAreHeard
-  pub stars : AskedStarsHaveRps
+  pub stars : DemandedStarsHaveRps
   pub room : RoomIsForTheUnits
   pub course_hears : CourseHearsAll
   pub leaves_port : RouterLeavesItsPort
-  pub tell : CanonicalMessagesTellForm
+  pub tell : CanonicalMessagesCarryForm
 
 module _ (laws : Laws) (family : AddressFamily) (table : RouteTable) (writing : Writing) (state : Downstream) (messages : List (List ℕ)) (fresh : Fresh) (router : RouterState)
-    (sound : IsRouteTable family table) (is_writing : IsWriting family writing) (asked : AreMessagesOf family table writing state messages) (hears : HearsAlone family table writing messages fresh router) where
+    (sound : IsRouteTable family table) (is_writing : IsWriting family writing) (demanded : AreMessagesOf family table writing state messages) (hears : HearsAlone family table writing messages fresh router) where
   abbrev exchange : Exchange
   exchange = fresh_exchange family table writing messages fresh
 
   abbrev deliveries : List Delivery
   deliveries = newest_first fresh
 
-  first : Begun laws.read laws.hellos_heard laws.stars family table writing state messages fresh None router sound is_writing asked hears.fits hears.course
-  first = begun laws.read laws.hellos_heard laws.stars family table writing state messages fresh None router sound is_writing asked hears.fits hears.course
+  first : Begun laws.read laws.hellos_heard laws.stars family table writing state messages fresh None router sound is_writing demanded hears.fits hears.course
+  first = begun laws.read laws.hellos_heard laws.stars family table writing state messages fresh None router sound is_writing demanded hears.fits hears.course
 
   room : length (units_of exchange deliveries) ≤ fresh.limit
-  room = within exchange fresh.limit deliveries (sym (laws.room family table writing state messages fresh None router sound is_writing asked hears.fits hears.course).0)
+  room = within exchange fresh.limit deliveries (sym (laws.room family table writing state messages fresh None router sound is_writing demanded hears.fits hears.course).0)
 
   room_here : length (units_of (exchange_in family (rp_of family first.start.routes) writing 0 (timing_of fresh) messages) deliveries) ≤ fresh.limit
   room_here = subst (λ (t : RouteTable). length (units_of (exchange_in family (rp_of family t) writing 0 (timing_of fresh) messages) deliveries) ≤ fresh.limit) (sym first.routes) room
 
-  tells : TellsForm exchange (length messages) asked.form
-  tells = laws.tell family writing (rp_of family table) asked.form messages 0 (timing_of fresh) is_writing asked.is.normal (laws.stars family table writing.upstream state asked.form sound asked.is) asked.told
+  tells : CarriesForm exchange (length messages) demanded.form
+  tells = laws.tell family writing (rp_of family table) demanded.form messages 0 (timing_of fresh) is_writing demanded.is.normal (laws.stars family table writing.upstream state demanded.form sound demanded.is) demanded.reported
 
   -- at the final moment it is a port that has heard the deliveries
   record Left : Type 0 where
@@ -91,8 +91,8 @@ module _ (laws : Laws) (family : AddressFamily) (table : RouteTable) (writing : 
 
   left : Left
   left =
-      let heard = laws.course_hears family writing asked.form messages (timing_of fresh) fresh.limit (end_of fresh) first.start deliveries (end_of fresh) first.said router is_writing asked.is.normal first.have first.messages_are first.met.nothing first.are_of hears.fits.timely room_here (omega arith) (first.met.lasts (end_of fresh) hears.fits.others_stay) first.met.hears first.course in
-      let there = laws.leaves_port family writing asked.form messages (timing_of fresh) fresh.limit first.start deliveries (end_of fresh) router is_writing asked.is.normal first.have first.messages_are first.met.nothing first.are_of hears.fits.timely room_here heard.0 in
+      let heard = laws.course_hears family writing demanded.form messages (timing_of fresh) fresh.limit (end_of fresh) first.start deliveries (end_of fresh) first.said router is_writing demanded.is.normal first.have first.messages_are first.met.nothing first.are_of hears.fits.timely room_here (omega arith) (first.met.lasts (end_of fresh) hears.fits.others_stay) first.met.hears first.course in
+      let there = laws.leaves_port family writing demanded.form messages (timing_of fresh) fresh.limit first.start deliveries (end_of fresh) router is_writing demanded.is.normal first.have first.messages_are first.met.nothing first.are_of hears.fits.timely room_here heard.0 in
       record {
         leaves = subst (λ (t : RouteTable). Leaves (exchange_in family (rp_of family t) writing 0 (timing_of fresh) messages) 1 fresh.limit deliveries (end_of fresh) router.machines) first.routes there.0;
         routes = there.1 ∙ first.routes;
@@ -100,64 +100,64 @@ module _ (laws : Laws) (family : AddressFamily) (table : RouteTable) (writing : 
 
   knows_its_writer : RunKeepsItsBounds → (last : ℕ) → end_of fresh ≤ last → OthersStay fresh last → KnowsItsWriter writing fresh last router
   knows_its_writer bounds last later others =
-      let heard = laws.course_hears family writing asked.form messages (timing_of fresh) fresh.limit last first.start deliveries (end_of fresh) first.said router is_writing asked.is.normal first.have first.messages_are first.met.nothing first.are_of hears.fits.timely room_here later (first.met.lasts last others) first.met.hears first.course in
+      let heard = laws.course_hears family writing demanded.form messages (timing_of fresh) fresh.limit last first.start deliveries (end_of fresh) first.said router is_writing demanded.is.normal first.have first.messages_are first.met.nothing first.are_of hears.fits.timely room_here later (first.met.lasts last others) first.met.hears first.course in
       record {
         one_port = (leaves_bounds bounds exchange 1 fresh.limit deliveries (end_of fresh) router.machines left.leaves).0;
         lasts = heard.1;
         hears = heard.2;
       }
 
-  tells_no_echo : DeliveryIsTaken → NoEchoIsTold → EveryHearingReaches → RunHasOneEnd → IsQuiet hears.course.told
+  tells_no_echo : DeliveryIsTaken → NoEchoIsDue → EveryHearingReaches → RunHasOneEnd → IsQuiet hears.course.reported
   tells_no_echo taken no_echo reaching one_end =
-      let once : TellsUnitsOnce (exchange_in family (rp_of family first.start.routes) writing 0 (timing_of fresh) messages) =
-      (laws.tell family writing (rp_of family first.start.routes) asked.form messages 0 (timing_of fresh) is_writing asked.is.normal first.have first.messages_are).once in
-      quiet_as hears.course.told first.told first.said first.joined
-      (hellos_quiet family hears.course.hellos first.told (new_router (setup_of fresh)) first.start first.hellos)
-      (all_quiet taken laws.leaves_port laws.course_hears no_echo family writing asked.form messages (timing_of fresh) fresh.limit (end_of fresh) first.start is_writing asked.is.normal first.have first.messages_are once first.met.nothing (first.met.lasts (end_of fresh) hears.fits.others_stay) first.met.hears
+      let once : HasUnitsOnce (exchange_in family (rp_of family first.start.routes) writing 0 (timing_of fresh) messages) =
+      (laws.tell family writing (rp_of family first.start.routes) demanded.form messages 0 (timing_of fresh) is_writing demanded.is.normal first.have first.messages_are).once in
+      quiet_as hears.course.reported first.reported first.said first.joined
+      (hellos_quiet family hears.course.hellos first.reported (new_router (setup_of fresh)) first.start first.hellos)
+      (all_quiet taken laws.leaves_port laws.course_hears no_echo family writing demanded.form messages (timing_of fresh) fresh.limit (end_of fresh) first.start is_writing demanded.is.normal first.have first.messages_are once first.met.nothing (first.met.lasts (end_of fresh) hears.fits.others_stay) first.met.hears
       (fresh_quiet reaching one_end (exchange_in family (rp_of family first.start.routes) writing 0 (timing_of fresh) messages) fresh.limit once first.start.machines first.met.nothing)
       deliveries (end_of fresh) first.said router first.are_of hears.fits.timely room_here (omega arith) first.course)
 
-  mirrors : HeardMessagesAreAskedAgain → SpanIsOfItsMessage → (moment : ℕ) (later : RouterState) → IsInWindow writing fresh moment → (at : IsAt moment router later) → MirrorsForm family table writing asked.form messages fresh moment at.told later
+  mirrors : HeardMessagesAreDemandedAgain → SpanIsOfItsMessage → (moment : ℕ) (later : RouterState) → IsInWindow writing fresh moment → (at : IsAt moment router later) → MirrorsForm family table writing demanded.form messages fresh moment at.reported later
   mirrors again span_is moment later window at =
       let timely = timely_later (expiry_of writing.holdtime) deliveries (end_of fresh) moment hears.fits.timely window.from_the_end window.before_expiry in
       let end : (answer : Fires (List ℕ)) (after : Downstream) → MachineRuns moment router.machines answer after → answer ≡ fires.Reached =
-      λ answer after runs. (again family table writing state asked.form messages (timing_of fresh) fresh.limit deliveries (end_of fresh) moment router.machines after answer sound is_writing asked.is asked.told hears.fits.delivered (omega arith) window.from_the_end timely left.leaves runs).0.reached in
-      let ends = reaches_as moment at.told router later end at.reaches in
-      let both = again family table writing state asked.form messages (timing_of fresh) fresh.limit deliveries (end_of fresh) moment router.machines later.machines fires.Reached sound is_writing asked.is asked.told hears.fits.delivered (omega arith) window.from_the_end timely left.leaves ends.0 in
+      λ answer after runs. (again family table writing state demanded.form messages (timing_of fresh) fresh.limit deliveries (end_of fresh) moment router.machines after answer sound is_writing demanded.is demanded.reported hears.fits.delivered (omega arith) window.from_the_end timely left.leaves runs).0.reached in
+      let ends = reaches_as moment at.reported router later end at.reaches in
+      let both = again family table writing state demanded.form messages (timing_of fresh) fresh.limit deliveries (end_of fresh) moment router.machines later.machines fires.Reached sound is_writing demanded.is demanded.reported hears.fits.delivered (omega arith) window.from_the_end timely left.leaves ends.0 in
       record {
         moment_is = both.0.moment_is;
         routes = ends.1 ∙ left.routes;
-        holds = holds_the_form span_is exchange (length messages) asked.form deliveries moment later.machines tells hears.fits.delivered both.0.asked;
+        holds = holds_the_form span_is exchange (length messages) demanded.form deliveries moment later.machines tells hears.fits.delivered both.0.asked;
         asks = both.1;
-        no_echo = reaches_quietly moment at.told router later end at.reaches;
+        no_echo = reaches_quietly moment at.reported router later end at.reaches;
       }
 
-pub fresh_router_mirrors : Laws → HeardMessagesAreAskedAgain → SpanIsOfItsMessage → FreshRouterMirrors
-fresh_router_mirrors laws again span_is family table writing state messages fresh router later moment sound is_writing asked hears window at =
-    mirrors laws family table writing state messages fresh router sound is_writing asked hears again span_is moment later window at
+pub fresh_router_mirrors : Laws → HeardMessagesAreDemandedAgain → SpanIsOfItsMessage → FreshRouterMirrors
+fresh_router_mirrors laws again span_is family table writing state messages fresh router later moment sound is_writing demanded hears window at =
+    mirrors laws family table writing state messages fresh router sound is_writing demanded hears again span_is moment later window at
 
-pub tells_no_echo_before : Laws → DeliveryIsTaken → NoEchoIsTold → EveryHearingReaches → RunHasOneEnd → FreshRouterTellsNoEcho
-tells_no_echo_before laws taken no_echo reaching one_end family table writing state messages fresh router sound is_writing asked hears =
-    tells_no_echo laws family table writing state messages fresh router sound is_writing asked hears taken no_echo reaching one_end
+pub tells_no_echo_before : Laws → DeliveryIsTaken → NoEchoIsDue → EveryHearingReaches → RunHasOneEnd → FreshRouterSendsNoEcho
+tells_no_echo_before laws taken no_echo reaching one_end family table writing state messages fresh router sound is_writing demanded hears =
+    tells_no_echo laws family table writing state messages fresh router sound is_writing demanded hears taken no_echo reaching one_end
 
 pub knows_the_writer : Laws → RunKeepsItsBounds → FreshRouterKnowsTheWriter
-knows_the_writer laws bounds family table writing state messages fresh router last sound is_writing asked hears later others =
-    knows_its_writer laws family table writing state messages fresh router sound is_writing asked hears bounds last later others
+knows_the_writer laws bounds family table writing state messages fresh router last sound is_writing demanded hears later others =
+    knows_its_writer laws family table writing state messages fresh router sound is_writing demanded hears bounds last later others
 
 -- ---- the headline
 
-pub headline : SameMessagesSameAsked → NormalisingTwiceIsOnce → FreshRouterMirrors → Headline
+pub headline : SameMessagesSameDemandToward → NormalisingTwiceIsOnce → FreshRouterMirrors → Headline
 headline same_asked once mirror family table writing sound is_writing = record {
   same_traffic_same_bytes = λ one other first second of_one of_other.
-      let same = same_asked family table writing one other of_one.form of_other.form first second sound is_writing of_one.is of_other.is of_one.told of_other.told in
+      let same = same_asked family table writing one other of_one.form of_other.form first second sound is_writing of_one.is of_other.is of_one.reported of_other.reported in
       (same.1, same.0);
   twice_is_once = once family;
-  fresh_router_does_the_same = λ state messages fresh router later moment asked hears window at.
-      let mirrored = mirror family table writing state messages fresh router later moment sound is_writing asked hears window at in
+  fresh_router_does_the_same = λ state messages fresh router later moment demanded hears window at.
+      let mirrored = mirror family table writing state messages fresh router later moment sound is_writing demanded hears window at in
       record {
-        traffic = λ source group tree valid is_group. asked.is.wants source group tree valid is_group ∙ sym (mirrored.asks.is_form.wants source group tree valid is_group);
-        no_more = λ source group tree valid is_group. asked.is.wants source group tree valid is_group ∙ sym (mirrored.asks.wanted source group tree);
-        bytes = record { form = asked.form; is = mirrored.asks.is_form; told = asked.told };
-        no_others = λ others of_later. mirrored.asks.same_messages of_later.form others of_later.is of_later.told;
+        traffic = λ source group tree valid is_group. demanded.is.wants source group tree valid is_group ∙ sym (mirrored.asks.is_form.wants source group tree valid is_group);
+        no_more = λ source group tree valid is_group. demanded.is.wants source group tree valid is_group ∙ sym (mirrored.asks.wanted source group tree);
+        bytes = record { form = demanded.form; is = mirrored.asks.is_form; reported = demanded.reported };
+        no_others = λ others of_later. mirrored.asks.same_messages of_later.form others of_later.is of_later.reported;
       };
 }

@@ -104,13 +104,13 @@ module _ (goes_on : CourseGoesOn) (every : EveryListHasACourse) (family : Addres
       (flat_map (delivery_inputs family messages sender) (map delivery_seen behind)) old between now result one more)
 
   pub stopped_there : (messages : List (List ℕ)) (sender : List ℕ) (left behind : List code.Delivery) (delivery : code.Delivery) (old now : RouterState)
-      (told : MirrorFault) → left ≡ delivery ∷ behind →
-      Passes family (delivery_inputs family messages sender (delivery_seen delivery)) old (Err told) now →
-      Passes family (flat_map (delivery_inputs family messages sender) (map delivery_seen left)) old (Err told) now
-  stopped_there messages sender left behind delivery old now told split one =
-      subst (λ (all : List code.Delivery). Passes family (flat_map (delivery_inputs family messages sender) (map delivery_seen all)) old (Err told) now) (sym split)
+      (reported : MirrorFault) → left ≡ delivery ∷ behind →
+      Passes family (delivery_inputs family messages sender (delivery_seen delivery)) old (Err reported) now →
+      Passes family (flat_map (delivery_inputs family messages sender) (map delivery_seen left)) old (Err reported) now
+  stopped_there messages sender left behind delivery old now reported split one =
+      subst (λ (all : List code.Delivery). Passes family (flat_map (delivery_inputs family messages sender) (map delivery_seen all)) old (Err reported) now) (sym split)
       (then_stops goes_on every family (delivery_inputs family messages sender (delivery_seen delivery))
-      (flat_map (delivery_inputs family messages sender) (map delivery_seen behind)) old now told one)
+      (flat_map (delivery_inputs family messages sender) (map delivery_seen behind)) old now reported one)
 
   -- ---- the whole course
 
@@ -124,15 +124,15 @@ module _ (goes_on : CourseGoesOn) (every : EveryListHasACourse) (family : Addres
       (new_router (setup_of fresh)) met now (Ok tt) hellos.passes deliveries in record {
         hellos = hellos.hellos;
         are_hellos = hellos.are_hellos;
-        told = all.told;
-        course = subst (λ (s : RouterState). IsCourse family (inputs_of family messages fresh hellos.hellos) all.told (new_router (setup_of fresh)) s) (sym all.passed.1) all.course;
+        reported = all.reported;
+        course = subst (λ (s : RouterState). IsCourse family (inputs_of family messages fresh hellos.hellos) all.reported (new_router (setup_of fresh)) s) (sym all.passed.1) all.course;
         needed_is = all.passed.0;
       }
 
-  pub mirror_stops : (messages : List (List ℕ)) (fresh : Fresh) (met now : RouterState) (told : MirrorFault) →
+  pub mirror_stops : (messages : List (List ℕ)) (fresh : Fresh) (met now : RouterState) (reported : MirrorFault) →
       PassesHellos family (neighbours fresh) (new_router (setup_of fresh)) met →
-      Passes family (flat_map (delivery_inputs family messages fresh.sender) fresh.deliveries ++ runs_to (end_of fresh) ∷ []) met (Err told) now →
-      Mirrors family messages fresh (Err told)
+      Passes family (flat_map (delivery_inputs family messages fresh.sender) fresh.deliveries ++ runs_to (end_of fresh) ∷ []) met (Err reported) now →
+      Mirrors family messages fresh (Err reported)
   mirror_stops messages fresh met now fault.Memory hellos deliveries = tt
   mirror_stops messages fresh met now (fault.Full needed) hellos deliveries =
       let all = then_passes goes_on every family (map (λ packet. takes packet) hellos.hellos)
@@ -142,7 +142,7 @@ module _ (goes_on : CourseGoesOn) (every : EveryListHasACourse) (family : Addres
         record {
           hellos = hellos.hellos;
           are_hellos = hellos.are_hellos;
-          told = all.told;
+          reported = all.reported;
           course = all.course;
           needed_is = all.passed;
         },

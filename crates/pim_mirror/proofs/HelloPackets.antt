@@ -16,7 +16,7 @@ use Rattle.pim_router.specs.declared.verdict.Verdict.{Verdict}
 use Rattle.pim_router.specs.declared.verdict.Verdict.TheVariants as verdict
 use Rattle.pim_router.specs.declared.verdict.Malformed.TheVariants as malformed
 use Rattle.pim_router.specs.declared.verdict.Store.TheVariants as store
-use Rattle.pim_router.specs.Packets.{Packet, causes, received, own_address, neighbours_on, unless, body_causes, hello_causes, body_taken, hello_taken}
+use Rattle.pim_router.specs.Packets.{Packet, causes, received, own_address, neighbours_on, unless, body_causes, hello_causes, body_heard, hello_heard}
 use Rattle.pim_router.specs.State.{RouterState}
 use Rattle.pim_mirror.specs.Config.{Neighbour}
 use Rattle.pim_mirror.specs.Hellos.{IsHelloFrom, AreHellosFrom}
@@ -42,12 +42,12 @@ module _ (family : AddressFamily) (neighbour : Neighbour) (packet : Packet) (sta
       ∙ ap (λ (fs : List FrameFault). map (λ fault. verdict.Malformed (malformed.Frame fault)) fs ++ body_causes family packet.port packet.source state (content packet.bytes)) is.opened
       ∙ body_is
 
-  pub received_is : received family packet state ≡ hello_taken 0 neighbour.address state neighbour.hello
+  pub received_is : received family packet state ≡ hello_heard 0 neighbour.address state neighbour.hello
   received_is =
-      ap (λ (cs : List Verdict). unless cs state (body_taken family packet.port packet.source state (content packet.bytes))) causes_are
-      ∙ ap (body_taken family packet.port packet.source state) is.holds
-      ∙ ap (hello_taken packet.port packet.source state) is.says
-      ∙ ap₂ (λ (port : ℕ) (source : List ℕ). hello_taken port source state neighbour.hello) is.port is.source
+      ap (λ (cs : List Verdict). unless cs state (body_heard family packet.port packet.source state (content packet.bytes))) causes_are
+      ∙ ap (body_heard family packet.port packet.source state) is.holds
+      ∙ ap (hello_heard packet.port packet.source state) is.says
+      ∙ ap₂ (λ (port : ℕ) (source : List ℕ). hello_heard port source state neighbour.hello) is.port is.source
 
 -- ---- a Hello as it is written
 

@@ -22,7 +22,7 @@ use Rattle.pim_router.specs.declared.verdict.Verdict.{Verdict}
 use Rattle.pim_router.specs.declared.verdict.Verdict.TheVariants as verdict
 use Rattle.pim_router.specs.Course.{takes, verdict as tells, IsCourse}
 use Rattle.pim_router.specs.Laws.{CourseGoesOn, EveryListHasACourse}
-use Rattle.pim_router.specs.Packets.{Packet, neighbours_on, own_address, body_causes, body_taken, unless, received}
+use Rattle.pim_router.specs.Packets.{Packet, neighbours_on, own_address, body_causes, body_heard, unless, received}
 use Rattle.pim_router.specs.State.{Port, Setup, RouterState, new_router}
 use Rattle.std.proofs.lemmas.List.{length-map}
 use Rattle.pim_mirror.specs.Config.{Neighbour}
@@ -71,9 +71,9 @@ if_needs_nothing : (b : Bool) (of_packet : Verdict) → needed_by of_packet ≡ 
 if_needs_nothing true of_packet none = (none, tt)
 if_needs_nothing false of_packet none = tt
 
-faults_need_nothing : {X : Type 0} (told : X → Malformed) (faults : List X) → NeedNothing (map (λ fault. verdict.Malformed (told fault)) faults)
-faults_need_nothing told [] = tt
-faults_need_nothing told (fault ∷ faults) = (refl, faults_need_nothing told faults)
+faults_need_nothing : {X : Type 0} (reported : X → Malformed) (faults : List X) → NeedNothing (map (λ fault. verdict.Malformed (reported fault)) faults)
+faults_need_nothing reported [] = tt
+faults_need_nothing reported (fault ∷ faults) = (refl, faults_need_nothing reported faults)
 
 unless_needs_nothing : (all : List Verdict) (state : RouterState) (taken : Verdict × RouterState) → NeedNothing all →
     needed_by taken.0 ≡ None → needed_by (unless all state taken).0 ≡ None
@@ -93,11 +93,11 @@ hello_wants_no_room family packet state body holds =
     subst (λ (c : Content). needed_by (unless (
     fault_if (pointwise nat_eq packet.source (own_address packet.port state)) verdict.Mine
     ++ map (λ fault. verdict.Malformed (malformed.Frame fault)) (frame_faults family packet.source packet.destination packet.bytes)
-    ++ body_causes family packet.port packet.source state c) state (body_taken family packet.port packet.source state c)).0 ≡ None) (sym holds)
+    ++ body_causes family packet.port packet.source state c) state (body_heard family packet.port packet.source state c)).0 ≡ None) (sym holds)
     (unless_needs_nothing (
     fault_if (pointwise nat_eq packet.source (own_address packet.port state)) verdict.Mine
     ++ map (λ fault. verdict.Malformed (malformed.Frame fault)) (frame_faults family packet.source packet.destination packet.bytes)
-    ++ body_causes family packet.port packet.source state (hello body)) state (body_taken family packet.port packet.source state (hello body))
+    ++ body_causes family packet.port packet.source state (hello body)) state (body_heard family packet.port packet.source state (hello body))
     (both_need_nothing (
     fault_if (pointwise nat_eq packet.source (own_address packet.port state)) verdict.Mine
     ++ map (λ fault. verdict.Malformed (malformed.Frame fault)) (frame_faults family packet.source packet.destination packet.bytes))
@@ -117,7 +117,7 @@ hello_passes family neighbour packet old now given body is_hello holds same = re
   packet = packet;
   is_hello = is_hello;
   passes = record {
-    told = tells (received family packet old).0 ∷ [];
+    reported = tells (received family packet old).0 ∷ [];
     after = (received family packet old).1;
     course = record {
       before = tells (received family packet old).0 ∷ [];

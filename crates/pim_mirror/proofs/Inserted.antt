@@ -9,7 +9,7 @@ use Rattle.std.specs.Ordering.{nat_cmp, match_ordering}
 use Rattle.std.specs.Cmp.Lexicographic.{slice_cmp}
 use Rattle.std.specs.FinMap.{slice_cmp-IsAntisymmetric, nat_cmp-IsAntisymmetric}
 use Rattle.pim_hello.specs.Hello.{Parameters, Delays}
-use Rattle.pim_hello.specs.Interval.{greatest, delays_sent, all_sent_delays, override_interval}
+use Rattle.pim_hello.specs.Interval.{greatest, delays_sent, all_sent_delays, jp_override_interval}
 use Rattle.pim_hello.specs.Neighbours.{Neighbour, is_address}
 
 abbrev pub Entry : Type 0
@@ -154,7 +154,7 @@ module _ (number : Delays → ℕ) where
       (λ a b xs. greatest_both a.1.parameters.lan b.1.parameters.lan (delays_sent (hellos_in xs))) es new apart
 
 pub interval_all : (propagation override_ms : ℕ) (es new : List Entry) → AreApart es new →
-    override_interval propagation override_ms (hellos_in (all_inserted es new)) ≡ override_interval propagation override_ms (hellos_in (new ++ es))
+    jp_override_interval propagation override_ms (hellos_in (all_inserted es new)) ≡ jp_override_interval propagation override_ms (hellos_in (new ++ es))
 interval_all propagation override_ms es new apart =
     let first = greatest_all (λ (d : Delays). d.propagation) es new apart in
     let second = greatest_all (λ (d : Delays). d.override_ms) es new apart in

@@ -4,7 +4,7 @@ use Rattle.std.proofs.lemmas.List.{drop_more, drop_all}
 use Rattle.pim_hello.specs.declared.delay.LanDelay.{LanDelay}
 use Rattle.pim_hello.specs.Delays.{delays_seen}
 use Rattle.pim_hello.specs.Hello.{Parameters, Delays}
-use Rattle.pim_hello.specs.Interval.{greatest, delays_sent, all_sent_delays, override_interval}
+use Rattle.pim_hello.specs.Interval.{greatest, delays_sent, all_sent_delays, jp_override_interval}
 use Rattle.pim_router.specs.State.{Port}
 use Rattle.pim_mirror.specs.declared.config.OtherNeighbour.{OtherNeighbour}
 use Rattle.pim_mirror.specs.Config.{Neighbour, sender_hello, neighbour_seen}
@@ -27,7 +27,7 @@ sums b m n same = ap (λ (k : ℕ). cond b k 3000) same
 
 -- the sender has the port's own delays
 pub with_sender : (port : Port) (hellos : List Parameters) →
-    override_interval port.propagation port.override_ms (sender_hello port ∷ hellos) ≡ override_interval port.propagation port.override_ms hellos
+    jp_override_interval port.propagation port.override_ms (sender_hello port ∷ hellos) ≡ jp_override_interval port.propagation port.override_ms hellos
 with_sender port hellos =
     let first = max_again port.propagation (propagations hellos) in
     let second = max_again port.override_ms (overrides hellos) in
@@ -47,19 +47,19 @@ module _ {A : Type 0} (bytes_of : A → List ℕ) where
 
   pub delays_more : (others : List (OtherNeighbour A)) (i : ℕ) (other : OtherNeighbour A) (lan : LanDelay) (propagation override_ms : ℕ) →
       i < length others → other ≡ get_or others i other → other.hello.lan ≡ Some lan →
-      override_interval (max propagation lan.propagation) (max override_ms lan.override_ms) (hellos_of (drop (i + 1) others))
-      ≡ override_interval propagation override_ms (hellos_of (drop i others))
+      jp_override_interval (max propagation lan.propagation) (max override_ms lan.override_ms) (hellos_of (drop (i + 1) others))
+      ≡ jp_override_interval propagation override_ms (hellos_of (drop i others))
   delays_more others i other lan propagation override_ms below at sent =
       let split : drop i others ≡ other ∷ drop (i + 1) others = drop_more others i other below ∙ ap (λ (o : OtherNeighbour A). o ∷ drop (i + 1) others) (sym at) in
       rw split (rw sent (sym (with_delays propagation override_ms (delays_seen lan) (hellos_of (drop (i + 1) others)) (all_sent_delays (hellos_of (drop (i + 1) others))))))
 
   pub delays_missing : (others : List (OtherNeighbour A)) (i : ℕ) (other : OtherNeighbour A) (propagation override_ms : ℕ) →
       i < length others → other ≡ get_or others i other → other.hello.lan ≡ None →
-      override_interval propagation override_ms (hellos_of (drop i others)) ≡ 3000
+      jp_override_interval propagation override_ms (hellos_of (drop i others)) ≡ 3000
   delays_missing others i other propagation override_ms below at sent =
       let split : drop i others ≡ other ∷ drop (i + 1) others = drop_more others i other below ∙ ap (λ (o : OtherNeighbour A). o ∷ drop (i + 1) others) (sym at) in
       rw split (rw sent refl)
 
   pub delays_all : (others : List (OtherNeighbour A)) (i : ℕ) (propagation override_ms : ℕ) → length others ≤ i →
-      override_interval propagation override_ms (hellos_of (drop i others)) ≡ propagation + override_ms
+      jp_override_interval propagation override_ms (hellos_of (drop i others)) ≡ propagation + override_ms
   delays_all others i propagation override_ms past = rw (drop_all i others past) (omega arith)

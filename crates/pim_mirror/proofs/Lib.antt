@@ -20,7 +20,7 @@ pub mod HelloPackets
 pub mod FirstHellos
 pub mod SomeHellos
 pub mod CourseSteps
-pub mod AsksAgain
+pub mod DemandsAgain
 pub mod Listed
 pub mod Timely
 pub mod Intervals

@@ -18,19 +18,19 @@ use Rattle.pim_form.specs.declared.tree.Tree.{Tree}
 use Rattle.pim_form.specs.declared.tree.Tree.TheVariants.{Shared, Source as OwnTree}
 use Rattle.pim_form.specs.NormalForm.{GroupForm, AreAscending, groups_of, Agree, form_wants, IsFormOf}
 use Rattle.pim_form.specs.Messages.{Writing, AreCanonical}
-use Rattle.pim_form.specs.Toward.{via_in, upstream_of, is_neighbour}
-use Rattle.pim_form.specs.TowardLaws.{asked_of}
+use Rattle.pim_form.specs.Toward.{via_of, rpf_neighbour, is_neighbour}
+use Rattle.pim_form.specs.TowardLaws.{demand_toward}
 use Rattle.pim_form.specs.Wants.{is_joined, is_pruned, state_on, wants_on, some_below, wants}
 use Rattle.pim_form.specs.Laws.{OneNormalForm, OneListOfMessages}
-use Rattle.pim_fresh.specs.Exchange.{Exchange, is_named}
+use Rattle.pim_fresh.specs.Exchange.{Exchange, has_unit_of}
 use Rattle.pim_fresh.specs.Deliveries.{Delivery, is_delivered}
 use Rattle.pim_fresh.specs.Hearing.{fresh, after_message, Leaves}
-use Rattle.pim_fresh.specs.Expected.{Span, up_to, span_of, asked_state, asked_of as asked_machine, IsAsAsked}
-use Rattle.pim_fresh.specs.Laws.{StaysAsAsked}
+use Rattle.pim_fresh.specs.Expected.{Span, up_to, span_of, state_wanted, machine_wanted as asked_machine, IsAsWanted}
+use Rattle.pim_fresh.specs.Laws.{StaysAsWanted}
 use Rattle.pim_mirror.specs.CanonicalUnits.{form_names}
-use Rattle.pim_mirror.specs.CanonicalExchange.{exchange_in, IsTold, TellsForm}
-use Rattle.pim_mirror.specs.CanonicalMirror.{AllCame, AsksAgain}
-use Rattle.pim_mirror.specs.Laws.{CanonicalMessagesTellForm, AskedStarsHaveRps, HeardMessagesAreAskedAgain}
+use Rattle.pim_mirror.specs.CanonicalExchange.{exchange_in, IsCarried, CarriesForm}
+use Rattle.pim_mirror.specs.CanonicalMirror.{AllCame, DemandsAgain}
+use Rattle.pim_mirror.specs.Laws.{CanonicalMessagesCarryForm, DemandedStarsHaveRps, HeardMessagesAreDemandedAgain}
 use Rattle.pim_mirror.proofs.SameAddresses.{second_true, or_none}
 use Rattle.pim_mirror.proofs.FormMeaning.{shared_wants}
 
@@ -43,59 +43,59 @@ same_truth false false to from = refl
 
 module _ (exchange : Exchange) (key : Key (List ℕ)) where
   was_named : List Delivery → Bool
-  was_named deliveries = list_any (λ (d : Delivery). is_named exchange.port key (exchange.messages d.message)) deliveries
+  was_named deliveries = list_any (λ (d : Delivery). has_unit_of exchange.port key (exchange.messages d.message)) deliveries
 
   has_span : (deliveries : List Delivery) → is_some (span_of exchange key deliveries) ≡ was_named deliveries
   unfolding span_of was_named
   has_span [] = refl
   has_span (delivery ∷ earlier) =
-      elim (is_named exchange.port key (exchange.messages delivery.message)) as
+      elim (has_unit_of exchange.port key (exchange.messages delivery.message)) as
       (λ b. is_some (if b then Some (up_to delivery.moment (span_of exchange key earlier)) else span_of exchange key earlier) ≡ (b || was_named earlier)) [
         | true ↦ refl
         | false ↦ has_span earlier
       ]
 
-  came_named : (message : ℕ) (deliveries : List Delivery) → is_delivered message deliveries ≡ true → is_named exchange.port key (exchange.messages message) ≡ true → was_named deliveries ≡ true
+  came_named : (message : ℕ) (deliveries : List Delivery) → is_delivered message deliveries ≡ true → has_unit_of exchange.port key (exchange.messages message) ≡ true → was_named deliveries ≡ true
   unfolding was_named
-  came_named message [] came named = absurd (false≢true came)
-  came_named message (delivery ∷ earlier) came named =
-      elim (delivery.message == message) as (λ b. (delivery.message == message) ≡ b → (b || is_delivered message earlier) ≡ true → (is_named exchange.port key (exchange.messages delivery.message) || was_named earlier) ≡ true) [
-        | true ↦ λ e f. ap (λ b. b || was_named earlier) (subst (λ (i : ℕ). is_named exchange.port key (exchange.messages i) ≡ true) (sym (eqb-true delivery.message message e)) named)
-        | false ↦ λ e f. by (is_named exchange.port key (exchange.messages delivery.message)) (came_named message earlier f named)
+  came_named message [] came listed = absurd (false≢true came)
+  came_named message (delivery ∷ earlier) came listed =
+      elim (delivery.message == message) as (λ b. (delivery.message == message) ≡ b → (b || is_delivered message earlier) ≡ true → (has_unit_of exchange.port key (exchange.messages delivery.message) || was_named earlier) ≡ true) [
+        | true ↦ λ e f. ap (λ b. b || was_named earlier) (subst (λ (i : ℕ). has_unit_of exchange.port key (exchange.messages i) ≡ true) (sym (eqb-true delivery.message message e)) listed)
+        | false ↦ λ e f. by (has_unit_of exchange.port key (exchange.messages delivery.message)) (came_named message earlier f listed)
       ] refl came
     where
       by : (a : Bool) → was_named earlier ≡ true → (a || was_named earlier) ≡ true
       by true e = refl
       by false e = e
 
-  module _ (count : ℕ) (form : List GroupForm) (tells : TellsForm exchange count form) where
+  module _ (count : ℕ) (form : List GroupForm) (tells : CarriesForm exchange count form) where
     named_of_form : (deliveries : List Delivery) → was_named deliveries ≡ true → form_names form key.group key.what ≡ true
     unfolding was_named
-    named_of_form [] named = absurd (false≢true named)
-    named_of_form (delivery ∷ earlier) named =
-        elim (is_named exchange.port key (exchange.messages delivery.message)) as
-        (λ b. is_named exchange.port key (exchange.messages delivery.message) ≡ b → (b || was_named earlier) ≡ true → form_names form key.group key.what ≡ true) [
-          | true ↦ λ e f. (tells.no_others delivery.message key e).named
+    named_of_form [] listed = absurd (false≢true listed)
+    named_of_form (delivery ∷ earlier) listed =
+        elim (has_unit_of exchange.port key (exchange.messages delivery.message)) as
+        (λ b. has_unit_of exchange.port key (exchange.messages delivery.message) ≡ b → (b || was_named earlier) ≡ true → form_names form key.group key.what ≡ true) [
+          | true ↦ λ e f. (tells.no_others delivery.message key e).listed
           | false ↦ λ e f. named_of_form earlier f
-        ] refl named
+        ] refl listed
 
     form_is_named : (deliveries : List Delivery) → AllCame count deliveries → key.port ≡ exchange.port → form_names form key.group key.what ≡ true → was_named deliveries ≡ true
-    form_is_named deliveries came on named =
-        let told : IsTold exchange count key = tells.all key on named in
-        came_named told.message deliveries (came told.message told.within) told.named
+    form_is_named deliveries came on listed =
+        let reported : IsCarried exchange count key = tells.all key on listed in
+        came_named reported.message deliveries (came reported.message reported.within) reported.listed
 
     abbrev asked_if : Bool → Option State
-    asked_if b = if b then Some (asked_state key.what) else None
+    asked_if b = if b then Some (state_wanted key.what) else None
 
     span_state : (moment : ℕ) (span : Option Span) → state_of_machine (asked_machine exchange moment key.what span) ≡ asked_if (is_some span)
     span_state moment None = refl
     span_state moment (Some span) = refl
 
     -- a machine is in the state that is asked of it where the form names it, and isn't held elsewhere
-    state_asked : (deliveries : List Delivery) (moment : ℕ) (state : Downstream) → AllCame count deliveries → IsAsAsked exchange deliveries moment state → key.port ≡ exchange.port
+    state_asked : (deliveries : List Delivery) (moment : ℕ) (state : Downstream) → AllCame count deliveries → IsAsWanted exchange deliveries moment state → key.port ≡ exchange.port
         → state_of key state.records ≡ asked_if (form_names form key.group key.what)
-    state_asked deliveries moment state came asked on =
-        ap state_of_machine (asked key) ∙ span_state moment (span_of exchange key deliveries)
+    state_asked deliveries moment state came demanded on =
+        ap state_of_machine (demanded key) ∙ span_state moment (span_of exchange key deliveries)
         ∙ ap asked_if (has_span deliveries ∙ same_truth (was_named deliveries) (form_names form key.group key.what) (named_of_form deliveries) (form_is_named deliveries came on))
 
 -- ---- what is wanted
@@ -108,10 +108,10 @@ pruned_if : (b : Bool) → is_pruned (if b then Some Prune else None) ≡ b
 pruned_if true = refl
 pruned_if false = refl
 
-module _ (exchange : Exchange) (first : exchange.port ≡ 0) (count : ℕ) (form : List GroupForm) (tells : TellsForm exchange count form) (deliveries : List Delivery) (moment : ℕ) (state : Downstream)
-    (came : AllCame count deliveries) (asked : IsAsAsked exchange deliveries moment state) where
-  state_is : (group : List ℕ) (what : What (List ℕ)) → state_on state.records 0 group what ≡ (if form_names form group what then Some (asked_state what) else None)
-  state_is group what = state_asked exchange (record { port = 0; group = group; what = what }) count form tells deliveries moment state came asked (sym first)
+module _ (exchange : Exchange) (first : exchange.port ≡ 0) (count : ℕ) (form : List GroupForm) (tells : CarriesForm exchange count form) (deliveries : List Delivery) (moment : ℕ) (state : Downstream)
+    (came : AllCame count deliveries) (demanded : IsAsWanted exchange deliveries moment state) where
+  state_is : (group : List ℕ) (what : What (List ℕ)) → state_on state.records 0 group what ≡ (if form_names form group what then Some (state_wanted what) else None)
+  state_is group what = state_asked exchange (record { port = 0; group = group; what = what }) count form tells deliveries moment state came demanded (sym first)
 
   wanted_here : AreAscending (groups_of form) → (source group : List ℕ) (tree : Tree) → wants_on state.records source group tree 0 ≡ form_wants form source group tree
   wanted_here up source group Shared =
@@ -142,39 +142,39 @@ and_known true b h = h refl
 and_known false b h = refl
 
 module _ (family : AddressFamily) (table : RouteTable) (writing : Writing) (sender : Downstream) (form : List GroupForm) (messages : List (List ℕ)) (state : Downstream)
-    (is : IsFormOf family (asked_of family table writing.upstream sender) form)
+    (is : IsFormOf family (demand_toward family table writing.upstream sender) form)
     (wanted : (source group : List ℕ) (tree : Tree) → wants state source group tree ≡ form_wants form source group tree) where
   abbrev asks : List ℕ → List ℕ → Tree → Bool
-  asks source group tree = is_neighbour writing.upstream (upstream_of (rp_of family table) (via_in family table) source group tree)
+  asks source group tree = is_neighbour writing.upstream (rpf_neighbour (rp_of family table) (via_of family table) source group tree)
 
-  agrees : Agree family (asked_of family table writing.upstream state) (form_wants form)
+  agrees : Agree family (demand_toward family table writing.upstream state) (form_wants form)
   agrees source group tree valid is_group =
       ap (λ b. b && asks source group tree) (wanted source group tree)
       ∙ and_known (form_wants form source group tree) (asks source group tree)
       (λ some. second_true (wants sender source group tree) (asks source group tree) (is.wants source group tree valid is_group ∙ some))
 
-  asks_again : OneNormalForm → OneListOfMessages → AreCanonical family writing (rp_of family table) form messages → AsksAgain family table writing form messages state
-  asks_again one_normal one_list told = record {
+  asks_again : OneNormalForm → OneListOfMessages → AreCanonical family writing (rp_of family table) form messages → DemandsAgain family table writing form messages state
+  asks_again one_normal one_list reported = record {
     wanted = wanted;
     is_form = record { normal = is.normal; wants = agrees };
     one_form = one;
     same_messages = λ other others is_other told_other.
         one_list family writing (rp_of family table) form others messages
-        (subst (λ (f : List GroupForm). AreCanonical family writing (rp_of family table) f others) (one other is_other) told_other) told;
+        (subst (λ (f : List GroupForm). AreCanonical family writing (rp_of family table) f others) (one other is_other) told_other) reported;
   }
     where
-      one : (other : List GroupForm) → IsFormOf family (asked_of family table writing.upstream state) other → other ≡ form
+      one : (other : List GroupForm) → IsFormOf family (demand_toward family table writing.upstream state) other → other ≡ form
       one other is_other = one_normal family other form is_other.normal is.normal
           (λ source group tree valid is_group. sym (is_other.wants source group tree valid is_group) ∙ agrees source group tree valid is_group)
 
-pub asked_again : CanonicalMessagesTellForm → AskedStarsHaveRps → StaysAsAsked → RunKeepsItsBounds → OneNormalForm → OneListOfMessages → HeardMessagesAreAskedAgain
-asked_again tell_form stars stays bounds one_normal one_list family table writing sender form messages timing limit deliveries moment later state after answer sound is_writing is told came final order timely leaves runs =
+pub asked_again : CanonicalMessagesCarryForm → DemandedStarsHaveRps → StaysAsWanted → RunKeepsItsBounds → OneNormalForm → OneListOfMessages → HeardMessagesAreDemandedAgain
+asked_again tell_form stars stays bounds one_normal one_list family table writing sender form messages timing limit deliveries moment later state after answer sound is_writing is reported came final order timely leaves runs =
     let rps = rp_of family table in
     let exchange : Exchange = exchange_in family rps writing 0 timing messages in
-    let tells : TellsForm exchange (length messages) form = tell_form family writing rps form messages 0 timing is_writing is.normal (stars family table writing.upstream sender form sound is) told in
+    let tells : CarriesForm exchange (length messages) form = tell_form family writing rps form messages 0 timing is_writing is.normal (stars family table writing.upstream sender form sound is) reported in
     let stayed = stays exchange 1 limit deliveries moment later state after answer tells.once final order timely leaves runs in
     let ports : after.ports ≡ 1 = (bounds later state after answer runs).0 ∙ leaves_ports bounds exchange 1 limit deliveries moment state leaves in (
       stayed,
       asks_again family table writing sender form messages after is
-          (wanted_by exchange refl (length messages) form tells deliveries later after came stayed.asked is.normal.ascending ports) one_normal one_list told,
+          (wanted_by exchange refl (length messages) form tells deliveries later after came stayed.asked is.normal.ascending ports) one_normal one_list reported,
     )

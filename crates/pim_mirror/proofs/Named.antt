@@ -17,8 +17,8 @@ use Rattle.pim_down.specs.Key.{what_cmp, key_cmp, same_key}
 use Rattle.pim_down.specs.Hearing.{Event, event, is_known, entry_events, list_events, set_events}
 use Rattle.pim_form.specs.NormalForm.{GroupForm, same_address, is_listed}
 use Rattle.pim_form.specs.Rows.{exceptions_of}
-use Rattle.pim_form.specs.Messages.{IsRpOf, HaveRps, star_entries, excepted_entries, told_set}
-use Rattle.pim_fresh.specs.Exchange.{is_named}
+use Rattle.pim_form.specs.Messages.{IsRpOf, HaveRps, star_entries, excepted_entries, written_set}
+use Rattle.pim_fresh.specs.Exchange.{has_unit_of}
 use Rattle.pim_mirror.specs.CanonicalUnits.{group_names, form_names}
 use Rattle.pim_mirror.proofs.SameAddresses.{same_itself, same_flips, and_false, or_none, and_or, and_and}
 
@@ -84,7 +84,7 @@ what_named this (Rpt t) =
 
 module _ (rps : List ℕ → Option (List ℕ)) (p q : ℕ) (h : List ℕ) (w : What (List ℕ)) where
   abbrev names : List Event → Bool
-  names events = is_named p (key_at q h w) events
+  names events = has_unit_of p (key_at q h w) events
 
   names_both : (one other : List Event) → names (one ++ other) ≡ (names one || names other)
   names_both one other = list_any-append (λ (e : Event). same_key (key_at p e.group e.what) (key_at q h w)) one other
@@ -92,12 +92,12 @@ module _ (rps : List ℕ → Option (List ℕ)) (p q : ℕ) (h : List ℕ) (w : 
   names_one : (joins : Bool) (g : List ℕ) (v : What (List ℕ)) → names (event joins g v) ≡ (((p == q) && same_address g h) && same_what v w)
   names_one joins g v = or_none (same_key (key_at p g v) (key_at q h w)) ∙ key_test p q g h v w
 
-  module _ (g : List ℕ) (joins : Bool) (make : List ℕ → Entry (List ℕ)) (what : List ℕ → What (List ℕ)) (told : (s : List ℕ) → entry_events rps joins g (make s) ≡ event joins g (what s)) where
+  module _ (g : List ℕ) (joins : Bool) (make : List ℕ → Entry (List ℕ)) (what : List ℕ → What (List ℕ)) (reported : (s : List ℕ) → entry_events rps joins g (make s) ≡ event joins g (what s)) where
     names_list : (xs : List (List ℕ)) → names (list_events rps joins g (map make xs)) ≡ (((p == q) && same_address g h) && list_any (λ s. same_what (what s) w) xs)
     names_list [] = sym (and_false ((p == q) && same_address g h))
     names_list (x ∷ xs) =
         names_both (entry_events rps joins g (make x)) (list_events rps joins g (map make xs))
-        ∙ ap₂ (λ a b. a || b) (ap names (told x) ∙ names_one joins g (what x)) (names_list xs)
+        ∙ ap₂ (λ a b. a || b) (ap names (reported x) ∙ names_one joins g (what x)) (names_list xs)
         ∙ and_or ((p == q) && same_address g h) (same_what (what x) w) (list_any (λ s. same_what (what s) w) xs)
 
   names_star : (family : AddressFamily) (g : List ℕ) (known : Option (List ℕ)) (star : Option (List (List ℕ))) → rps g ≡ known → IsRpOf family known star
@@ -112,14 +112,14 @@ module _ (rps : List ℕ → Option (List ℕ)) (p q : ℕ) (h : List ℕ) (w : 
   names_exceptions g None = sym (and_false ((p == q) && same_address g h))
   names_exceptions g (Some exceptions) = names_list g false (λ s. entry.Rpt s) (λ s. Rpt s) (λ s. refl) exceptions
 
-  names_set : (family : AddressFamily) (this : GroupForm) → IsRpOf family (rps this.group) this.star → names (set_events rps (told_set rps this)) ≡ ((p == q) && (same_address h this.group && group_names this w))
+  names_set : (family : AddressFamily) (this : GroupForm) → IsRpOf family (rps this.group) this.star → names (set_events rps (written_set rps this)) ≡ ((p == q) && (same_address h this.group && group_names this w))
   names_set family this is =
       let g = this.group in
       let here : Bool = (p == q) && same_address g h in
       let star : Bool = is_some this.star && same_what Star w in
       let sources : Bool = list_any (λ s. same_what (Source s) w) this.sources in
       let exceptions : Bool = list_any (λ s. same_what (Rpt s) w) (exceptions_of this.star) in
-      names_both (list_events rps true g (told_set rps this).joined) (list_events rps false g (excepted_entries this.star))
+      names_both (list_events rps true g (written_set rps this).joined) (list_events rps false g (excepted_entries this.star))
       ∙ ap₂ (λ a b. a || b)
       (ap names (flat_map-append (entry_events rps true g) (star_entries (rps g) this.star) (map (λ source. entry.Source source) this.sources)) ∙ names_both (list_events rps true g (star_entries (rps g) this.star)) (list_events rps true g (map (λ source. entry.Source source) this.sources))
       ∙ ap₂ (λ a b. a || b) (names_star family g (rps g) this.star refl is) (names_list g true (λ s. entry.Source s) (λ s. Source s) (λ s. refl) this.sources)
@@ -130,9 +130,9 @@ module _ (rps : List ℕ → Option (List ℕ)) (p q : ℕ) (h : List ℕ) (w : 
       ∙ ap (λ b. ((p == q) && b) && group_names this w) (same_flips g h)
       ∙ and_and (p == q) (same_address h g) (group_names this w)
 
-  pub names_part : (family : AddressFamily) (part : List GroupForm) → HaveRps family rps part → names (flat_map (set_events rps) (map (told_set rps) part)) ≡ ((p == q) && form_names part h w)
+  pub names_part : (family : AddressFamily) (part : List GroupForm) → HaveRps family rps part → names (flat_map (set_events rps) (map (written_set rps) part)) ≡ ((p == q) && form_names part h w)
   names_part family [] have = sym (and_false (p == q))
   names_part family (this ∷ part) have =
-      names_both (set_events rps (told_set rps this)) (flat_map (set_events rps) (map (told_set rps) part))
+      names_both (set_events rps (written_set rps this)) (flat_map (set_events rps) (map (written_set rps) part))
       ∙ ap₂ (λ a b. a || b) (names_set family this have.0) (names_part family part have.1)
       ∙ and_or (p == q) (same_address h this.group && group_names this w) (form_names part h w)

@@ -12,7 +12,7 @@ use Rattle.pim_down.specs.Hearing.{Event, events_of, start_of, hearing, needed}
 use Rattle.pim_addr.specs.Routes.{rp_of}
 use Rattle.pim_down.specs.Time.{with_records}
 use Rattle.pim_form.specs.NormalForm.{GroupForm, same_address}
-use Rattle.pim_form.specs.Messages.{Writing, IsWriting, told_message}
+use Rattle.pim_form.specs.Messages.{Writing, IsWriting, written_message}
 use Rattle.pim_form.specs.Laws.{IsReadAs}
 use Rattle.pim_fresh.specs.Exchange.{Exchange}
 use Rattle.pim_fresh.specs.Hearing.{after_message}
@@ -20,11 +20,11 @@ use Rattle.pim_router.specs.declared.verdict.Verdict.{Verdict}
 use Rattle.pim_router.specs.declared.verdict.Verdict.TheVariants as verdict
 use Rattle.pim_router.specs.declared.verdict.Malformed.TheVariants as malformed
 use Rattle.pim_router.specs.declared.verdict.Store.TheVariants as store
-use Rattle.pim_router.specs.Packets.{Packet, causes, received, own_address, knows, timing_on, unless, body_causes, message_causes, room_causes, body_taken, message_taken}
+use Rattle.pim_router.specs.Packets.{Packet, causes, received, own_address, knows, timing_on, unless, body_causes, message_causes, room_causes, body_heard, message_heard}
 use Rattle.pim_router.specs.State.{RouterState, with_machines}
 use Rattle.pim_mirror.specs.CanonicalExchange.{message_in, events_at, AreReadAs}
 use Rattle.pim_mirror.specs.CanonicalPackets.{HearsWriter, heard_exchange, needed_records, IsHeard}
-use Rattle.pim_mirror.specs.Laws.{CanonicalMessagesTellParts, MessagesAreRead, CanonicalPacketIsHeard, ReadPacketIsHeard}
+use Rattle.pim_mirror.specs.Laws.{CanonicalMessagesCarryParts, MessagesAreRead, CanonicalPacketIsHeard, ReadPacketIsHeard}
 use Rattle.pim_mirror.proofs.SameAddresses.{same_itself, same_is}
 use Rattle.pim_mirror.proofs.ReadBack.{read_message}
 
@@ -32,10 +32,10 @@ use Rattle.pim_mirror.proofs.ReadBack.{read_message}
 
 record IsMessageOf (family : AddressFamily) (writing : Writing) (rps : List ℕ → Option (List ℕ)) (messages : List (List ℕ)) (i : ℕ) : Type 0 where
   part : List GroupForm
-  read : IsReadAs family writing.own (get_or messages i []) (told_message writing rps part)
-  events : events_at rps (map (message_in family) messages) i ≡ events_of rps (told_message writing rps part)
+  read : IsReadAs family writing.own (get_or messages i []) (written_message writing rps part)
+  events : events_at rps (map (message_in family) messages) i ≡ events_of rps (written_message writing rps part)
 
-message_at : (family : AddressFamily) (writing : Writing) (rps : List ℕ → Option (List ℕ)) (messages : List (List ℕ)) (parts : List (List GroupForm)) (i : ℕ) → AreReadAs family writing.own messages (map (told_message writing rps) parts)
+message_at : (family : AddressFamily) (writing : Writing) (rps : List ℕ → Option (List ℕ)) (messages : List (List ℕ)) (parts : List (List GroupForm)) (i : ℕ) → AreReadAs family writing.own messages (map (written_message writing rps) parts)
     → i < length messages → IsMessageOf family writing rps messages i
 unfolding AreReadAs
 message_at family writing rps [] parts i are within = absurd (omega (arith, within))
@@ -43,7 +43,7 @@ message_at family writing rps (bytes ∷ messages) [] i are within = absurd are
 message_at family writing rps (bytes ∷ messages) (part ∷ parts) zero are within = record {
   part = part;
   read = are.0;
-  events = ap (events_of rps) (read_message family writing.own bytes (told_message writing rps part) are.0);
+  events = ap (events_of rps) (read_message family writing.own bytes (written_message writing rps part) are.0);
 }
 message_at family writing rps (bytes ∷ messages) (part ∷ parts) (suc i) are within =
     let later = message_at family writing rps messages parts i are.1 (omega (arith, within)) in
@@ -82,13 +82,13 @@ module _ (family : AddressFamily) (port : ℕ) (source : List ℕ) (state : Rout
       ∙ ap (λ (fs : List FrameFault). map (λ fault. verdict.Malformed (malformed.Frame fault)) fs ++ body_causes family port source state (content bytes)) is.opened
       ∙ body_is bytes is knows_it for_us
 
-  taken_is : (bytes : List ℕ) (is : IsReadAs family source bytes said) → body_taken family port source state (content bytes) ≡ message_taken family port state said
-  taken_is bytes is = ap (body_taken family port source state) is.holds ∙ ap (message_taken family port state) is.reads
+  taken_is : (bytes : List ℕ) (is : IsReadAs family source bytes said) → body_heard family port source state (content bytes) ≡ message_heard family port state said
+  taken_is bytes is = ap (body_heard family port source state) is.holds ∙ ap (message_heard family port state) is.reads
 
   received_is : (bytes : List ℕ) (is : IsReadAs family source bytes said) → same_address source (own_address port state) ≡ false → knows port source state ≡ true → same_address said.upstream (own_address port state) ≡ true
-      → received family (record { port = port; source = source; destination = all_routers family; bytes = bytes }) state ≡ unless room state (message_taken family port state said)
+      → received family (record { port = port; source = source; destination = all_routers family; bytes = bytes }) state ≡ unless room state (message_heard family port state said)
   received_is bytes is not_mine knows_it for_us =
-      ap (λ (cs : List Verdict). unless cs state (body_taken family port source state (content bytes))) (causes_are bytes is not_mine knows_it for_us)
+      ap (λ (cs : List Verdict). unless cs state (body_heard family port source state (content bytes))) (causes_are bytes is not_mine knows_it for_us)
       ∙ ap (unless room state) (taken_is bytes is)
 
 -- ---- what becomes of it
@@ -116,7 +116,7 @@ module _ (family : AddressFamily) (writing : Writing) (exchange : Exchange) (i :
   abbrev heard_as : ℕ → Timing → List Event → Verdict × RouterState
   heard_as holdtime timing es = (verdict.Applied, with_machines state (with_records state.machines (hearing exchange.port (start_of holdtime timing) es state.machines.records)))
 
-  applied_is : message_taken family exchange.port state said ≡ taken
+  applied_is : message_heard family exchange.port state said ≡ taken
   applied_is =
       ap (λ (holdtime : ℕ). heard_as holdtime (timing_on exchange.port state) (events_of (rp_of family state.routes) said)) time
       ∙ ap (λ (timing : Timing). heard_as exchange.holdtime timing (events_of (rp_of family state.routes) said)) (sym hears.timing_is)
@@ -125,7 +125,7 @@ module _ (family : AddressFamily) (writing : Writing) (exchange : Exchange) (i :
   ends_as : received family packet state ≡ unless (fault_if (nat_lt state.machines.limit count) (verdict.Full (store.Records count))) state taken
   ends_as =
       received_is family exchange.port writing.own state said bytes read not_mine hears.known for_us
-      ∙ ap (λ (cs : List Verdict). unless cs state (message_taken family exchange.port state said)) room_is
+      ∙ ap (λ (cs : List Verdict). unless cs state (message_heard family exchange.port state said)) room_is
       ∙ ap (unless (fault_if (nat_lt state.machines.limit count) (verdict.Full (store.Records count))) state) applied_is
 
   abbrev Ends : Bool → Type 0
@@ -142,10 +142,10 @@ pub read_heard : ReadPacketIsHeard
 read_heard family writing exchange i bytes said state is_writing read to_us time events hears =
     heard family writing exchange i bytes said state is_writing read to_us time events hears
 
-pub packet_heard : CanonicalMessagesTellParts → MessagesAreRead → ReadPacketIsHeard → CanonicalPacketIsHeard
+pub packet_heard : CanonicalMessagesCarryParts → MessagesAreRead → ReadPacketIsHeard → CanonicalPacketIsHeard
 packet_heard parts_of read packet_read family writing form messages i port timing state is_writing is have are within hears =
     let known = rp_of family state.routes in
     let found = parts_of family writing known form messages is have are in
     let these = read family writing known form messages found.0 is_writing found.1 in
     let this = message_at family writing known messages found.0 i these within in
-    packet_read family writing (heard_exchange family writing port timing messages state) i (get_or messages i []) (told_message writing known this.part) state is_writing this.read refl refl this.events hears
+    packet_read family writing (heard_exchange family writing port timing messages state) i (get_or messages i []) (written_message writing known this.part) state is_writing this.read refl refl this.events hears

@@ -7,9 +7,9 @@ use Rattle.pim_addr.specs.Address.{IsGroupAddress, IsSourceAddress}
 use Rattle.pim_form.specs.NormalForm.{GroupForm, AreAscending, AreExceptions, is_empty, IsNormalGroup, IsNormal}
 use Rattle.pim_form.specs.Units.{WantUnit, star_unit, source_unit, star_units, group_units, units_of}
 use Rattle.pim_form.specs.Packing.{fits, joined, AreRuns}
-use Rattle.pim_form.specs.Messages.{Writing, IsRp, IsRpOf, HaveRps, TellsRun, TellRuns}
-use Rattle.pim_mirror.specs.CanonicalParts.{TellParts}
-use Rattle.pim_mirror.specs.Laws.{CanonicalMessagesTellParts}
+use Rattle.pim_form.specs.Messages.{Writing, IsRp, IsRpOf, HaveRps, CarriesRun, CarryRuns}
+use Rattle.pim_mirror.specs.CanonicalParts.{CarryParts}
+use Rattle.pim_mirror.specs.Laws.{CanonicalMessagesCarryParts}
 use Rattle.pim_mirror.proofs.ListParts.{all_append, all_front, all_behind, all_known, all_map, all_mapped}
 use Rattle.pim_mirror.proofs.UnitOrder.{AreOrdered, ordered_front, ordered_behind, sources_ascend, form_ordered}
 
@@ -97,11 +97,11 @@ module _ (family : AddressFamily) (rps : List ℕ → Option (List ℕ)) where
       have : AllByRecursion (HaveRps family rps) parts
       fitting : AllByRecursion (λ part. fits family writing.budget (units_of part) ≡ true) parts
       whole : flat_map units_of parts ≡ joined runs
-      told : TellParts family writing rps parts messages
+      reported : CarryParts family writing rps parts messages
 
-    one_more : (run : List WantUnit) (runs : List (List WantUnit)) (bytes : List ℕ) (messages : List (List ℕ)) → TellsRun family writing rps run bytes → fits family writing.budget run ≡ true
+    one_more : (run : List WantUnit) (runs : List (List WantUnit)) (bytes : List ℕ) (messages : List (List ℕ)) → CarriesRun family writing rps run bytes → fits family writing.budget run ≡ true
         → AllByRecursion IsValidUnit run → AreOrdered run → HaveParts runs messages → HaveParts (run ∷ runs) (bytes ∷ messages)
-    unfolding TellParts
+    unfolding CarryParts
     one_more run runs bytes messages tells fitting valid ordered others =
         let valid_units = subst (AllByRecursion IsValidUnit) (sym tells.units) valid in
         let ordered_units = subst AreOrdered (sym tells.units) ordered in
@@ -111,25 +111,25 @@ module _ (family : AddressFamily) (rps : List ℕ → Option (List ℕ)) where
           have = (have_rps tells.part valid_units, others.have);
           fitting = (subst (λ (units : List WantUnit). fits family writing.budget units ≡ true) (sym tells.units) fitting, others.fitting);
           whole = ap (λ (units : List WantUnit). units ++ flat_map units_of others.parts) tells.units ∙ ap (λ (units : List WantUnit). run ++ units) others.whole;
-          told = (tells.sealed, others.told);
+          reported = (tells.sealed, others.reported);
         }
 
-    cut : (runs : List (List WantUnit)) (messages : List (List ℕ)) → TellRuns family writing rps runs messages → AreRuns family writing.budget runs
+    cut : (runs : List (List WantUnit)) (messages : List (List ℕ)) → CarryRuns family writing rps runs messages → AreRuns family writing.budget runs
         → AllByRecursion IsValidUnit (joined runs) → AreOrdered (joined runs) → HaveParts runs messages
-    unfolding AreRuns TellParts
-    cut [] [] told are valid ordered = record { parts = []; normal = tt; have = tt; fitting = tt; whole = refl; told = tt }
-    cut [] (bytes ∷ messages) told are valid ordered = absurd told
-    cut (run ∷ runs) [] told are valid ordered = absurd told
-    cut (run ∷ runs) (bytes ∷ messages) told are valid ordered =
-        one_more run runs bytes messages told.0 are.1 (all_front IsValidUnit run (joined runs) valid) (ordered_front run (joined runs) ordered)
-        (cut runs messages told.1 are.3 (all_behind IsValidUnit run (joined runs) valid) (ordered_behind run (joined runs) ordered))
+    unfolding AreRuns CarryParts
+    cut [] [] reported are valid ordered = record { parts = []; normal = tt; have = tt; fitting = tt; whole = refl; reported = tt }
+    cut [] (bytes ∷ messages) reported are valid ordered = absurd reported
+    cut (run ∷ runs) [] reported are valid ordered = absurd reported
+    cut (run ∷ runs) (bytes ∷ messages) reported are valid ordered =
+        one_more run runs bytes messages reported.0 are.1 (all_front IsValidUnit run (joined runs) valid) (ordered_front run (joined runs) ordered)
+        (cut runs messages reported.1 are.3 (all_behind IsValidUnit run (joined runs) valid) (ordered_behind run (joined runs) ordered))
 
 pub in_order : (family : AddressFamily) (form : List GroupForm) → IsNormal family form → AreOrdered (units_of form)
 in_order family form is = form_ordered form is.ascending (all_known (IsNormalGroup family) (λ (this : GroupForm). AreAscending this.sources) (λ this normal. normal.ascending) form is.groups)
 
-pub messages_tell : CanonicalMessagesTellParts
+pub messages_tell : CanonicalMessagesCarryParts
 messages_tell family writing rps form messages is have are =
-    let found = cut family rps writing are.runs messages are.told are.packing.cut
+    let found = cut family rps writing are.runs messages are.reported are.packing.cut
     (subst (AllByRecursion (IsValidUnit family rps)) (sym are.packing.whole) (units_valid family rps form is.groups have))
     (subst AreOrdered (sym are.packing.whole) (in_order family form is)) in
-    (found.parts, record { normal = found.normal; have = found.have; fitting = found.fitting; whole = found.whole ∙ are.packing.whole; told = found.told })
+    (found.parts, record { normal = found.normal; have = found.have; fitting = found.fitting; whole = found.whole ∙ are.packing.whole; reported = found.reported })

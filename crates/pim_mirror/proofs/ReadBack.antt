@@ -7,28 +7,28 @@ use Rattle.pim_jp.specs.Message.{Message, message_of}
 use Rattle.pim_form.specs.NormalForm.{GroupForm, IsNormal}
 use Rattle.pim_form.specs.Units.{units_of}
 use Rattle.pim_form.specs.Packing.{fits}
-use Rattle.pim_form.specs.Messages.{Writing, IsWriting, HaveRps, told_message}
+use Rattle.pim_form.specs.Messages.{Writing, IsWriting, HaveRps, written_message}
 use Rattle.pim_form.specs.Laws.{SealedMessageIsRead, IsReadAs}
-use Rattle.pim_mirror.specs.CanonicalParts.{TellParts}
-use Rattle.pim_mirror.specs.CanonicalExchange.{body_of, message_in, exchange_of, exchange_in, TellsForm, AreReadAs}
-use Rattle.pim_mirror.specs.Laws.{CanonicalMessagesTellParts, PartsTellUnitsOnce, MessagesAreRead, CanonicalMessagesTellForm}
+use Rattle.pim_mirror.specs.CanonicalParts.{CarryParts}
+use Rattle.pim_mirror.specs.CanonicalExchange.{body_of, message_in, exchange_of, exchange_in, CarriesForm, AreReadAs}
+use Rattle.pim_mirror.specs.Laws.{CanonicalMessagesCarryParts, PartsHaveUnitsOnce, MessagesAreRead, CanonicalMessagesCarryForm}
 use Rattle.pim_mirror.proofs.Spellable.{is_message}
 
 module _ (family : AddressFamily) (writing : Writing) (rps : List ℕ → Option (List ℕ)) (is : IsWriting family writing) (reads : SealedMessageIsRead) where
   all_read : (messages : List (List ℕ)) (parts : List (List GroupForm)) → AllByRecursion (IsNormal family) parts → AllByRecursion (HaveRps family rps) parts
-      → AllByRecursion (λ part. fits family writing.budget (units_of part) ≡ true) parts → TellParts family writing rps parts messages
-      → AreReadAs family writing.own messages (map (told_message writing rps) parts)
-  unfolding AreReadAs TellParts
-  all_read [] [] normal have fitting told = tt
-  all_read [] (part ∷ parts) normal have fitting told = absurd told
-  all_read (bytes ∷ messages) [] normal have fitting told = absurd told
-  all_read (bytes ∷ messages) (part ∷ parts) normal have fitting told = (
-    reads family writing.own (told_message writing rps part) bytes (is_message family writing rps part is normal.0 have.0 fitting.0) told.0,
-    all_read messages parts normal.1 have.1 fitting.1 told.1,
+      → AllByRecursion (λ part. fits family writing.budget (units_of part) ≡ true) parts → CarryParts family writing rps parts messages
+      → AreReadAs family writing.own messages (map (written_message writing rps) parts)
+  unfolding AreReadAs CarryParts
+  all_read [] [] normal have fitting reported = tt
+  all_read [] (part ∷ parts) normal have fitting reported = absurd reported
+  all_read (bytes ∷ messages) [] normal have fitting reported = absurd reported
+  all_read (bytes ∷ messages) (part ∷ parts) normal have fitting reported = (
+    reads family writing.own (written_message writing rps part) bytes (is_message family writing rps part is normal.0 have.0 fitting.0) reported.0,
+    all_read messages parts normal.1 have.1 fitting.1 reported.1,
   )
 
 pub messages_are_read : SealedMessageIsRead → MessagesAreRead
-messages_are_read reads family writing rps form messages parts is are = all_read family writing rps is reads messages parts are.normal are.have are.fitting are.told
+messages_are_read reads family writing rps form messages parts is are = all_read family writing rps is reads messages parts are.normal are.have are.fitting are.reported
 
 -- ---- what is read
 
@@ -42,12 +42,12 @@ read_messages family source [] (one ∷ said) are = absurd are
 read_messages family source (bytes ∷ messages) [] are = absurd are
 read_messages family source (bytes ∷ messages) (one ∷ said) are = ap₂ (λ m ms. m ∷ ms) (read_message family source bytes one are.0) (read_messages family source messages said are.1)
 
-pub tell_form : CanonicalMessagesTellParts → PartsTellUnitsOnce → MessagesAreRead → CanonicalMessagesTellForm
+pub tell_form : CanonicalMessagesCarryParts → PartsHaveUnitsOnce → MessagesAreRead → CanonicalMessagesCarryForm
 tell_form parts_of once read family writing rps form messages port timing is_writing is have are =
     let found = parts_of family writing rps form messages is have are in
     let parts = found.0 in
-    let same : map (message_in family) messages ≡ map (told_message writing rps) parts = read_messages family writing.own messages (map (told_message writing rps) parts) (read family writing rps form messages parts is_writing found.1) in
-    let count : length parts ≡ length messages = sym (length-map parts (told_message writing rps)) ∙ ap length (sym same) ∙ length-map messages (message_in family) in
-    subst (λ (n : ℕ). TellsForm (exchange_in family rps writing port timing messages) n form) count
-    (subst (λ (said : List Message). TellsForm (exchange_of rps writing.holdtime port timing said) (length parts) form) (sym same)
+    let same : map (message_in family) messages ≡ map (written_message writing rps) parts = read_messages family writing.own messages (map (written_message writing rps) parts) (read family writing rps form messages parts is_writing found.1) in
+    let count : length parts ≡ length messages = sym (length-map parts (written_message writing rps)) ∙ ap length (sym same) ∙ length-map messages (message_in family) in
+    subst (λ (n : ℕ). CarriesForm (exchange_in family rps writing port timing messages) n form) count
+    (subst (λ (said : List Message). CarriesForm (exchange_of rps writing.holdtime port timing said) (length parts) form) (sym same)
     (once family writing rps form messages parts port timing is found.1))

@@ -6,7 +6,7 @@ use Rattle.pim_frame.specs.Frame.{Content, hello, join_prune, other, content}
 use Rattle.pim_fresh.specs.Deliveries.{Delivery}
 use Rattle.pim_router.specs.Course.{runs_to}
 use Rattle.pim_router.specs.Laws.{CourseGoesOn, EveryListHasACourse}
-use Rattle.pim_router.specs.Packets.{Packet, causes, body_taken, unless, received, Receives}
+use Rattle.pim_router.specs.Packets.{Packet, causes, body_heard, unless, received, Receives}
 use Rattle.pim_router.specs.State.{RouterState}
 use Rattle.pim_router.specs.declared.verdict.Verdict.{Verdict}
 use Rattle.pim_router.specs.declared.verdict.Verdict.TheVariants as verdict
@@ -48,7 +48,7 @@ full_of verdict.NotForUs needed e = absurd (none_or_some needed e)
 full_of verdict.Applied needed e = absurd (none_or_some needed e)
 
 -- what is taken is no `Full`
-taken_not_full : (family : AddressFamily) (port : ℕ) (source : List ℕ) (state : RouterState) (body : Content) (of : Store) → (body_taken family port source state body).0 ≡ verdict.Full of → ⊥
+taken_not_full : (family : AddressFamily) (port : ℕ) (source : List ℕ) (state : RouterState) (body : Content) (of : Store) → (body_heard family port source state body).0 ≡ verdict.Full of → ⊥
 taken_not_full family port source state (other type) of e = cc
 taken_not_full family port source state (hello body) of e = cc
 taken_not_full family port source state (join_prune body) of e = cc
@@ -60,7 +60,7 @@ full_unless (cause ∷ others) state taken of never is = refl
 -- a packet that is `Full` changes nothing
 full_keeps : (family : AddressFamily) (packet : Packet) (state : RouterState) (of : Store) → (received family packet state).0 ≡ verdict.Full of → (received family packet state).1 ≡ state
 full_keeps family packet state of is =
-    full_unless (causes family packet state) state (body_taken family packet.port packet.source state (content packet.bytes)) of
+    full_unless (causes family packet state) state (body_heard family packet.port packet.source state (content packet.bytes)) of
     (taken_not_full family packet.port packet.source state (content packet.bytes) of) is
 
 told_full : (family : AddressFamily) (packet : Packet) (old now : RouterState) (given : Verdict) (why : MirrorFault) (needed : Option ℕ) → needed_by given ≡ needed

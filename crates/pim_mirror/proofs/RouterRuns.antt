@@ -10,13 +10,13 @@ use Rattle.pim_down.specs.declared.machines.step.Step.TheVariants as fires
 use Rattle.pim_down.specs.Time.{Downstream, fired, with_records, tick as machines_tick, Outcome as MachineOutcome, moves as machines_move, rests as machines_rest, echoes, turn_by, turn as machine_turn, run_on as machine_run_on, run_within as machine_run_within, Runs as MachineRuns}
 use Rattle.pim_router.specs.declared.step.Step.{Step}
 use Rattle.pim_router.specs.declared.step.Step.TheVariants.{Echo, Refresh, Reached}
-use Rattle.pim_router.specs.Course.{Telling, echo, refresh, verdict, Reaches}
+use Rattle.pim_router.specs.Course.{RouterReport, echo, refresh, verdict, Reaches}
 use Rattle.pim_router.specs.State.{RouterState, with_machines, with_tables, with_refresh, refresh_period}
 use Rattle.pim_mirror.specs.Headline.{is_echo}
 use Rattle.pim_mirror.specs.Laws.{RouterRunsAsItsMachines}
 use Rattle.pim_mirror.specs.MachineRuns.{MachinesArrive}
 use Rattle.pim_mirror.proofs.Ways.{runs_keep}
-use Rattle.pim_router.specs.Time.{has_ended, tick, told, moves, rests, tells, turn_of_time, turn_of_refresh, turn_of_timers, turn, run_on, run_within, Runs}
+use Rattle.pim_router.specs.Time.{has_ended, tick, reported, moves, rests, tells, turn_of_time, turn_of_refresh, turn_of_timers, turn, run_on, run_within, Runs}
 
 -- ---- one turn of the machines
 
@@ -77,7 +77,7 @@ module _ (moment : ℕ) where
 
   fires_as : (turns : ℕ) → ((state : RouterState) → EndsAs moment state.machines state.routes (run_within turns moment state)) → (state : RouterState) (answer : Fires (List ℕ)) (records : List (Record (List ℕ)))
       → fired state.machines.records ≡ Some (answer, records)
-      → EndsAs moment state.machines state.routes (run_on (told answer (with_machines state (with_records state.machines records))) state (run_within turns moment))
+      → EndsAs moment state.machines state.routes (run_on (reported answer (with_machines state (with_records state.machines records))) state (run_within turns moment))
   unfolding EndsAs Ends machine_turn
   fires_as turns later state fires.Reached records e =
       let after = with_records state.machines records in
@@ -109,7 +109,7 @@ module _ (moment : ℕ) where
   no_echo port group what e = cc
 
   -- where the machines tell no echo, the router's runs through refreshes are one run of them
-  pub reaches_as : (tellings : List Telling) (state after : RouterState) → ((answer : Fires (List ℕ)) (end : Downstream) → MachineRuns moment state.machines answer end → answer ≡ fires.Reached)
+  pub reaches_as : (tellings : List RouterReport) (state after : RouterState) → ((answer : Fires (List ℕ)) (end : Downstream) → MachineRuns moment state.machines answer end → answer ≡ fires.Reached)
       → Reaches moment tellings state after → MachineRuns moment state.machines fires.Reached after.machines × (after.routes ≡ state.routes)
   unfolding Reaches Ends
   reaches_as [] state after quiet reaches = run_ends state after Reached reaches
@@ -119,10 +119,10 @@ module _ (moment : ℕ) where
       let ends = run_ends state reaches.0 Refresh reaches.1 in
       let later = reaches_as more reaches.0 after (λ answer end runs. quiet answer end (ends.0 answer end runs)) reaches.2 in
       (ends.0 fires.Reached after.machines later.0, later.1 ∙ ends.1)
-  reaches_as (verdict told ∷ more) state after quiet reaches = absurd reaches
+  reaches_as (verdict reported ∷ more) state after quiet reaches = absurd reaches
 
   -- and they tell no echo
-  pub reaches_quietly : (tellings : List Telling) (state after : RouterState) → ((answer : Fires (List ℕ)) (end : Downstream) → MachineRuns moment state.machines answer end → answer ≡ fires.Reached)
+  pub reaches_quietly : (tellings : List RouterReport) (state after : RouterState) → ((answer : Fires (List ℕ)) (end : Downstream) → MachineRuns moment state.machines answer end → answer ≡ fires.Reached)
       → Reaches moment tellings state after → list_any is_echo tellings ≡ false
   unfolding Reaches Ends
   reaches_quietly [] state after quiet reaches = refl
@@ -131,7 +131,7 @@ module _ (moment : ℕ) where
   reaches_quietly (refresh ∷ more) state after quiet reaches =
       let ends = run_ends state reaches.0 Refresh reaches.1 in
       reaches_quietly more reaches.0 after (λ answer end runs. quiet answer end (ends.0 answer end runs)) reaches.2
-  reaches_quietly (verdict told ∷ more) state after quiet reaches = absurd reaches
+  reaches_quietly (verdict reported ∷ more) state after quiet reaches = absurd reaches
 
 -- ---- what a router's run does to its machines
 
@@ -165,4 +165,4 @@ runs_as_machines moment (refresh ∷ more) state after reaches =
       routes = rest.routes ∙ ends.1;
       ports = rest.ports ∙ runs_keep moment state reaches.0 Refresh reaches.1;
     }
-runs_as_machines moment (verdict told ∷ more) state after reaches = absurd reaches
+runs_as_machines moment (verdict reported ∷ more) state after reaches = absurd reaches

@@ -4,29 +4,29 @@ use Rattle.pim_addr.specs.Routes.{RouteTable, rp_of}
 use Rattle.pim_addr.specs.declared.family.AddressFamily.{AddressFamily}
 use Rattle.pim_down.specs.Sound.{IsSound}
 use Rattle.pim_down.specs.Time.{Downstream}
-use Rattle.pim_form.specs.Asked.{AskedFormIsAsked, asked_form}
+use Rattle.pim_form.specs.Demanded.{DemandedFormIsDemanded, demanded_form}
 use Rattle.pim_form.specs.Laws.{OneNormalForm, MessagesAreThereUnlessTooBig}
 use Rattle.pim_form.specs.Messages.{Writing, IsWriting}
 use Rattle.pim_form.specs.NormalForm.{GroupForm, IsFormOf}
 use Rattle.pim_form.specs.TooBig.{too_big}
-use Rattle.pim_form.specs.TowardLaws.{asked_of}
+use Rattle.pim_form.specs.TowardLaws.{demand_toward}
 use Rattle.pim_mirror.specs.Headline.{AreMessagesOf}
 use Rattle.pim_mirror.specs.MirrorLaws.{StateHasMessagesUnlessTooBig}
 
 module _ (sole : OneNormalForm) (there : MessagesAreThereUnlessTooBig) (family : AddressFamily) (table : RouteTable) (writing : Writing) (state : Downstream) (is_writing : IsWriting family writing) where
-  none_too_big : (messages : List (List ℕ)) → AreMessagesOf family table writing state messages → (form : List GroupForm) → IsFormOf family (asked_of family table writing.upstream state) form
+  none_too_big : (messages : List (List ℕ)) → AreMessagesOf family table writing state messages → (form : List GroupForm) → IsFormOf family (demand_toward family table writing.upstream state) form
       → too_big family writing.budget form ≡ None
-  none_too_big messages asked form is =
-      let same : form ≡ asked.form = sole family form asked.form is.normal asked.is.normal
-      (λ source group tree valid valid_group. sym (is.wants source group tree valid valid_group) ∙ asked.is.wants source group tree valid valid_group) in
-      ap (too_big family writing.budget) same ∙ (there family writing (rp_of family table) asked.form is_writing asked.is.normal).0 (messages, asked.told)
+  none_too_big messages demanded form is =
+      let same : form ≡ demanded.form = sole family form demanded.form is.normal demanded.is.normal
+      (λ source group tree valid valid_group. sym (is.wants source group tree valid valid_group) ∙ demanded.is.wants source group tree valid valid_group) in
+      ap (too_big family writing.budget) same ∙ (there family writing (rp_of family table) demanded.form is_writing demanded.is.normal).0 (messages, demanded.reported)
 
-pub state_has_messages : AskedFormIsAsked → OneNormalForm → MessagesAreThereUnlessTooBig → StateHasMessagesUnlessTooBig
+pub state_has_messages : DemandedFormIsDemanded → OneNormalForm → MessagesAreThereUnlessTooBig → StateHasMessagesUnlessTooBig
 state_has_messages are sole there family table writing state is_writing sound = (
-  λ asked. none_too_big sole there family table writing state is_writing asked.0 asked.1,
+  λ demanded. none_too_big sole there family table writing state is_writing demanded.0 demanded.1,
   λ fitting.
-      let form = asked_form family table writing.upstream state in
+      let form = demanded_form family table writing.upstream state in
       let is = (are family table writing.upstream state sound).is in
-      let told = (there family writing (rp_of family table) form is_writing is.normal).1 (fitting form is) in
-      (told.0, record { form = form; is = is; told = told.1 }),
+      let reported = (there family writing (rp_of family table) form is_writing is.normal).1 (fitting form is) in
+      (reported.0, record { form = form; is = is; reported = reported.1 }),
 )

@@ -17,7 +17,7 @@ use Rattle.pim_jp.specs.Canonical.{IsMessageEntry, IsMessageSet, IsMessage}
 use Rattle.pim_form.specs.NormalForm.{GroupForm, AreAscending, AreExceptions, is_empty, IsNormalGroup, groups_of, IsNormal}
 use Rattle.pim_form.specs.Units.{WantUnit, source_unit, star_units, group_units, units_of, is_of_group, groups_behind, run_groups, run_entries, run_size}
 use Rattle.pim_form.specs.Packing.{fits, most_groups}
-use Rattle.pim_form.specs.Messages.{Writing, IsWriting, IsRpOf, HaveRps, star_entries, excepted_entries, told_set, told_message}
+use Rattle.pim_form.specs.Messages.{Writing, IsWriting, IsRpOf, HaveRps, star_entries, excepted_entries, written_set, written_message}
 use Rattle.pim_mirror.proofs.ListParts.{all_append, all_map}
 use Rattle.pim_mirror.proofs.SameAddresses.{same_itself, less_apart, first_true, second_true}
 
@@ -62,7 +62,7 @@ apart : (rp : Option (List ℕ)) (star : Option (List (List ℕ))) (sources : Li
 apart rp None sources = refl
 apart rp (Some xs) sources = none_in_both xs (star_entries rp (Some xs) ++ map (λ source. Source source) sources) (λ x. no_rpt_in_joined x rp (Some xs) sources)
 
-legal : (rps : List ℕ → Option (List ℕ)) (this : GroupForm) → IsLegalSet (told_set rps this)
+legal : (rps : List ℕ → Option (List ℕ)) (this : GroupForm) → IsLegalSet (written_set rps this)
 legal rps this = (one_star (rps this.group) this.star this.sources, apart (rps this.group) this.star this.sources)
 
 -- ---- how many entries
@@ -83,7 +83,7 @@ star_entry_count group rp None = omega arith
 star_entry_count group None (Some xs) = omega (arith, length-map xs (λ source. Rpt source))
 star_entry_count group (Some rp) (Some xs) = omega (arith, length-map xs (λ source. Rpt source))
 
-group_entries : (rps : List ℕ → Option (List ℕ)) (this : GroupForm) → length (told_set rps this).joined + length (told_set rps this).pruned ≤ run_entries (group_units this)
+group_entries : (rps : List ℕ → Option (List ℕ)) (this : GroupForm) → length (written_set rps this).joined + length (written_set rps this).pruned ≤ run_entries (group_units this)
 group_entries rps this =
     omega (
       arith,
@@ -145,29 +145,29 @@ pruned_valid : (family : AddressFamily) (star : Option (List (List ℕ))) → Ar
 pruned_valid family None are = tt
 pruned_valid family (Some xs) are = all_map (IsSourceAddress family) (IsMessageEntry family) (λ source. Rpt source) (λ s is. is) xs are.1
 
-joined_valid : (family : AddressFamily) (rps : List ℕ → Option (List ℕ)) (this : GroupForm) → IsNormalGroup family this → IsRpOf family (rps this.group) this.star → AllByRecursion (IsMessageEntry family) (told_set rps this).joined
+joined_valid : (family : AddressFamily) (rps : List ℕ → Option (List ℕ)) (this : GroupForm) → IsNormalGroup family this → IsRpOf family (rps this.group) this.star → AllByRecursion (IsMessageEntry family) (written_set rps this).joined
 joined_valid family rps this is rp =
     all_append (IsMessageEntry family) (star_entries (rps this.group) this.star) (map (λ source. Source source) this.sources)
     (joined_star family (rps this.group) this.star rp)
     (all_map (IsSourceAddress family) (IsMessageEntry family) (λ source. Source source) (λ s is_s. is_s) this.sources is.sources)
 
-sets_are : (family : AddressFamily) (rps : List ℕ → Option (List ℕ)) (part : List GroupForm) → AllByRecursion (IsNormalGroup family) part → HaveRps family rps part → run_entries (units_of part) < 2 ^ 16 → AllByRecursion (IsMessageSet family) (map (told_set rps) part)
+sets_are : (family : AddressFamily) (rps : List ℕ → Option (List ℕ)) (part : List GroupForm) → AllByRecursion (IsNormalGroup family) part → HaveRps family rps part → run_entries (units_of part) < 2 ^ 16 → AllByRecursion (IsMessageSet family) (map (written_set rps) part)
 sets_are family rps [] are have few = tt
 sets_are family rps (this ∷ part) are have few =
     let here = group_entries rps this in
     let whole = entries_append (group_units this) (units_of part) in
-    let joined : length (told_set rps this).joined < 2 ^ 16 = omega (arith, few, here, whole) in
-    let pruned : length (told_set rps this).pruned < 2 ^ 16 = omega (arith, few, here, whole) in
+    let joined : length (written_set rps this).joined < 2 ^ 16 = omega (arith, few, here, whole) in
+    let pruned : length (written_set rps this).pruned < 2 ^ 16 = omega (arith, few, here, whole) in
     let left : run_entries (units_of part) < 2 ^ 16 = omega (arith, few, whole) in (
       (are.0.group.0, are.0.group.1, legal rps this, joined, joined_valid family rps this are.0 have.0, pruned, pruned_valid family this.star are.0.exceptions),
       sets_are family rps part are.1 have.1 left,
     )
 
 pub is_message : (family : AddressFamily) (writing : Writing) (rps : List ℕ → Option (List ℕ)) (part : List GroupForm) → IsWriting family writing → IsNormal family part → HaveRps family rps part
-    → fits family writing.budget (units_of part) ≡ true → IsMessage family (told_message writing rps part)
+    → fits family writing.budget (units_of part) ≡ true → IsMessage family (written_message writing rps part)
 is_message family writing rps part is normal have fitting =
     let small = leb-true (run_size family (units_of part)) writing.budget (first_true (nat_le (run_size family (units_of part)) writing.budget) (nat_le (run_groups (units_of part)) most_groups) fitting) in
     let few = leb-true (run_groups (units_of part)) most_groups (second_true (nat_le (run_size family (units_of part)) writing.budget) (nat_le (run_groups (units_of part)) most_groups) fitting) in
     let size : run_size family (units_of part) ≤ 65000 = omega (arith, small, is.most) in
-    let groups : length (map (told_set rps) part) < 2 ^ 8 = omega (arith, few, group_count family part normal, length-map part (told_set rps)) in
+    let groups : length (map (written_set rps) part) < 2 ^ 8 = omega (arith, few, group_count family part normal, length-map part (written_set rps)) in
     (is.upstream.0, is.short, groups, sets_are family rps part normal.groups have (entries_few family (units_of part) size))

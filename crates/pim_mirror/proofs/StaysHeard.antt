@@ -4,7 +4,7 @@ use Rattle.std.specs.Option.{is_some}
 use Rattle.std.specs.List.{AllByRecursion, list_any}
 use Rattle.std.proofs.lemmas.Bool.{ltb-true, eqb-true}
 use Rattle.pim_hello.specs.Neighbours.{Neighbour, Table, no_neighbours, neighbour_at, is_address, hellos_of, waited, passed_to, is_over, without_ended}
-use Rattle.pim_hello.specs.Interval.{override_interval}
+use Rattle.pim_hello.specs.Interval.{jp_override_interval}
 use Rattle.pim_down.specs.declared.machines.event.Timing.{Timing}
 use Rattle.pim_down.specs.declared.machines.machine.Record.{Record}
 use Rattle.pim_down.specs.declared.machines.step.Step.{Step as Fires}
@@ -14,7 +14,7 @@ use Rattle.pim_form.specs.Messages.{Writing}
 use Rattle.pim_fresh.specs.Deliveries.{IsShorter}
 use Rattle.pim_router.specs.declared.step.Step.{Step}
 use Rattle.pim_router.specs.declared.step.Step.TheVariants.{Echo, Refresh, Reached}
-use Rattle.pim_router.specs.Course.{Telling, echo, refresh, verdict, Reaches}
+use Rattle.pim_router.specs.Course.{RouterReport, echo, refresh, verdict, Reaches}
 use Rattle.pim_router.specs.State.{RouterState, with_machines, with_refresh, refresh_period, port_at}
 use Rattle.pim_router.specs.Time.{has_ended, tick, moves, rests, tells, turn_of_time, turn_of_refresh, turn_of_timers, turn, run_on, run_within, Runs}
 use Rattle.pim_mirror.specs.CanonicalCourse.{Lasts}
@@ -167,7 +167,7 @@ module _ (writing : Writing) (port : ℕ) (timing : Timing) (moment last : ℕ) 
           own = keeps.hears.own;
           known = same.known writing.own ∙ keeps.hears.known;
           timing_is = keeps.hears.timing_is
-              ∙ ap₂ (λ hellos n. record { override_ms = override_interval (port_at port state).propagation (port_at port state).override_ms hellos; several = nat_lt 1 n }) (sym same.hellos) (sym same.count);
+              ∙ ap₂ (λ hellos n. record { override_ms = jp_override_interval (port_at port state).propagation (port_at port state).override_ms hellos; several = nat_lt 1 n }) (sym same.hellos) (sym same.count);
         };
       }
 
@@ -221,7 +221,7 @@ module _ (writing : Writing) (port : ℕ) (timing : Timing) (moment last : ℕ) 
   unfolding EndKeeps
   end_keeps state after answer keeps runs = subst EndKeeps runs.within (run_keeps runs.turns state keeps)
 
-  reaches_keeps : (tellings : List Telling) (state after : RouterState) → Keeps state → Reaches moment tellings state after → Keeps after
+  reaches_keeps : (tellings : List RouterReport) (state after : RouterState) → Keeps state → Reaches moment tellings state after → Keeps after
   unfolding Reaches
   reaches_keeps [] state after keeps reaches = end_keeps state after Reached keeps reaches
   reaches_keeps (echo p group what ∷ more) state after keeps reaches = reaches_keeps more reaches.0 after (end_keeps state reaches.0 (Echo p group what) keeps reaches.1) reaches.2

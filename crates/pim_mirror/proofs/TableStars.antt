@@ -7,10 +7,10 @@ use Rattle.pim_addr.specs.Address.{IsSourceAddress}
 use Rattle.pim_addr.specs.Routes.{Row, RouteTable, matches, longer_of, longest, led_to, rp_of, IsRealRow, IsRouteTable}
 use Rattle.pim_form.specs.NormalForm.{GroupForm}
 use Rattle.pim_form.specs.Messages.{IsRpOf, HaveRps}
-use Rattle.pim_form.specs.Toward.{via_in, via_rp, upstream_of, is_neighbour, is_star_toward, is_group_toward, is_toward}
-use Rattle.pim_form.specs.TowardLaws.{TestTellsWhoIsAsked}
+use Rattle.pim_form.specs.Toward.{via_of, star_rpf_neighbour, rpf_neighbour, is_neighbour, is_star_toward, is_group_toward, is_toward}
+use Rattle.pim_form.specs.TowardLaws.{TestFindsTheNeighbour}
 use Rattle.pim_form.specs.Wants.{wants}
-use Rattle.pim_mirror.specs.Laws.{AskedStarsHaveRps}
+use Rattle.pim_mirror.specs.Laws.{DemandedStarsHaveRps}
 use Rattle.pim_mirror.proofs.SameAddresses.{first_true, second_true}
 
 abbrev IfRow : (Row → Type 0) → Option Row → Type 0
@@ -47,25 +47,25 @@ unfolding led_to
 led_to_source family address rows are = leads family (longest (filter (matches family address) rows)) (the_longest (IsRealRow family) (matches family address) rows are)
 
 module _ (family : AddressFamily) (table : RouteTable) (sound : IsRouteTable family table) (neighbour : List ℕ) where
-  star_has_rp : (group : List ℕ) (star : Option (List (List ℕ))) → is_star_toward (rp_of family table) (via_in family table) neighbour group star ≡ true → IsRpOf family (rp_of family table group) star
-  star_has_rp group None asked = tt
-  star_has_rp group (Some exceptions) asked = by (rp_of family table group) (led_to_source family group table.rps sound.rps.real) asked
+  star_has_rp : (group : List ℕ) (star : Option (List (List ℕ))) → is_star_toward (rp_of family table) (via_of family table) neighbour group star ≡ true → IsRpOf family (rp_of family table group) star
+  star_has_rp group None demanded = tt
+  star_has_rp group (Some exceptions) demanded = by (rp_of family table group) (led_to_source family group table.rps sound.rps.real) demanded
     where
-      by : (rp : Option (List ℕ)) → IfSource family rp → is_neighbour neighbour (via_rp (via_in family table) rp) ≡ true → IsRpOf family rp (Some exceptions)
-      by None is asked = false≢true asked
-      by (Some rp) is asked = is
+      by : (rp : Option (List ℕ)) → IfSource family rp → is_neighbour neighbour (star_rpf_neighbour (via_of family table) rp) ≡ true → IsRpOf family rp (Some exceptions)
+      by None is demanded = false≢true demanded
+      by (Some rp) is demanded = is
 
-  stars_have_rps : (form : List GroupForm) → is_toward (rp_of family table) (via_in family table) neighbour form ≡ true → HaveRps family (rp_of family table) form
+  stars_have_rps : (form : List GroupForm) → is_toward (rp_of family table) (via_of family table) neighbour form ≡ true → HaveRps family (rp_of family table) form
   stars_have_rps [] test = tt
   stars_have_rps (this ∷ form) test =
-      let here = first_true (is_group_toward (rp_of family table) (via_in family table) neighbour this) (is_toward (rp_of family table) (via_in family table) neighbour form) test in
-      let others = second_true (is_group_toward (rp_of family table) (via_in family table) neighbour this) (is_toward (rp_of family table) (via_in family table) neighbour form) test in
-      let star = first_true (is_star_toward (rp_of family table) (via_in family table) neighbour this.group this.star) (list_all (λ source. is_neighbour neighbour (via_in family table source)) this.sources) here in
+      let here = first_true (is_group_toward (rp_of family table) (via_of family table) neighbour this) (is_toward (rp_of family table) (via_of family table) neighbour form) test in
+      let others = second_true (is_group_toward (rp_of family table) (via_of family table) neighbour this) (is_toward (rp_of family table) (via_of family table) neighbour form) test in
+      let star = first_true (is_star_toward (rp_of family table) (via_of family table) neighbour this.group this.star) (list_all (λ source. is_neighbour neighbour (via_of family table source)) this.sources) here in
       (star_has_rp this.group this.star star, stars_have_rps form others)
 
-pub asked_stars : TestTellsWhoIsAsked → AskedStarsHaveRps
+pub asked_stars : TestFindsTheNeighbour → DemandedStarsHaveRps
 asked_stars tests family table neighbour state form sound is =
     let rps = rp_of family table in
-    let via = via_in family table in
+    let via = via_of family table in
     stars_have_rps family table sound neighbour form ((tests family rps via neighbour form is.normal).1 (λ s group tree valid is_group wanted.
-    second_true (wants state s group tree) (is_neighbour neighbour (upstream_of rps via s group tree)) (is.wants s group tree valid is_group ∙ wanted)))
+    second_true (wants state s group tree) (is_neighbour neighbour (rpf_neighbour rps via s group tree)) (is.wants s group tree valid is_group ∙ wanted)))

@@ -122,21 +122,21 @@ module _ (expiry : Option ℕ) where
   never_kept : (end message : ℕ) (count : ℕ) (ds : List Delivery) → AllByRecursion (λ (delivery : Delivery). delivery.message < count) ds →
       count ≤ message → is_kept expiry end message None ds ≡ true
   unfolding is_kept
-  never_kept end message count [] named beyond = refl
-  never_kept end message count (d ∷ ds) named beyond = by (eqb d.message message) refl (never_kept end message count ds named.1 beyond)
+  never_kept end message count [] listed beyond = refl
+  never_kept end message count (d ∷ ds) listed beyond = by (eqb d.message message) refl (never_kept end message count ds listed.1 beyond)
     where
       by : (b : Bool) → eqb d.message message ≡ b → is_kept expiry end message None ds ≡ true → is_kept expiry end message None (d ∷ ds) ≡ true
-      by true e more = let same = eqb-true d.message message e in let below = named.0 in absurd (omega (arith, same, below, beyond))
+      by true e more = let same = eqb-true d.message message e in let below = listed.0 in absurd (omega (arith, same, below, beyond))
       by false e more = rw e more
 
   pub timely : (end count : ℕ) (ds : List Delivery) → is_in_order end 0 ds ≡ true →
       AllByRecursion (λ (delivery : Delivery). delivery.message < count) ds →
       ((message : ℕ) → message < count → is_kept expiry end message None ds ≡ true) → IsTimely expiry end (reverse ds)
-  timely end count ds order named each = timely_back end (reverse ds) (ordered end ds ∙ order) (λ message. kept end message ds ∙ of_each message (ltb message count) refl)
+  timely end count ds order listed each = timely_back end (reverse ds) (ordered end ds ∙ order) (λ message. kept end message ds ∙ of_each message (ltb message count) refl)
     where
       of_each : (message : ℕ) (b : Bool) → ltb message count ≡ b → is_kept expiry end message None ds ≡ true
       of_each message true e = each message (ltb-true message count e)
-      of_each message false e = never_kept end message count ds named (ltb-false message count e)
+      of_each message false e = never_kept end message count ds listed (ltb-false message count e)
 
   pub in_order : (end : ℕ) (ds : List Delivery) → IsTimely expiry end (reverse ds) → is_in_order end 0 ds ≡ true
   in_order end ds t = sym (ordered end ds) ∙ order_back end (reverse ds) t

@@ -66,15 +66,15 @@ group_part (Some exceptions) xs g (Rpt t) = ap (λ b. is_listed t exceptions || 
 
 no_both : (w : What (List ℕ)) (exceptions : List (List ℕ)) (source : List ℕ) → star_names exceptions w ≡ true → source_names source w ≡ true → ⊥
 unfolding star_names source_names
-no_both Star exceptions source star named = false≢true named
-no_both (Source t) exceptions source star named = false≢true star
-no_both (Rpt t) exceptions source star named = false≢true named
+no_both Star exceptions source star listed = false≢true listed
+no_both (Source t) exceptions source star listed = false≢true star
+no_both (Rpt t) exceptions source star listed = false≢true listed
 
 same_sources : (w : What (List ℕ)) (s t : List ℕ) → source_names s w ≡ true → source_names t w ≡ true → same_address s t ≡ true
 unfolding source_names
-same_sources Star s t named again = absurd (false≢true named)
-same_sources (Source u) s t named again = same_both u s t named again
-same_sources (Rpt u) s t named again = absurd (false≢true named)
+same_sources Star s t listed again = absurd (false≢true listed)
+same_sources (Source u) s t listed again = same_both u s t listed again
+same_sources (Rpt u) s t listed again = absurd (false≢true listed)
 
 module _ (h : List ℕ) (w : What (List ℕ)) where
   names_group : (this : GroupForm) → some_names h w (group_units this) ≡ (same_address h this.group && group_names this w)
@@ -93,33 +93,33 @@ module _ (h : List ℕ) (w : What (List ℕ)) where
 
   clash : (one other : WantUnit) → Comes one other → unit_names h w one ≡ true → unit_names h w other ≡ true → ⊥
   unfolding Comes unit_names
-  clash (star_unit g e) (star_unit k f) comes named again =
-      false≢true (sym comes ∙ same_both h g k (first_true (same_address h g) (star_names e w) named) (first_true (same_address h k) (star_names f w) again))
-  clash (star_unit g e) (source_unit k t) comes named again =
-      no_both w e t (second_true (same_address h g) (star_names e w) named) (second_true (same_address h k) (source_names t w) again)
-  clash (source_unit g s) (star_unit k f) comes named again =
-      no_both w f s (second_true (same_address h k) (star_names f w) again) (second_true (same_address h g) (source_names s w) named)
-  clash (source_unit g s) (source_unit k t) comes named again =
-      let groups = same_both h g k (first_true (same_address h g) (source_names s w) named) (first_true (same_address h k) (source_names t w) again) in
-      false≢true (sym (less_apart s t (comes groups)) ∙ same_sources w s t (second_true (same_address h g) (source_names s w) named) (second_true (same_address h k) (source_names t w) again))
+  clash (star_unit g e) (star_unit k f) comes listed again =
+      false≢true (sym comes ∙ same_both h g k (first_true (same_address h g) (star_names e w) listed) (first_true (same_address h k) (star_names f w) again))
+  clash (star_unit g e) (source_unit k t) comes listed again =
+      no_both w e t (second_true (same_address h g) (star_names e w) listed) (second_true (same_address h k) (source_names t w) again)
+  clash (source_unit g s) (star_unit k f) comes listed again =
+      no_both w f s (second_true (same_address h k) (star_names f w) again) (second_true (same_address h g) (source_names s w) listed)
+  clash (source_unit g s) (source_unit k t) comes listed again =
+      let groups = same_both h g k (first_true (same_address h g) (source_names s w) listed) (first_true (same_address h k) (source_names t w) again) in
+      false≢true (sym (less_apart s t (comes groups)) ∙ same_sources w s t (second_true (same_address h g) (source_names s w) listed) (second_true (same_address h k) (source_names t w) again))
 
   clash_later : (one : WantUnit) (units : List WantUnit) → AllByRecursion (Comes one) units → unit_names h w one ≡ true → some_names h w units ≡ true → ⊥
   unfolding some_names
-  clash_later one [] comes named again = false≢true again
-  clash_later one (other ∷ units) comes named again =
+  clash_later one [] comes listed again = false≢true again
+  clash_later one (other ∷ units) comes listed again =
       elim (unit_names h w other) as (λ b. unit_names h w other ≡ b → (b || some_names h w units) ≡ true → ⊥) [
-        | true ↦ λ e f. clash one other comes.0 named e
-        | false ↦ λ e f. clash_later one units comes.1 named f
+        | true ↦ λ e f. clash one other comes.0 listed e
+        | false ↦ λ e f. clash_later one units comes.1 listed f
       ] refl again
 
   pub clash_lists : (xs ys : List WantUnit) → AreOrdered (xs ++ ys) → some_names h w xs ≡ true → some_names h w ys ≡ true → ⊥
   unfolding some_names AreOrdered
-  clash_lists [] ys ordered named again = false≢true named
-  clash_lists (x ∷ xs) ys ordered named again =
+  clash_lists [] ys ordered listed again = false≢true listed
+  clash_lists (x ∷ xs) ys ordered listed again =
       elim (unit_names h w x) as (λ b. unit_names h w x ≡ b → (b || some_names h w xs) ≡ true → ⊥) [
         | true ↦ λ e f. clash_later x ys (all_behind (Comes x) xs ys ordered.0) e again
         | false ↦ λ e f. clash_lists xs ys ordered.1 f again
-      ] refl named
+      ] refl listed
 
   -- ---- parts
 

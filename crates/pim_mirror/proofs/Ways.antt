@@ -13,13 +13,13 @@ use Rattle.pim_down.specs.Time.{fired}
 use Rattle.pim_router.specs.declared.step.Step.{Step}
 use Rattle.pim_router.specs.declared.step.Step.TheVariants.{Echo, Refresh, Reached}
 use Rattle.pim_router.specs.declared.verdict.Verdict.{Verdict}
-use Rattle.pim_router.specs.Course.{Input, runs_to, takes, Telling, echo, refresh, verdict, Reaches, IsCourse}
+use Rattle.pim_router.specs.Course.{Input, runs_to, takes, RouterReport, echo, refresh, verdict, Reaches, IsCourse}
 use Rattle.pim_fresh.specs.Deliveries.{Delivery}
 use Rattle.pim_router.specs.Laws.{CourseGoesOn, EveryListHasACourse}
-use Rattle.pim_router.specs.Packets.{Packet, causes, body_taken, unless, received, Receives}
-use Rattle.pim_router.specs.Refreshes.{RunsPast, told_behind}
+use Rattle.pim_router.specs.Packets.{Packet, causes, body_heard, unless, received, Receives}
+use Rattle.pim_router.specs.Refreshes.{RunsPast, fires_behind}
 use Rattle.pim_router.specs.State.{Port, RouterState}
-use Rattle.pim_router.specs.Time.{Outcome, rests, moves, tells, told, has_ended, turn, turn_of_time, turn_of_refresh, turn_of_timers, run_on, run_within, Runs}
+use Rattle.pim_router.specs.Time.{Outcome, rests, moves, tells, reported, has_ended, turn, turn_of_time, turn_of_refresh, turn_of_timers, run_on, run_within, Runs}
 use Rattle.pim_mirror.specs.declared.mirroring.MirrorFault.{MirrorFault}
 use Rattle.pim_mirror.specs.declared.mirroring.MirrorFault.TheVariants as fault
 use Rattle.pim_mirror.specs.Mirror.{needed_of, first_needed, or_later, IsPassed, Passes, HasReached, is_reached, needed_by, outcome_if, outcome_of, delivery_inputs}
@@ -30,14 +30,14 @@ unless_keeps : (all : List Verdict) (state : RouterState) (taken : Verdict × Ro
 unless_keeps [] state taken same = same
 unless_keeps (cause ∷ others) state taken same = refl
 
-body_keeps : (family : AddressFamily) (port : ℕ) (source : List ℕ) (state : RouterState) (body : Content) → (body_taken family port source state body).1.ports ≡ state.ports
+body_keeps : (family : AddressFamily) (port : ℕ) (source : List ℕ) (state : RouterState) (body : Content) → (body_heard family port source state body).1.ports ≡ state.ports
 body_keeps family port source state (other type) = refl
 body_keeps family port source state (hello body) = refl
 body_keeps family port source state (join_prune body) = refl
 
 pub received_keeps : (family : AddressFamily) (packet : Packet) (state : RouterState) → (received family packet state).1.ports ≡ state.ports
 received_keeps family packet state =
-    unless_keeps (causes family packet state) state (body_taken family packet.port packet.source state (content packet.bytes))
+    unless_keeps (causes family packet state) state (body_heard family packet.port packet.source state (content packet.bytes))
     (body_keeps family packet.port packet.source state (content packet.bytes))
 
 abbrev Keeps : List Port → Outcome → Type 0
@@ -102,19 +102,19 @@ runs_keep moment state after answer runs = within_keeps runs.turns moment state.
 
 pub reached_now : (moment : ℕ) (state after : RouterState) → Runs moment state Reached after → HasReached moment state after
 unfolding Reaches first_needed
-reached_now moment state after runs = record { told = []; reaches = runs; none_needed = refl }
+reached_now moment state after runs = record { reported = []; reaches = runs; none_needed = refl }
 
 pub echo_before : (moment port : ℕ) (group : List ℕ) (what : What (List ℕ)) (state between after : RouterState) →
     Runs moment state (Echo port group what) between → HasReached moment between after → HasReached moment state after
 unfolding Reaches first_needed
 echo_before moment port group what state between after runs more =
-    record { told = echo port group what ∷ more.told; reaches = (between, runs, more.reaches); none_needed = more.none_needed }
+    record { reported = echo port group what ∷ more.reported; reaches = (between, runs, more.reaches); none_needed = more.none_needed }
 
 pub refresh_before : (moment : ℕ) (state between after : RouterState) → Runs moment state Refresh between →
     HasReached moment between after → HasReached moment state after
 unfolding Reaches first_needed
 refresh_before moment state between after runs more =
-    record { told = refresh ∷ more.told; reaches = (between, runs, more.reaches); none_needed = more.none_needed }
+    record { reported = refresh ∷ more.reported; reaches = (between, runs, more.reaches); none_needed = more.none_needed }
 
 -- Refreshes on the way, and then what comes behind them
 past_before : (refreshes moment : ℕ) (state between after : RouterState) (answer : Step (List ℕ)) → RunsPast refreshes moment state answer between →
@@ -129,7 +129,7 @@ not_false e = cc
 
 -- what is told before the moment is reached, and then the way to it
 pub onward : {A : Type 0} (bytes_of : A → List ℕ) (step : Fires A) (refreshes moment : ℕ) (state between after : RouterState) →
-    is_reached step ≡ false → RunsPast refreshes moment state (told_behind (fires_seen bytes_of step)) between → HasReached moment between after →
+    is_reached step ≡ false → RunsPast refreshes moment state (fires_behind (fires_seen bytes_of step)) between → HasReached moment between after →
     HasReached moment state after
 onward bytes_of fires.Reached refreshes moment state between after ends past more = absurd (not_false ends)
 onward bytes_of (fires.Echo port group what) refreshes moment state between after ends past more =
@@ -140,14 +140,14 @@ pub isnt_reached : {A : Type 0} (step : Fires A) → is_reached step ≡ false �
 isnt_reached step ends same = not_false (sym (ap is_reached same) ∙ ends)
 
 pub ended : {A : Type 0} (bytes_of : A → List ℕ) (step : Fires A) (refreshes moment : ℕ) (state after : RouterState) →
-    is_reached step ≡ true → RunsPast refreshes moment state (told_behind (fires_seen bytes_of step)) after → HasReached moment state after
+    is_reached step ≡ true → RunsPast refreshes moment state (fires_behind (fires_seen bytes_of step)) after → HasReached moment state after
 ended bytes_of fires.Reached refreshes moment state after ends past =
     past_before refreshes moment state after after Reached past (λ earlier runs. reached_now moment earlier after runs)
 ended bytes_of (fires.Echo port group what) refreshes moment state after ends past = absurd (not_false (sym ends))
 
 -- ---- one way after the other
 
-pub joined : (xs ys : List Telling) → first_needed (xs ++ ys) ≡ or_later (first_needed xs) (first_needed ys)
+pub joined : (xs ys : List RouterReport) → first_needed (xs ++ ys) ≡ or_later (first_needed xs) (first_needed ys)
 unfolding first_needed
 joined [] ys = refl
 joined (x ∷ xs) ys = ap (or_later (needed_of x)) (joined xs ys) ∙ later (needed_of x) (first_needed xs) (first_needed ys)
@@ -156,16 +156,16 @@ joined (x ∷ xs) ys = ap (or_later (needed_of x)) (joined xs ys) ∙ later (nee
     later None b c = refl
     later (Some n) b c = refl
 
-none_then : (xs ys : List Telling) (o : Option ℕ) → first_needed xs ≡ None → first_needed ys ≡ o → first_needed (xs ++ ys) ≡ o
+none_then : (xs ys : List RouterReport) (o : Option ℕ) → first_needed xs ≡ None → first_needed ys ≡ o → first_needed (xs ++ ys) ≡ o
 none_then xs ys o none rest = joined xs ys ∙ ap (λ a. or_later a (first_needed ys)) none ∙ rest
 
-some_then : (xs ys : List Telling) (needed : ℕ) → first_needed xs ≡ Some needed → first_needed (xs ++ ys) ≡ Some needed
+some_then : (xs ys : List RouterReport) (needed : ℕ) → first_needed xs ≡ Some needed → first_needed (xs ++ ys) ≡ Some needed
 some_then xs ys needed some = joined xs ys ∙ ap (λ a. or_later a (first_needed ys)) some
 
 abbrev Done : Type 0
 Done = Result (Unit {0}) MirrorFault
 
-both_passed : (before behind : List Telling) (after now : RouterState) (result : Done) → first_needed before ≡ None →
+both_passed : (before behind : List RouterReport) (after now : RouterState) (result : Done) → first_needed before ≡ None →
     IsPassed behind after now result → IsPassed (before ++ behind) after now result
 both_passed before behind after now (Ok done) none passed = (none_then before behind None none passed.0, passed.1)
 both_passed before behind after now (Err (fault.Full needed)) none passed = none_then before behind (Some needed) none passed
@@ -175,33 +175,33 @@ module _ (goes_on : CourseGoesOn) (every : EveryListHasACourse) (family : Addres
   pub then_passes : (earlier later : List Input) (old between now : RouterState) (result : Done) → Passes family earlier old (Ok tt) between →
       Passes family later between result now → Passes family (earlier ++ later) old result now
   then_passes earlier later old between now result a b = record {
-    told = a.told ++ b.told;
+    reported = a.reported ++ b.reported;
     after = b.after;
-    course = goes_on family earlier later old between b.after a.told b.told
-        (subst (λ (s : RouterState). IsCourse family earlier a.told old s) (sym a.passed.1) a.course) b.course;
-    passed = both_passed a.told b.told b.after now result a.passed.0 b.passed;
+    course = goes_on family earlier later old between b.after a.reported b.reported
+        (subst (λ (s : RouterState). IsCourse family earlier a.reported old s) (sym a.passed.1) a.course) b.course;
+    passed = both_passed a.reported b.reported b.after now result a.passed.0 b.passed;
   }
 
-  stopped : (before behind : List Telling) (after end now : RouterState) (told : MirrorFault) → IsPassed before after now (Err told) →
-      IsPassed (before ++ behind) end now (Err told)
+  stopped : (before behind : List RouterReport) (after end now : RouterState) (reported : MirrorFault) → IsPassed before after now (Err reported) →
+      IsPassed (before ++ behind) end now (Err reported)
   stopped before behind after end now (fault.Full needed) passed = some_then before behind needed passed
   stopped before behind after end now fault.Memory passed = tt
 
   -- a fault is told, whatever is left
-  pub then_stops : (earlier later : List Input) (old now : RouterState) (told : MirrorFault) → Passes family earlier old (Err told) now →
-      Passes family (earlier ++ later) old (Err told) now
-  then_stops earlier later old now told a =
+  pub then_stops : (earlier later : List Input) (old now : RouterState) (reported : MirrorFault) → Passes family earlier old (Err reported) now →
+      Passes family (earlier ++ later) old (Err reported) now
+  then_stops earlier later old now reported a =
       let rest = every family later a.after in record {
-        told = a.told ++ rest.told;
+        reported = a.reported ++ rest.reported;
         after = rest.after;
-        course = goes_on family earlier later old a.after rest.after a.told rest.told a.course rest.course;
-        passed = stopped a.told rest.told a.after rest.after now told a.passed;
+        course = goes_on family earlier later old a.after rest.after a.reported rest.reported a.course rest.course;
+        passed = stopped a.reported rest.reported a.after rest.after now reported a.passed;
       }
 
 -- of a refusal this says nothing of the state
-pub refused_anywhere : (family : AddressFamily) (inputs : List Input) (old now end : RouterState) (told : MirrorFault) → Passes family inputs old (Err told) now → Passes family inputs old (Err told) end
-refused_anywhere family inputs old now end (fault.Full needed) a = record { told = a.told; after = a.after; course = a.course; passed = a.passed }
-refused_anywhere family inputs old now end fault.Memory a = record { told = a.told; after = a.after; course = a.course; passed = tt }
+pub refused_anywhere : (family : AddressFamily) (inputs : List Input) (old now end : RouterState) (reported : MirrorFault) → Passes family inputs old (Err reported) now → Passes family inputs old (Err reported) end
+refused_anywhere family inputs old now end (fault.Full needed) a = record { reported = a.reported; after = a.after; course = a.course; passed = a.passed }
+refused_anywhere family inputs old now end fault.Memory a = record { reported = a.reported; after = a.after; course = a.course; passed = tt }
 
 -- ---- a run and a packet
 
@@ -209,13 +209,13 @@ pub reached_passes : (family : AddressFamily) (moment : ℕ) (old now : RouterSt
     Passes family (runs_to moment ∷ []) old (Ok tt) now
 unfolding IsCourse
 reached_passes family moment old now way = record {
-  told = way.told;
+  reported = way.reported;
   after = now;
   course = record {
-    before = way.told;
+    before = way.reported;
     behind = [];
     between = now;
-    joined = sym (append-nil way.told);
+    joined = sym (append-nil way.reported);
     begins = way.reaches;
     goes_on = (refl, refl);
   };
@@ -242,7 +242,7 @@ pub taken : {E : Type 0} (family : AddressFamily) (packet : Packet) (old now : R
     Passes family (takes packet ∷ []) old result now
 unfolding IsCourse
 taken family packet old now of_packet result receives same = record {
-  told = verdict (received family packet old).0 ∷ [];
+  reported = verdict (received family packet old).0 ∷ [];
   after = (received family packet old).1;
   course = record {
     before = verdict (received family packet old).0 ∷ [];
@@ -265,7 +265,7 @@ taken_keeps family packet old now (Err refused) is = ap (λ (s : RouterState). s
 -- nothing to pass, passed
 pub nothing_passes : (family : AddressFamily) (state : RouterState) → Passes family [] state (Ok tt) state
 unfolding IsCourse first_needed
-nothing_passes family state = record { told = []; after = state; course = (refl, refl); passed = (refl, refl) }
+nothing_passes family state = record { reported = []; after = state; course = (refl, refl); passed = (refl, refl) }
 
 -- a delivery, and what comes behind it
 module _ (goes_on : CourseGoesOn) (every : EveryListHasACourse) (family : AddressFamily) (messages : List (List ℕ)) (sender : List ℕ) where
@@ -285,10 +285,10 @@ module _ (goes_on : CourseGoesOn) (every : EveryListHasACourse) (family : Addres
       (reached_passes family delivery.moment old between reached)
       (then_passes goes_on every family (takes (packet_of delivery) ∷ []) rest between next after result took more)
 
-  pub delivery_stops : (delivery : Delivery) (rest : List Input) (old between next : RouterState) (told : MirrorFault) →
-      HasReached delivery.moment old between → Passes family (takes (packet_of delivery) ∷ []) between (Err told) next →
-      Passes family (delivery_inputs family messages sender delivery ++ rest) old (Err told) next
-  delivery_stops delivery rest old between next told reached took =
-      then_passes goes_on every family (runs_to delivery.moment ∷ []) (takes (packet_of delivery) ∷ rest) old between next (Err told)
+  pub delivery_stops : (delivery : Delivery) (rest : List Input) (old between next : RouterState) (reported : MirrorFault) →
+      HasReached delivery.moment old between → Passes family (takes (packet_of delivery) ∷ []) between (Err reported) next →
+      Passes family (delivery_inputs family messages sender delivery ++ rest) old (Err reported) next
+  delivery_stops delivery rest old between next reported reached took =
+      then_passes goes_on every family (runs_to delivery.moment ∷ []) (takes (packet_of delivery) ∷ rest) old between next (Err reported)
       (reached_passes family delivery.moment old between reached)
-      (then_stops goes_on every family (takes (packet_of delivery) ∷ []) rest between next told took)
+      (then_stops goes_on every family (takes (packet_of delivery) ∷ []) rest between next reported took)

@@ -10,7 +10,7 @@ use Rattle.pim_fresh.specs.Deliveries.{Delivery, IsShorter}
 use Rattle.pim_fresh.specs.Expected.{units_of}
 use Rattle.pim_fresh.specs.Exchange.{Exchange}
 use Rattle.pim_fresh.specs.Hearing.{fresh, after_message}
-use Rattle.pim_router.specs.Course.{Input, runs_to, takes, Telling, Reaches}
+use Rattle.pim_router.specs.Course.{Input, runs_to, takes, RouterReport, Reaches}
 use Rattle.pim_router.specs.Packets.{Packet, received}
 use Rattle.pim_router.specs.State.{RouterState, with_machines}
 use Rattle.pim_router.specs.declared.verdict.Verdict.TheVariants.{Applied, Full}
@@ -18,21 +18,21 @@ use Rattle.pim_router.specs.declared.verdict.Store.TheVariants.{Records}
 use Rattle.pim_mirror.specs.CanonicalPackets.{packet_of, HearsWriter}
 
 -- A router that was as `Before` says, and whose port hears the writer, receives the packet of the
--- message. Its runs from there to the moment report `told` and leave `after`.
+-- message. Its runs from there to the moment report `reported` and leave `after`.
 pub record Hears (Before : RouterState → Type 0) (family : AddressFamily) (writing : Writing) (port : ℕ)
     (timing : Timing) (messages : List (List ℕ)) (message moment : ℕ) (after : RouterState) : Type 0 where
   pub before : RouterState
   pub was : Before before
   pub hears : HearsWriter writing port timing before
-  pub told : List Telling
-  pub reaches : Reaches moment told (received family (packet_of family writing port messages message) before).1 after
+  pub reported : List RouterReport
+  pub reaches : Reaches moment reported (received family (packet_of family writing port messages message) before).1 after
 
 -- The router hears these deliveries: it runs to the moment of each until nothing is due and then
 -- receives its packet. After the last one it runs to `moment`.
 unfoldable pub HearsAll : AddressFamily → Writing → ℕ → Timing → List (List ℕ) → RouterState → List Delivery → ℕ →
     RouterState → Type 0
 HearsAll family writing port timing messages start [] moment after =
-    (told : List Telling) × Reaches moment told start after
+    (reported : List RouterReport) × Reaches moment reported start after
 HearsAll family writing port timing messages start (delivery ∷ earlier) moment after =
     Hears (HearsAll family writing port timing messages start earlier delivery.moment) family writing port timing
     messages delivery.message moment after

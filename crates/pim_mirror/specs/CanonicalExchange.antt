@@ -11,7 +11,7 @@ use Rattle.pim_down.specs.Hearing.{Event, events_of}
 use Rattle.pim_form.specs.NormalForm.{GroupForm}
 use Rattle.pim_form.specs.Messages.{Writing}
 use Rattle.pim_form.specs.Laws.{IsReadAs}
-use Rattle.pim_fresh.specs.Exchange.{Exchange, TellsUnitsOnce, is_named}
+use Rattle.pim_fresh.specs.Exchange.{Exchange, HasUnitsOnce, has_unit_of}
 use Rattle.pim_mirror.specs.CanonicalUnits.{form_names}
 
 -- The events of the message with this number; none where there is no such message.
@@ -43,10 +43,10 @@ exchange_in family rps writing port timing messages =
     exchange_of rps writing.holdtime port timing (map (message_in family) messages)
 
 -- One of the first `count` messages names the machine.
-pub record IsTold (exchange : Exchange) (count : ℕ) (key : Key (List ℕ)) : Type 0 where
+pub record IsCarried (exchange : Exchange) (count : ℕ) (key : Key (List ℕ)) : Type 0 where
   pub message : ℕ
   pub within : message < count
-  pub named : is_named exchange.port key (exchange.messages message) ≡ true
+  pub listed : has_unit_of exchange.port key (exchange.messages message) ≡ true
 
 -- The message is one of the first `count`, and the machine is on the exchange's port and named by
 -- the form.
@@ -54,17 +54,17 @@ pub record NamesOfForm (exchange : Exchange) (count : ℕ) (form : List GroupFor
     : Type 0 where
   pub within : message < count
   pub port : key.port ≡ exchange.port
-  pub named : form_names form key.group key.what ≡ true
+  pub listed : form_names form key.group key.what ≡ true
 
 -- Each message announces units, and no machine is named by two messages. The machines that the
 -- first `count` messages name are exactly those of the form on the port, and no other message names
 -- any.
-pub record TellsForm (exchange : Exchange) (count : ℕ) (form : List GroupForm) : Type 0 where
-  pub once : TellsUnitsOnce exchange
+pub record CarriesForm (exchange : Exchange) (count : ℕ) (form : List GroupForm) : Type 0 where
+  pub once : HasUnitsOnce exchange
   pub no_others : (message : ℕ) (key : Key (List ℕ)) →
-      is_named exchange.port key (exchange.messages message) ≡ true → NamesOfForm exchange count form message key
+      has_unit_of exchange.port key (exchange.messages message) ≡ true → NamesOfForm exchange count form message key
   pub all : (key : Key (List ℕ)) → key.port ≡ exchange.port → form_names form key.group key.what ≡ true →
-      IsTold exchange count key
+      IsCarried exchange count key
 
 -- ---- reading
 

@@ -11,7 +11,7 @@ use Rattle.pim_form.specs.NormalForm.{GroupForm, AreAscending, groups_of, IsNorm
 use Rattle.pim_form.specs.Rows.{exceptions_of}
 use Rattle.pim_form.specs.Units.{units_of}
 use Rattle.pim_form.specs.Packing.{fits}
-use Rattle.pim_form.specs.Messages.{Writing, HaveRps, told_message}
+use Rattle.pim_form.specs.Messages.{Writing, HaveRps, written_message}
 
 -- The exceptions and the sources of a group are in strictly ascending order.
 pub record HasListsInOrder (this : GroupForm) : Type 0 where
@@ -25,17 +25,17 @@ pub record IsInOrder (part : List GroupForm) : Type 0 where
 
 -- The bytes are the Join/Prune message of a part, written canonically and sealed for
 -- ALL-PIM-ROUTERS.
-abbrev pub TellsPart : AddressFamily → Writing → (List ℕ → Option (List ℕ)) → List GroupForm → List ℕ → Type 0
-TellsPart family writing rps part bytes =
-    IsSealed family writing.own (all_routers family) JoinPrune (canonical family (told_message writing rps part)) bytes
+abbrev pub CarriesPart : AddressFamily → Writing → (List ℕ → Option (List ℕ)) → List GroupForm → List ℕ → Type 0
+CarriesPart family writing rps part bytes =
+    IsSealed family writing.own (all_routers family) JoinPrune (canonical family (written_message writing rps part)) bytes
 
 -- The messages are one for each part, in order.
-unfoldable pub TellParts : AddressFamily → Writing → (List ℕ → Option (List ℕ)) → List (List GroupForm) → List (List ℕ) → Type 0
-TellParts family writing rps [] [] = Unit {0}
-TellParts family writing rps [] (bytes ∷ messages) = ⊥
-TellParts family writing rps (part ∷ parts) [] = ⊥
-TellParts family writing rps (part ∷ parts) (bytes ∷ messages) =
-    TellsPart family writing rps part bytes × TellParts family writing rps parts messages
+unfoldable pub CarryParts : AddressFamily → Writing → (List ℕ → Option (List ℕ)) → List (List GroupForm) → List (List ℕ) → Type 0
+CarryParts family writing rps [] [] = Unit {0}
+CarryParts family writing rps [] (bytes ∷ messages) = ⊥
+CarryParts family writing rps (part ∷ parts) [] = ⊥
+CarryParts family writing rps (part ∷ parts) (bytes ∷ messages) =
+    CarriesPart family writing rps part bytes × CarryParts family writing rps parts messages
 
 -- The messages announce these parts of the form, one each. Each part is a normal form that fits its
 -- message and whose stars have RPs. The units of all parts, in order, are those of the form.
@@ -45,4 +45,4 @@ pub record AreParts (family : AddressFamily) (writing : Writing) (rps : List ℕ
   pub have : AllByRecursion (HaveRps family rps) parts
   pub fitting : AllByRecursion (λ part. fits family writing.budget (units_of part) ≡ true) parts
   pub whole : flat_map units_of parts ≡ units_of form
-  pub told : TellParts family writing rps parts messages
+  pub reported : CarryParts family writing rps parts messages

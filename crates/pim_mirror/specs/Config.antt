@@ -3,7 +3,7 @@
 use Rattle.std.specs.Prelude.{ℕ, List, [], ◌∷◌, map, reverse, false, None, Some}
 use Rattle.pim_addr.specs.Routes.{RouteTable}
 use Rattle.pim_hello.specs.Hello.{Parameters}
-use Rattle.pim_hello.specs.Interval.{override_interval}
+use Rattle.pim_hello.specs.Interval.{jp_override_interval}
 use Rattle.pim_hello.specs.Kept.{parameters_seen}
 use Rattle.pim_router.specs.Seen.{port_seen}
 use Rattle.pim_router.specs.State.{Port, Setup}
@@ -54,7 +54,7 @@ neighbours fresh = record { address = fresh.sender; hello = sender_hello (port_o
 -- The override interval of the port after the Hellos of all its neighbours, in milliseconds:
 -- J/P_Override_Interval(I) (RFC 7761, 4.3.3).
 abbrev pub interval_of : Fresh → ℕ
-interval_of fresh = override_interval (port_of fresh).propagation (port_of fresh).override_ms
+interval_of fresh = jp_override_interval (port_of fresh).propagation (port_of fresh).override_ms
     (map (λ (neighbour : Neighbour). neighbour.hello) (neighbours fresh))
 
 -- The deliveries from the newest to the oldest, as `pim_fresh` lists them.

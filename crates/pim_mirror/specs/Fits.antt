@@ -6,7 +6,7 @@ use Rattle.std.specs.List.{AllByRecursion}
 use Rattle.pim_addr.specs.Routes.{RouteTable}
 use Rattle.pim_hello.specs.Neighbours.{lifetime}
 use Rattle.pim_form.specs.Messages.{Writing}
-use Rattle.pim_fresh.specs.Asking.{AreDifferent}
+use Rattle.pim_fresh.specs.Demanding.{AreDifferent}
 use Rattle.pim_fresh.specs.Deliveries.{Delivery, IsShorter, IsTimely, is_delivered}
 use Rattle.pim_mirror.specs.Config.{Neighbour, Fresh, port_of, newest_first, end_of}
 
@@ -44,7 +44,7 @@ pub record Fits (messages : List (List ℕ)) (writing : Writing) (table : RouteT
   pub others_stay : OthersStay fresh (end_of fresh)
   -- Each delivery is of a message of the list, each message is delivered, and no delivery comes
   -- after 10^14 ms.
-  pub named : AllByRecursion (λ (delivery : Delivery). delivery.message < length messages) fresh.deliveries
+  pub listed : AllByRecursion (λ (delivery : Delivery). delivery.message < length messages) fresh.deliveries
   pub delivered : (message : ℕ) → message < length messages → is_delivered message (newest_first fresh) ≡ true
   pub early : AllByRecursion (λ (delivery : Delivery). delivery.moment ≤ 10 ^ 14) fresh.deliveries
   -- The moments don't fall. After each delivery of a message its next delivery, or the final moment

@@ -14,19 +14,19 @@ use Rattle.pim_down.specs.Tables.{machine_in}
 use Rattle.pim_down.specs.Time.{Downstream, expiry_after}
 use Rattle.pim_form.specs.NormalForm.{GroupForm, Demand, Agree, IsFormOf, form_wants}
 use Rattle.pim_form.specs.Messages.{Writing, IsWriting, AreCanonical}
-use Rattle.pim_form.specs.TowardLaws.{asked_of}
+use Rattle.pim_form.specs.TowardLaws.{demand_toward}
 use Rattle.pim_form.specs.Wants.{wants}
 use Rattle.pim_fresh.specs.Deliveries.{Delivery, AreAlive, last_of}
-use Rattle.pim_fresh.specs.Exchange.{Exchange, is_named}
-use Rattle.pim_fresh.specs.Expected.{asked_state, units_of}
-use Rattle.pim_router.specs.Course.{Telling, echo, refresh, verdict, Reaches}
+use Rattle.pim_fresh.specs.Exchange.{Exchange, has_unit_of}
+use Rattle.pim_fresh.specs.Expected.{state_wanted, units_of}
+use Rattle.pim_router.specs.Course.{RouterReport, echo, refresh, verdict, Reaches}
 use Rattle.pim_router.specs.Packets.{Packet}
 use Rattle.pim_router.specs.State.{RouterState}
 use Rattle.pim_mirror.specs.Config.{Fresh, neighbours, newest_first, end_of}
 use Rattle.pim_mirror.specs.Fits.{Fits, OthersStay, expiry_of}
 use Rattle.pim_mirror.specs.CanonicalCourse.{Lasts}
 use Rattle.pim_mirror.specs.CanonicalExchange.{exchange_in}
-use Rattle.pim_mirror.specs.CanonicalMirror.{AsksAgain}
+use Rattle.pim_mirror.specs.CanonicalMirror.{DemandsAgain}
 use Rattle.pim_mirror.specs.CanonicalPackets.{HearsWriter}
 use Rattle.pim_mirror.specs.CanonicalUnits.{form_names}
 use Rattle.pim_mirror.specs.Hellos.{timing_of}
@@ -42,21 +42,21 @@ use Rattle.pim_mirror.specs.declared.mirroring.MirrorFault.TheVariants as fault
 pub record AreMessagesOf (family : AddressFamily) (table : RouteTable) (writing : Writing) (state : Downstream)
     (messages : List (List ℕ)) : Type 0 where
   pub form : List GroupForm
-  pub is : IsFormOf family (asked_of family table writing.upstream state) form
-  pub told : AreCanonical family writing (rp_of family table) form messages
+  pub is : IsFormOf family (demand_toward family table writing.upstream state) form
+  pub reported : AreCanonical family writing (rp_of family table) form messages
 
 -- Two states want the same traffic of the writer's upstream neighbour, for every valid source,
 -- every group and both trees (RFC 7761, 4.1).
 abbrev pub WantTheSameTraffic : AddressFamily → RouteTable → Writing → Downstream → Downstream → Type 0
 WantTheSameTraffic family table writing one other =
-    Agree family (asked_of family table writing.upstream one) (asked_of family table writing.upstream other)
+    Agree family (demand_toward family table writing.upstream one) (demand_toward family table writing.upstream other)
 
 -- All that the other state wants, wherever the route table leads it, is what this state asks of the
 -- writer's upstream neighbour. This is of every valid source, every group and both trees (RFC 7761,
 -- 4.1).
-abbrev pub WantsWhatIsAsked : AddressFamily → RouteTable → Writing → Downstream → Downstream → Type 0
-WantsWhatIsAsked family table writing state other =
-    Agree family (asked_of family table writing.upstream state) (wants other)
+abbrev pub WantsDemandOf : AddressFamily → RouteTable → Writing → Downstream → Downstream → Type 0
+WantsDemandOf family table writing state other =
+    Agree family (demand_toward family table writing.upstream state) (wants other)
 
 -- ---- a fresh router that hears messages alone
 
@@ -81,13 +81,13 @@ pub record IsInWindow (writing : Writing) (fresh : Fresh) (moment : ℕ) : Type 
 
 -- The router runs on to this moment until nothing is due, and is `later` there.
 pub record IsAt (moment : ℕ) (router later : RouterState) : Type 0 where
-  pub told : List Telling
-  pub reaches : Reaches moment told router later
+  pub reported : List RouterReport
+  pub reaches : Reaches moment reported router later
 
 -- ---- the machines that it holds
 
 -- The report is a PruneEcho.
-abbrev pub is_echo : Telling → Bool
+abbrev pub is_echo : RouterReport → Bool
 is_echo (echo port group what) = true
 is_echo refresh = false
 is_echo (verdict of_packet) = false
@@ -99,11 +99,11 @@ pub record IsHeldAs (exchange : Exchange) (count : ℕ) (deliveries : List Deliv
     (machine : Option Machine) : Type 0 where
   pub message : ℕ
   pub within : message < count
-  pub named : is_named exchange.port key (exchange.messages message) ≡ true
+  pub listed : has_unit_of exchange.port key (exchange.messages message) ≡ true
   pub last : ℕ
   pub came : last_of message deliveries ≡ Some last
   pub is : machine
-      ≡ machine_in (asked_state key.what) (expiry_after (moment - last) (expiry_of exchange.holdtime)) None
+      ≡ machine_in (state_wanted key.what) (expiry_after (moment - last) (expiry_of exchange.holdtime)) None
 
 -- The machines are exactly those of the form: (*,G) of each star, (S,G,rpt) of each exception,
 -- (S,G) of each source.
@@ -118,13 +118,13 @@ pub record HoldsTheForm (exchange : Exchange) (count : ℕ) (form : List GroupFo
 -- wants. It asks for it again by the same messages, under the same table. On the way no PruneEcho
 -- was reported.
 pub record MirrorsForm (family : AddressFamily) (table : RouteTable) (writing : Writing) (form : List GroupForm)
-    (messages : List (List ℕ)) (fresh : Fresh) (moment : ℕ) (told : List Telling) (later : RouterState) : Type 0 where
+    (messages : List (List ℕ)) (fresh : Fresh) (moment : ℕ) (reported : List RouterReport) (later : RouterState) : Type 0 where
   pub moment_is : later.machines.moment ≡ moment
   pub routes : later.routes ≡ table
   pub holds : HoldsTheForm (fresh_exchange family table writing messages fresh) (length messages) form
       (newest_first fresh) moment later.machines
-  pub asks : AsksAgain family table writing form messages later.machines
-  pub no_echo : list_any is_echo told ≡ false
+  pub asks : DemandsAgain family table writing form messages later.machines
+  pub no_echo : list_any is_echo reported ≡ false
 
 -- ---- the laws
 
@@ -139,17 +139,17 @@ abbrev pub FreshRouterMirrors : Type 0
 FreshRouterMirrors = (family : AddressFamily) (table : RouteTable) (writing : Writing) (state : Downstream)
     (messages : List (List ℕ)) (fresh : Fresh) (router later : RouterState) (moment : ℕ) →
     IsRouteTable family table → IsWriting family writing →
-    (asked : AreMessagesOf family table writing state messages) →
+    (demanded : AreMessagesOf family table writing state messages) →
     HearsAlone family table writing messages fresh router → IsInWindow writing fresh moment →
     (at : IsAt moment router later) →
-    MirrorsForm family table writing asked.form messages fresh moment at.told later
+    MirrorsForm family table writing demanded.form messages fresh moment at.reported later
 
 -- Such a router reports no PruneEcho up to its final moment.
-abbrev pub FreshRouterTellsNoEcho : Type 0
-FreshRouterTellsNoEcho = (family : AddressFamily) (table : RouteTable) (writing : Writing) (state : Downstream)
+abbrev pub FreshRouterSendsNoEcho : Type 0
+FreshRouterSendsNoEcho = (family : AddressFamily) (table : RouteTable) (writing : Writing) (state : Downstream)
     (messages : List (List ℕ)) (fresh : Fresh) (router : RouterState) → IsRouteTable family table →
     IsWriting family writing → AreMessagesOf family table writing state messages →
-    (hears : HearsAlone family table writing messages fresh router) → list_any is_echo hears.course.told ≡ false
+    (hears : HearsAlone family table writing messages fresh router) → list_any is_echo hears.course.reported ≡ false
 
 -- The router has one port, which is the writer's upstream neighbour and knows the writer. At the
 -- moment `last` no neighbour's time is over.
@@ -230,8 +230,8 @@ pub record IsMirrorOf (family : AddressFamily) (table : RouteTable) (writing : W
   pub window : IsInWindow writing fresh (end_of fresh)
   pub at_first : MirrorsForm family table writing form messages fresh (end_of fresh) [] router
   pub later : (moment : ℕ) (later : RouterState) → IsInWindow writing fresh moment → (at : IsAt moment router later) →
-      MirrorsForm family table writing form messages fresh moment at.told later
-  pub no_echo : list_any is_echo course.told ≡ false
+      MirrorsForm family table writing form messages fresh moment at.reported later
+  pub no_echo : list_any is_echo course.reported ≡ false
   -- It knows the writer, and by a later moment up to which the other neighbours stay no neighbour's
   -- time is over.
   pub knows : (last : ℕ) → end_of fresh ≤ last → OthersStay fresh last → KnowsItsWriter writing fresh last router
@@ -250,7 +250,7 @@ AnswersFor family table writing form messages fresh (Err (fault.Full needed)) co
 AnswersFor family table writing form messages fresh (Err fault.Memory) course = Unit {0}
 
 -- A result of `mirror`: the course that it comes from, and its meaning.
-pub record TellsOfForm (family : AddressFamily) (table : RouteTable) (writing : Writing) (form : List GroupForm)
+pub record CarriesTheForm (family : AddressFamily) (table : RouteTable) (writing : Writing) (form : List GroupForm)
     (messages : List (List ℕ)) (fresh : Fresh) (result : Result RouterState MirrorFault) : Type 0 where
   pub course : Mirrors family messages fresh result
   pub answers : AnswersFor family table writing form messages fresh result course
@@ -261,9 +261,9 @@ abbrev pub MirrorAnswersForTheForm : Type 0
 MirrorAnswersForTheForm = (family : AddressFamily) (table : RouteTable) (writing : Writing) (state : Downstream)
     (messages : List (List ℕ)) (fresh : Fresh) (result : Result RouterState MirrorFault) →
     IsRouteTable family table → IsWriting family writing →
-    (asked : AreMessagesOf family table writing state messages) → Fits messages writing table fresh →
+    (demanded : AreMessagesOf family table writing state messages) → Fits messages writing table fresh →
     (course : Mirrors family messages fresh result) →
-    AnswersFor family table writing asked.form messages fresh result course
+    AnswersFor family table writing demanded.form messages fresh result course
 
 -- ---- the headline
 
@@ -272,7 +272,7 @@ MirrorAnswersForTheForm = (family : AddressFamily) (table : RouteTable) (writing
 pub record WantsAndWritesTheSame (family : AddressFamily) (table : RouteTable) (writing : Writing) (state : Downstream)
     (messages : List (List ℕ)) (other : Downstream) : Type 0 where
   pub traffic : WantTheSameTraffic family table writing state other
-  pub no_more : WantsWhatIsAsked family table writing state other
+  pub no_more : WantsDemandOf family table writing state other
   pub bytes : AreMessagesOf family table writing other messages
   pub no_others : (others : List (List ℕ)) → AreMessagesOf family table writing other others → others ≡ messages
 

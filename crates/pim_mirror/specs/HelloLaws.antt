@@ -5,7 +5,7 @@ use Rattle.pim_addr.specs.declared.family.AddressFamily.{AddressFamily}
 use Rattle.pim_addr.specs.Routes.{RouteTable}
 use Rattle.pim_hello.specs.Spelling.{ParametersFit}
 use Rattle.pim_form.specs.Messages.{Writing, IsWriting}
-use Rattle.pim_router.specs.Course.{takes, Telling, IsCourse}
+use Rattle.pim_router.specs.Course.{takes, RouterReport, IsCourse}
 use Rattle.pim_router.specs.Packets.{Packet}
 use Rattle.pim_router.specs.State.{RouterState, new_router}
 use Rattle.pim_mirror.specs.Config.{Neighbour, Fresh, neighbours, setup_of}
@@ -22,9 +22,9 @@ WrittenHellosAreRead = (family : AddressFamily) (neighbours : List Neighbour) (p
 -- has met them, where `Fits` holds.
 abbrev pub HellosAreHeard : Type 0
 HellosAreHeard = (family : AddressFamily) (messages : List (List ℕ)) (writing : Writing) (table : RouteTable)
-    (fresh : Fresh) (hellos : List Packet) (told : List Telling) (after : RouterState) → IsWriting family writing →
+    (fresh : Fresh) (hellos : List Packet) (reported : List RouterReport) (after : RouterState) → IsWriting family writing →
     Fits messages writing table fresh → AreHellosFrom family (neighbours fresh) hellos →
-    IsCourse family (map (λ packet. takes packet) hellos) told (new_router (setup_of fresh)) after →
+    IsCourse family (map (λ packet. takes packet) hellos) reported (new_router (setup_of fresh)) after →
     HasMet writing fresh after
 
 -- Neighbours have Hellos exactly if the numbers of each fit into the bits of their options.

@@ -9,7 +9,7 @@ use Rattle.pim_frame.specs.declared.frame.MessageType.TheVariants.{Hello}
 use Rattle.pim_hello.specs.Spelling.{spelling_of, ParametersFit}
 use Rattle.pim_down.specs.declared.machines.step.Step.{Step}
 use Rattle.pim_down.specs.declared.machines.step.Step.TheVariants.{Reached}
-use Rattle.pim_router.specs.Course.{Input, runs_to, takes, Telling, verdict, Reaches, IsCourse}
+use Rattle.pim_router.specs.Course.{Input, runs_to, takes, RouterReport, verdict, Reaches, IsCourse}
 use Rattle.pim_router.specs.Packets.{Packet, causes, received}
 use Rattle.pim_router.specs.State.{RouterState, new_router}
 use Rattle.pim_router.specs.declared.verdict.Verdict.{Verdict}
@@ -70,7 +70,7 @@ needed_by (Full (Records needed)) = Some needed
 needed_by other = None
 
 -- The same for a report of the router.
-abbrev pub needed_of : Telling → Option ℕ
+abbrev pub needed_of : RouterReport → Option ℕ
 needed_of (verdict of_packet) = needed_by of_packet
 needed_of other = None
 
@@ -81,9 +81,9 @@ or_later (Some needed) later = Some needed
 
 -- The number of records that the first Join/Prune message needed which had no room; none where each
 -- had room.
-unfoldable pub first_needed : List Telling → Option ℕ
+unfoldable pub first_needed : List RouterReport → Option ℕ
 first_needed [] = None
-first_needed (told ∷ more) = or_later (needed_of told) (first_needed more)
+first_needed (reported ∷ more) = or_later (needed_of reported) (first_needed more)
 
 -- ---- the mirror
 
@@ -93,9 +93,9 @@ pub record GoesThrough (family : AddressFamily) (messages : List (List ℕ)) (fr
     (after : RouterState) : Type 0 where
   pub hellos : List Packet
   pub are_hellos : AreHellosOf family (neighbours fresh) hellos
-  pub told : List Telling
-  pub course : IsCourse family (inputs_of family messages fresh hellos) told (new_router (setup_of fresh)) after
-  pub needed_is : first_needed told ≡ needed
+  pub reported : List RouterReport
+  pub course : IsCourse family (inputs_of family messages fresh hellos) reported (new_router (setup_of fresh)) after
+  pub needed_is : first_needed reported ≡ needed
 
 -- The result of a mirror: Ok with the state after the course, on which each message had room;
 -- `Full` with the number that the first message without room needed; `Memory` says nothing.
@@ -109,18 +109,18 @@ Mirrors family messages fresh (Err fault.Memory) = Unit {0}
 
 -- The result over inputs of a course: Ok leaves the state after them, and each message had room.
 -- `Full` gives what the first message without room needed, and says nothing of the state.
-abbrev pub IsPassed : List Telling → RouterState → RouterState → Result (Unit {0}) MirrorFault → Type 0
-IsPassed told after now (Ok done) = (first_needed told ≡ None) × (now ≡ after)
-IsPassed told after now (Err (fault.Full needed)) = first_needed told ≡ Some needed
-IsPassed told after now (Err fault.Memory) = Unit {0}
+abbrev pub IsPassed : List RouterReport → RouterState → RouterState → Result (Unit {0}) MirrorFault → Type 0
+IsPassed reported after now (Ok done) = (first_needed reported ≡ None) × (now ≡ after)
+IsPassed reported after now (Err (fault.Full needed)) = first_needed reported ≡ Some needed
+IsPassed reported after now (Err fault.Memory) = Unit {0}
 
 -- The router gets these inputs, and `result` is the result over their course.
 pub record Passes (family : AddressFamily) (inputs : List Input) (old : RouterState)
     (result : Result (Unit {0}) MirrorFault) (now : RouterState) : Type 0 where
-  pub told : List Telling
+  pub reported : List RouterReport
   pub after : RouterState
-  pub course : IsCourse family inputs told old after
-  pub passed : IsPassed told after now result
+  pub course : IsCourse family inputs reported old after
+  pub passed : IsPassed reported after now result
 
 -- The packet isn't taken in this state. It is `Full` with this number of records. Or memory is
 -- refused for it, and no cause refuses it.
@@ -128,9 +128,9 @@ abbrev pub IsRefused : AddressFamily → Packet → RouterState → MirrorFault 
 IsRefused family packet state (fault.Full needed) = (received family packet state).0 ≡ Full (Records needed)
 IsRefused family packet state fault.Memory = causes family packet state ≡ []
 
--- The router refuses one of these deliveries. It is as after the deliveries before that one, each of
--- which had room, at the moment of the refused one. The refused packet and those behind it change
--- nothing.
+-- The router refuses one of these deliveries. It is as after the deliveries before that one, each
+-- of which had room, at the moment of the refused one. The refused packet and those behind it
+-- change nothing.
 pub record StopsAt (family : AddressFamily) (messages : List (List ℕ)) (sender : List ℕ) (deliveries : List Delivery)
     (old : RouterState) (why : MirrorFault) (now : RouterState) : Type 0 where
   pub earlier : List Delivery
@@ -158,9 +158,9 @@ pub record PassesHellos (family : AddressFamily) (of : List Neighbour) (old now 
 -- The router runs up to the moment until nothing is due, and no report on the way is of a message
 -- without room.
 pub record HasReached (moment : ℕ) (old now : RouterState) : Type 0 where
-  pub told : List Telling
-  pub reaches : Reaches moment told old now
-  pub none_needed : first_needed told ≡ None
+  pub reported : List RouterReport
+  pub reaches : Reaches moment reported old now
+  pub none_needed : first_needed reported ≡ None
 
 -- The result after a verdict: `Full` where a number of records had no room, else Ok.
 abbrev pub outcome_if : Option ℕ → Result (Unit {0}) MirrorFault
@@ -169,7 +169,7 @@ outcome_if (Some needed) = Err (fault.Full needed)
 
 -- The result after a call that receives a packet.
 abbrev pub outcome_of : {E : Type 0} → Result Verdict E → Result (Unit {0}) MirrorFault
-outcome_of (Ok told) = outcome_if (needed_by told)
+outcome_of (Ok reported) = outcome_if (needed_by reported)
 outcome_of (Err refused) = Err fault.Memory
 
 -- The step of a run is that nothing is due and the moment is reached.

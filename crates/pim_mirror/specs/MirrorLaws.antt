@@ -8,7 +8,7 @@ use Rattle.pim_down.specs.Time.{Downstream}
 use Rattle.pim_form.specs.Messages.{Writing, IsWriting, HaveRps, AreCanonical}
 use Rattle.pim_form.specs.NormalForm.{GroupForm, IsNormal, IsFormOf}
 use Rattle.pim_form.specs.TooBig.{too_big}
-use Rattle.pim_form.specs.TowardLaws.{asked_of}
+use Rattle.pim_form.specs.TowardLaws.{demand_toward}
 use Rattle.pim_mirror.specs.Headline.{AreMessagesOf}
 
 -- Each canonical message of a normal form has at most as many bytes as the writer's budget.
@@ -24,5 +24,5 @@ abbrev pub StateHasMessagesUnlessTooBig : Type 0
 StateHasMessagesUnlessTooBig = (family : AddressFamily) (table : RouteTable) (writing : Writing) (state : Downstream) →
     IsWriting family writing → IsSound family state →
     ((messages : List (List ℕ)) × AreMessagesOf family table writing state messages)
-    ↔ ((form : List GroupForm) → IsFormOf family (asked_of family table writing.upstream state) form →
+    ↔ ((form : List GroupForm) → IsFormOf family (demand_toward family table writing.upstream state) form →
     too_big family writing.budget form ≡ None)

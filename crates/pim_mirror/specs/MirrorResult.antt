@@ -7,10 +7,10 @@ use Rattle.pim_down.specs.Time.{Downstream}
 use Rattle.pim_form.specs.NormalForm.{GroupForm}
 use Rattle.pim_form.specs.Messages.{Writing}
 use Rattle.pim_router.specs.State.{RouterState}
-use Rattle.pim_mirror.specs.CanonicalMirror.{AsksAgain}
+use Rattle.pim_mirror.specs.CanonicalMirror.{DemandsAgain}
 use Rattle.pim_mirror.specs.Config.{Fresh, newest_first, end_of}
 use Rattle.pim_mirror.specs.Fits.{OthersStay}
-use Rattle.pim_mirror.specs.Headline.{AreMessagesOf, WantsWhatIsAsked, fresh_exchange, IsInWindow, IsAt, is_echo}
+use Rattle.pim_mirror.specs.Headline.{AreMessagesOf, WantsDemandOf, fresh_exchange, IsInWindow, IsAt, is_echo}
 use Rattle.pim_mirror.specs.Headline.{HoldsTheForm, KnowsItsWriter, all_entries, first_over}
 use Rattle.pim_mirror.specs.Mirror.{GoesThrough}
 use Rattle.pim_mirror.specs.declared.mirroring.MirrorFault.{MirrorFault}
@@ -26,9 +26,9 @@ pub record InTheWindow (writing : Writing) (fresh : Fresh) (Is : ℕ → RouterS
 -- No PruneEcho is reported on the course of the router, nor up to any moment of the window.
 pub record IsQuiet (family : AddressFamily) (writing : Writing) (messages : List (List ℕ)) (fresh : Fresh)
     (router : RouterState) : Type 0 where
-  pub on_course : (course : GoesThrough family messages fresh None router) → list_any is_echo course.told ≡ false
+  pub on_course : (course : GoesThrough family messages fresh None router) → list_any is_echo course.reported ≡ false
   pub later : (moment : ℕ) (later : RouterState) → IsInWindow writing fresh moment →
-      (at : IsAt moment router later) → list_any is_echo at.told ≡ false
+      (at : IsAt moment router later) → list_any is_echo at.reported ≡ false
 
 -- What `Full` says: the number that it names is so.
 abbrev pub IfFull : Result RouterState MirrorFault → (ℕ → Type 0) → Type 0
@@ -41,7 +41,7 @@ module _ (family : AddressFamily) (writing : Writing) (messages : List (List ℕ
   -- form is that of what the state asks of the writer's upstream neighbour.
   abbrev pub OfEachState : (Downstream → List GroupForm → Type 0) → Type 0
   OfEachState Is =
-      (state : Downstream) → (asked : AreMessagesOf family fresh.routes writing state messages) → Is state asked.form
+      (state : Downstream) → (demanded : AreMessagesOf family fresh.routes writing state messages) → Is state demanded.form
 
   -- The final moment is in the window. The router is then at that moment, and at each later one to
   -- which it runs, under the same table.
@@ -59,16 +59,16 @@ module _ (family : AddressFamily) (writing : Writing) (messages : List (List ℕ
   -- All that the router wants is what the state asks of the writer's upstream neighbour.
   abbrev pub WantsTheDemand : Result RouterState MirrorFault → Type 0
   WantsTheDemand result = OfEachState (λ state form. IfOk result (InTheWindow writing fresh (λ moment later.
-      WantsWhatIsAsked family fresh.routes writing state later.machines)))
+      WantsDemandOf family fresh.routes writing state later.machines)))
 
   -- The router asks for the form again, by these messages and no others.
   abbrev pub WritesTheMessages : Result RouterState MirrorFault → Type 0
   WritesTheMessages result = OfEachState (λ state form. IfOk result (InTheWindow writing fresh (λ moment later.
-      AsksAgain family fresh.routes writing form messages later.machines)))
+      DemandsAgain family fresh.routes writing form messages later.machines)))
 
   -- The router reports no PruneEcho.
-  abbrev pub TellsNoEcho : Result RouterState MirrorFault → Type 0
-  TellsNoEcho result = OfEachState (λ state form. IfOk result (IsQuiet family writing messages fresh))
+  abbrev pub HasNoEcho : Result RouterState MirrorFault → Type 0
+  HasNoEcho result = OfEachState (λ state form. IfOk result (IsQuiet family writing messages fresh))
 
   -- The router knows the writer. By a later moment up to which the other neighbours stay, no
   -- neighbour's time is over.

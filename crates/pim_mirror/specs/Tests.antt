@@ -6,7 +6,7 @@ use Rattle.std.specs.List.{list_any, AllByRecursion}
 use Rattle.std.specs.Cmp.Lexicographic.{pointwise}
 use Rattle.pim_addr.specs.Routes.{RouteTable}
 use Rattle.pim_form.specs.Messages.{Writing}
-use Rattle.pim_fresh.specs.Asking.{AreDifferent}
+use Rattle.pim_fresh.specs.Demanding.{AreDifferent}
 use Rattle.pim_fresh.specs.Deliveries.{Delivery, IsTimely, is_delivered}
 use Rattle.pim_mirror.specs.Config.{Neighbour, Fresh, port_of, newest_first, end_of}
 use Rattle.pim_mirror.specs.Fits.{OthersStay, expiry_of}
@@ -68,7 +68,7 @@ pub record OthersFit (fresh : Fresh) : Type 0 where
 
 -- The conditions on the deliveries of `count` messages but those on their order and distance.
 pub record DeliveriesFit (count : ℕ) (fresh : Fresh) : Type 0 where
-  pub named : AllByRecursion (λ (delivery : Delivery). delivery.message < count) fresh.deliveries
+  pub listed : AllByRecursion (λ (delivery : Delivery). delivery.message < count) fresh.deliveries
   pub delivered : (message : ℕ) → message < count → is_delivered message (newest_first fresh) ≡ true
   pub early : AreEarly fresh.deliveries
 

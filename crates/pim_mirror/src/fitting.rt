@@ -127,7 +127,7 @@ fn stay_until<A>(others: &[OtherNeighbour<A>], end: u64) -> bool
 }
 
 /// Whether each delivery is of a message with a number below `count`.
-fn are_named(deliveries: &[Delivery], count: usize) -> bool
+fn are_listed(deliveries: &[Delivery], count: usize) -> bool
     ensures { result ≡ list_all (λ delivery. nat_lt delivery.message count) deliveries.now }
 {
     deliveries.iter().all(|delivery| delivery.message < count)
@@ -268,7 +268,7 @@ fn others_fit<F: Family>(fresh: &FreshConfig<'_, F>) -> bool
 fn deliveries_fit<F: Family>(count: usize, fresh: &FreshConfig<'_, F>) -> bool
     ensures { IsTrue result ↔ DeliveriesFit count (fresh_seen F.bytes_of fresh.now) }
 {
-    if !are_named(fresh.deliveries, count) {
+    if !are_listed(fresh.deliveries, count) {
         return false;
     }
     if !each_is_delivered(count, fresh.deliveries) {

@@ -8,22 +8,22 @@
 //! delays.
 
 ghost use Rattle.pim_mirror.specs.Headline.{NormalisingTwiceIsOnce, FreshRouterMirrors};
-ghost use Rattle.pim_mirror.specs.Headline.{FreshRouterTellsNoEcho};
+ghost use Rattle.pim_mirror.specs.Headline.{FreshRouterSendsNoEcho};
 ghost use Rattle.pim_mirror.specs.Headline.{RoomIsForTheUnits, FreshRouterIsThere};
 ghost use Rattle.pim_mirror.specs.Headline.{FreshRouterKnowsTheWriter};
 ghost use Rattle.pim_mirror.specs.Headline.{MirrorAnswersForTheForm, Headline};
 
 use crate::hello_laws::{hellos_are_heard, written_hellos_are_read};
 use crate::laws::{
-    asked_stars_have_rps, canonical_messages_tell_form, course_hears_all, delivery_is_taken,
-    heard_messages_are_asked_again, router_leaves_its_port,
+    canonical_messages_carry_form, course_hears_all, delivery_is_taken, demanded_stars_have_rps,
+    heard_messages_are_demanded_again, router_leaves_its_port,
 };
 
 /// The normal form of what a normal form wants is that normal form.
 pub fn normalising_twice_is_once()
     ensures { NormalisingTwiceIsOnce }
 {
-    pim_form::one_normal_form();
+    pim_form::laws::one_normal_form();
 }
 
 /// A new router goes its course over the Hellos of its neighbours and a sender's canonical
@@ -35,7 +35,7 @@ pub fn room_is_for_the_units()
 {
     written_hellos_are_read();
     hellos_are_heard();
-    asked_stars_have_rps();
+    demanded_stars_have_rps();
     delivery_is_taken();
     course_hears_all();
 }
@@ -54,31 +54,31 @@ pub fn fresh_router_mirrors()
 {
     written_hellos_are_read();
     hellos_are_heard();
-    asked_stars_have_rps();
+    demanded_stars_have_rps();
     room_is_for_the_units();
     course_hears_all();
     router_leaves_its_port();
-    canonical_messages_tell_form();
-    heard_messages_are_asked_again();
-    pim_fresh::span_is_of_its_message();
+    canonical_messages_carry_form();
+    heard_messages_are_demanded_again();
+    pim_fresh::laws::span_is_of_its_message();
 }
 
 /// Up to its final moment such a router reports no PruneEcho either: these messages prune no star
 /// and no source.
-pub fn fresh_router_tells_no_echo()
-    ensures { FreshRouterTellsNoEcho }
+pub fn fresh_router_sends_no_echo()
+    ensures { FreshRouterSendsNoEcho }
 {
     written_hellos_are_read();
     hellos_are_heard();
-    asked_stars_have_rps();
+    demanded_stars_have_rps();
     room_is_for_the_units();
     course_hears_all();
     router_leaves_its_port();
-    canonical_messages_tell_form();
+    canonical_messages_carry_form();
     delivery_is_taken();
-    pim_fresh::no_echo_is_told();
-    pim_fresh::every_hearing_reaches();
-    pim_down::run_has_one_end();
+    pim_fresh::laws::no_echo_is_due();
+    pim_fresh::laws::every_hearing_reaches();
+    pim_down::laws::run_has_one_end();
 }
 
 /// At its final moment such a router knows the writer on its only port, with the override interval
@@ -89,12 +89,12 @@ pub fn fresh_router_knows_the_writer()
 {
     written_hellos_are_read();
     hellos_are_heard();
-    asked_stars_have_rps();
+    demanded_stars_have_rps();
     room_is_for_the_units();
     course_hears_all();
     router_leaves_its_port();
-    canonical_messages_tell_form();
-    pim_down::run_keeps_its_bounds();
+    canonical_messages_carry_form();
+    pim_down::laws::run_keeps_its_bounds();
 }
 
 /// Where the conditions of `Fits` hold and there is room for the entries of all messages, there is
@@ -104,9 +104,9 @@ pub fn fresh_router_is_there()
     ensures { FreshRouterIsThere }
 {
     room_is_for_the_units();
-    pim_router::every_list_has_a_course();
-    pim_router::run_has_one_end();
-    pim_router::run_goes_on();
+    pim_router::laws::every_list_has_a_course();
+    pim_router::laws::run_has_one_end();
+    pim_router::laws::run_goes_on();
 }
 
 /// The meaning of a result of `mirror` where its messages are the canonical ones of a state. An Ok
@@ -120,11 +120,11 @@ pub fn mirror_answers_for_the_form()
 {
     room_is_for_the_units();
     fresh_router_mirrors();
-    fresh_router_tells_no_echo();
+    fresh_router_sends_no_echo();
     fresh_router_knows_the_writer();
-    pim_router::every_list_has_a_course();
-    pim_router::run_has_one_end();
-    pim_router::run_goes_on();
+    pim_router::laws::every_list_has_a_course();
+    pim_router::laws::run_has_one_end();
+    pim_router::laws::run_goes_on();
 }
 
 /// The headline. Two downstream states under one route table want the same traffic of an upstream
@@ -139,7 +139,7 @@ pub fn mirror_answers_for_the_form()
 pub fn headline()
     ensures { Headline }
 {
-    pim_form::same_messages_same_asked();
+    pim_form::laws::same_messages_same_demand_toward();
     normalising_twice_is_once();
     fresh_router_mirrors();
 }

@@ -17,7 +17,8 @@ use crate::config::{FreshConfig, OtherNeighbour};
 use pim_addr::Family;
 use pim_frame::{MessageType, all_routers, seal, sealed_opens};
 use pim_hello::{Addresses, Hello, LanDelay, Parameters};
-use pim_router::{Config, Router, course_goes_on, every_list_has_a_course};
+use pim_router::laws::{course_goes_on, every_list_has_a_course};
+use pim_router::{Config, Router};
 use std::alloc::{AllocError, Global};
 
 /// The greatest length of a Hello without an Address List, in bytes, header included.

@@ -12,7 +12,7 @@ ghost use Rattle.pim_mirror.specs.Mirror.{Mirrors, Passes, delivery_inputs, HasR
 ghost use Rattle.pim_mirror.specs.Mirror.{delivery_packet, IsRefused};
 ghost use Rattle.pim_mirror.specs.Mirror.{needed_by, outcome_of, is_reached};
 ghost use Rattle.pim_mirror.specs.MirrorResult.{StandsInTheWindow, HoldsTheRecords, WantsTheDemand};
-ghost use Rattle.pim_mirror.specs.MirrorResult.{WritesTheMessages, TellsNoEcho, KnowsTheWriter};
+ghost use Rattle.pim_mirror.specs.MirrorResult.{WritesTheMessages, HasNoEcho, KnowsTheWriter};
 ghost use Rattle.pim_mirror.specs.MirrorResult.{HadRoom, HadNoRoom};
 ghost use Rattle.pim_mirror.specs.Tests.{AreEarly};
 
@@ -24,7 +24,8 @@ use pim_addr::Family;
 use pim_down::Step;
 use pim_form::{Messages, Writer};
 use pim_frame::all_routers;
-use pim_router::{Router, Store, Verdict, course_goes_on, every_list_has_a_course};
+use pim_router::laws::{course_goes_on, every_list_has_a_course};
+use pim_router::{Router, Store, Verdict};
 use std::alloc::{AllocError, Global};
 use thiserror::Error;
 
@@ -304,7 +305,7 @@ pub fn mirror<'a, F: Family>(
         (fresh_seen F.bytes_of fresh.now) result }
     ensures messages { WritesTheMessages F.family writer.now messages.now
         (fresh_seen F.bytes_of fresh.now) result }
-    ensures no_echo { TellsNoEcho F.family writer.now messages.now
+    ensures no_echo { HasNoEcho F.family writer.now messages.now
         (fresh_seen F.bytes_of fresh.now) result }
     ensures writer { KnowsTheWriter F.family writer.now messages.now
         (fresh_seen F.bytes_of fresh.now) result }

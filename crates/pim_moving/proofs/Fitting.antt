@@ -6,9 +6,9 @@ use Rattle.pim_addr.specs.declared.family.AddressFamily.{AddressFamily}
 use Rattle.pim_form.specs.NormalForm.{GroupForm, same_address, groups_of}
 use Rattle.pim_form.specs.Settled.{group_in}
 use Rattle.pim_form.specs.TooBig.{star_fits, too_big}
-use Rattle.pim_change.specs.declared.unit.Kind.{Kind}
-use Rattle.pim_change.specs.declared.unit.Kind.TheVariants.{JoinRpt, PruneRpt, JoinSource, PruneSource}
-use Rattle.pim_change.specs.Change.{Telling, told, ChangeUnit, about, lacking, star_change, sources_change, in_order, change_at, change}
+use Rattle.pim_change.specs.declared.unit.ActionKind.{ActionKind}
+use Rattle.pim_change.specs.declared.unit.ActionKind.TheVariants.{JoinRpt, PruneRpt, JoinSource, PruneSource}
+use Rattle.pim_change.specs.Change.{Action, of_source, ChangeUnit, about, lacking, star_change, sources_change, in_order, change_at, change}
 use Rattle.pim_change.specs.TooBig as changed
 use Rattle.pim_moving.specs.Laws.{ChangeFits}
 
@@ -41,22 +41,22 @@ module _ (family : AddressFamily) (budget : ℕ) where
   both : (one other : List ChangeUnit) → AllFit one → AllFit other → AllFit (one ++ other)
   unfolding AllFit changed.too_big
   both [] other p q = q
-  both (this ∷ one) other p q = by (changed.telling_fits family budget this.group this.telling) p (both one other)
+  both (this ∷ one) other p q = by (changed.action_fits family budget this.group this.action) p (both one other)
     where
       by : (b : Bool) → (if b then changed.too_big family budget one else Some this.group) ≡ None → (AllFit one → AllFit other → AllFit (one ++ other))
           → (if b then changed.too_big family budget (one ++ other) else Some this.group) ≡ None
       by true f further = further f q
       by false f further = absurd (some_isnt_none this.group f)
 
-  told_fit : (group : List ℕ) (kind : Kind) (sources : List (List ℕ)) → AllFit (about group (map (told kind) sources))
+  told_fit : (group : List ℕ) (kind : ActionKind) (sources : List (List ℕ)) → AllFit (about group (map (of_source kind) sources))
   unfolding AllFit changed.too_big
   told_fit group kind [] = refl
   told_fit group kind (source ∷ sources) = told_fit group kind sources
 
-  about_both : (group : List ℕ) (one other : List Telling) → AllFit (about group one) → AllFit (about group other) → AllFit (about group (one ++ other))
+  about_both : (group : List ℕ) (one other : List Action) → AllFit (about group one) → AllFit (about group other) → AllFit (about group (one ++ other))
   unfolding AllFit changed.too_big
   about_both group [] other p q = q
-  about_both group (this ∷ one) other p q = by (changed.telling_fits family budget group this) p (about_both group one other)
+  about_both group (this ∷ one) other p q = by (changed.action_fits family budget group this) p (about_both group one other)
     where
       by : (b : Bool) → (if b then changed.too_big family budget (about group one) else Some group) ≡ None → (AllFit (about group one) → AllFit (about group other) → AllFit (about group (one ++ other)))
           → (if b then changed.too_big family budget (about group (one ++ other)) else Some group) ≡ None
@@ -69,12 +69,12 @@ module _ (family : AddressFamily) (budget : ℕ) where
   star_fits_too group None (Some exceptions) e = ap (λ b. if b then None else Some group) e
   star_fits_too group (Some excepted) None e = refl
   star_fits_too group (Some excepted) (Some exceptions) e =
-      about_both group (map (told JoinRpt) (lacking excepted exceptions)) (map (told PruneRpt) (lacking exceptions excepted))
+      about_both group (map (of_source JoinRpt) (lacking excepted exceptions)) (map (of_source PruneRpt) (lacking exceptions excepted))
       (told_fit group JoinRpt (lacking excepted exceptions)) (told_fit group PruneRpt (lacking exceptions excepted))
 
   sources_fit : (group : List ℕ) (old new : List (List ℕ)) → AllFit (about group (sources_change old new))
   sources_fit group old new =
-      about_both group (map (told JoinSource) (lacking new old)) (map (told PruneSource) (lacking old new)) (told_fit group JoinSource (lacking new old)) (told_fit group PruneSource (lacking old new))
+      about_both group (map (of_source JoinSource) (lacking new old)) (map (of_source PruneSource) (lacking old new)) (told_fit group JoinSource (lacking new old)) (told_fit group PruneSource (lacking old new))
 
   module _ (old new : List GroupForm) (fitting : too_big family budget new ≡ None) where
     at_fits : (group : List ℕ) → AllFit (change_at old new group)

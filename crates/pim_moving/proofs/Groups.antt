@@ -11,8 +11,8 @@ use Rattle.pim_jp.specs.Message.{GroupSet}
 use Rattle.pim_form.specs.Merge.{by_order}
 use Rattle.pim_form.specs.NormalForm.{GroupForm, IsNormalGroup, IsNormal, groups_of, same_address}
 use Rattle.pim_form.specs.Settled.{group_in}
-use Rattle.pim_change.specs.Change.{Telling, ChangeUnit, about, group_change, inserted, in_order, change_at, change}
-use Rattle.pim_change.specs.Told.{GroupTellings, in_front, set_in_front, grouped, told_set, told_sets}
+use Rattle.pim_change.specs.Change.{Action, ChangeUnit, about, group_change, inserted, in_order, change_at, change}
+use Rattle.pim_change.specs.Written.{GroupActions, in_front, set_in_front, grouped, written_set, written_sets}
 
 module _ {A : Type 0} (P : A → Type 0) where
   all_append : (xs ys : List A) → AllByRecursion P xs → AllByRecursion P ys → AllByRecursion P (xs ++ ys)
@@ -59,7 +59,7 @@ module _ (family : AddressFamily) where
   are_groups [] are = tt
   are_groups (this ∷ form) are = (are.0.group, are_groups form are.1)
 
-  about_group : (group : List ℕ) (tellings : List Telling) → IsGroupAddress family group → AllByRecursion OfGroup (about group tellings)
+  about_group : (group : List ℕ) (tellings : List Action) → IsGroupAddress family group → AllByRecursion OfGroup (about group tellings)
   about_group group [] is = tt
   about_group group (telling ∷ tellings) is = (is, about_group group tellings is)
 
@@ -79,10 +79,10 @@ module _ (family : AddressFamily) where
 
   -- ---- the group sets of a message
 
-  abbrev HasGroup : GroupTellings → Type 0
+  abbrev HasGroup : GroupActions → Type 0
   HasGroup this = IsGroupAddress family this.group
 
-  front_is : (this : ChangeUnit) (sets : List GroupTellings) → OfGroup this → AllByRecursion HasGroup sets → AllByRecursion HasGroup (in_front this sets)
+  front_is : (this : ChangeUnit) (sets : List GroupActions) → OfGroup this → AllByRecursion HasGroup sets → AllByRecursion HasGroup (in_front this sets)
   front_is this [] is are = (is, tt)
   front_is this (first ∷ others) is are = by (same_address this.group first.group)
     where
@@ -98,9 +98,9 @@ module _ (family : AddressFamily) where
   abbrev pub SetHasGroup : GroupSet → Type 0
   SetHasGroup set = IsGroupAddress family set.group
 
-  told_are : (rps : List ℕ → Option (List ℕ)) (sets : List GroupTellings) → AllByRecursion HasGroup sets → AllByRecursion SetHasGroup (map (told_set rps) sets)
+  told_are : (rps : List ℕ → Option (List ℕ)) (sets : List GroupActions) → AllByRecursion HasGroup sets → AllByRecursion SetHasGroup (map (written_set rps) sets)
   told_are rps [] are = tt
   told_are rps (this ∷ sets) are = (are.0, told_are rps sets are.1)
 
-  pub sets_are : (rps : List ℕ → Option (List ℕ)) (run : List ChangeUnit) → AllByRecursion OfGroup run → AllByRecursion SetHasGroup (told_sets rps run)
+  pub sets_are : (rps : List ℕ → Option (List ℕ)) (run : List ChangeUnit) → AllByRecursion OfGroup run → AllByRecursion SetHasGroup (written_sets rps run)
   sets_are rps run are = told_are rps (grouped run) (grouped_are run are)

@@ -12,7 +12,7 @@ use Rattle.pim_down.specs.declared.machines.machine.Record.{Record}
 use Rattle.pim_down.specs.declared.machines.step.Step.{Step}
 use Rattle.pim_down.specs.declared.machines.step.Step.TheVariants.{Echo, Reached}
 use Rattle.pim_down.specs.Key.{same_key}
-use Rattle.pim_down.specs.Laws.{KeysAreToldApart}
+use Rattle.pim_down.specs.Laws.{KeysAreDistinct}
 use Rattle.pim_down.specs.Records.{IsBelow, IsAscending, machine_at, recorded}
 use Rattle.pim_down.specs.Time.{Downstream, expiry_after, record_after, tick, et_due, ppt_due, after_et, after_ppt, on_ppt, first_due, with_first, fire_et, fire_ppt, fired, moves, rests, turn_by, turn, run_on, run_within, Runs, with_records}
 use Rattle.pim_fresh.specs.Deliveries.{IsShorter}
@@ -136,7 +136,7 @@ each_outlasts passed (held ∷ records) all key machine e = by (same_key key hel
     by true f behind = subst (λ (m : Machine). IsShorter passed m.expires_in) (some f) all.0
     by false f behind = behind f
 
-module _ (keys : KeysAreToldApart) where
+module _ (keys : KeysAreDistinct) where
   below_none : (key : Key (List ℕ)) (records : Records) → IsBelow key records → machine_at key records ≡ None
   unfolding IsBelow machine_at
   below_none key [] below = refl

@@ -20,7 +20,7 @@ use Rattle.pim_form.specs.Settled.{group_in, is_in_join, is_in_no_info, joins_if
 use Rattle.pim_form.specs.Wants.{is_pruned, state_on}
 use Rattle.pim_fresh.specs.Deliveries.{Delivery, IsShorter, last_of, final_moment, is_delivered}
 use Rattle.pim_fresh.specs.Exchange.{Exchange}
-use Rattle.pim_fresh.specs.Expected.{asked_state}
+use Rattle.pim_fresh.specs.Expected.{state_wanted}
 use Rattle.pim_mirror.specs.CanonicalUnits.{group_names, form_names}
 use Rattle.pim_mirror.specs.Config.{newest_first, interval_of}
 use Rattle.pim_mirror.specs.Fits.{expiry_of}
@@ -59,10 +59,10 @@ names_its_group (this ∷ form) group what up =
 -- ---- a machine that is held exactly if it is named, in its state
 
 record IsAsNamed (named : Bool) (what : What (List ℕ)) (state : Option State) : Type 0 where
-  held : named ≡ true → state ≡ Some (asked_state what)
+  held : named ≡ true → state ≡ Some (state_wanted what)
   others : named ≡ false → state ≡ None
 
-joins : (named : Bool) (state : Option State) (what : What (List ℕ)) → is_in_join (Some (asked_state what)) ≡ true → IsAsNamed named what state → joins_if named state ≡ true
+joins : (named : Bool) (state : Option State) (what : What (List ℕ)) → is_in_join (Some (state_wanted what)) ≡ true → IsAsNamed named what state → joins_if named state ≡ true
 joins true state what e is = ap is_in_join (is.held refl) ∙ e
 joins false state what e is = ap is_in_no_info (is.others refl)
 
@@ -128,7 +128,7 @@ time_left last moment came None before early p = tt
 time_left last moment came (Some ends) before early p = omega (arith, before, early, p)
 
 pub settled : MirrorIsSettled
-settled family table writing form messages fresh moment last told later normal from early alive mirrors = (
+settled family table writing form messages fresh moment last reported later normal from early alive mirrors = (
   λ group what. settles (group_in group form) what (state_on later.machines.records 0 group what) (as_named exchange (length messages) form (newest_first fresh) moment later.machines mirrors.holds normal.ascending group what),
   λ key machine e. lasts key machine e,
 )
@@ -141,5 +141,5 @@ settled family table writing form messages fresh moment last told later normal f
         let named = mirrors.holds.no_others key (ap is_some e) in
         let held = mirrors.holds.held key named.0 named.1 in
         let left = time_left last moment held.last (expiry_of writing.holdtime) (omega (arith, from, last_by (interval_of fresh) held.message held.last (newest_first fresh) held.came)) early (alive held.message held.last held.came) in
-        let same : machine ≡ record { state = asked_state key.what; expires_in = expiry_after (moment - held.last) (expiry_of writing.holdtime); pending = None } = cc in
+        let same : machine ≡ record { state = state_wanted key.what; expires_in = expiry_after (moment - held.last) (expiry_of writing.holdtime); pending = None } = cc in
         subst (λ (m : Machine). IsShorter (last - later.machines.moment) m.expires_in) (sym same) (subst (λ (n : ℕ). IsShorter (last - n) (expiry_after (moment - held.last) (expiry_of writing.holdtime))) (sym mirrors.moment_is) left)

@@ -11,15 +11,15 @@ use Rattle.pim_down.specs.declared.machines.step.Step.TheVariants.{Reached}
 use Rattle.pim_down.specs.Hearing.{start_of}
 use Rattle.pim_down.specs.Records.{IsAscending}
 use Rattle.pim_down.specs.Time.{Downstream}
-use Rattle.pim_down.specs.Laws.{KeysAreToldApart, HearingActsAtEachKey, HearingKeepsTheOrder, RunKeepsItsBounds, RunKeepsTheOrder}
+use Rattle.pim_down.specs.Laws.{KeysAreDistinct, HearingActsAtEachKey, HearingKeepsTheOrder, RunKeepsItsBounds, RunKeepsTheOrder}
 use Rattle.pim_form.specs.Messages.{Writing, IsWriting}
-use Rattle.pim_form.specs.TowardLaws.{TestTellsWhoIsAsked}
+use Rattle.pim_form.specs.TowardLaws.{TestFindsTheNeighbour}
 use Rattle.pim_change.specs.Change.{ChangeUnit}
 use Rattle.pim_change.specs.Laws.{AreReadAsRuns, ChangeIsRead}
 use Rattle.pim_fresh.specs.Deliveries.{Delivery, IsShorter}
 use Rattle.pim_fresh.specs.Exchange.{Exchange, starts}
 use Rattle.pim_fresh.specs.Hearing.{after_message}
-use Rattle.pim_router.specs.Course.{runs_to, takes, Telling, Reaches, IsCourse}
+use Rattle.pim_router.specs.Course.{runs_to, takes, RouterReport, Reaches, IsCourse}
 use Rattle.pim_router.specs.Packets.{received}
 use Rattle.pim_router.specs.State.{RouterState, with_machines}
 use Rattle.pim_router.specs.declared.verdict.Verdict.{Verdict}
@@ -32,7 +32,7 @@ use Rattle.pim_mirror.specs.Laws.{ReadPacketIsHeard, RouterRunsAsItsMachines, Wr
 use Rattle.pim_mirror.specs.MachineRuns.{MachinesArrive}
 use Rattle.pim_mirror.specs.Mirror.{needed_by, first_needed}
 use Rattle.pim_settling.specs.Hearing.{Arrives, NoneEnds, Passes, Hears}
-use Rattle.pim_settling.specs.Laws.{ToldChangeSettles, SettledWants}
+use Rattle.pim_settling.specs.Laws.{WrittenChangeSettles, SettledWants}
 use Rattle.pim_moving.specs.Changing.{AreBetween, NoneEndsBehind, NoneEndsOnTheWay}
 use Rattle.pim_moving.specs.Laws.{ChangeMovesARouter, LongTimersLast}
 use Rattle.pim_moving.proofs.Groups.{OfGroup, runs_are}
@@ -44,7 +44,7 @@ use Rattle.pim_moving.proofs.Reading.{message_at, events_are, events_same}
 
 -- the laws on which it rests
 pub record Machines : Type 0 where
-  pub keys : KeysAreToldApart
+  pub keys : KeysAreDistinct
   pub acts : HearingActsAtEachKey
   pub hears_order : HearingKeepsTheOrder
   pub bounds : RunKeepsItsBounds
@@ -122,7 +122,7 @@ module _ (laws : Machines) (family : AddressFamily) (table : RouteTable) (writin
     way : MachinesArrive echoes moment state.machines after.machines
     there : At moment after
 
-  onward : (from moment : ℕ) (said : List Telling) (state after : RouterState) → from ≤ moment → moment ≤ last → At from state → Reaches moment said state after → Onward moment state after
+  onward : (from moment : ℕ) (said : List RouterReport) (state after : RouterState) → from ≤ moment → moment ≤ last → At from state → Reaches moment said state after → Onward moment state after
   onward from moment said state after later early at reaches =
       let run = laws.runs moment said state after reaches in
       let before : state.machines.moment ≤ moment = omega (arith, later, at.machines.moment_is) in
@@ -205,25 +205,25 @@ module _ (laws : Machines) (family : AddressFamily) (table : RouteTable) (writin
     all : Hears exchange start.machines deliveries moment after.machines
     there : At moment after
 
-  walk : (deliveries : List Delivery) (moment : ℕ) (told said : List Telling) (between after : RouterState) → At start.machines.moment start → AreOf (length messages) deliveries
-      → AreBetween start.machines.moment deliveries moment → NoneEndsOnTheWay family writing messages start deliveries moment → moment ≤ last → first_needed told ≡ None
-      → IsCourse family (inputs_of family writing 0 messages deliveries) told start between → Reaches moment said between after → Behind deliveries moment after
+  walk : (deliveries : List Delivery) (moment : ℕ) (reported said : List RouterReport) (between after : RouterState) → At start.machines.moment start → AreOf (length messages) deliveries
+      → AreBetween start.machines.moment deliveries moment → NoneEndsOnTheWay family writing messages start deliveries moment → moment ≤ last → first_needed reported ≡ None
+      → IsCourse family (inputs_of family writing 0 messages deliveries) reported start between → Reaches moment said between after → Behind deliveries moment after
   unfolding Hears inputs_of AreBetween NoneEndsOnTheWay
-  walk [] moment told said between after at of since ending early none course reaches =
-      let still = no_inputs family told start between course in
+  walk [] moment reported said between after at of since ending early none course reaches =
+      let still = no_inputs family reported start between course in
       let from_start : Reaches moment said start after = subst (λ (state : RouterState). Reaches moment said state after) still reaches in
-      let lasting : NoneEnds moment start.machines = subst (λ (state : RouterState). NoneEnds moment state.machines) still (ending told between course) in
+      let lasting : NoneEnds moment start.machines = subst (λ (state : RouterState). NoneEnds moment state.machines) still (ending reported between course) in
       let on = onward start.machines.moment moment said start after since early at from_start in
       record { all = passes moment start after lasting on; there = on.there }
-  walk (delivery ∷ earlier) moment told said between after at of since ending early none course reaches =
-      let two = parts family (inputs_of family writing 0 messages earlier) (runs_to delivery.moment ∷ takes (packet_of family writing 0 messages delivery.message) ∷ []) told start between course in
-      let rooms = none_in_parts told two.told two.said two.joined none in
+  walk (delivery ∷ earlier) moment reported said between after at of since ending early none course reaches =
+      let two = parts family (inputs_of family writing 0 messages earlier) (runs_to delivery.moment ∷ takes (packet_of family writing 0 messages delivery.message) ∷ []) reported start between course in
+      let rooms = none_in_parts reported two.reported two.said two.joined none in
       let step = run_and_packet family writing messages delivery two.said two.between between two.second in
       let early_here : delivery.moment ≤ last = omega (arith, early, since.0) in
-      let before = walk earlier delivery.moment two.told step.told two.between step.before at of.1 since.1 ending.1 early_here rooms.0 two.first step.reaches in
+      let before = walk earlier delivery.moment two.reported step.reported two.between step.before at of.1 since.1 ending.1 early_here rooms.0 two.first step.reaches in
       let packet = heard delivery.message step.before of.0 before.there.hears before.there.routes in
       let behind : between ≡ with_machines step.before (after_message exchange delivery.message step.before.machines) = step.taken ∙ applied delivery.message step.before packet (step.room rooms.1) in
-      let lasting : NoneEnds moment (after_message exchange delivery.message step.before.machines) = subst (λ (state : RouterState). NoneEnds moment state.machines) behind (ending.0 told between course) in
+      let lasting : NoneEnds moment (after_message exchange delivery.message step.before.machines) = subst (λ (state : RouterState). NoneEnds moment state.machines) behind (ending.0 reported between course) in
       let here = behind_packet delivery.message delivery.moment step.before before.there in
       let on = onward delivery.moment moment said (with_machines step.before (after_message exchange delivery.message step.before.machines)) after since.0 early here
       (subst (λ (state : RouterState). Reaches moment said state after) behind reaches) in
@@ -258,18 +258,18 @@ module _ (laws : Machines) (family : AddressFamily) (table : RouteTable) (writin
       there : At moment state
       timers : Stays last state.machines
 
-    outlasts : (deliveries : List Delivery) (to : ℕ) (told : List Telling) (state : RouterState) → At start.machines.moment start → Stays last start.machines → AreOf (length messages) deliveries
-        → AreBetween start.machines.moment deliveries to → to ≤ last → IsCourse family (inputs_of family writing 0 messages deliveries) told start state → Lasting (newest deliveries) state
+    outlasts : (deliveries : List Delivery) (to : ℕ) (reported : List RouterReport) (state : RouterState) → At start.machines.moment start → Stays last start.machines → AreOf (length messages) deliveries
+        → AreBetween start.machines.moment deliveries to → to ≤ last → IsCourse family (inputs_of family writing 0 messages deliveries) reported start state → Lasting (newest deliveries) state
     unfolding inputs_of AreBetween newest
-    outlasts [] to told state at timers of since early course =
-        let still = no_inputs family told start state course in
+    outlasts [] to reported state at timers of since early course =
+        let still = no_inputs family reported start state course in
         subst (Lasting start.machines.moment) (sym still) (record { there = at; timers = timers })
-    outlasts (delivery ∷ earlier) to told state at timers of since early course =
-        let two = parts family (inputs_of family writing 0 messages earlier) (runs_to delivery.moment ∷ takes (packet_of family writing 0 messages delivery.message) ∷ []) told start state course in
+    outlasts (delivery ∷ earlier) to reported state at timers of since early course =
+        let two = parts family (inputs_of family writing 0 messages earlier) (runs_to delivery.moment ∷ takes (packet_of family writing 0 messages delivery.message) ∷ []) reported start state course in
         let step = run_and_packet family writing messages delivery two.said two.between state two.second in
         let early_here : delivery.moment ≤ last = omega (arith, early, since.0) in
-        let before = outlasts earlier delivery.moment two.told two.between at timers of.1 since.1 early_here two.first in
-        let on = onward (newest earlier) delivery.moment step.told two.between step.before (newest_by earlier delivery.moment since.1) early_here before.there step.reaches in
+        let before = outlasts earlier delivery.moment two.reported two.between at timers of.1 since.1 early_here two.first in
+        let on = onward (newest earlier) delivery.moment step.reported two.between step.before (newest_by earlier delivery.moment since.1) early_here before.there step.reaches in
         let stays = stays_through delivery.moment last early_here on.echoes two.between.machines step.before.machines before.timers on.way in
         let packet = heard delivery.message step.before of.0 on.there.hears on.there.routes in
         let here : Lasting delivery.moment step.before = record { there = on.there; timers = stays } in
@@ -281,8 +281,8 @@ module _ (laws : Machines) (family : AddressFamily) (table : RouteTable) (writin
 
     ends_none : (deliveries : List Delivery) (to : ℕ) → At start.machines.moment start → Stays last start.machines → AreOf (length messages) deliveries → AreBetween start.machines.moment deliveries to → to ≤ last
         → NoneEndsBehind family writing messages start deliveries to
-    ends_none deliveries to at timers of since early told state course =
-        let behind = outlasts deliveries to told state at timers of since early course in
+    ends_none deliveries to at timers of since early reported state course =
+        let behind = outlasts deliveries to reported state at timers of since early course in
         none_ends to state.machines (expires_later last to state.machines early (none_expires last state.machines behind.timers))
 
     all_last : (deliveries : List Delivery) (to : ℕ) → At start.machines.moment start → Stays last start.machines → AreOf (length messages) deliveries → AreBetween start.machines.moment deliveries to → to ≤ last
@@ -295,31 +295,31 @@ module _ (laws : Machines) (family : AddressFamily) (table : RouteTable) (writin
 -- ---- both laws
 
 pub long_timers : Machines → ChangeIsRead → LongTimersLast
-long_timers laws reads family table writing timing old new messages deliveries moment start is_table is_writing of_old of_new told sound knows of since lasts started =
+long_timers laws reads family table writing timing old new messages deliveries moment start is_table is_writing of_old of_new reported sound knows of since lasts started =
     let rps = rp_of family table in
     let have_old = stars_have_rps family table writing.upstream is_table old of_old.toward in
     let have_new = stars_have_rps family table writing.upstream is_table new of_new.toward in
-    let read = reads family writing rps old new messages is_writing of_old.normal of_new.normal have_old have_new told in
+    let read = reads family writing rps old new messages is_writing of_old.normal of_new.normal have_old have_new reported in
     let groups = runs_are family old new read.runs of_old.normal of_new.normal read.whole in
     let now : start.machines.moment ≤ moment = since_start start.machines.moment deliveries moment since in
     let at_start = begins laws family table writing timing messages read.runs moment start is_writing knows.same_rps read.read groups knows.neighbours knows.hears sound.ascending in
     all_last laws family table writing timing messages read.runs moment start is_writing knows.same_rps read.read groups started deliveries moment at_start
     (stays_of laws.keys moment start.machines now sound.ascending lasts) of since (omega arith)
 
-pub moves : Machines → TestTellsWhoIsAsked → ChangeIsRead → ToldChangeSettles → SettledWants → ChangeMovesARouter
-moves laws tests reads settles wanted family table writing timing old new messages deliveries moment start after is_table is_writing of_old of_new told stands knows given =
+pub moves : Machines → TestFindsTheNeighbour → ChangeIsRead → WrittenChangeSettles → SettledWants → ChangeMovesARouter
+moves laws tests reads settles wanted family table writing timing old new messages deliveries moment start after is_table is_writing of_old of_new reported stands knows given =
     let rps = rp_of family table in
     let have_old = stars_have_rps family table writing.upstream is_table old of_old.toward in
     let have_new = stars_have_rps family table writing.upstream is_table new of_new.toward in
-    let read = reads family writing rps old new messages is_writing of_old.normal of_new.normal have_old have_new told in
+    let read = reads family writing rps old new messages is_writing of_old.normal of_new.normal have_old have_new reported in
     let groups = runs_are family old new read.runs of_old.normal of_new.normal read.whole in
-    let two = parts family (inputs_of family writing 0 messages deliveries) (runs_to moment ∷ []) given.told start after given.course in
-    let rooms = none_in_parts given.told two.told two.said two.joined given.room in
+    let two = parts family (inputs_of family writing 0 messages deliveries) (runs_to moment ∷ []) given.reported start after given.course in
+    let rooms = none_in_parts given.reported two.reported two.said two.joined given.room in
     let end = last_run family moment two.said two.between after two.second in
     let at_start = begins laws family table writing timing messages read.runs moment start is_writing knows.same_rps read.read groups knows.neighbours knows.hears stands.sound.ascending in
-    let behind = walk laws family table writing timing messages read.runs moment start is_writing knows.same_rps read.read groups deliveries moment two.told end.said two.between after at_start given.of_these given.between given.timers (omega arith) rooms.0 two.first end.reaches in
+    let behind = walk laws family table writing timing messages read.runs moment start is_writing knows.same_rps read.read groups deliveries moment two.reported end.said two.between after at_start given.of_these given.between given.timers (omega arith) rooms.0 two.first end.reaches in
     let exchange = exchange_in family rps writing 0 timing messages in
-    let settled = settles family writing rps old new messages exchange start.machines after.machines deliveries moment is_writing of_old.normal of_new.normal have_old have_new told
+    let settled = settles family writing rps old new messages exchange start.machines after.machines deliveries moment is_writing of_old.normal of_new.normal have_old have_new reported
     (events_are family writing rps messages) given.each_came stands.sound stands.settled behind.all given.final in
     let wants_it = wanted family new after.machines of_new.normal (behind.there.machines.ports_are ∙ stands.one_port) settled.1 in
     record {

@@ -8,8 +8,8 @@ use Rattle.pim_addr.specs.Routes.{Row, RouteTable, matches, longer_of, longest, 
 use Rattle.pim_down.specs.Time.{Downstream}
 use Rattle.pim_form.specs.Messages.{IsRpOf, HaveRps}
 use Rattle.pim_form.specs.NormalForm.{GroupForm, IsFormOf, form_wants}
-use Rattle.pim_form.specs.Toward.{via_in, via_rp, upstream_of, is_neighbour, is_star_toward, is_group_toward, is_toward}
-use Rattle.pim_form.specs.TowardLaws.{asked_of, TestTellsWhoIsAsked}
+use Rattle.pim_form.specs.Toward.{via_of, star_rpf_neighbour, rpf_neighbour, is_neighbour, is_star_toward, is_group_toward, is_toward}
+use Rattle.pim_form.specs.TowardLaws.{demand_toward, TestFindsTheNeighbour}
 use Rattle.pim_form.specs.Wants.{wants}
 use Rattle.pim_moving.specs.Changing.{IsFormToward}
 
@@ -58,20 +58,20 @@ led_to_source family address rows are = leads family (longest (filter (matches f
 
 module _ (family : AddressFamily) (table : RouteTable) (neighbour : List ℕ) where
   module _ (sound : IsRouteTable family table) where
-    star_has_rp : (group : List ℕ) (star : Option (List (List ℕ))) → is_star_toward (rp_of family table) (via_in family table) neighbour group star ≡ true → IsRpOf family (rp_of family table group) star
+    star_has_rp : (group : List ℕ) (star : Option (List (List ℕ))) → is_star_toward (rp_of family table) (via_of family table) neighbour group star ≡ true → IsRpOf family (rp_of family table group) star
     star_has_rp group None asked = tt
     star_has_rp group (Some exceptions) asked = by (rp_of family table group) (led_to_source family group table.rps sound.rps.real) asked
       where
-        by : (rp : Option (List ℕ)) → IfSource family rp → is_neighbour neighbour (via_rp (via_in family table) rp) ≡ true → IsRpOf family rp (Some exceptions)
+        by : (rp : Option (List ℕ)) → IfSource family rp → is_neighbour neighbour (star_rpf_neighbour (via_of family table) rp) ≡ true → IsRpOf family rp (Some exceptions)
         by None is asked = false≢true asked
         by (Some rp) is asked = is
 
-    pub stars_have_rps : (form : List GroupForm) → is_toward (rp_of family table) (via_in family table) neighbour form ≡ true → HaveRps family (rp_of family table) form
+    pub stars_have_rps : (form : List GroupForm) → is_toward (rp_of family table) (via_of family table) neighbour form ≡ true → HaveRps family (rp_of family table) form
     stars_have_rps [] test = tt
     stars_have_rps (this ∷ form) test =
-        let here = first_true (is_group_toward (rp_of family table) (via_in family table) neighbour this) (is_toward (rp_of family table) (via_in family table) neighbour form) test in
-        let others = second_true (is_group_toward (rp_of family table) (via_in family table) neighbour this) (is_toward (rp_of family table) (via_in family table) neighbour form) test in
-        let star = first_true (is_star_toward (rp_of family table) (via_in family table) neighbour this.group this.star) (list_all (λ source. is_neighbour neighbour (via_in family table source)) this.sources) here in
+        let here = first_true (is_group_toward (rp_of family table) (via_of family table) neighbour this) (is_toward (rp_of family table) (via_of family table) neighbour form) test in
+        let others = second_true (is_group_toward (rp_of family table) (via_of family table) neighbour this) (is_toward (rp_of family table) (via_of family table) neighbour form) test in
+        let star = first_true (is_star_toward (rp_of family table) (via_of family table) neighbour this.group this.star) (list_all (λ source. is_neighbour neighbour (via_of family table source)) this.sources) here in
         (star_has_rp this.group this.star star, stars_have_rps form others)
 
   -- ---- what is asked
@@ -83,14 +83,14 @@ module _ (family : AddressFamily) (table : RouteTable) (neighbour : List ℕ) wh
   all_asked false true asked e f = absurd cc
   all_asked false false asked e f = refl
 
-  pub asks_for : TestTellsWhoIsAsked → (state : Downstream) (form : List GroupForm) → IsFormToward family table neighbour form → IsFormOf family (wants state) form → IsFormOf family (asked_of family table neighbour state) form
+  pub asks_for : TestFindsTheNeighbour → (state : Downstream) (form : List GroupForm) → IsFormToward family table neighbour form → IsFormOf family (wants state) form → IsFormOf family (demand_toward family table neighbour state) form
   asks_for tests state form is of =
       let rps = rp_of family table in
-      let via = via_in family table in
+      let via = via_of family table in
       let only = (tests family rps via neighbour form is.normal).0 is.toward in
       record {
         normal = is.normal;
         wants = λ source group tree valid of_group.
-            all_asked (wants state source group tree) (form_wants form source group tree) (is_neighbour neighbour (upstream_of rps via source group tree)) (of.wants source group tree valid of_group)
+            all_asked (wants state source group tree) (form_wants form source group tree) (is_neighbour neighbour (rpf_neighbour rps via source group tree)) (of.wants source group tree valid of_group)
             (λ meant. only source group tree valid of_group meant);
       }

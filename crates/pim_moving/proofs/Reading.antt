@@ -11,7 +11,7 @@ use Rattle.pim_down.specs.Hearing.{event, is_known, entry_events, list_events, s
 use Rattle.pim_form.specs.Laws.{IsReadAs}
 use Rattle.pim_form.specs.Messages.{Writing}
 use Rattle.pim_change.specs.Change.{ChangeUnit}
-use Rattle.pim_change.specs.Told.{told_message}
+use Rattle.pim_change.specs.Written.{written_message}
 use Rattle.pim_change.specs.Laws.{AreReadAsRuns}
 use Rattle.pim_mirror.specs.CanonicalExchange.{body_of, message_in, events_at}
 use Rattle.pim_settling.specs.Runs.{AreEventsOf}
@@ -35,11 +35,11 @@ module _ (family : AddressFamily) (writing : Writing) (rps : List ℕ → Option
   message_at [] runs i are groups within = absurd (omega (arith, within))
   message_at (bytes ∷ messages) [] i are groups within = absurd are
   message_at (bytes ∷ messages) (run ∷ runs) zero are groups within = record {
-    said = told_message writing rps run;
+    said = written_message writing rps run;
     read = are.0;
     upstream = refl;
     holdtime = refl;
-    events = ap (events_of rps) (read_message family writing.own bytes (told_message writing rps run) are.0);
+    events = ap (events_of rps) (read_message family writing.own bytes (written_message writing rps run) are.0);
     groups = sets_are family rps run groups.0;
   }
   message_at (bytes ∷ messages) (run ∷ runs) (suc i) are groups within =

@@ -9,14 +9,14 @@ use Rattle.pim_down.specs.Sound.{IsSound}
 use Rattle.pim_form.specs.Messages.{Writing}
 use Rattle.pim_form.specs.NormalForm.{GroupForm, IsNormal, IsFormOf}
 use Rattle.pim_form.specs.Settled.{IsSettledAt}
-use Rattle.pim_form.specs.Toward.{via_in, is_toward}
-use Rattle.pim_form.specs.TowardLaws.{asked_of}
+use Rattle.pim_form.specs.Toward.{via_of, is_toward}
+use Rattle.pim_form.specs.TowardLaws.{demand_toward}
 use Rattle.pim_form.specs.Wants.{wants}
 use Rattle.pim_fresh.specs.Deliveries.{Delivery, final_moment}
 use Rattle.pim_mirror.specs.CanonicalCourse.{AreOf, Lasts, inputs_of}
 use Rattle.pim_mirror.specs.CanonicalPackets.{HearsWriter}
 use Rattle.pim_mirror.specs.Mirror.{first_needed}
-use Rattle.pim_router.specs.Course.{Telling, runs_to, IsCourse}
+use Rattle.pim_router.specs.Course.{RouterReport, runs_to, IsCourse}
 use Rattle.pim_router.specs.State.{RouterState}
 use Rattle.pim_settling.specs.Hearing.{NoneEnds}
 use Rattle.pim_settling.specs.Runs.{EachCame}
@@ -32,7 +32,7 @@ AreBetween from (delivery ∷ earlier) to = (delivery.moment ≤ to) × AreBetwe
 pub record IsFormToward (family : AddressFamily) (table : RouteTable) (neighbour : List ℕ) (form : List GroupForm)
     : Type 0 where
   pub normal : IsNormal family form
-  pub toward : is_toward (rp_of family table) (via_in family table) neighbour form ≡ true
+  pub toward : is_toward (rp_of family table) (via_of family table) neighbour form ≡ true
 
 -- A router of one port whose machines are settled at the form.
 pub record StandsAt (family : AddressFamily) (form : List GroupForm) (state : RouterState) : Type 0 where
@@ -56,8 +56,8 @@ module _ (family : AddressFamily) (writing : Writing) (messages : List (List ℕ
   -- Once the router has received the packets of these deliveries, no Expiry Timer ends by this
   -- moment without another message.
   abbrev pub NoneEndsBehind : List Delivery → ℕ → Type 0
-  NoneEndsBehind deliveries moment = (told : List Telling) (state : RouterState) →
-      IsCourse family (inputs_of family writing 0 messages deliveries) told start state → NoneEnds moment state.machines
+  NoneEndsBehind deliveries moment = (reported : List RouterReport) (state : RouterState) →
+      IsCourse family (inputs_of family writing 0 messages deliveries) reported start state → NoneEnds moment state.machines
 
   -- No Expiry Timer ends up to this moment: none before the first delivery, none between two of
   -- them, and none after the last one.
@@ -77,9 +77,9 @@ pub record IsGiven (family : AddressFamily) (writing : Writing) (timing : Timing
   pub each_came : EachCame messages deliveries
   pub between : AreBetween start.machines.moment deliveries moment
   pub final : final_moment timing.override_ms deliveries ≤ moment
-  pub told : List Telling
-  pub course : IsCourse family (inputs_of family writing 0 messages deliveries ++ runs_to moment ∷ []) told start after
-  pub room : first_needed told ≡ None
+  pub reported : List RouterReport
+  pub course : IsCourse family (inputs_of family writing 0 messages deliveries ++ runs_to moment ∷ []) reported start after
+  pub room : first_needed reported ≡ None
   pub timers : NoneEndsOnTheWay family writing messages start deliveries moment
 
 -- ---- what it becomes
@@ -93,4 +93,4 @@ pub record HasMoved (family : AddressFamily) (table : RouteTable) (writing : Wri
   pub settled : IsSettledAt 0 form after.machines.records
   pub wanted : IsFormOf family (wants after.machines) form
   pub routes : after.routes ≡ start.routes
-  pub asks : IsFormOf family (asked_of family table writing.upstream after.machines) form
+  pub asks : IsFormOf family (demand_toward family table writing.upstream after.machines) form

@@ -10,14 +10,14 @@ use Rattle.pim_form.specs.NormalForm.{GroupForm, IsNormal}
 use Rattle.pim_form.specs.Settled.{IsSettledAt}
 use Rattle.pim_form.specs.TooBig as form
 use Rattle.pim_change.specs.Change.{change}
-use Rattle.pim_change.specs.Told.{TellChange}
+use Rattle.pim_change.specs.Written.{CarryChange}
 use Rattle.pim_change.specs.TooBig as changed
 use Rattle.pim_fresh.specs.Deliveries.{Delivery, IsShorter, AreAlive}
 use Rattle.pim_mirror.specs.CanonicalCourse.{AreOf}
 use Rattle.pim_mirror.specs.Config.{Fresh, newest_first, end_of}
 use Rattle.pim_mirror.specs.Fits.{expiry_of}
 use Rattle.pim_mirror.specs.Headline.{MirrorsForm}
-use Rattle.pim_router.specs.Course.{Telling}
+use Rattle.pim_router.specs.Course.{RouterReport}
 use Rattle.pim_router.specs.State.{RouterState}
 use Rattle.pim_settling.specs.Hearing.{NoneExpires}
 use Rattle.pim_moving.specs.Changing.{AreBetween, IsFormToward, StandsAt, KnowsUntil, NoneEndsOnTheWay, IsGiven}
@@ -32,7 +32,7 @@ ChangeMovesARouter = (family : AddressFamily) (table : RouteTable) (writing : Wr
     (old new : List GroupForm) (messages : List (List ℕ)) (deliveries : List Delivery) (moment : ℕ)
     (start after : RouterState) → IsRouteTable family table → IsWriting family writing →
     IsFormToward family table writing.upstream old → IsFormToward family table writing.upstream new →
-    TellChange family writing (rp_of family table) old new messages →
+    CarryChange family writing (rp_of family table) old new messages →
     StandsAt family old start → KnowsUntil family table writing timing moment start →
     IsGiven family writing timing messages deliveries moment start after →
     HasMoved family table writing new moment start after
@@ -44,7 +44,7 @@ LongTimersLast = (family : AddressFamily) (table : RouteTable) (writing : Writin
     (old new : List GroupForm) (messages : List (List ℕ)) (deliveries : List Delivery) (moment : ℕ)
     (start : RouterState) → IsRouteTable family table → IsWriting family writing →
     IsFormToward family table writing.upstream old → IsFormToward family table writing.upstream new →
-    TellChange family writing (rp_of family table) old new messages →
+    CarryChange family writing (rp_of family table) old new messages →
     IsSound family start.machines → KnowsUntil family table writing timing moment start →
     AreOf (length messages) deliveries → AreBetween start.machines.moment deliveries moment →
     NoneExpires moment start.machines →
@@ -55,10 +55,10 @@ LongTimersLast = (family : AddressFamily) (table : RouteTable) (writing : Writin
 -- message came last less than its holdtime ago.
 abbrev pub MirrorIsSettled : Type 0
 MirrorIsSettled = (family : AddressFamily) (table : RouteTable) (writing : Writing) (form : List GroupForm)
-    (messages : List (List ℕ)) (fresh : Fresh) (moment last : ℕ) (told : List Telling) (later : RouterState) →
+    (messages : List (List ℕ)) (fresh : Fresh) (moment last : ℕ) (reported : List RouterReport) (later : RouterState) →
     IsNormal family form → end_of fresh ≤ moment → moment ≤ last →
     AreAlive (expiry_of writing.holdtime) last (newest_first fresh) →
-    MirrorsForm family table writing form messages fresh moment told later →
+    MirrorsForm family table writing form messages fresh moment reported later →
     IsSettledAt 0 form later.machines.records × NoneExpires last later.machines
 
 -- If each star of the new form fits a message alone, so does each star that a change to it says.

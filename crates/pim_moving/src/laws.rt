@@ -14,18 +14,18 @@ ghost use Rattle.pim_moving.specs.Laws.{MirrorIsSettled};
 pub fn change_moves_a_router()
     ensures { ChangeMovesARouter }
 {
-    pim_down::keys_are_told_apart();
-    pim_form::test_tells_who_is_asked();
-    pim_mirror::read_packet_is_heard();
-    pim_mirror::router_runs_as_its_machines();
-    pim_mirror::writer_stays_heard();
-    pim_down::hearing_acts_at_each_key();
-    pim_down::hearing_keeps_the_order();
-    pim_down::run_keeps_its_bounds();
-    pim_down::run_keeps_the_order();
-    pim_change::change_is_read();
-    pim_settling::told_change_settles();
-    pim_settling::settled_wants();
+    pim_down::laws::keys_are_distinct();
+    pim_form::laws::test_finds_the_neighbour();
+    pim_mirror::laws::read_packet_is_heard();
+    pim_mirror::laws::router_runs_as_its_machines();
+    pim_mirror::laws::writer_stays_heard();
+    pim_down::laws::hearing_acts_at_each_key();
+    pim_down::laws::hearing_keeps_the_order();
+    pim_down::laws::run_keeps_its_bounds();
+    pim_down::laws::run_keeps_the_order();
+    pim_change::laws::change_is_read();
+    pim_settling::laws::written_change_settles();
+    pim_settling::laws::settled_wants();
 }
 
 /// While a router hears the messages of a change, none of its Expiry Timers ends if each has more
@@ -34,15 +34,15 @@ pub fn change_moves_a_router()
 pub fn long_timers_last()
     ensures { LongTimersLast }
 {
-    pim_down::keys_are_told_apart();
-    pim_mirror::read_packet_is_heard();
-    pim_mirror::router_runs_as_its_machines();
-    pim_mirror::writer_stays_heard();
-    pim_down::hearing_acts_at_each_key();
-    pim_down::hearing_keeps_the_order();
-    pim_down::run_keeps_its_bounds();
-    pim_down::run_keeps_the_order();
-    pim_change::change_is_read();
+    pim_down::laws::keys_are_distinct();
+    pim_mirror::laws::read_packet_is_heard();
+    pim_mirror::laws::router_runs_as_its_machines();
+    pim_mirror::laws::writer_stays_heard();
+    pim_down::laws::hearing_acts_at_each_key();
+    pim_down::laws::hearing_keeps_the_order();
+    pim_down::laws::run_keeps_its_bounds();
+    pim_down::laws::run_keeps_the_order();
+    pim_change::laws::change_is_read();
 }
 
 /// A mirror is settled, from its final moment on, at the form of the messages that it heard. None

@@ -15,6 +15,4 @@
 //! (`change_fits`).
 #![tactic(auto)]
 
-mod laws;
-
-pub use laws::{change_fits, change_moves_a_router, long_timers_last, mirror_is_settled};
+pub mod laws;

@@ -9,12 +9,12 @@ use Rattle.pim_report.specs.declared.state_text.Counts.{Counts}
 use Rattle.pim_router.specs.declared.step.Step.{Step}
 use Rattle.pim_router.specs.declared.step.Step.TheVariants.{Echo, Reached}
 use Rattle.pim_router.specs.Refreshes.{RunsPast}
-use Rattle.pim_router.specs.Course.{Telling, echo, refresh, verdict, runs_to, Reaches, IsCourse}
+use Rattle.pim_router.specs.Course.{RouterReport, echo, refresh, verdict, runs_to, Reaches, IsCourse}
 use Rattle.pim_router.specs.State.{RouterState}
 use Rattle.pim_router.specs.Time.{Runs}
 use Rattle.pim_router.specs.Laws.{EveryListHasACourse}
 use Rattle.pim_replay.specs.declared.event.ReplayEvent.TheVariants as event
-use Rattle.pim_replay.specs.Events.{Event, Account, nothing, of_event, of_refreshes, joined, HasTold, HasBegun}
+use Rattle.pim_replay.specs.Events.{Event, Account, nothing, of_event, of_refreshes, joined, HasWritten, HasBegun}
 use Rattle.pim_replay.specs.Passing.{Passes, PassesTime}
 use Rattle.pim_replay.proofs.Told.{nothing_first, regroup, refresh_first, made_counts, same_counts, text, one_text, told_more, begun_more}
 use Rattle.pim_replay.proofs.Written.{front-longer}
@@ -31,11 +31,11 @@ module _ (moment : ℕ) where
   echo_first : (port : ℕ) (group : List ℕ) (what : What (List ℕ)) (now between : RouterState) → Runs moment now (Echo port group what) between
       → GoesOn now (of_event (event.Echo between.machines.moment port group what)) between
   unfolding Passes
-  echo_first port group what now between runs account after passes = record { told = echo port group what ∷ passes.told; passes = (between, account, runs, refl, passes.passes) }
+  echo_first port group what now between runs account after passes = record { reported = echo port group what ∷ passes.reported; passes = (between, account, runs, refl, passes.passes) }
 
   pub arrived : (now after : RouterState) → Runs moment now Reached after → PassesTime moment now nothing after
   unfolding Passes
-  arrived now after runs = record { told = []; passes = (runs, refl) }
+  arrived now after runs = record { reported = []; passes = (runs, refl) }
 
   -- a run past Refreshes tells them, and then runs to its end
   record Comes (count : ℕ) (now : RouterState) (answer : Step (List ℕ)) (after : RouterState) : Type 0 where
@@ -53,7 +53,7 @@ module _ (moment : ℕ) where
         runs = rest.runs;
         goes_on = λ account end passes. (
             let others = rest.goes_on account end passes in
-            record { told = refresh ∷ others.told; passes = (between, joined (of_refreshes count) account, runs, refresh_first count account, others.passes) });
+            record { reported = refresh ∷ others.reported; passes = (between, joined (of_refreshes count) account, runs, refresh_first count account, others.passes) });
       }
 
   -- from each state there is a way
@@ -62,7 +62,7 @@ module _ (moment : ℕ) where
     pub after : RouterState
     pub passes : PassesTime moment state account after
 
-  some_told : (told : List Telling) (state after : RouterState) → Reaches moment told state after → (account : Account) × PassesTime moment state account after
+  some_told : (reported : List RouterReport) (state after : RouterState) → Reaches moment reported state after → (account : Account) × PassesTime moment state account after
   unfolding Reaches Passes
   some_told [] state after reaches = (nothing, arrived state after reaches)
   some_told (echo port group what ∷ more) state after (between, runs, reaches) =
@@ -70,21 +70,21 @@ module _ (moment : ℕ) where
       (joined (of_event (event.Echo between.machines.moment port group what)) rest.0, echo_first port group what state between runs rest.0 after rest.1)
   some_told (refresh ∷ more) state after (between, runs, reaches) =
       let rest = some_told more between after reaches in
-      (joined (of_refreshes 1) rest.0, record { told = refresh ∷ rest.1.told; passes = (between, rest.0, runs, refl, rest.1.passes) })
+      (joined (of_refreshes 1) rest.0, record { reported = refresh ∷ rest.1.reported; passes = (between, rest.0, runs, refl, rest.1.passes) })
   some_told (verdict of_packet ∷ more) state after reaches = absurd reaches
 
   some_way : EveryListHasACourse → (family : AddressFamily) (state : RouterState) → SomeWay state
   unfolding IsCourse
   some_way law family state =
       let course = law family (runs_to moment ∷ []) state in
-      let told = some_told course.course.before state course.course.between course.course.begins in
-      record { account = told.0; after = course.course.between; passes = told.1 }
+      let reported = some_told course.course.before state course.course.between course.course.begins in
+      record { account = reported.0; after = course.course.between; passes = reported.1 }
 
   -- ---- the way so far, and the next run on it
 
   -- what was written on the way to this router, where this number of Refreshes is counted
   abbrev pub IsOnTheWay : (Event → List ℕ) → RouterState → Option (List ℕ) → Counts → RouterState → Option (List ℕ) → ℕ → Type 0
-  IsOnTheWay line start old counts now new count = HasTold line (GoesOn start) now old new counts (made_counts counts.skipped count)
+  IsOnTheWay line start old counts now new count = HasWritten line (GoesOn start) now old new counts (made_counts counts.skipped count)
 
   module _ (line : Event → List ℕ) (start : RouterState) (old : Option (List ℕ)) (counts : Counts) (few : counts.skipped ≤ top_count) where
     abbrev Way : RouterState → Option (List ℕ) → ℕ → Type 0
@@ -130,7 +130,7 @@ module _ (moment : ℕ) where
             (w.tells (joined (of_refreshes refreshes) all) way.after (come.goes_on all way.after (echo_first port group what come.between after come.runs way.account way.after way.passes)))
             (front-longer new newer (line fallen) (text line way.account) written)
 
-      pub reached : RunsPast refreshes moment now Reached after → HasTold line (PassesTime moment start) after old new counts (made_counts counts.skipped more)
+      pub reached : RunsPast refreshes moment now Reached after → HasWritten line (PassesTime moment start) after old new counts (made_counts counts.skipped more)
       reached runs =
           let come = comes refreshes now Reached after runs in
           let all = joined (of_refreshes refreshes) nothing in

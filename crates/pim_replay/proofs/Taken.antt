@@ -11,29 +11,29 @@ use Rattle.pim_merge.specs.declared.content.Datagram.{Datagram as Carried}
 use Rattle.pim_merge.specs.Content.{Content as Holding, holds, content_in, content_seen}
 use Rattle.pim_merge.specs.Merge.{Taken}
 use Rattle.pim_router.specs.declared.verdict.Verdict.{Verdict}
-use Rattle.pim_router.specs.Packets.{Packet, received, unless, causes, body_taken}
+use Rattle.pim_router.specs.Packets.{Packet, received, unless, causes, body_heard}
 use Rattle.pim_router.specs.State.{RouterState}
 use Rattle.pim_report.specs.declared.state_text.Counts.{Counts}
 use Rattle.pim_replay.specs.declared.event.ReplayEvent.TheVariants as event
-use Rattle.pim_replay.specs.Events.{Event, Account, of_event, HasTold, HasBegun}
+use Rattle.pim_replay.specs.Events.{Event, Account, of_event, HasWritten, HasBegun}
 use Rattle.pim_replay.specs.Turn.{packet_on, skips_in, taken_as, taking, TakesRecord}
 use Rattle.pim_replay.proofs.Told.{made_counts, same_counts, text, one_text, keeps_same, none_is_front}
 
 -- ---- a packet leaves the moment
 
-body_stays : (family : AddressFamily) (port : ℕ) (source : List ℕ) (state : RouterState) (body : Content) → (body_taken family port source state body).1.machines.moment ≡ state.machines.moment
+body_stays : (family : AddressFamily) (port : ℕ) (source : List ℕ) (state : RouterState) (body : Content) → (body_heard family port source state body).1.machines.moment ≡ state.machines.moment
 body_stays family port source state (other type) = refl
 body_stays family port source state (hello body) = refl
 body_stays family port source state (join_prune body) = refl
 
-unless_stays : (told : List Verdict) (state : RouterState) (taken : Verdict × RouterState) → taken.1.machines.moment ≡ state.machines.moment → (unless told state taken).1.machines.moment ≡ state.machines.moment
+unless_stays : (reported : List Verdict) (state : RouterState) (taken : Verdict × RouterState) → taken.1.machines.moment ≡ state.machines.moment → (unless reported state taken).1.machines.moment ≡ state.machines.moment
 unless_stays [] state taken p = p
 unless_stays (cause ∷ others) state taken p = refl
 
 pub packet_stays : (family : AddressFamily) (sent : Packet) (state after : RouterState) (said : Verdict) → (said, after) ≡ received family sent state → after.machines.moment ≡ state.machines.moment
 packet_stays family sent state after said is =
     ap (λ (end : Verdict × RouterState). end.1.machines.moment) is
-    ∙ unless_stays (causes family sent state) state (body_taken family sent.port sent.source state (content sent.bytes)) (body_stays family sent.port sent.source state (content sent.bytes))
+    ∙ unless_stays (causes family sent state) state (body_heard family sent.port sent.source state (content sent.bytes)) (body_stays family sent.port sent.source state (content sent.bytes))
 
 -- ---- a record, by what it holds
 
@@ -55,16 +55,16 @@ module _ (line : Event → List ℕ) (family : AddressFamily) (turn : Taken) (st
   -- nothing was written of it
   pub none_told : (old : Option (List ℕ)) → HasBegun line Takes old old
   none_told old =
-      let taken = taking family turn.capture turn.told state in
+      let taken = taking family turn.capture turn.reported state in
       record { account = taken.0; after = taken.1; tells = refl; written = none_is_front old old (text line taken.0) (keeps_same old) }
 
-  module _ (holding : Holding) (is : holding ≡ content_in family turn.told) where
+  module _ (holding : Holding) (is : holding ≡ content_in family turn.reported) where
     takes : (account : Account) (after : RouterState) → (account, after) ≡ taken_as family turn.capture holding state → Takes account after
     takes account after p = p ∙ ap (λ h. taken_as family turn.capture h state) is
 
     -- it holds no packet of the family
     pub skipped : (count : ℕ) → taken_as family turn.capture holding state ≡ (of_skips count, state) → (old : Option (List ℕ)) (counts : Counts) (more : ℕ) → counts.refreshes ≤ top_count → more ≡ min (counts.skipped + count) top_count
-        → HasTold line Takes state old old counts (made_counts more counts.refreshes)
+        → HasWritten line Takes state old old counts (made_counts more counts.refreshes)
     skipped count skips old counts more small counts_it = record {
       account = of_skips count;
       tells = takes (of_skips count) state (sym skips);
@@ -88,8 +88,8 @@ module _ (line : Event → List ℕ) (family : AddressFamily) (turn : Taken) (st
       packet_begun written =
           record { account = of_event told_of; after = after; tells = packet_taken; written = subst (λ (t : List ℕ). AppendsFront old new t) (one_text line told_of) written }
 
-      pub packet_told : (counts : Counts) → counts.skipped ≤ top_count → counts.refreshes ≤ top_count → Appends old new (line told_of) → HasTold line Takes after old new counts counts
-      packet_told counts few small written = record {
+      pub packet_event : (counts : Counts) → counts.skipped ≤ top_count → counts.refreshes ≤ top_count → Appends old new (line told_of) → HasWritten line Takes after old new counts counts
+      packet_event counts few small written = record {
         account = of_event told_of;
         tells = packet_taken;
         written = subst (λ (t : List ℕ). Appends old new t) (one_text line told_of) written;

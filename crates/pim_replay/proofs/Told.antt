@@ -10,7 +10,7 @@ use Rattle.std.proofs.lemmas.List.Concat.{flat_map-append}
 use Rattle.pim_device.specs.Device.{AppendsFront}
 use Rattle.pim_report.specs.declared.state_text.Counts.{Counts}
 use Rattle.pim_router.specs.State.{RouterState}
-use Rattle.pim_replay.specs.Events.{Event, Account, nothing, of_event, of_refreshes, joined, counted, Follows, HasTold, HasBegun, Tells}
+use Rattle.pim_replay.specs.Events.{Event, Account, nothing, of_event, of_refreshes, joined, counted, Follows, HasWritten, HasBegun, Writes}
 use Rattle.pim_replay.proofs.Written.{front-longer, front-more}
 
 -- ---- accounts
@@ -83,10 +83,10 @@ module _ (line : Event → List ℕ) where
   text_joined a b = sym (flat_map-append line a.events b.events)
 
   module _ (One Two : Account → RouterState → Type 0) (between : RouterState) (old mid new : Option (List ℕ)) (counts counts' : Counts)
-      (h : HasTold line One between old mid counts counts') where
+      (h : HasWritten line One between old mid counts counts') where
     -- a part was written, and then more of it
     pub told_more : (more : Account) (after : RouterState) (counts'' : Counts) → Two (joined h.account more) after → Appends mid new (text more) → counts'' ≡ counted counts' more
-        → HasTold line Two after old new counts counts''
+        → HasWritten line Two after old new counts counts''
     told_more more after counts'' two written is = record {
       account = joined h.account more;
       tells = two;
@@ -115,30 +115,30 @@ module _ (line : Event → List ℕ) where
 
   -- the exit of a failed write
   pub tells_err : {E : Type 0} (Part : Account → RouterState → Type 0) (after : RouterState) (old new : Option (List ℕ)) (counts : Counts) (result : Result Counts E) → IsErr result → HasBegun line Part old new
-      → Tells line Part after old new counts result
+      → Writes line Part after old new counts result
   tells_err Part after old new counts (Ok more) e h = absurd (false≢true e)
   tells_err Part after old new counts (Err fault) e h = h
 
   -- a part that was written, as a part of another kind
-  pub told_as : (One Two : Account → RouterState → Type 0) (after : RouterState) (old new : Option (List ℕ)) (counts counts' : Counts) → (h : HasTold line One after old new counts counts') → Two h.account after
-      → HasTold line Two after old new counts counts'
+  pub told_as : (One Two : Account → RouterState → Type 0) (after : RouterState) (old new : Option (List ℕ)) (counts counts' : Counts) → (h : HasWritten line One after old new counts counts') → Two h.account after
+      → HasWritten line Two after old new counts counts'
   told_as One Two after old new counts counts' h two = record { account = h.account; tells = two; written = h.written; is_counted = h.is_counted }
 
-  pub told_begun : (One Two : Account → RouterState → Type 0) (now : RouterState) (old new : Option (List ℕ)) (counts counts' : Counts) → (h : HasTold line One now old new counts counts') → Two h.account now
+  pub told_begun : (One Two : Account → RouterState → Type 0) (now : RouterState) (old new : Option (List ℕ)) (counts counts' : Counts) → (h : HasWritten line One now old new counts counts') → Two h.account now
       → HasBegun line Two old new
   told_begun One Two now old new counts counts' h two =
       record { account = h.account; after = now; tells = two; written = all_is_front old new (text h.account) h.written }
 
   module _ (One : Account → RouterState → Type 0) (Next : RouterState → Account → RouterState → Type 0) (between : RouterState) (old mid new : Option (List ℕ)) (counts counts' : Counts)
-      (h : HasTold line One between old mid counts counts') where
+      (h : HasWritten line One between old mid counts counts') where
     -- the part after one that was written
-    pub told_then : (after : RouterState) (counts'' : Counts) → HasTold line (Next between) after mid new counts' counts'' → HasTold line (Follows One Next) after old new counts counts''
-    told_then after counts'' n =
+    pub happens_then : (after : RouterState) (counts'' : Counts) → HasWritten line (Next between) after mid new counts' counts'' → HasWritten line (Follows One Next) after old new counts counts''
+    happens_then after counts'' n =
         told_more One (Follows One Next) between old mid new counts counts' h n.account after counts'' (both One Next h.account n.account between after h.tells n.tells) n.written n.is_counted
 
     pub begun_then : HasBegun line (Next between) mid new → HasBegun line (Follows One Next) old new
     begun_then n = begun_more One (Follows One Next) between old mid new counts counts' h n.account n.after (both One Next h.account n.account between n.after h.tells n.tells) n.written
 
-    pub told_on : {E : Type 0} (after : RouterState) (result : Result Counts E) → Tells line (Next between) after mid new counts' result → Tells line (Follows One Next) after old new counts result
-    told_on after (Ok counts'') n = told_then after counts'' n
+    pub told_on : {E : Type 0} (after : RouterState) (result : Result Counts E) → Writes line (Next between) after mid new counts' result → Writes line (Follows One Next) after old new counts result
+    told_on after (Ok counts'') n = happens_then after counts'' n
     told_on after (Err fault) n = begun_then n

@@ -59,8 +59,8 @@ counted counts account = record {
   refreshes = min (counts.refreshes + account.refreshes) top_count;
 }
 
--- A part and then another, from the router to which the first one leads. Each part says which account
--- leads to which router.
+-- A part and then another, from the router to which the first one leads. Each part says which
+-- account leads to which router.
 pub record Follows (One : Account → RouterState → Type 0) (Next : RouterState → Account → RouterState → Type 0)
     (account : Account) (after : RouterState) : Type 0 where
   pub first : Account
@@ -75,7 +75,7 @@ pub record Follows (One : Account → RouterState → Type 0) (Next : RouterStat
 -- `line` is what is written of an event. `Part` says which account leads to which router.
 module _ (line : Event → List ℕ) (Part : Account → RouterState → Type 0) where
   -- All that is written of the part's events was written, and its counts were added.
-  pub record HasTold (after : RouterState) (old new : Option (List ℕ)) (counts counts' : Counts) : Type 0 where
+  pub record HasWritten (after : RouterState) (old new : Option (List ℕ)) (counts counts' : Counts) : Type 0 where
     pub account : Account
     pub tells : Part account after
     pub written : Appends old new (flat_map line account.events)
@@ -89,6 +89,6 @@ module _ (line : Event → List ℕ) (Part : Account → RouterState → Type 0)
     pub written : AppendsFront old new (flat_map line account.events)
 
   -- What a call returns and writes that was given `counts` and leaves this router.
-  abbrev pub Tells : {E : Type 0} → RouterState → Option (List ℕ) → Option (List ℕ) → Counts → Result Counts E → Type 0
-  Tells after old new counts (Ok counts') = HasTold after old new counts counts'
-  Tells after old new counts (Err fault) = HasBegun old new
+  abbrev pub Writes : {E : Type 0} → RouterState → Option (List ℕ) → Option (List ℕ) → Counts → Result Counts E → Type 0
+  Writes after old new counts (Ok counts') = HasWritten after old new counts counts'
+  Writes after old new counts (Err fault) = HasBegun old new

@@ -7,15 +7,15 @@ use Rattle.pim_merge.specs.Lane.{IsComing}
 use Rattle.pim_merge.specs.Next.{MergeState}
 use Rattle.pim_router.specs.State.{RouterState}
 use Rattle.pim_replay.specs.Events.{Account}
-use Rattle.pim_replay.specs.Replay.{TellsFirst, TellsAll}
+use Rattle.pim_replay.specs.Replay.{WritesFirst, WritesAll}
 use Rattle.pim_replay.specs.Report.{lines_of, IsReport}
 
 -- The report, and the router after the replay, are a function of the answers of the captures.
 abbrev pub ReportHasOneText : Type 0
-ReportHasOneText = (family : AddressFamily) (tells_via : Bool) (end : End) (merge : MergeState)
+ReportHasOneText = (family : AddressFamily) (shows_via : Bool) (end : End) (merge : MergeState)
     (captures : List (List Answer)) (state one other : RouterState) (text more : List ℕ) →
-    IsComing merge.lanes captures → IsReport family tells_via end merge state one text →
-    IsReport family tells_via end merge state other more → (text ≡ more) × (one ≡ other)
+    IsComing merge.lanes captures → IsReport family shows_via end merge state one text →
+    IsReport family shows_via end merge state other more → (text ≡ more) × (one ≡ other)
 
 -- The text begins with these lines.
 pub record BeginsWith (text lines : List ℕ) : Type 0 where
@@ -26,14 +26,14 @@ pub record BeginsWith (text lines : List ℕ) : Type 0 where
 -- all turns and the time after them.
 pub record BeginsWithItsLines (family : AddressFamily) (end : End) (merge : MergeState) (state : RouterState)
     (text : List ℕ) : Type 0 where
-  pub first : (account : Account) (after : RouterState) → TellsFirst family end merge state account after →
+  pub first : (account : Account) (after : RouterState) → WritesFirst family end merge state account after →
       BeginsWith text (lines_of family account.events)
-  pub all : (account : Account) (after : RouterState) → TellsAll family end merge state account after →
+  pub all : (account : Account) (after : RouterState) → WritesAll family end merge state account after →
       BeginsWith text (lines_of family account.events)
 
 -- Each report begins with the lines of its replay in this sense.
 abbrev pub ReportBeginsWithItsLines : Type 0
-ReportBeginsWithItsLines = (family : AddressFamily) (tells_via : Bool) (end : End) (merge : MergeState)
+ReportBeginsWithItsLines = (family : AddressFamily) (shows_via : Bool) (end : End) (merge : MergeState)
     (captures : List (List Answer)) (state after : RouterState) (text : List ℕ) → IsComing merge.lanes captures →
-    IsReport family tells_via end merge state after text →
+    IsReport family shows_via end merge state after text →
     BeginsWithItsLines family end merge state text

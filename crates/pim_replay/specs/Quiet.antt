@@ -8,14 +8,14 @@ use Rattle.pim_router.specs.State.{RouterState}
 use Rattle.pim_run.specs.declared.fault.RunFault.{RunFault}
 use Rattle.pim_run.specs.declared.fault.RunFault.TheVariants.{Capture, Output, Memory}
 use Rattle.pim_replay.specs.Events.{Account}
-use Rattle.pim_replay.specs.Replay.{TellsAll, StopsAt}
+use Rattle.pim_replay.specs.Replay.{WritesAll, StopsAt}
 
 -- The merge ends without a fault. `after` is the router at the end of its run, after all turns of
 -- the merge up to then, and the tallies of `merge'` count these.
 pub record RunsAll (family : AddressFamily) (end : End) (merge merge' : MergeState) (state after : RouterState)
     : Type 0 where
   pub account : Account
-  pub tells : TellsAll family end merge state account after
+  pub tells : WritesAll family end merge state account after
   pub counted : CountsAll end merge merge'
 
 -- What `replay_quietly` returns and leaves: the router after the whole replay, or the stop at a
@@ -24,6 +24,6 @@ pub record RunsAll (family : AddressFamily) (end : End) (merge merge' : MergeSta
 abbrev pub RunsQuietly : AddressFamily → End → MergeState → MergeState → RouterState → RouterState →
     {A : Type 0} → Result A RunFault → Type 0
 RunsQuietly family end merge merge' state after (Ok done) = RunsAll family end merge merge' state after
-RunsQuietly family end merge merge' state after (Err (Capture told)) = StopsAt family end merge state merge' told
+RunsQuietly family end merge merge' state after (Err (Capture reported)) = StopsAt family end merge state merge' reported
 RunsQuietly family end merge merge' state after (Err Output) = ⊥
 RunsQuietly family end merge merge' state after (Err Memory) = IsTallied end merge merge'

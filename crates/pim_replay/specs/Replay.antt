@@ -18,18 +18,18 @@ use Rattle.pim_report.specs.declared.state_text.Counts.{Counts}
 use Rattle.pim_router.specs.State.{RouterState}
 use Rattle.pim_run.specs.declared.fault.RunFault.{RunFault}
 use Rattle.pim_run.specs.declared.fault.RunFault.TheVariants.{Capture, Output, Memory}
-use Rattle.pim_replay.specs.Events.{Event, Account, nothing, Follows, HasTold, HasBegun}
+use Rattle.pim_replay.specs.Events.{Event, Account, nothing, Follows, HasWritten, HasBegun}
 use Rattle.pim_replay.specs.Passing.{PassesTime}
-use Rattle.pim_replay.specs.Turn.{TellsTurn}
+use Rattle.pim_replay.specs.Turn.{WritesTurn}
 
 -- ---- what a replay reports
 
 -- The turns follow one another and lead the router from `state` to `after`. `account` is what they
 -- report together.
-unfoldable pub TellsTurns : AddressFamily → List Taken → RouterState → Account → RouterState → Type 0
-TellsTurns family [] state account after = (account ≡ nothing) × (after ≡ state)
-TellsTurns family (first ∷ others) state account after =
-    Follows (TellsTurn family first state) (TellsTurns family others) account after
+unfoldable pub WritesTurns : AddressFamily → List Taken → RouterState → Account → RouterState → Type 0
+WritesTurns family [] state account after = (account ≡ nothing) × (after ≡ state)
+WritesTurns family (first ∷ others) state account after =
+    Follows (WritesTurn family first state) (WritesTurns family others) account after
 
 -- The time after the last turn, up to the end of the run. The clock is that of the records taken.
 abbrev pub PassesToEnd : End → Option Clock → RouterState → Account → RouterState → Type 0
@@ -37,34 +37,34 @@ PassesToEnd end clock state = PassesTime (end_moment end clock state.machines.mo
 
 module _ (family : AddressFamily) (end : End) (merge : MergeState) (state : RouterState) where
   -- Some first turns of the merge report this account and lead the router from `state` to `after`.
-  pub record TellsFirst (account : Account) (after : RouterState) : Type 0 where
+  pub record WritesFirst (account : Account) (after : RouterState) : Type 0 where
     pub taken : List Taken
     pub are : AreFirst end merge taken
-    pub tells : TellsTurns family taken state account after
+    pub tells : WritesTurns family taken state account after
 
   -- All turns of the merge up to the end of the run, and the time from the last one to that end,
   -- report this account. The merge ends without a fault, and `after` is the router at the end.
-  pub record TellsAll (account : Account) (after : RouterState) : Type 0 where
+  pub record WritesAll (account : Account) (after : RouterState) : Type 0 where
     pub taken : List Taken
     pub are : AreAll end merge None taken
-    pub tells : Follows (TellsTurns family taken state) (PassesToEnd end (clock_of merge.clock taken)) account after
+    pub tells : Follows (WritesTurns family taken state) (PassesToEnd end (clock_of merge.clock taken)) account after
 
   -- A fault of a capture ends the replay after these turns. The fault is the next answer of its
-  -- capture, or a read of that capture failed in the call, which leaves `merge'`. It is never a lack
-  -- of memory. The tallies of `merge'` count these turns, and the fault has the number of the record
-  -- after those of its capture.
-  pub record StopsAt (merge' : MergeState) (told : MergeFault) : Type 0 where
+  -- capture, or a read of that capture failed in the call, which leaves `merge'`. It is never a
+  -- lack of memory. The tallies of `merge'` count these turns, and the fault has the number of the
+  -- record after those of its capture.
+  pub record StopsAt (merge' : MergeState) (reported : MergeFault) : Type 0 where
     pub taken : List Taken
     pub account : Account
     pub after : RouterState
-    pub are : AreBefore end merge told taken
-    pub tells : TellsTurns family taken state account after
-    pub no_memory : told.fault ≢ fault.Memory
-    pub cause : IsRefusal {A = ⊤} (lane_at told.capture merge.lanes).failures
-        (lane_at told.capture merge'.lanes).failures (Err told.fault)
-        ⊎ AreAll end merge (Some (told.capture, told.fault)) taken
+    pub are : AreBefore end merge reported taken
+    pub tells : WritesTurns family taken state account after
+    pub no_memory : reported.fault ≢ fault.Memory
+    pub cause : IsRefusal {A = ⊤} (lane_at reported.capture merge.lanes).failures
+        (lane_at reported.capture merge'.lanes).failures (Err reported.fault)
+        ⊎ AreAll end merge (Some (reported.capture, reported.fault)) taken
     pub tallies : tallies_of merge'.lanes ≡ tallies_after (tallies_of merge.lanes) taken
-    pub numbered : IsNumbered (tallies_of merge'.lanes) told
+    pub numbered : IsNumbered (tallies_of merge'.lanes) reported
 
 -- ---- what a replay returns and what its listener writes, where `line` is what is written of an event
 
@@ -74,16 +74,16 @@ none_yet = record { skipped = 0; refreshes = 0 }
 
 module _ (line : Event → List ℕ) (family : AddressFamily) (end : End) (merge : MergeState) (state : RouterState)
     (old new : Option (List ℕ)) where
-  -- A prefix of what is written of the events was written. That is, of those of some first turns, or
-  -- of all turns and the time after them.
+  -- A prefix of what is written of the events was written. That is, of those of some first turns,
+  -- or of all turns and the time after them.
   abbrev pub Begins : Type 0
-  Begins = HasBegun line (TellsFirst family end merge state) old new ⊎ HasBegun line (TellsAll family end merge state) old new
+  Begins = HasBegun line (WritesFirst family end merge state) old new ⊎ HasBegun line (WritesAll family end merge state) old new
 
   -- What a replay with this fault has written. After a fault of a capture, it is exactly what is
   -- written of the events of the turns before it. After any other fault, it is a prefix.
   abbrev pub Stops : MergeState → RunFault → Type 0
-  Stops merge' (Capture told) =
-      (stop : StopsAt family end merge state merge' told) × Appends old new (flat_map line stop.account.events)
+  Stops merge' (Capture reported) =
+      (stop : StopsAt family end merge state merge' reported) × Appends old new (flat_map line stop.account.events)
   Stops merge' Output = Begins
   Stops merge' Memory = Begins
 
@@ -92,6 +92,6 @@ module _ (line : Event → List ℕ) (family : AddressFamily) (end : End) (merge
 abbrev pub Hears : (Event → List ℕ) → AddressFamily → End → MergeState → MergeState → RouterState → RouterState →
     Option (List ℕ) → Option (List ℕ) → Result Counts RunFault → Type 0
 Hears line family end merge merge' state after old new (Ok counts) =
-    HasTold line (TellsAll family end merge state) after old new none_yet counts × CountsAll end merge merge'
+    HasWritten line (WritesAll family end merge state) after old new none_yet counts × CountsAll end merge merge'
 Hears line family end merge merge' state after old new (Err fault) =
     Stops line family end merge state old new merge' fault

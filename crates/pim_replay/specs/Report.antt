@@ -14,13 +14,13 @@ use Rattle.pim_router.specs.State.{RouterState}
 use Rattle.pim_report.specs.EchoLine.{echo_line}
 use Rattle.pim_report.specs.PacketLine.{packet_line}
 use Rattle.pim_report.specs.StateText.{text_with}
-use Rattle.pim_report.specs.declared.state_text.TextFault.{TextFault}
-use Rattle.pim_report.specs.declared.state_text.TextFault.TheVariants as text
+use Rattle.pim_report.specs.declared.state_text.StateFault.{StateFault}
+use Rattle.pim_report.specs.declared.state_text.StateFault.TheVariants as text
 use Rattle.pim_replay.specs.declared.event.ReplayEvent.TheVariants.{Packet, Echo}
 use Rattle.pim_run.specs.declared.fault.RunFault.{RunFault}
 use Rattle.pim_run.specs.declared.fault.RunFault.TheVariants.{Capture, Output, Memory}
 use Rattle.pim_replay.specs.Events.{Event, Account, counted}
-use Rattle.pim_replay.specs.Replay.{TellsAll, StopsAt, Begins, none_yet}
+use Rattle.pim_replay.specs.Replay.{WritesAll, StopsAt, Begins, none_yet}
 
 -- The line of an event.
 abbrev pub event_line : AddressFamily → Event → List ℕ
@@ -32,32 +32,32 @@ abbrev pub lines_of : AddressFamily → List Event → List ℕ
 lines_of family events = flat_map (event_line family) events
 
 -- The report: the lines of the whole replay, then the router's final state with its demand and the
--- counts. If `tells_via` is set, each line of the demand has its upstream neighbour.
-pub record IsReport (family : AddressFamily) (tells_via : Bool) (end : End) (merge : MergeState)
+-- counts. If `shows_via` is set, each line of the demand has its upstream neighbour.
+pub record IsReport (family : AddressFamily) (shows_via : Bool) (end : End) (merge : MergeState)
     (state after : RouterState) (text : List ℕ) : Type 0 where
   pub account : Account
-  pub tells : TellsAll family end merge state account after
+  pub tells : WritesAll family end merge state account after
   pub form : List GroupForm
   pub demand : IsFormOf family (wants after.machines) form
   pub text_is : text ≡ lines_of family account.events
-      ++ text_with family tells_via after form (counted none_yet account)
+      ++ text_with family shows_via after form (counted none_yet account)
 
 -- ---- what a replay returns and writes
 
 -- This text is the report, and `IsWritten` holds for it.
-pub record Reports (family : AddressFamily) (tells_via : Bool) (end : End) (merge : MergeState)
+pub record Reports (family : AddressFamily) (shows_via : Bool) (end : End) (merge : MergeState)
     (state after : RouterState) (IsWritten : List ℕ → Type 0) : Type 0 where
   pub text : List ℕ
-  pub is_report : IsReport family tells_via end merge state after text
+  pub is_report : IsReport family shows_via end merge state after text
   pub written : IsWritten text
 
 -- A prefix of the report was written. That is, of the lines of some first turns, of all turns and
 -- the time after them, or of the whole text.
 abbrev pub BeginsReport : AddressFamily → Bool → End → MergeState → RouterState → Option (List ℕ) → Option (List ℕ) →
     Type 0
-BeginsReport family tells_via end merge state old new =
+BeginsReport family shows_via end merge state old new =
     Begins (event_line family) family end merge state old new
-    ⊎ (after : RouterState) × Reports family tells_via end merge state after (AppendsFront old new)
+    ⊎ (after : RouterState) × Reports family shows_via end merge state after (AppendsFront old new)
 
 -- What `replay_into` returns and writes. At Ok the status is 0 and the whole report was written.
 -- After a fault of a capture, the lines of the turns before it were. After any other fault, a
@@ -65,18 +65,18 @@ BeginsReport family tells_via end merge state old new =
 -- fault of a capture, or some first ones.
 abbrev pub Replays : AddressFamily → Bool → End → MergeState → MergeState → RouterState → RouterState →
     Option (List ℕ) → Option (List ℕ) → Result ℕ RunFault → Type 0
-Replays family tells_via end merge merge' state after old new (Ok status) =
-    (status ≡ 0) × Reports family tells_via end merge state after (Appends old new) × CountsAll end merge merge'
-Replays family tells_via end merge merge' state after old new (Err (Capture told)) =
-    (stop : StopsAt family end merge state merge' told) × Appends old new (lines_of family stop.account.events)
-Replays family tells_via end merge merge' state after old new (Err Output) =
-    BeginsReport family tells_via end merge state old new × IsTallied end merge merge'
-Replays family tells_via end merge merge' state after old new (Err Memory) =
-    BeginsReport family tells_via end merge state old new × IsTallied end merge merge'
+Replays family shows_via end merge merge' state after old new (Ok status) =
+    (status ≡ 0) × Reports family shows_via end merge state after (Appends old new) × CountsAll end merge merge'
+Replays family shows_via end merge merge' state after old new (Err (Capture reported)) =
+    (stop : StopsAt family end merge state merge' reported) × Appends old new (lines_of family stop.account.events)
+Replays family shows_via end merge merge' state after old new (Err Output) =
+    BeginsReport family shows_via end merge state old new × IsTallied end merge merge'
+Replays family shows_via end merge merge' state after old new (Err Memory) =
+    BeginsReport family shows_via end merge state old new × IsTallied end merge merge'
 
 -- ---- used by private functions only
 
 -- Why a replay ends when its final state isn't written.
-abbrev pub of_text : TextFault → RunFault
+abbrev pub of_text : StateFault → RunFault
 of_text text.Output = Output
 of_text text.Memory = Memory

@@ -6,9 +6,9 @@ ghost use Rattle.pim_replay.specs.Laws.{ReportHasOneText, ReportBeginsWithItsLin
 pub fn report_has_one_text()
     ensures { ReportHasOneText }
 {
-    pim_merge::merge_by_has_one_end();
-    pim_router::run_has_one_end();
-    pim_form::one_normal_form();
+    pim_merge::laws::merge_by_has_one_end();
+    pim_router::laws::run_has_one_end();
+    pim_form::laws::one_normal_form();
 }
 
 /// A report begins with the lines of any first turns of its merge. It also begins with the lines of
@@ -16,7 +16,7 @@ pub fn report_has_one_text()
 pub fn report_begins_with_its_lines()
     ensures { ReportBeginsWithItsLines }
 {
-    pim_merge::merge_by_has_one_end();
-    pim_router::run_has_one_end();
-    pim_form::one_normal_form();
+    pim_merge::laws::merge_by_has_one_end();
+    pim_router::laws::run_has_one_end();
+    pim_form::laws::one_normal_form();
 }

@@ -6,7 +6,7 @@
 ghost use Rattle.std.specs.Prelude.{◌≡◌, ◌≤◌, ◌^◌, max, OnOk};
 ghost use Rattle.pim_device.specs.Device.{failures_after};
 ghost use Rattle.pim_router.specs.State.{setup_of};
-ghost use Rattle.pim_replay.specs.Events.{Tells};
+ghost use Rattle.pim_replay.specs.Events.{Writes};
 ghost use Rattle.pim_replay.specs.Passing.{PassesTime};
 
 use crate::event::ReplayEvent;
@@ -14,7 +14,8 @@ use crate::listener::Listener;
 use pim_addr::{Failed, Family};
 use pim_down::Step;
 use pim_report::Counts;
-use pim_router::{Router, every_list_has_a_course};
+use pim_router::Router;
+use pim_router::laws::every_list_has_a_course;
 
 /// Lets a router run to this moment, in milliseconds. The listener hears each echo, with the moment
 /// at which it falls. Returns the counts with the Refreshes on the way, up to 2^64 - 1.
@@ -29,7 +30,7 @@ pub(crate) fn pass_time<F: Family, W, L: Listener<F, W>>(
     counts: Counts,
 ) -> Result<Counts, Failed>
     requires { moment ≤ 10 ^ 15 }
-    ensures told { Tells (L.line listener.now) (PassesTime moment router.old) router.new
+    ensures reported { Writes (L.line listener.now) (PassesTime moment router.old) router.new
         (L.contents device.old) (L.contents device.new) counts result }
     ensures count { L.failures device.new ≡ failures_after (L.failures device.old) result }
     ensures reached { OnOk result

@@ -14,7 +14,7 @@ use crate::listener::Listener;
 use crate::replay::replay_for;
 use pim_addr::{Drain, Failed, Family, Feed};
 use pim_merge::{End, Merge};
-use pim_report::{TextFault, write_echo_line, write_packet_line, write_state};
+use pim_report::{StateFault, write_echo_line, write_packet_line, write_state};
 use pim_router::Router;
 use pim_run::RunFault;
 use std::alloc::Global;
@@ -53,19 +53,19 @@ impl<F: Family, W: Drain> Listener<F, W> for ReportPrinter {
 }
 
 /// Why a replay stops when its final state isn't written.
-fn of_text(fault: TextFault) -> RunFault
+fn of_text(fault: StateFault) -> RunFault
     ensures { result ≡ of_text fault }
 {
     match fault {
-        TextFault::Output => RunFault::Output,
-        TextFault::Memory => RunFault::Memory,
+        StateFault::Output => RunFault::Output,
+        StateFault::Memory => RunFault::Memory,
     }
 }
 
 /// Replays the captures of a router's ports, one for each port and in their order, and writes the
 /// report. The report has a line for each packet of the router's family and for each echo, in order
 /// of time. The state that the router holds at the end of the run follows.
-/// If `tells_via` is set, each line of the demand names the upstream neighbour. Returns the status,
+/// If `shows_via` is set, each line of the demand names the upstream neighbour. Returns the status,
 /// 0.
 ///
 /// Besides the router, it needs memory for one buffer for each capture, and at the end that of
@@ -80,20 +80,20 @@ pub fn replay_into<F: Family, R: Feed + Drop, W: Drain>(
     merge: &mut Merge<R>,
     router: &mut Router<'_, F>,
     end: End,
-    tells_via: bool,
+    shows_via: bool,
     writer: &mut W,
 ) -> Result<u8, RunFault>
     requires ports { length merge.old.lanes ≡ length router.old.ports }
     requires moment { router.old.machines.moment ≤ latest_moment }
     requires end { IsBoundedEnd end }
-    ensures report { Replays F.family tells_via end merge.old merge.new router.old router.new
+    ensures report { Replays F.family shows_via end merge.old merge.new router.old router.new
         (W.contents writer.old) (W.contents writer.new) result }
     ensures count { W.failures writer.new ≡ failures_of_device (W.failures writer.old) result }
     // The tallies of the captures after the run are those of the turns that were taken.
     ensures tallied { IsTallied end merge.old merge.new }
 {
     let counts = replay_for(&ReportPrinter, writer, merge, router, end)?;
-    match write_state::<F, W>(alloc, writer, router, tells_via, counts) {
+    match write_state::<F, W>(alloc, writer, router, shows_via, counts) {
         Ok(()) => Ok(0),
         Err(fault) => Err(of_text(fault)),
     }

@@ -7,7 +7,7 @@ ghost use Rattle.pim_capture.specs.Next.{PayloadLiesIn};
 ghost use Rattle.pim_merge.specs.Content.{content_seen};
 ghost use Rattle.pim_merge.specs.Run.{turn_seen};
 ghost use Rattle.pim_router.specs.State.{setup_of};
-ghost use Rattle.pim_replay.specs.Events.{Tells};
+ghost use Rattle.pim_replay.specs.Events.{Writes};
 ghost use Rattle.pim_run.specs.Faults.{failures_by};
 ghost use Rattle.pim_replay.specs.Turn.{TakesRecord, skips_in};
 
@@ -44,7 +44,7 @@ fn take_record<F: Family, W, L: Listener<F, W>>(
     requires port { turn.now.capture < length router.old.ports }
     requires payload { PayloadLiesIn bytes.now turn.now.event }
     requires bytes { length bytes.now ≤ most_captured }
-    ensures told { Tells (L.line listener.now)
+    ensures reported { Writes (L.line listener.now)
         (TakesRecord F.family (turn_seen bytes.now turn.now) router.old) router.new
         (L.contents device.old) (L.contents device.new) counts result }
     ensures count { L.failures device.new ≡ failures_by (L.failures device.old) result }
@@ -82,15 +82,15 @@ pub(crate) struct Replay<'l, L> {
 }
 
 impl<'l, F: Family, W, L: Listener<F, W>> Hooks<F, W, Counts> for Replay<'l, L> {
-    ghost use Rattle.pim_replay.specs.Events.{HasTold, HasBegun};
-    ghost use Rattle.pim_replay.specs.Turn.{TellsTurn};
+    ghost use Rattle.pim_replay.specs.Events.{HasWritten, HasBegun};
+    ghost use Rattle.pim_replay.specs.Turn.{WritesTurn};
 
     ghost takes = { λ replay turn counts state old more after new.
-        HasTold (L.line replay.listener.now) (TellsTurn F.family turn state) after old new
+        HasWritten (L.line replay.listener.now) (WritesTurn F.family turn state) after old new
         counts more };
 
     ghost begins = { λ replay turn counts state old new.
-        HasBegun (L.line replay.listener.now) (TellsTurn F.family turn state) old new };
+        HasBegun (L.line replay.listener.now) (WritesTurn F.family turn state) old new };
 
     ghost is_ready = { λ counts state. Unit {0} };
 

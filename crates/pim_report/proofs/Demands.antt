@@ -8,15 +8,15 @@ use Rattle.pim_form.specs.NormalForm.{GroupForm}
 use Rattle.pim_form.specs.Rows.{exceptions_of}
 use Rattle.pim_report.specs.DemandText.{star_via, starred_text, star_text, source_line, group_text}
 
-module _ (family : AddressFamily) (tells_via : Bool) (routes : RouteTable) where
+module _ (family : AddressFamily) (shows_via : Bool) (routes : RouteTable) where
   -- the text of the star that a group has
-  pub star_is : (group given : List ℕ) (asked : Option (List ℕ)) (exceptions : List (List ℕ)) (star : Option (List (List ℕ))) → is_some star ≡ true
-      → given ≡ group → asked ≡ star_via family routes given → exceptions ≡ exceptions_of star
-      → starred_text family tells_via given asked exceptions ≡ star_text family tells_via routes group star
-  star_is group given asked exceptions None is same via seen = absurd cc
-  star_is group given asked exceptions (Some told) is same via seen = rw (via, same, seen) refl
+  pub star_is : (group given : List ℕ) (demanded : Option (List ℕ)) (exceptions : List (List ℕ)) (star : Option (List (List ℕ))) → is_some star ≡ true
+      → given ≡ group → demanded ≡ star_via family routes given → exceptions ≡ exceptions_of star
+      → starred_text family shows_via given demanded exceptions ≡ star_text family shows_via routes group star
+  star_is group given demanded exceptions None is same via seen = absurd cc
+  star_is group given demanded exceptions (Some reported) is same via seen = rw (via, same, seen) refl
 
   -- the text of a group's star and of its sources
   pub group_is : (form : GroupForm) (given : List ℕ) (sources : List (List ℕ)) → given ≡ form.group → sources ≡ form.sources
-      → star_text family tells_via routes form.group form.star ++ flat_map (source_line family tells_via routes given) sources ≡ group_text family tells_via routes form
+      → star_text family shows_via routes form.group form.star ++ flat_map (source_line family shows_via routes given) sources ≡ group_text family shows_via routes form
   group_is form given sources same seen = rw (same, seen) refl

@@ -15,6 +15,6 @@ pub machines_are : (family : AddressFamily) (machines : Downstream) (moment : �
     → moment_line moment ++ flat_map (record_line family) records ≡ machines_text family machines
 machines_are family machines moment records now held = rw (now, held) refl
 
-pub state_is : (family : AddressFamily) (tells_via : Bool) (state : RouterState) (form : List GroupForm) (counts : Counts) (machines : Downstream) (routes : RouteTable) → machines ≡ state.machines
-    → routes ≡ state.routes → machines_text family machines ++ wants_text family tells_via routes form counts ≡ text_with family tells_via state form counts
-state_is family tells_via state form counts machines routes held known = rw (held, known) refl
+pub state_is : (family : AddressFamily) (shows_via : Bool) (state : RouterState) (form : List GroupForm) (counts : Counts) (machines : Downstream) (routes : RouteTable) → machines ≡ state.machines
+    → routes ≡ state.routes → machines_text family machines ++ wants_text family shows_via routes form counts ≡ text_with family shows_via state form counts
+state_is family shows_via state form counts machines routes held known = rw (held, known) refl

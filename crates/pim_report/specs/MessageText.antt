@@ -14,9 +14,9 @@ abbrev pub message_line : List ℕ → List ℕ
 message_line message = length_words (length message) ++ line (flat_map hex_of message)
 
 -- The line of a message, or nothing if there is none.
-abbrev pub told_line : Option (List ℕ) → List ℕ
-told_line None = []
-told_line (Some message) = message_line message
+abbrev pub message_line_of : Option (List ℕ) → List ℕ
+message_line_of None = []
+message_line_of (Some message) = message_line message
 
 -- `messages N`: the number of messages.
 abbrev pub count_line : ℕ → List ℕ

@@ -29,23 +29,23 @@ mark_of (verdict.Malformed fault) = codes "malformed "
 mark_of other = []
 
 -- The words of a verdict without that mark.
-abbrev pub told_words : Verdict → List ℕ
-told_words verdict.Mine = codes "mine"
-told_words (verdict.Malformed fault) = malformed_words fault
-told_words (verdict.OtherType type) = codes "type " ++ decimal type
-told_words (verdict.HelloTaken heard) = heard_words heard
-told_words verdict.UnknownNeighbour = codes "unknown-neighbour"
-told_words verdict.NotForUs = codes "not-for-us"
-told_words (verdict.Full store) = full_words store
-told_words verdict.Applied = codes "applied"
+abbrev pub unmarked_words : Verdict → List ℕ
+unmarked_words verdict.Mine = codes "mine"
+unmarked_words (verdict.Malformed fault) = malformed_words fault
+unmarked_words (verdict.OtherType type) = codes "type " ++ decimal type
+unmarked_words (verdict.HelloTaken heard) = heard_words heard
+unmarked_words verdict.UnknownNeighbour = codes "unknown-neighbour"
+unmarked_words verdict.NotForUs = codes "not-for-us"
+unmarked_words (verdict.Full store) = full_words store
+unmarked_words verdict.Applied = codes "applied"
 
 -- The words of a verdict.
 abbrev pub verdict_words : Verdict → List ℕ
-verdict_words verdict = mark_of verdict ++ told_words verdict
+verdict_words verdict = mark_of verdict ++ unmarked_words verdict
 
 -- The line of a verdict: its words alone.
 abbrev pub verdict_line : Verdict → List ℕ
-verdict_line told = line (verdict_words told)
+verdict_line reported = line (verdict_words reported)
 
 -- `MOMENT port PORT from SENDER ` before the verdict, with the moment in milliseconds.
 abbrev pub sender_words : AddressFamily → ℕ → ℕ → List ℕ → List ℕ
@@ -54,4 +54,4 @@ sender_words family moment port source =
 
 -- `MOMENT port PORT from SENDER VERDICT`.
 abbrev pub packet_line : AddressFamily → ℕ → ℕ → List ℕ → Verdict → List ℕ
-packet_line family moment port source told = sender_words family moment port source ++ verdict_line told
+packet_line family moment port source reported = sender_words family moment port source ++ verdict_line reported

@@ -38,4 +38,4 @@ machine_words machine = state_name machine.state ++ codes " et " ++ number_or (c
 
 -- The line of a record.
 abbrev pub record_line : AddressFamily → Record (List ℕ) → List ℕ
-record_line family told = line (key_words family told.key ++ codes " " ++ machine_words told.machine)
+record_line family reported = line (key_words family reported.key ++ codes " " ++ machine_words reported.machine)

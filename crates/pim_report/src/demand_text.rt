@@ -11,7 +11,7 @@ ghost use Rattle.pim_report.specs.DemandText.{star_text, group_text, demand_text
 use crate::echo_line::show_what;
 use pim_addr::{Drain, Failed, Family, Routes};
 use pim_down::What;
-use pim_form::{GroupView, NormalForm, Tree, upstream_of};
+use pim_form::{GroupView, NormalForm, Tree, rpf_neighbour};
 use pim_lines::{Shown, write_pieces};
 
 /// The end of a line of the demand: the upstream neighbour to which it is sent, or nothing.
@@ -48,19 +48,19 @@ impl ShownVia {
     }
 }
 
-/// The end of a line of the demand with this upstream neighbour; empty if `tells_via` isn't set.
-fn show_via<F: Family>(tells_via: bool, asked: Option<F::Addr>) -> ShownVia
+/// The end of a line of the demand with this upstream neighbour; empty if `shows_via` isn't set.
+fn show_via<F: Family>(shows_via: bool, demanded: Option<F::Addr>) -> ShownVia
     ensures { result.mark.now ++ (result.neighbour ++ result.nobody.now)
-        ≡ via_words F.family tells_via (option_map F.bytes_of asked) }
+        ≡ via_words F.family shows_via (option_map F.bytes_of demanded) }
 {
-    if !tells_via {
+    if !shows_via {
         return ShownVia {
             mark: b"",
             neighbour: Shown::maybe::<F>(None),
             nobody: b"",
         };
     }
-    match asked {
+    match demanded {
         Some(neighbour) => ShownVia {
             mark: b" via ",
             neighbour: Shown::address::<F>(neighbour),
@@ -77,19 +77,19 @@ fn show_via<F: Family>(tells_via: bool, asked: Option<F::Addr>) -> ShownVia
 /// Writes the line of the (*,G) or (S,G) demand of a group.
 fn write_want_line<F: Family, W: Drain>(
     writer: &mut W,
-    tells_via: bool,
+    shows_via: bool,
     group: F::Addr,
     what: What<F::Addr>,
-    asked: Option<F::Addr>,
+    demanded: Option<F::Addr>,
 ) -> Result<(), Failed>
     ensures bytes { AppendsAll (W.contents writer.old) (W.contents writer.new) result
-        (want_line F.family tells_via (F.bytes_of group) (what_seen F.bytes_of what)
-        (option_map F.bytes_of asked)) }
+        (want_line F.family shows_via (F.bytes_of group) (what_seen F.bytes_of what)
+        (option_map F.bytes_of demanded)) }
     ensures count { W.failures writer.new ≡ failures_after (W.failures writer.old) result }
 {
     let what = show_what::<F>(what);
     let group = Shown::address::<F>(group);
-    let via = show_via::<F>(tells_via, asked);
+    let via = show_via::<F>(shows_via, demanded);
     let pieces = [
         b"want ",
         what.kind(),
@@ -107,19 +107,19 @@ fn write_want_line<F: Family, W: Drain>(
 /// Writes the line of an exception of a group's star.
 fn write_exception_line<F: Family, W: Drain>(
     writer: &mut W,
-    tells_via: bool,
+    shows_via: bool,
     group: F::Addr,
-    asked: Option<F::Addr>,
+    demanded: Option<F::Addr>,
     source: F::Addr,
 ) -> Result<(), Failed>
     ensures bytes { AppendsAll (W.contents writer.old) (W.contents writer.new) result
-        (exception_line F.family tells_via (F.bytes_of group) (option_map F.bytes_of asked)
+        (exception_line F.family shows_via (F.bytes_of group) (option_map F.bytes_of demanded)
         (F.bytes_of source)) }
     ensures count { W.failures writer.new ≡ failures_after (W.failures writer.old) result }
 {
     let source = Shown::address::<F>(source);
     let group = Shown::address::<F>(group);
-    let via = show_via::<F>(tells_via, asked);
+    let via = show_via::<F>(shows_via, demanded);
     let pieces = [
         b"except ",
         source.text(),
@@ -136,19 +136,19 @@ fn write_exception_line<F: Family, W: Drain>(
 /// Writes the lines of a star's exceptions.
 fn write_exceptions<F: Family, W: Drain>(
     writer: &mut W,
-    tells_via: bool,
+    shows_via: bool,
     group: F::Addr,
-    asked: Option<F::Addr>,
+    demanded: Option<F::Addr>,
     exceptions: &[F::Addr],
 ) -> Result<(), Failed>
     ensures bytes { AppendsAll (W.contents writer.old) (W.contents writer.new) result
         (flat_map
-        (exception_line F.family tells_via (F.bytes_of group) (option_map F.bytes_of asked))
+        (exception_line F.family shows_via (F.bytes_of group) (option_map F.bytes_of demanded))
         (map F.bytes_of exceptions.now)) }
     ensures count { W.failures writer.new ≡ failures_after (W.failures writer.old) result }
 {
     for &source in exceptions {
-        write_exception_line::<F, W>(writer, tells_via, group, asked, source)?;
+        write_exception_line::<F, W>(writer, shows_via, group, demanded, source)?;
     }
     Ok(())
 }
@@ -156,18 +156,18 @@ fn write_exceptions<F: Family, W: Drain>(
 /// Writes the lines of the sources of a group.
 fn write_sources<F: Family, W: Drain>(
     writer: &mut W,
-    tells_via: bool,
+    shows_via: bool,
     routes: &Routes<F>,
     group: F::Addr,
     sources: &[F::Addr],
 ) -> Result<(), Failed>
     ensures bytes { AppendsAll (W.contents writer.old) (W.contents writer.new) result
-        (flat_map (source_line F.family tells_via routes.now (F.bytes_of group))
+        (flat_map (source_line F.family shows_via routes.now (F.bytes_of group))
         (map F.bytes_of sources.now)) }
     ensures count { W.failures writer.new ≡ failures_after (W.failures writer.old) result }
 {
     for &source in sources {
-        write_source_line::<F, W>(writer, tells_via, routes, group, source)?;
+        write_source_line::<F, W>(writer, shows_via, routes, group, source)?;
     }
     Ok(())
 }
@@ -175,71 +175,71 @@ fn write_sources<F: Family, W: Drain>(
 /// Writes the line of a source of a group.
 fn write_source_line<F: Family, W: Drain>(
     writer: &mut W,
-    tells_via: bool,
+    shows_via: bool,
     routes: &Routes<F>,
     group: F::Addr,
     source: F::Addr,
 ) -> Result<(), Failed>
     ensures bytes { AppendsAll (W.contents writer.old) (W.contents writer.new) result
-        (source_line F.family tells_via routes.now (F.bytes_of group) (F.bytes_of source)) }
+        (source_line F.family shows_via routes.now (F.bytes_of group) (F.bytes_of source)) }
     ensures count { W.failures writer.new ≡ failures_after (W.failures writer.old) result }
 {
-    let asked = routes.via(source);
-    write_want_line::<F, W>(writer, tells_via, group, What::Source(source), asked)
+    let demanded = routes.via(source);
+    write_want_line::<F, W>(writer, shows_via, group, What::Source(source), demanded)
 }
 
 /// Writes the lines of a star and of its exceptions, which all have the same upstream neighbour.
 fn write_starred<F: Family, W: Drain>(
     writer: &mut W,
-    tells_via: bool,
+    shows_via: bool,
     group: F::Addr,
-    asked: Option<F::Addr>,
+    demanded: Option<F::Addr>,
     exceptions: &[F::Addr],
 ) -> Result<(), Failed>
     ensures bytes { AppendsAll (W.contents writer.old) (W.contents writer.new) result
-        (starred_text F.family tells_via (F.bytes_of group) (option_map F.bytes_of asked)
+        (starred_text F.family shows_via (F.bytes_of group) (option_map F.bytes_of demanded)
         (map F.bytes_of exceptions.now)) }
     ensures count { W.failures writer.new ≡ failures_after (W.failures writer.old) result }
 {
-    write_want_line::<F, W>(writer, tells_via, group, What::Star, asked)?;
-    write_exceptions::<F, W>(writer, tells_via, group, asked, exceptions)
+    write_want_line::<F, W>(writer, shows_via, group, What::Star, demanded)?;
+    write_exceptions::<F, W>(writer, shows_via, group, demanded, exceptions)
 }
 
 /// Writes the lines of a group's star and of its exceptions, if the group has a star.
 fn write_star<F: Family, W: Drain>(
     writer: &mut W,
-    tells_via: bool,
+    shows_via: bool,
     routes: &Routes<F>,
     this: &GroupView<'_, F>,
 ) -> Result<(), Failed>
     ensures bytes { AppendsAll (W.contents writer.old) (W.contents writer.new) result
-        (star_text F.family tells_via routes.now this.now.group this.now.star) }
+        (star_text F.family shows_via routes.now this.now.group this.now.star) }
     ensures count { W.failures writer.new ≡ failures_after (W.failures writer.old) result }
 {
     if !this.star() {
         return Ok(());
     }
     let group = this.group();
-    let asked = upstream_of::<F>(routes, group, group, Tree::Shared);
-    write_starred::<F, W>(writer, tells_via, group, asked, this.exceptions())
+    let demanded = rpf_neighbour::<F>(routes, group, group, Tree::Shared);
+    write_starred::<F, W>(writer, shows_via, group, demanded, this.exceptions())
 }
 
 /// Writes the lines of a group.
 fn write_group<F: Family, W: Drain>(
     writer: &mut W,
-    tells_via: bool,
+    shows_via: bool,
     routes: &Routes<F>,
     this: &GroupView<'_, F>,
 ) -> Result<(), Failed>
     ensures bytes { AppendsAll (W.contents writer.old) (W.contents writer.new) result
-        (group_text F.family tells_via routes.now this.now) }
+        (group_text F.family shows_via routes.now this.now) }
     ensures count { W.failures writer.new ≡ failures_after (W.failures writer.old) result }
 {
-    write_star::<F, W>(writer, tells_via, routes, this)?;
-    write_sources::<F, W>(writer, tells_via, routes, this.group(), this.sources())
+    write_star::<F, W>(writer, shows_via, routes, this)?;
+    write_sources::<F, W>(writer, shows_via, routes, this.group(), this.sources())
 }
 
-/// Writes the lines of a demand in its normal form, group by group. If `tells_via` is set, each
+/// Writes the lines of a demand in its normal form, group by group. If `shows_via` is set, each
 /// line names the upstream neighbour under this route table (RFC 7761, 4.1), or `-` if there is
 /// none.
 ///
@@ -247,16 +247,16 @@ fn write_group<F: Family, W: Drain>(
 /// The device failed: a prefix of the lines was written.
 pub fn write_demand<F: Family, W: Drain>(
     writer: &mut W,
-    tells_via: bool,
+    shows_via: bool,
     routes: &Routes<F>,
     form: &NormalForm<F>,
 ) -> Result<(), Failed>
     ensures bytes { AppendsAll (W.contents writer.old) (W.contents writer.new) result
-        (demand_text F.family tells_via routes.now form.now) }
+        (demand_text F.family shows_via routes.now form.now) }
     ensures count { W.failures writer.new ≡ failures_after (W.failures writer.old) result }
 {
     for group in form.groups() {
-        write_group::<F, W>(writer, tells_via, routes, &group)?;
+        write_group::<F, W>(writer, shows_via, routes, &group)?;
     }
     Ok(())
 }

@@ -12,6 +12,7 @@
 //!
 //! Lines need no memory, since they are written in pieces; `write_state` makes a normal form. The
 //! crate is separate from the replay of captures, so that a session needs no capture.
+//! Callers: `pim_replay`, `pim_exchange` and `pim_answers`.
 #![tactic(auto)]
 
 mod demand_text;
@@ -33,4 +34,4 @@ pub use packet_line::{heard_words, write_packet_line, write_verdict_line, write_
 pub use record_line::{state_name, write_record_line};
 pub use refresh_line::write_refresh_line;
 pub use same::same_line;
-pub use state_text::{Counts, TextFault, write_state};
+pub use state_text::{Counts, StateFault, write_state};

@@ -60,7 +60,7 @@ fn frame_said(fault: FrameFault) -> Said
 fn hello_said(fault: HelloFault) -> Said
     ensures { said_text result ≡ hello_words fault }
 {
-    Said::named(
+    Said::of_name(
         b"hello ",
         hello_kind_name(fault.kind),
         b" at ",
@@ -72,7 +72,7 @@ fn hello_said(fault: HelloFault) -> Said
 fn join_prune_said(fault: JpFault) -> Said
     ensures { said_text result ≡ join_prune_words fault }
 {
-    Said::named(
+    Said::of_name(
         b"join/prune ",
         kind_name(fault.kind),
         b" at ",

@@ -5,7 +5,7 @@ ghost use Rattle.std.specs.List.{flat_map};
 ghost use Rattle.pim_device.specs.Device.{AppendsAll, failures_after};
 ghost use Rattle.pim_lines.specs.Hex.{hex_of};
 ghost use Rattle.pim_report.specs.MessageText.{length_words, message_line};
-ghost use Rattle.pim_report.specs.MessageText.{told_line};
+ghost use Rattle.pim_report.specs.MessageText.{message_line_of};
 ghost use Rattle.pim_report.specs.MessageText.{count_line, messages_text};
 ghost use Rattle.pim_lines.specs.Pieces.{line};
 
@@ -52,7 +52,7 @@ fn write_message_at<W: Drain>(
     index: usize,
 ) -> Result<(), Failed>
     ensures bytes { AppendsAll (W.contents writer.old) (W.contents writer.new) result
-        (told_line (slice_get messages.now index)) }
+        (message_line_of (slice_get messages.now index)) }
     ensures count { W.failures writer.new ≡ failures_after (W.failures writer.old) result }
 {
     match messages.get(index) {

@@ -3,7 +3,7 @@
 ghost use Rattle.std.specs.Prelude.{◌≡◌, codes, []};
 ghost use Rattle.pim_device.specs.Device.{AppendsAll, failures_after};
 ghost use Rattle.pim_report.specs.Said.{said_text};
-ghost use Rattle.pim_report.specs.PacketLine.{heard_words, full_words, told_words, mark_of};
+ghost use Rattle.pim_report.specs.PacketLine.{heard_words, full_words, unmarked_words, mark_of};
 ghost use Rattle.pim_report.specs.PacketLine.{verdict_words};
 ghost use Rattle.pim_report.specs.PacketLine.{sender_words, verdict_line, packet_line};
 
@@ -39,7 +39,7 @@ fn full_said(store: Store) -> Said
 
 /// The words of a verdict without the mark of a malformed message.
 fn verdict_said(verdict: Verdict) -> Said
-    ensures { said_text result ≡ told_words verdict }
+    ensures { said_text result ≡ unmarked_words verdict }
 {
     match verdict {
         Verdict::Mine => Said::plain(b"mine"),

@@ -5,7 +5,7 @@
 
 ghost use Rattle.std.specs.Prelude.{◌≡◌, codes};
 ghost use Rattle.pim_device.specs.Device.{AppendsAll, failures_after};
-ghost use Rattle.pim_down.specs.Seen.{told_seen};
+ghost use Rattle.pim_down.specs.Seen.{record_of_seen};
 ghost use Rattle.pim_report.specs.RecordLine.{state_name, time_left, record_line};
 
 use crate::echo_line::show_what;
@@ -43,13 +43,13 @@ fn time_left(pending: Option<Pending>) -> Option<u64>
 /// The device failed: a prefix of the line was written.
 pub fn write_record_line<F: Family, W: Drain>(
     writer: &mut W,
-    told: Record<F::Addr>,
+    reported: Record<F::Addr>,
 ) -> Result<(), Failed>
     ensures bytes { AppendsAll (W.contents writer.old) (W.contents writer.new) result
-        (record_line F.family (told_seen F.bytes_of told)) }
+        (record_line F.family (record_of_seen F.bytes_of reported)) }
     ensures count { W.failures writer.new ≡ failures_after (W.failures writer.old) result }
 {
-    let Record { key, machine } = told;
+    let Record { key, machine } = reported;
     let what = show_what::<F>(key.what);
     let group = Shown::address::<F>(key.group);
     let state = machine.state;

@@ -48,7 +48,7 @@ impl Said {
     }
 
     /// A text of words, a name, more words and a number.
-    pub(crate) fn named(
+    pub(crate) fn of_name(
         words: &'static [u8],
         name: &'static [u8],
         more: &'static [u8],

@@ -29,7 +29,7 @@ pub struct Counts {
 
 /// Why a text isn't written.
 #[derive(Clone, Copy, Debug, PartialEq, Eq)]
-pub enum TextFault {
+pub enum StateFault {
     /// The device failed.
     Output,
     /// Memory was refused.
@@ -90,16 +90,16 @@ fn write_machines<F: Family, W: Drain>(writer: &mut W, machines: &Ports<F>) -> R
 /// Writes the lines of a demand with this normal form, then the counts.
 fn write_wants<F: Family, W: Drain>(
     writer: &mut W,
-    tells_via: bool,
+    shows_via: bool,
     routes: &Routes<F>,
     form: &NormalForm<F>,
     counts: Counts,
 ) -> Result<(), Failed>
     ensures bytes { AppendsAll (W.contents writer.old) (W.contents writer.new) result
-        (wants_text F.family tells_via routes.now form.now counts) }
+        (wants_text F.family shows_via routes.now form.now counts) }
     ensures count { W.failures writer.new ≡ failures_after (W.failures writer.old) result }
 {
-    write_demand::<F, W>(writer, tells_via, routes, form)?;
+    write_demand::<F, W>(writer, shows_via, routes, form)?;
     write_counts(writer, counts)
 }
 
@@ -107,20 +107,20 @@ fn write_wants<F: Family, W: Drain>(
 fn write_with<F: Family, W: Drain>(
     writer: &mut W,
     router: &Router<'_, F>,
-    tells_via: bool,
+    shows_via: bool,
     form: &NormalForm<F>,
     counts: Counts,
 ) -> Result<(), Failed>
     ensures bytes { AppendsAll (W.contents writer.old) (W.contents writer.new) result
-        (text_with F.family tells_via router.now form.now counts) }
+        (text_with F.family shows_via router.now form.now counts) }
     ensures count { W.failures writer.new ≡ failures_after (W.failures writer.old) result }
 {
     write_machines::<F, W>(writer, router.ports())?;
-    write_wants::<F, W>(writer, tells_via, router.routes(), form, counts)
+    write_wants::<F, W>(writer, shows_via, router.routes(), form, counts)
 }
 
 /// Writes the state of a router: its moment, its records in key order, the normal form of its
-/// demand, and the counts. If `tells_via` is set, each line of the demand names the upstream
+/// demand, and the counts. If `shows_via` is set, each line of the demand names the upstream
 /// neighbour.
 ///
 /// It needs memory in proportion to the records that want something, and gives it back.
@@ -132,18 +132,18 @@ pub fn write_state<F: Family, W: Drain>(
     alloc: Global,
     writer: &mut W,
     router: &Router<'_, F>,
-    tells_via: bool,
+    shows_via: bool,
     counts: Counts,
-) -> Result<(), TextFault>
-    ensures text { WritesState F.family tells_via router.now counts
+) -> Result<(), StateFault>
+    ensures text { WritesState F.family shows_via router.now counts
         (W.contents writer.old) (W.contents writer.new) result }
     ensures count { W.failures writer.new ≡ failures_of (W.failures writer.old) result }
 {
     let Ok(form) = NormalForm::of(alloc, router.ports()) else {
-        return Err(TextFault::Memory);
+        return Err(StateFault::Memory);
     };
-    let Ok(()) = write_with::<F, W>(writer, router, tells_via, &form, counts) else {
-        return Err(TextFault::Output);
+    let Ok(()) = write_with::<F, W>(writer, router, shows_via, &form, counts) else {
+        return Err(StateFault::Output);
     };
     Ok(())
 }

@@ -4,20 +4,20 @@ use Rattle.std.specs.Borrow.{Bor}
 use Rattle.std.specs.Result.{IsErrAnd}
 use Rattle.pim_request.specs.declared.command.WordsFault.{WordsFault}
 use Rattle.pim_request.specs.declared.command.WordsFault.TheVariants.{Word, Address, Hex}
-use Rattle.pim_request.specs.Forms.{Slot, key, digits, Fits, HasAddress, Takes, Begins, AreOf, IsFirst, Asks, OneOf, IsWrongBy, IsFault}
+use Rattle.pim_request.specs.Forms.{Slot, key, digits, Fits, HasAddress, Takes, Begins, AreOf, IsFirst, Expects, OneOf, IsWrongBy, IsFault}
 use Rattle.pim_request.specs.Steps.{IsSlotFault, IsFrontFault}
 
 -- ---- what the exit of a `?` returns
 
-pub told : {T : Type 0} (P : WordsFault → Type 0) (fault : WordsFault) (r : Result T WordsFault) → IsErrAnd r (λ other. other ≡ fault) → P fault → IfErr r P
-told P fault (Ok x) is has = absurd is
-told P fault (Err other) is has = subst P (sym is) has
+pub reported : {T : Type 0} (P : WordsFault → Type 0) (fault : WordsFault) (r : Result T WordsFault) → IsErrAnd r (λ other. other ≡ fault) → P fault → IfErr r P
+reported P fault (Ok x) is has = absurd is
+reported P fault (Err other) is has = subst P (sym is) has
 
 -- ---- the slots that are asked for
 
 pub wrong_by_same : (P Q : Slot → Type 0) → ((slot : Slot) → P slot → Q slot) → ((slot : Slot) → Q slot → P slot) → (text : List ℕ) (fault : WordsFault) → IsWrongBy P text fault → IsWrongBy Q text fault
-wrong_by_same P Q there back text (Word word) is = (is.0, λ slot asked. is.1 slot (back slot asked), λ asked. is.2 (back digits asked))
-wrong_by_same P Q there back text (Address word) (same, slot, asked, has) = (same, slot, there slot asked, has)
+wrong_by_same P Q there back text (Word word) is = (is.0, λ slot expected. is.1 slot (back slot expected), λ expected. is.2 (back digits expected))
+wrong_by_same P Q there back text (Address word) (same, slot, expected, has) = (same, slot, there slot expected, has)
 wrong_by_same P Q there back text Hex is = there digits is
 
 -- ---- what is left of forms after a word
@@ -41,8 +41,8 @@ onward forms left command word others fault leaves (inr (before, wrong, rest, sa
       ap (λ (ws : List (List ℕ)). word ∷ ws) same,
       record {
         begins = leaves.back (Begins before) first.begins;
-        wrong = λ slot asked. first.wrong slot (leaves.into (Asks slot before) asked);
-        is = wrong_by_same (λ slot. OneOf (Asks slot before) left) (λ slot. OneOf (Asks slot (word ∷ before)) forms) (λ slot asked. leaves.back (Asks slot before) asked) (λ slot asked. leaves.into (Asks slot before) asked) wrong fault first.is;
+        wrong = λ slot expected. first.wrong slot (leaves.into (Expects slot before) expected);
+        is = wrong_by_same (λ slot. OneOf (Expects slot before) left) (λ slot. OneOf (Expects slot (word ∷ before)) forms) (λ slot expected. leaves.back (Expects slot before) expected) (λ slot expected. leaves.into (Expects slot before) expected) wrong fault first.is;
       },
     )
 
@@ -89,8 +89,8 @@ module _ (slot : Slot) where
     refl,
     record {
       begins = inl tt;
-      wrong = λ other asked fits. unfit (subst (λ (s : Slot). Fits s word) (sym (asked_is other (form ∷ forms) asked)) fits);
-      is = wrong_by_same (λ other. slot ≡ other) (λ other. OneOf (IsFirst other) (each slot (form ∷ forms))) (λ other same. inl same) (λ other asked. asked_is other (form ∷ forms) asked) word fault is;
+      wrong = λ other expected fits. unfit (subst (λ (s : Slot). Fits s word) (sym (asked_is other (form ∷ forms) expected)) fits);
+      is = wrong_by_same (λ other. slot ≡ other) (λ other. OneOf (IsFirst other) (each slot (form ∷ forms))) (λ other same. inl same) (λ other expected. asked_is other (form ∷ forms) expected) word fault is;
     },
   )
 
@@ -141,8 +141,8 @@ too_many word others words same command =
       refl,
       record {
         begins = inl tt;
-        wrong = λ slot asked fits. none slot asked;
-        is = (refl, λ slot asked has. none slot asked, λ asked. none digits asked);
+        wrong = λ slot expected fits. none slot expected;
+        is = (refl, λ slot expected has. none slot expected, λ expected. none digits expected);
       },
     ))
   where
@@ -172,8 +172,8 @@ module _ (text : List ℕ) (rest : List Slot) where
         refl,
         record {
           begins = inl tt;
-          wrong = λ slot asked fits. unfit (subst (λ (s : Slot). Fits s word.now) (sym (only_key slot asked)) fits);
-          is = (refl, λ slot asked has. no_address slot word.now (only_key slot asked) has, λ asked. no_digits (only_key digits asked));
+          wrong = λ slot expected fits. unfit (subst (λ (s : Slot). Fits s word.now) (sym (only_key slot expected)) fits);
+          is = (refl, λ slot expected has. no_address slot word.now (only_key slot expected) has, λ expected. no_digits (only_key digits expected));
         },
       ))
 
@@ -206,7 +206,7 @@ module _ (text : List ℕ) (rest : List Slot) where
     same,
     record {
       begins = inr first.begins;
-      wrong = λ slot asked fits. elim asked [
+      wrong = λ slot expected fits. elim expected [
         | inl one ↦ other behind (same ∙ ap (λ (w : List ℕ). w ∷ behind) (subst (λ (s : Slot). Fits s wrong) (sym one) fits))
         | inr some ↦ first.wrong slot some fits
       ];
@@ -215,8 +215,8 @@ module _ (text : List ℕ) (rest : List Slot) where
   )
     where
       by : (fault : WordsFault) → IsWrongBy (λ slot. OneOf (IsFirst slot) forms) wrong fault → IsWrongBy (λ slot. OneOf (IsFirst slot) ((key text ∷ rest) ∷ forms)) wrong fault
-      by (Word word) is = (is.0, λ slot asked has. elim asked [ inl one ↦ no_address slot wrong one has | inr some ↦ is.1 slot some has ], λ asked. elim asked [ inl one ↦ no_digits one | inr some ↦ is.2 some ])
-      by (Address word) (told, slot, asked, has) = (told, slot, inr asked, has)
+      by (Word word) is = (is.0, λ slot expected has. elim expected [ inl one ↦ no_address slot wrong one has | inr some ↦ is.1 slot some has ], λ expected. elim expected [ inl one ↦ no_digits one | inr some ↦ is.2 some ])
+      by (Address word) (reported, slot, expected, has) = (reported, slot, inr expected, has)
       by Hex is = inr is
   beside forms command words fault other (inr (word ∷ before, wrong, behind, same, first)) = inr (
     word ∷ before,
@@ -225,8 +225,8 @@ module _ (text : List ℕ) (rest : List Slot) where
     same,
     record {
       begins = inr first.begins;
-      wrong = λ slot asked fits. elim asked [ inl one ↦ absurd (never one.0) | inr some ↦ first.wrong slot some fits ];
-      is = wrong_by_same (λ slot. OneOf (Asks slot (word ∷ before)) forms) (λ slot. OneOf (Asks slot (word ∷ before)) ((key text ∷ rest) ∷ forms)) (λ slot asked. inr asked) (λ slot asked. elim asked [ inl one ↦ absurd (never one.0) | inr some ↦ some ]) wrong fault first.is;
+      wrong = λ slot expected fits. elim expected [ inl one ↦ absurd (never one.0) | inr some ↦ first.wrong slot some fits ];
+      is = wrong_by_same (λ slot. OneOf (Expects slot (word ∷ before)) forms) (λ slot. OneOf (Expects slot (word ∷ before)) ((key text ∷ rest) ∷ forms)) (λ slot expected. inr expected) (λ slot expected. elim expected [ inl one ↦ absurd (never one.0) | inr some ↦ some ]) wrong fault first.is;
     },
   )
     where

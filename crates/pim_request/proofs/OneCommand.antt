@@ -7,11 +7,11 @@ use Rattle.pim_lines.specs.declared.either.AnyAddress.{AnyAddress}
 use Rattle.pim_lines.specs.AnyAddress.{Names}
 use Rattle.pim_text.specs.OneReading.{OneName}
 use Rattle.pim_request.specs.declared.command.PortRow.{PortRow}
-use Rattle.pim_request.specs.declared.command.Row.{Row}
+use Rattle.pim_request.specs.declared.command.RouteRow.{RouteRow}
 use Rattle.pim_request.specs.declared.command.Packet.{Packet}
 use Rattle.pim_request.specs.declared.command.Sender.{Sender}
 use Rattle.pim_request.specs.declared.command.Writing.{Writing}
-use Rattle.pim_request.specs.declared.command.Kept.{Kept}
+use Rattle.pim_request.specs.declared.command.KeptWhat.{KeptWhat}
 use Rattle.pim_request.specs.declared.command.Comparison.{Comparison}
 use Rattle.pim_request.specs.declared.command.Command.{Command}
 use Rattle.pim_request.specs.declared.command.Command.TheVariants.{Port, Rp, Via, Limit, Start, Run, Now, Next, State, Wants, Neighbours, Messages, Keep, Change, Same, Reset}
@@ -98,25 +98,25 @@ module _ (one_name : OneName) where
   name text other a b same is so = one_name text a b is (subst (λ (t : List ℕ). Names t b) (sym same) so)
 
   one_port : (one other : PortRow) (words : List (List ℕ)) → IsPort one words → IsPort other words → one ≡ other
-  one_port one other words (text, rest, cut, names, delays) (t, left, so, named, others) =
+  one_port one other words (text, rest, cut, names, delays) (t, left, so, compared, others) =
       let both : text ∷ rest ≡ t ∷ left = sym cut ∙ so in
       let word : text ≡ t = cc in
       let words_left : rest ≡ left = cc in
-      let address = name text t one.address other.address word names named in
+      let address = name text t one.address other.address word names compared in
       let times = one_propagation one.propagation other.propagation one.override_ms other.override_ms rest delays (subst (AreDelays other.propagation other.override_ms) (sym words_left) others) in
       let propagation = times.0 in
       let override_ms = times.1 in
       λ i. record { address = address i; propagation = propagation i; override_ms = override_ms i }
 
-  one_row : (one other : Row) (words : List (List ℕ)) → IsRow one words → IsRow other words → one ≡ other
-  one_row one other words (word, text, to, cut, (small, is), names, leads) (w, t, goes, so, (few, too), named, led) =
+  one_row : (one other : RouteRow) (words : List (List ℕ)) → IsRow one words → IsRow other words → one ≡ other
+  one_row one other words (word, text, to, cut, (small, is), names, leads) (w, t, goes, so, (few, too), compared, led) =
       let both : word ∷ to ∷ [] ≡ w ∷ goes ∷ [] = sym cut ∙ so in
       let first : word ≡ w = cc in
       let second : to ≡ goes = cc in
       let pieces : text ∷ decimal one.length ∷ [] ≡ t ∷ decimal other.length ∷ [] = sym is ∙ (ap (pieces_of 47) first ∙ too) in
       let piece : text ≡ t = cc in
       let bits : decimal one.length ≡ decimal other.length = cc in
-      let prefix = name text t one.prefix other.prefix piece names named in
+      let prefix = name text t one.prefix other.prefix piece names compared in
       let length = one_number most one.length other.length (omega arith) small few bits in
       let last = name to goes one.to other.to second leads led in
       λ i. record { prefix = prefix i; length = length i; to = last i }
@@ -137,12 +137,12 @@ module _ (one_name : OneName) where
 
   one_destination : (one other : Option AnyAddress) (words : List (List ℕ)) → IsDestination one words → IsDestination other words → one ≡ other
   one_destination None None words none nor = refl
-  one_destination None (Some b) words none (text, named, has) = let never : [] ≡ codes "to" ∷ text ∷ [] = sym none ∙ has in absurd cc
+  one_destination None (Some b) words none (text, compared, has) = let never : [] ≡ codes "to" ∷ text ∷ [] = sym none ∙ has in absurd cc
   one_destination (Some a) None words (text, names, has) none = let never : [] ≡ codes "to" ∷ text ∷ [] = sym none ∙ has in absurd cc
-  one_destination (Some a) (Some b) words (text, names, has) (t, named, so) =
+  one_destination (Some a) (Some b) words (text, names, has) (t, compared, so) =
       let both : codes "to" ∷ text ∷ [] ≡ codes "to" ∷ t ∷ [] = sym has ∙ so in
       let word : text ≡ t = cc in
-      ap (λ (x : AnyAddress). Some x) (name text t a b word names named)
+      ap (λ (x : AnyAddress). Some x) (name text t a b word names compared)
 
   one_sender : (one other : Sender) (words : List (List ℕ)) → IsSender one words → IsSender other words → one ≡ other
   one_sender one other words (source, rest, cut, small, from, to) (s, left, so, few, source_is, destination_is) =
@@ -168,7 +168,7 @@ module _ (one_name : OneName) where
       let budget = numbers.1 in
       λ i. record { upstream = neighbour i; own = self i; holdtime = holdtime i; budget = budget i }
 
-  one_kept : (one other : Kept) (words : List (List ℕ)) → IsKept one words → IsKept other words → SameKept one other
+  one_kept : (one other : KeptWhat) (words : List (List ℕ)) → IsKept one words → IsKept other words → SameKept one other
   one_kept one other words (upstream, cut, some, up) (u, so, any, ups) =
       let both : one.name.now ∷ upstream ∷ [] ≡ other.name.now ∷ u ∷ [] = sym cut ∙ so in
       let first : one.name.now ≡ other.name.now = cc in
@@ -199,8 +199,8 @@ first_word Wants = codes "wants"
 first_word Neighbours = codes "neighbours"
 first_word (Messages writing) = codes "messages"
 first_word (Keep kept) = codes "keep"
-first_word (Change named) = codes "change"
-first_word (Same named) = codes "same"
+first_word (Change compared) = codes "change"
+first_word (Same compared) = codes "same"
 first_word Reset = codes "reset"
 
 abbrev first_or : List (List ℕ) → List ℕ
@@ -225,8 +225,8 @@ first_is words Wants is = ap first_or is
 first_is words Neighbours is = ap first_or is
 first_is words (Messages writing) is = with_first (codes "messages") (IsWriting writing) words is
 first_is words (Keep kept) is = with_first (codes "keep") (IsKept kept) words is
-first_is words (Change named) is = with_first (codes "change") (IsComparison named) words is
-first_is words (Same named) is = with_first (codes "same") (IsComparison named) words is
+first_is words (Change compared) is = with_first (codes "change") (IsComparison compared) words is
+first_is words (Same compared) is = with_first (codes "same") (IsComparison compared) words is
 first_is words Reset is = ap first_or is
 
 -- The place of a command among the usages.

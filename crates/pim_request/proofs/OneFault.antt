@@ -5,7 +5,7 @@ use Rattle.std.specs.Str.{bytes_eq}
 use Rattle.std.proofs.lemmas.Bool.{false≢true, and_parts}
 use Rattle.pim_request.specs.declared.command.WordsFault.{WordsFault}
 use Rattle.pim_request.specs.declared.command.WordsFault.TheVariants.{Word, Address, Hex}
-use Rattle.pim_request.specs.Forms.{Slot, digits, words_of, Fits, HasAddress, Begins, AreOf, Asks, OneOf, IsWord, IsWrongBy, IsFirstWrong, IsFault}
+use Rattle.pim_request.specs.Forms.{Slot, digits, words_of, Fits, HasAddress, Begins, AreOf, Expects, OneOf, IsWord, IsWrongBy, IsFirstWrong, IsFault}
 use Rattle.pim_request.specs.Commands.{Usage, usage, usages, sender_forms, forms_in, IsFaultOf, IsFaultAmong}
 use Rattle.pim_request.specs.OneRequest.{SameFault, OneWordsFault, OneSenderFault}
 
@@ -14,12 +14,12 @@ use Rattle.pim_request.specs.OneRequest.{SameFault, OneWordsFault, OneSenderFaul
 -- A slot is asked for after the words, and the next word fits it.
 pub record Next (before : List (List ℕ)) (word : List ℕ) (form : List Slot) : Type 0 where
   pub slot : Slot
-  pub asks : Asks slot before form
+  pub asks : Expects slot before form
   pub fits : Fits slot word
 
 pub record NextOf (before : List (List ℕ)) (word : List ℕ) (forms : List (List Slot)) : Type 0 where
   pub slot : Slot
-  pub asks : OneOf (Asks slot before) forms
+  pub asks : OneOf (Expects slot before) forms
   pub fits : Fits slot word
 
 begun_next : (before : List (List ℕ)) (word : List ℕ) (rest : List (List ℕ)) (form : List Slot) → Begins (before ++ (word ∷ rest)) form → Next before word form
@@ -109,31 +109,31 @@ is_clear : List (List Slot) → Bool
 is_clear (form ∷ []) = true
 is_clear forms = list_all lacks_digits forms
 
-no_digits : (before : List (List ℕ)) (form : List Slot) → lacks_digits form ≡ true → Asks digits before form → ⊥
+no_digits : (before : List (List ℕ)) (form : List Slot) → lacks_digits form ≡ true → Expects digits before form → ⊥
 unfolding is_digits lacks_digits
 no_digits [] [] lacks asks = asks
 no_digits [] (slot ∷ form) lacks asks = false≢true (sym (ap (λ (s : Slot). not (is_digits s)) asks) ∙ (and_parts (not (is_digits slot)) (lacks_digits form) lacks).0)
 no_digits (word ∷ before) [] lacks asks = asks
 no_digits (word ∷ before) (slot ∷ form) lacks asks = no_digits before form (and_parts (not (is_digits slot)) (lacks_digits form) lacks).1 asks.1
 
-none_of : (before : List (List ℕ)) (forms : List (List Slot)) → list_all lacks_digits forms ≡ true → OneOf (Asks digits before) forms → ⊥
+none_of : (before : List (List ℕ)) (forms : List (List Slot)) → list_all lacks_digits forms ≡ true → OneOf (Expects digits before) forms → ⊥
 none_of before [] lack all = all
 none_of before (form ∷ forms) lack (inl one) = no_digits before form (and_parts (lacks_digits form) (list_all lacks_digits forms) lack).0 one
 none_of before (form ∷ forms) lack (inr all) = none_of before forms (and_parts (lacks_digits form) (list_all lacks_digits forms) lack).1 all
 
-asks_one : (before : List (List ℕ)) (form : List Slot) (slot other : Slot) → Asks slot before form → Asks other before form → slot ≡ other
+asks_one : (before : List (List ℕ)) (form : List Slot) (slot other : Slot) → Expects slot before form → Expects other before form → slot ≡ other
 asks_one [] [] slot other one two = absurd one
 asks_one [] (first ∷ form) slot other one two = sym one ∙ two
 asks_one (word ∷ before) [] slot other one two = absurd one
 asks_one (word ∷ before) (first ∷ form) slot other one two = asks_one before form slot other one.1 two.1
 
-apart : (forms : List (List Slot)) → is_clear forms ≡ true → (before : List (List ℕ)) (slot : Slot) (text : List ℕ) → OneOf (Asks slot before) forms → HasAddress slot text → OneOf (Asks digits before) forms → ⊥
+apart : (forms : List (List Slot)) → is_clear forms ≡ true → (before : List (List ℕ)) (slot : Slot) (text : List ℕ) → OneOf (Expects slot before) forms → HasAddress slot text → OneOf (Expects digits before) forms → ⊥
 unfolding is_clear
-apart [] clear before slot text asked has all = all
-apart (form ∷ []) clear before slot text (inl asked) has (inl all) = subst (λ (s : Slot). HasAddress s text) (asks_one before form slot digits asked all) has
+apart [] clear before slot text expected has all = all
+apart (form ∷ []) clear before slot text (inl expected) has (inl all) = subst (λ (s : Slot). HasAddress s text) (asks_one before form slot digits expected all) has
 apart (form ∷ []) clear before slot text (inr none) has all = absurd none
-apart (form ∷ []) clear before slot text (inl asked) has (inr none) = absurd none
-apart (form ∷ second ∷ forms) clear before slot text asked has all = none_of before (form ∷ second ∷ forms) clear all
+apart (form ∷ []) clear before slot text (inl expected) has (inr none) = absurd none
+apart (form ∷ second ∷ forms) clear before slot text expected has all = none_of before (form ∷ second ∷ forms) clear all
 
 clear_in : (among : List Usage) (command : List ℕ) → list_all (λ (usage : Usage). is_clear usage.forms) among ≡ true → is_clear (forms_in among command) ≡ true
 unfolding is_clear
@@ -155,22 +155,22 @@ same_word text (Word one) Hex is too = absurd too
 same_word text (Address one) other is too = absurd is
 same_word text Hex other is too = absurd is
 
-same_wrong : (asked : Slot → Type 0) (text : List ℕ) → ((slot : Slot) → asked slot → HasAddress slot text → asked digits → ⊥) → (one other : WordsFault) → IsWrongBy asked text one → IsWrongBy asked text other → SameFault one other
-same_wrong asked text differ (Word one) (Word other) is too = is.0 ∙ sym too.0
-same_wrong asked text differ (Word one) (Address other) is too = absurd (is.1 too.1 too.2 too.3)
-same_wrong asked text differ (Word one) Hex is too = absurd (is.2 too)
-same_wrong asked text differ (Address one) (Word other) is too = absurd (too.1 is.1 is.2 is.3)
-same_wrong asked text differ (Address one) (Address other) is too = is.0 ∙ sym too.0
-same_wrong asked text differ (Address one) Hex is too = absurd (differ is.1 is.2 is.3 too)
-same_wrong asked text differ Hex (Word other) is too = absurd (too.2 is)
-same_wrong asked text differ Hex (Address other) is too = absurd (differ too.1 too.2 too.3 is)
-same_wrong asked text differ Hex Hex is too = tt
+same_wrong : (expected : Slot → Type 0) (text : List ℕ) → ((slot : Slot) → expected slot → HasAddress slot text → expected digits → ⊥) → (one other : WordsFault) → IsWrongBy expected text one → IsWrongBy expected text other → SameFault one other
+same_wrong expected text differ (Word one) (Word other) is too = is.0 ∙ sym too.0
+same_wrong expected text differ (Word one) (Address other) is too = absurd (is.1 too.1 too.2 too.3)
+same_wrong expected text differ (Word one) Hex is too = absurd (is.2 too)
+same_wrong expected text differ (Address one) (Word other) is too = absurd (too.1 is.1 is.2 is.3)
+same_wrong expected text differ (Address one) (Address other) is too = is.0 ∙ sym too.0
+same_wrong expected text differ (Address one) Hex is too = absurd (differ is.1 is.2 is.3 too)
+same_wrong expected text differ Hex (Word other) is too = absurd (too.2 is)
+same_wrong expected text differ Hex (Address other) is too = absurd (differ too.1 too.2 too.3 is)
+same_wrong expected text differ Hex Hex is too = tt
 
 module _ (forms : List (List Slot)) (clear : is_clear forms ≡ true) (one other : WordsFault) where
   same_first : (before d : List (List ℕ)) (word w : List ℕ) → before ≡ d → word ≡ w → IsFirstWrong forms before word one → IsFirstWrong forms d w other → SameFault one other
   same_first before d word w front same first too =
       let moved = subst (λ (b : List (List ℕ)). IsFirstWrong forms b word other) (sym front) (subst (λ (x : List ℕ). IsFirstWrong forms d x other) (sym same) too) in
-      same_wrong (λ slot. OneOf (Asks slot before) forms) word (λ slot asked has all. apart forms clear before slot word asked has all) one other first.is moved.is
+      same_wrong (λ slot. OneOf (Expects slot before) forms) word (λ slot expected has all. apart forms clear before slot word expected has all) one other first.is moved.is
 
   one_fault : (command : List ℕ) (words : List (List ℕ)) → IsFault forms command words one → IsFault forms command words other → SameFault one other
   one_fault command words (inl missing) (inl too) = same_word command one other missing.is too.is

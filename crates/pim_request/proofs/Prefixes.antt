@@ -50,21 +50,21 @@ module _ (word text behind : List ℕ) (cut : pieces_of 47 word ≡ text ∷ pie
   not_digits same = absurd cc
 
   -- the length is no number
-  pub no_length : (told : Bor (List ℕ)) → told.now ≡ word → ((n : ℕ) → n ≤ most → behind ≡ decimal n → ⊥) → (command : List ℕ) (others words : List (List ℕ)) → words ≡ word ∷ others → IsSlotFault prefix command words (Word told)
-  no_length told is none command others words same =
-      subst (λ (ws : List (List ℕ)). IsSlotFault prefix command ws (Word told)) (sym same) (
+  pub no_length : (reported : Bor (List ℕ)) → reported.now ≡ word → ((n : ℕ) → n ≤ most → behind ≡ decimal n → ⊥) → (command : List ℕ) (others words : List (List ℕ)) → words ≡ word ∷ others → IsSlotFault prefix command words (Word reported)
+  no_length reported is none command others words same =
+      subst (λ (ws : List (List ℕ)). IsSlotFault prefix command ws (Word reported)) (sym same) (
         λ fits. none fits.2 fits.4.0 (same_length fits.1 fits.2 fits.4),
         (
           is,
-          λ slot asked has. let p = same_slot slot asked has in none p.1 p.2.0 (same_length p.0 p.1 p.2),
+          λ slot expected has. let p = same_slot slot expected has in none p.1 p.2.0 (same_length p.0 p.1 p.2),
           not_digits,
         ),
       )
 
   -- the text names no address
-  pub no_name : (told : Bor (List ℕ)) → told.now ≡ word → (n : ℕ) → IsPrefix text n word → ((a : AnyAddress) → Names text a → ⊥) → (command : List ℕ) (others words : List (List ℕ)) → words ≡ word ∷ others → IsSlotFault prefix command words (Address told)
-  no_name told is n prefixed none command others words same =
-      subst (λ (ws : List (List ℕ)). IsSlotFault prefix command ws (Address told)) (sym same) (
+  pub no_name : (reported : Bor (List ℕ)) → reported.now ≡ word → (n : ℕ) → IsPrefix text n word → ((a : AnyAddress) → Names text a → ⊥) → (command : List ℕ) (others words : List (List ℕ)) → words ≡ word ∷ others → IsSlotFault prefix command words (Address reported)
+  no_name reported is n prefixed none command others words same =
+      subst (λ (ws : List (List ℕ)). IsSlotFault prefix command ws (Address reported)) (sym same) (
         λ fits. none fits.0 (subst (λ (t : List ℕ). Names t fits.0) (sym (same_text fits.1 fits.2 fits.4)) fits.3),
         (is, prefix, refl, (text, n, prefixed)),
       )

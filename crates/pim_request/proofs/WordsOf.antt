@@ -2,11 +2,11 @@
 use Rattle.std.proofs.Common.{◌≡◌, sym, subst, refl, inl, inr, ℕ, ◌≤◌, List, [], ◌∷◌, ◌++◌, map, Option, None, Some, codes, decimal, arith}
 use Rattle.pim_lines.specs.declared.either.AnyAddress.{AnyAddress}
 use Rattle.pim_request.specs.declared.command.PortRow.{PortRow}
-use Rattle.pim_request.specs.declared.command.Row.{Row}
+use Rattle.pim_request.specs.declared.command.RouteRow.{RouteRow}
 use Rattle.pim_request.specs.declared.command.Packet.{Packet}
 use Rattle.pim_request.specs.declared.command.Sender.{Sender}
 use Rattle.pim_request.specs.declared.command.Writing.{Writing}
-use Rattle.pim_request.specs.declared.command.Kept.{Kept}
+use Rattle.pim_request.specs.declared.command.KeptWhat.{KeptWhat}
 use Rattle.pim_request.specs.declared.command.Comparison.{Comparison}
 use Rattle.pim_request.specs.declared.command.Command.{Command}
 use Rattle.pim_request.specs.declared.command.Command.TheVariants.{Port, Rp, Via, Limit, Start, Run, Now, Next, State, Wants, Neighbours, Messages, Keep, Change, Same, Reset}
@@ -51,7 +51,7 @@ of_port row words (text, others, same, names, delays) =
     again port_forms words (text ∷ others) same
     (onto address text (row.address, names) others delays_forms (of_delays row.propagation row.override_ms others delays))
 
-of_row : (row : Row) (words : List (List ℕ)) → IsRow row words → AreOfOne row_forms words
+of_row : (row : RouteRow) (words : List (List ℕ)) → IsRow row words → AreOfOne row_forms words
 of_row row words (word, text, to, same, is, names, leads) =
     again row_forms words (word ∷ to ∷ []) same (inl ((row.prefix, text, row.length, names, is), ((row.to, leads), refl)))
 
@@ -93,14 +93,14 @@ of_writing writing words (upstream, own, others, same, up, mine, options) =
     (onto address upstream (writing.upstream, up) (own ∷ others) (map (λ form. address ∷ form) option_forms)
     (onto address own (writing.own, mine) others option_forms (of_options writing.holdtime writing.budget others options)))
 
-of_kept : (kept : Kept) (words : List (List ℕ)) → IsKept kept words → AreOfOne kept_forms words
+of_kept : (kept : KeptWhat) (words : List (List ℕ)) → IsKept kept words → AreOfOne kept_forms words
 of_kept kept words (upstream, same, some, up) =
     again kept_forms words (kept.name.now ∷ upstream ∷ []) same (inl (some, ((kept.upstream, up), refl)))
 
-of_named : (named : Comparison) (words : List (List ℕ)) → IsComparison named words → AreOfOne comparison_forms words
-of_named named words (others, same, some, writing) =
-    again comparison_forms words (named.name.now ∷ others) same
-    (onto name named.name.now some others writing_forms (of_writing named.writing others writing))
+of_named : (compared : Comparison) (words : List (List ℕ)) → IsComparison compared words → AreOfOne comparison_forms words
+of_named compared words (others, same, some, writing) =
+    again comparison_forms words (compared.name.now ∷ others) same
+    (onto name compared.name.now some others writing_forms (of_writing compared.writing others writing))
 
 -- ---- so they have no fault
 
@@ -127,8 +127,8 @@ module _ (line : List ℕ) (fault : WordsFault) where
   no_fault_if_stated Neighbours is has = none_alone (codes "neighbours") is has (λ words same are. no_fault_among usages line (codes "neighbours") words fault same are has)
   no_fault_if_stated (Messages writing) is has = none_with (codes "messages") writing_forms (IsWriting writing) (of_writing writing) (λ words same are. no_fault_among usages line (codes "messages") words fault same are has) is
   no_fault_if_stated (Keep kept) is has = none_with (codes "keep") kept_forms (IsKept kept) (of_kept kept) (λ words same are. no_fault_among usages line (codes "keep") words fault same are has) is
-  no_fault_if_stated (Change named) is has = none_with (codes "change") comparison_forms (IsComparison named) (of_named named) (λ words same are. no_fault_among usages line (codes "change") words fault same are has) is
-  no_fault_if_stated (Same named) is has = none_with (codes "same") comparison_forms (IsComparison named) (of_named named) (λ words same are. no_fault_among usages line (codes "same") words fault same are has) is
+  no_fault_if_stated (Change compared) is has = none_with (codes "change") comparison_forms (IsComparison compared) (of_named compared) (λ words same are. no_fault_among usages line (codes "change") words fault same are has) is
+  no_fault_if_stated (Same compared) is has = none_with (codes "same") comparison_forms (IsComparison compared) (of_named compared) (λ words same are. no_fault_among usages line (codes "same") words fault same are has) is
   no_fault_if_stated Reset is has = none_alone (codes "reset") is has (λ words same are. no_fault_among usages line (codes "reset") words fault same are has)
 
   pub no_sender_fault : (sender : Sender) → HasCommand (codes "from") (IsSender sender) (words_of line) → IsFaultAmong (usage (codes "from") sender_forms ∷ []) line fault → ⊥

@@ -4,11 +4,11 @@ use Rattle.std.specs.Prelude.{bytes_eq}
 use Rattle.pim_lines.specs.AnyAddress.{Names}
 use Rattle.pim_lines.specs.declared.either.AnyAddress.{AnyAddress}
 use Rattle.pim_request.specs.declared.command.PortRow.{PortRow}
-use Rattle.pim_request.specs.declared.command.Row.{Row}
+use Rattle.pim_request.specs.declared.command.RouteRow.{RouteRow}
 use Rattle.pim_request.specs.declared.command.Packet.{Packet}
 use Rattle.pim_request.specs.declared.command.Sender.{Sender}
 use Rattle.pim_request.specs.declared.command.Writing.{Writing}
-use Rattle.pim_request.specs.declared.command.Kept.{Kept}
+use Rattle.pim_request.specs.declared.command.KeptWhat.{KeptWhat}
 use Rattle.pim_request.specs.declared.command.Comparison.{Comparison}
 use Rattle.pim_request.specs.declared.command.Command.{Command}
 use Rattle.pim_request.specs.declared.command.Command.TheVariants.{Port, Rp, Via, Limit, Start, Run, Now, Next, State, Wants, Neighbours, Messages, Keep, Change, Same, Reset}
@@ -171,7 +171,7 @@ IsPort row words =
     × AreDelays row.propagation row.override_ms others
 
 -- The words state this row.
-abbrev pub IsRow : Row → List (List ℕ) → Type 0
+abbrev pub IsRow : RouteRow → List (List ℕ) → Type 0
 IsRow row words =
     (word : List ℕ) × (text : List ℕ) × (to : List ℕ) × (words ≡ word ∷ to ∷ [])
     × IsPrefix text row.length word × Names text row.prefix × Names to row.to
@@ -198,16 +198,16 @@ IsWriting writing words =
     × AreOptions writing.holdtime writing.budget others
 
 -- The words state this name and upstream neighbour.
-abbrev pub IsKept : Kept → List (List ℕ) → Type 0
+abbrev pub IsKept : KeptWhat → List (List ℕ) → Type 0
 IsKept kept words =
     (upstream : List ℕ) × (words ≡ kept.name.now ∷ upstream ∷ []) × (kept.name.now ≡ [] → ⊥)
     × Names upstream kept.upstream
 
 -- The words state this name, and how messages are written.
 abbrev pub IsComparison : Comparison → List (List ℕ) → Type 0
-IsComparison named words =
-    (others : List (List ℕ)) × (words ≡ named.name.now ∷ others) × (named.name.now ≡ [] → ⊥)
-    × IsWriting named.writing others
+IsComparison compared words =
+    (others : List (List ℕ)) × (words ≡ compared.name.now ∷ others) × (compared.name.now ≡ [] → ⊥)
+    × IsWriting compared.writing others
 
 -- The first word is this command, and the words after it are so.
 abbrev pub HasCommand : List ℕ → (List (List ℕ) → Type 0) → List (List ℕ) → Type 0
@@ -234,8 +234,8 @@ AreCommand words Wants = words ≡ codes "wants" ∷ []
 AreCommand words Neighbours = words ≡ codes "neighbours" ∷ []
 AreCommand words (Messages writing) = HasCommand (codes "messages") (IsWriting writing) words
 AreCommand words (Keep kept) = HasCommand (codes "keep") (IsKept kept) words
-AreCommand words (Change named) = HasCommand (codes "change") (IsComparison named) words
-AreCommand words (Same named) = HasCommand (codes "same") (IsComparison named) words
+AreCommand words (Change compared) = HasCommand (codes "change") (IsComparison compared) words
+AreCommand words (Same compared) = HasCommand (codes "same") (IsComparison compared) words
 AreCommand words Reset = words ≡ codes "reset" ∷ []
 
 -- The line states this command.

@@ -86,9 +86,9 @@ IsFirst slot [] = ⊥
 IsFirst slot (first ∷ form) = first ≡ slot
 
 -- The words begin this form, and it asks for this slot after them.
-abbrev pub Asks : Slot → List (List ℕ) → List Slot → Type 0
-Asks slot [] form = IsFirst slot form
-Asks slot (word ∷ words) form = Takes (Asks slot words) word form
+abbrev pub Expects : Slot → List (List ℕ) → List Slot → Type 0
+Expects slot [] form = IsFirst slot form
+Expects slot (word ∷ words) form = Takes (Expects slot words) word form
 
 -- One of the forms is so.
 abbrev pub OneOf : (List Slot → Type 0) → List (List Slot) → Type 0
@@ -105,18 +105,18 @@ IsWord text fault = ⊥
 -- What is wrong with a word where these slots are asked for and it fits none of them: its address,
 -- if its form is right; the digits, if they are asked for; the word itself in all other cases.
 abbrev pub IsWrongBy : (Slot → Type 0) → List ℕ → WordsFault → Type 0
-IsWrongBy asked text (Word word) =
-    (word.now ≡ text) × ((slot : Slot) → asked slot → HasAddress slot text → ⊥) × (asked digits → ⊥)
-IsWrongBy asked text (Address word) =
-    (word.now ≡ text) × (slot : Slot) × asked slot × HasAddress slot text
-IsWrongBy asked text Hex = asked digits
+IsWrongBy expected text (Word word) =
+    (word.now ≡ text) × ((slot : Slot) → expected slot → HasAddress slot text → ⊥) × (expected digits → ⊥)
+IsWrongBy expected text (Address word) =
+    (word.now ≡ text) × (slot : Slot) × expected slot × HasAddress slot text
+IsWrongBy expected text Hex = expected digits
 
 -- The first wrong word: those before it begin a form, and with it they begin none.
 pub record IsFirstWrong (forms : List (List Slot)) (before : List (List ℕ)) (word : List ℕ)
     (fault : WordsFault) : Type 0 where
   pub begins : OneOf (Begins before) forms
-  pub wrong : (slot : Slot) → OneOf (Asks slot before) forms → Fits slot word → ⊥
-  pub is : IsWrongBy (λ slot. OneOf (Asks slot before) forms) word fault
+  pub wrong : (slot : Slot) → OneOf (Expects slot before) forms → Fits slot word → ⊥
+  pub is : IsWrongBy (λ slot. OneOf (Expects slot before) forms) word fault
 
 -- The words are too few: they begin a form and are of none. The fault is the command itself.
 pub record IsMissing (forms : List (List Slot)) (command : List ℕ) (words : List (List ℕ))

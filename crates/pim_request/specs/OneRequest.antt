@@ -1,8 +1,8 @@
--- What a line asks for is one thing: the statements of the laws in `src/one_request.rt`.
+-- What a line asks for is one thing: the statements of the laws in `src/laws.rt`.
 use Rattle.std.specs.Prelude.{◌≡◌, ⊤, ℕ, List}
 use Rattle.pim_request.specs.declared.command.Packet.{Packet}
 use Rattle.pim_request.specs.declared.command.Sender.{Sender}
-use Rattle.pim_request.specs.declared.command.Kept.{Kept}
+use Rattle.pim_request.specs.declared.command.KeptWhat.{KeptWhat}
 use Rattle.pim_request.specs.declared.command.Comparison.{Comparison}
 use Rattle.pim_request.specs.declared.command.Command.{Command}
 use Rattle.pim_request.specs.declared.command.Command.TheVariants.{Port, Rp, Via, Limit, Start, Run, Now, Next, State, Wants, Neighbours, Messages, Keep, Change, Same, Reset}
@@ -21,7 +21,7 @@ pub record SamePacket (one other : Packet) : Type 0 where
   pub hex : one.hex.now ≡ other.hex.now
 
 -- Both have the same name and upstream neighbour.
-pub record SameKept (one other : Kept) : Type 0 where
+pub record SameKept (one other : KeptWhat) : Type 0 where
   pub name : one.name.now ≡ other.name.now
   pub upstream : one.upstream ≡ other.upstream
 

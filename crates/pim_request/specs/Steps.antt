@@ -20,14 +20,14 @@ words_left left = pieces_left 32 left
 abbrev pub IsSlotFault : Slot → List ℕ → List (List ℕ) → WordsFault → Type 0
 IsSlotFault slot command [] fault = IsWord command fault
 IsSlotFault slot command (word ∷ words) fault =
-    (Fits slot word → ⊥) × IsWrongBy (λ asked. slot ≡ asked) word fault
+    (Fits slot word → ⊥) × IsWrongBy (λ expected. slot ≡ expected) word fault
 
 -- What is wrong where the words don't begin with words that fit these slots, one by one.
 abbrev pub IsFrontFault : List Slot → List ℕ → List (List ℕ) → WordsFault → Type 0
 IsFrontFault [] command words fault = ⊥
 IsFrontFault (slot ∷ slots) command [] fault = IsWord command fault
 IsFrontFault (slot ∷ slots) command (word ∷ words) fault =
-    ((Fits slot word → ⊥) × IsWrongBy (λ asked. slot ≡ asked) word fault)
+    ((Fits slot word → ⊥) × IsWrongBy (λ expected. slot ≡ expected) word fault)
     ⊎ (Fits slot word × IsFrontFault slots command words fault)
 
 -- These words begin with a holdtime in seconds, and the others follow; or they begin with another

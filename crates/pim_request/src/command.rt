@@ -15,7 +15,7 @@ pub struct PortRow {
 
 /// A row of the route table.
 #[derive(Clone, Copy, Debug, PartialEq, Eq)]
-pub struct Row {
+pub struct RouteRow {
     /// The prefix.
     pub prefix: AnyAddress,
     /// The length of the prefix in bits, up to 10^15. The table refuses one above its address's.
@@ -63,7 +63,7 @@ pub struct Writing {
 
 /// What is kept under a name.
 #[derive(Clone, Copy, Debug, PartialEq, Eq)]
-pub struct Kept<'a> {
+pub struct KeptWhat<'a> {
     /// The name, not empty.
     pub name: &'a [u8],
     /// The upstream neighbour of which it is asked.
@@ -85,9 +85,9 @@ pub enum Command<'a> {
     /// `port ADDRESS [delays PROPAGATION OVERRIDE]`
     Port(PortRow),
     /// `rp ADDRESS/LENGTH ADDRESS`
-    Rp(Row),
+    Rp(RouteRow),
     /// `via ADDRESS/LENGTH ADDRESS`
-    Via(Row),
+    Via(RouteRow),
     /// `limit N`
     Limit(usize),
     /// `start`
@@ -109,7 +109,7 @@ pub enum Command<'a> {
     /// `messages UPSTREAM OWN [holdtime S] [budget N]`
     Messages(Writing),
     /// `keep NAME UPSTREAM`
-    Keep(Kept<'a>),
+    Keep(KeptWhat<'a>),
     /// `change NAME UPSTREAM OWN [holdtime S] [budget N]`
     Change(Comparison<'a>),
     /// `same NAME UPSTREAM OWN [holdtime S] [budget N]`

@@ -8,7 +8,9 @@ ghost use Rattle.pim_request.specs.Commands.{number_forms};
 ghost use Rattle.pim_request.specs.Commands.{IsRow, IsComparison, IsSender, AreCommand};
 ghost use Rattle.pim_request.specs.Steps.{words_left};
 
-use crate::command::{Command, Comparison, Kept, Packet, PortRow, Row, Sender, WordsFault};
+use crate::command::{
+    Command, Comparison, KeptWhat, Packet, PortRow, RouteRow, Sender, WordsFault,
+};
 use crate::slots::{
     MOST, line_end, next_address, next_digits, next_name, next_number, next_prefix,
 };
@@ -34,13 +36,13 @@ pub(crate) fn read_port<'a>(
 }
 
 /// Reads `ADDRESS/LENGTH ADDRESS`.
-fn read_row<'a>(command: &'a [u8], left: Option<&'a [u8]>) -> Result<Row, WordsFault<'a>>
+fn read_row<'a>(command: &'a [u8], left: Option<&'a [u8]>) -> Result<RouteRow, WordsFault<'a>>
     ensures read { IfOk result (λ row. IsRow row (words_left left.entry)) }
     ensures fault { IfErr result (IsFault row_forms command.now (words_left left.entry)) }
 {
     let read = next_prefix(command, left)?;
     let to = last_address(command, read.left)?;
-    Ok(Row {
+    Ok(RouteRow {
         prefix: read.address,
         length: read.length,
         to,
@@ -157,7 +159,7 @@ pub(crate) fn read_keep<'a>(
 {
     let cut = next_name(command, left)?;
     let upstream = last_address(command, cut.left)?;
-    Ok(Command::Keep(Kept {
+    Ok(Command::Keep(KeptWhat {
         name: cut.word,
         upstream,
     }))
@@ -168,7 +170,7 @@ fn read_comparison<'a>(
     command: &'a [u8],
     left: Option<&'a [u8]>,
 ) -> Result<Comparison<'a>, WordsFault<'a>>
-    ensures read { IfOk result (λ named. IsComparison named (words_left left.entry)) }
+    ensures read { IfOk result (λ compared. IsComparison compared (words_left left.entry)) }
     ensures fault { IfErr result (IsFault comparison_forms command.now (words_left left.entry)) }
 {
     let cut = next_name(command, left)?;
@@ -187,8 +189,8 @@ pub(crate) fn read_change<'a>(
     ensures read { IfOk result (AreCommand (codes "change" ∷ words_left left.entry)) }
     ensures fault { IfErr result (IsFault comparison_forms command.now (words_left left.entry)) }
 {
-    let named = read_comparison(command, left)?;
-    Ok(Command::Change(named))
+    let compared = read_comparison(command, left)?;
+    Ok(Command::Change(compared))
 }
 
 /// Reads `NAME UPSTREAM OWN [holdtime S] [budget N]` after `same`.
@@ -199,6 +201,6 @@ pub(crate) fn read_same<'a>(
     ensures read { IfOk result (AreCommand (codes "same" ∷ words_left left.entry)) }
     ensures fault { IfErr result (IsFault comparison_forms command.now (words_left left.entry)) }
 {
-    let named = read_comparison(command, left)?;
-    Ok(Command::Same(named))
+    let compared = read_comparison(command, left)?;
+    Ok(Command::Same(compared))
 }

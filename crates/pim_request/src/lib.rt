@@ -1,37 +1,36 @@
-//! The lines of a session, and the command that each states.
+//! The input of a session: its lines and texts, and the command that each line states.
 //!
-//! - `read_command` reads the words of a line: the pieces between its spaces. Ok: the words state
-//!   this command, with each number in its range. Err: the first word, from the left, with which
-//!   the words so far begin no form of the command, or the command itself where a word is missing.
-//!   An address may have any of its texts, of either family.
-//! - `read_sender` does the same for a line whose first word is `from`, which begins the text of a
-//!   message.
-//! - `decode_hex` replaces a buffer, which has room for them, by the bytes that the digits of a
-//!   packet state.
-//! - Laws of `one_request`: a line states one command, or one sender, or has one fault of its
-//!   words, and not both.
-//! - `Answers`: a device that takes answers and can pass on at once what it holds.
+//! - `InputItems::next` reads the next item of a device: a line, or the text that a `from` line
+//!   begins. It passes the answers on before each read. Where the bytes of the device are known,
+//!   the items are those of `items_of` in `specs/Items.antt`, however the device cuts them.
+//! - `read_command` and `read_sender` read the words of a line. Its first wrong word is the first
+//!   with which the words so far begin no form of the command.
+//! - `decode_hex` replaces a buffer, which has room for them, by the bytes of its digits.
 //!
-//! The definitions list the forms of each command, slot by slot, and judge a word by the slots that
-//! are asked for at its place. The code reads forward, once: each reader is given what is left of
-//! the line. No reader takes memory, and a command borrows its name or its digits from the line.
-//!
-//! The crate knows no router. So it is checked soon, and a router is in no goal about words.
+//! After an error what was read is lost, and each later call fails too. No item needs memory: the
+//! room for a line and for a text is made in advance. A command borrows its name or its digits from
+//! the line. The crate knows no router. Callers: `pim_answers`, `pim_session` and `pim_main`.
 #![tactic(auto)]
 
+mod answers;
 mod command;
 mod commands;
+mod held_text;
 mod hex;
-mod one_request;
+mod input;
+mod items;
+pub mod laws;
 mod reading;
 mod slots;
+mod sort;
 mod tails;
 mod words;
 
-pub use command::{Command, Comparison, Kept, Packet, PortRow, Row, Sender, WordsFault, Writing};
-pub use hex::decode_hex;
-pub use one_request::{
-    line_has_one_fault, line_states_one_command, line_states_one_sender, sender_has_one_fault,
+pub use answers::Answers;
+pub use command::{
+    Command, Comparison, KeptWhat, Packet, PortRow, RouteRow, Sender, WordsFault, Writing,
 };
-pub use pim_items::{Answers, Item, Items, Stopped, TextItem};
+pub use hex::decode_hex;
+pub use input::Stopped;
+pub use items::{InputItems, Item, TextItem};
 pub use reading::{read_command, read_sender};

@@ -10,7 +10,7 @@ ghost use Rattle.pim_request.specs.Steps.{words_left, IsSlotFault};
 
 use crate::command::WordsFault;
 use crate::hex::is_hex;
-use crate::words::{Cut, cut_at, next_word};
+use crate::words::{WordCut, cut_at, next_word};
 use pim_lines::AnyAddress;
 use pim_text::{read_address, read_decimal};
 
@@ -19,7 +19,7 @@ pub(crate) const MOST: u64 = 1_000_000_000_000_000;
 
 /// A number, and what is left of the line after it.
 #[derive(Clone, Copy)]
-pub(crate) struct Number<'a> {
+pub(crate) struct NumberRange<'a> {
     pub(crate) number: u64,
     pub(crate) left: Option<&'a [u8]>,
 }
@@ -45,7 +45,7 @@ pub(crate) fn next_number<'a>(
     left: Option<&'a [u8]>,
     low: u64,
     high: u64,
-) -> Result<Number<'a>, WordsFault<'a>>
+) -> Result<NumberRange<'a>, WordsFault<'a>>
     ensures low { IfOk result (λ read. low ≤ read.number) }
     ensures high { IfOk result (λ read. read.number ≤ high) }
     ensures read { IfOk result (λ read. words_left left.entry
@@ -62,7 +62,7 @@ pub(crate) fn next_number<'a>(
     if number < low {
         return Err(WordsFault::Word(cut.word));
     }
-    Ok(Number {
+    Ok(NumberRange {
         number,
         left: cut.left,
     })
@@ -72,7 +72,7 @@ pub(crate) fn next_number<'a>(
 pub(crate) fn next_name<'a>(
     command: &'a [u8],
     left: Option<&'a [u8]>,
-) -> Result<Cut<'a>, WordsFault<'a>>
+) -> Result<WordCut<'a>, WordsFault<'a>>
     ensures some { IfOk result (λ cut. cut.word.now ≡ [] → ⊥) }
     ensures read { IfOk result (λ cut. words_left left.entry ≡ cut.word.now ∷ words_left cut.left) }
     ensures fault { IfErr result (IsSlotFault name command.now (words_left left.entry)) }
@@ -143,7 +143,7 @@ pub(crate) fn next_prefix<'a>(
 pub(crate) fn next_digits<'a>(
     command: &'a [u8],
     left: Option<&'a [u8]>,
-) -> Result<Cut<'a>, WordsFault<'a>>
+) -> Result<WordCut<'a>, WordsFault<'a>>
     ensures hex { IfOk result (λ cut. IsHex cut.word.now) }
     ensures read { IfOk result (λ cut. words_left left.entry ≡ cut.word.now ∷ words_left cut.left) }
     ensures fault { IfErr result (IsSlotFault digits command.now (words_left left.entry)) }
@@ -153,7 +153,7 @@ pub(crate) fn next_digits<'a>(
     };
     // Most lines end with their digits: then the line isn't searched for a space.
     if is_hex(text) {
-        return Ok(Cut {
+        return Ok(WordCut {
             word: text,
             left: None,
         });

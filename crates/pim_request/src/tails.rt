@@ -12,7 +12,7 @@ ghost use Rattle.pim_request.specs.Commands.{AreOptions, IsNumber, IsWriting};
 ghost use Rattle.pim_request.specs.Steps.{words_left, IsFrontFault, IsHoldtime, IsHoldtimeFault};
 
 use crate::command::{WordsFault, Writing};
-use crate::slots::{Number, line_end, next_address, next_number};
+use crate::slots::{NumberRange, line_end, next_address, next_number};
 use crate::words::{is_word, next_word};
 use pim_lines::AnyAddress;
 
@@ -44,7 +44,7 @@ pub(crate) struct Options {
 
 /// Two addresses, and what is left of the line after them.
 #[derive(Clone, Copy)]
-pub(crate) struct Ends<'a> {
+pub(crate) struct TailEnds<'a> {
     pub(crate) first: AnyAddress,
     pub(crate) second: AnyAddress,
     pub(crate) left: Option<&'a [u8]>,
@@ -84,7 +84,7 @@ pub(crate) fn last_address<'a>(
 pub(crate) fn two_addresses<'a>(
     command: &'a [u8],
     left: Option<&'a [u8]>,
-) -> Result<Ends<'a>, WordsFault<'a>>
+) -> Result<TailEnds<'a>, WordsFault<'a>>
     ensures read { IfOk result (λ ends. (first : List ℕ) × (second : List ℕ)
         × Names first ends.first × Names second ends.second
         × (words_left left.entry ≡ first ∷ second ∷ words_left ends.left)) }
@@ -93,7 +93,7 @@ pub(crate) fn two_addresses<'a>(
 {
     let first = next_address(command, left)?;
     let second = next_address(command, first.left)?;
-    Ok(Ends {
+    Ok(TailEnds {
         first: first.address,
         second: second.address,
         left: second.left,
@@ -148,19 +148,19 @@ pub(crate) fn last_destination<'a>(
 fn next_holdtime<'a>(
     command: &'a [u8],
     left: Option<&'a [u8]>,
-) -> Result<Number<'a>, WordsFault<'a>>
+) -> Result<NumberRange<'a>, WordsFault<'a>>
     ensures read { IfOk result (λ read. IsHoldtime read.number (words_left left.entry)
         (words_left read.left)) }
     ensures fault { IfErr result (IsHoldtimeFault command.now (words_left left.entry)) }
 {
     let Some(cut) = next_word(left) else {
-        return Ok(Number {
+        return Ok(NumberRange {
             number: HOLDTIME,
             left,
         });
     };
     if !is_word(cut.word, b"holdtime") {
-        return Ok(Number {
+        return Ok(NumberRange {
             number: HOLDTIME,
             left,
         });

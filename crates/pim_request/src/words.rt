@@ -7,7 +7,7 @@ ghost use Rattle.pim_request.specs.Steps.{pieces_left, words_left};
 
 /// A word, and what is left of the line after its space. Nothing is left after the last word.
 #[derive(Clone, Copy)]
-pub(crate) struct Cut<'a> {
+pub(crate) struct WordCut<'a> {
     pub(crate) word: &'a [u8],
     pub(crate) left: Option<&'a [u8]>,
 }
@@ -20,18 +20,18 @@ fn first_place(text: &[u8], separator: u8) -> Option<usize>
 }
 
 /// Returns the piece of a text before the first separator, and what is left after it.
-pub(crate) fn cut_at(text: &[u8], separator: u8) -> Cut<'_>
+pub(crate) fn cut_at(text: &[u8], separator: u8) -> WordCut<'_>
     ensures { pieces_of separator text.now ≡ result.word.now ∷ pieces_left separator result.left }
 {
     let Some(place) = first_place(text, separator) else {
-        return Cut {
+        return WordCut {
             word: text,
             left: None,
         };
     };
     let (word, behind) = text.split_at(place);
     match behind.split_first() {
-        Some((_, left)) => Cut {
+        Some((_, left)) => WordCut {
             word,
             left: Some(left),
         },
@@ -40,7 +40,7 @@ pub(crate) fn cut_at(text: &[u8], separator: u8) -> Cut<'_>
 }
 
 /// Returns the next word, if one is left.
-pub(crate) fn next_word(left: Option<&[u8]>) -> Option<Cut<'_>>
+pub(crate) fn next_word(left: Option<&[u8]>) -> Option<WordCut<'_>>
     ensures word { IfSome result (λ cut. words_left left.entry
         ≡ cut.word.now ∷ words_left cut.left) }
     ensures none { IfNone result (words_left left.entry ≡ []) }

@@ -17,61 +17,61 @@ use Rattle.pim_jp.specs.Message.{Message, message_of}
 use Rattle.pim_router.specs.declared.verdict.Verdict.{Verdict}
 use Rattle.pim_router.specs.declared.verdict.Verdict.TheVariants as verdict
 use Rattle.pim_router.specs.declared.verdict.Malformed.TheVariants as malformed
-use Rattle.pim_router.specs.Packets.{Packet, Receives, causes, received, unless, own_address, neighbours_on, body_causes, body_taken, may_grow, new_by, hello_causes, hello_taken, message_causes, message_taken}
+use Rattle.pim_router.specs.Packets.{Packet, Receives, causes, received, unless, own_address, neighbours_on, body_causes, body_heard, may_grow, new_by, hello_causes, hello_heard, message_causes, message_heard}
 use Rattle.pim_router.specs.Reading.{Reading, hello_by, message_by, read_by, packet_read, message_refusals, read_causes, read_taken, read_received, read_may_grow, IsTakenAsRead}
 use Rattle.pim_router.specs.State.{RouterState, setup_of}
 
 module _ (family : AddressFamily) (port : ℕ) (source : List ℕ) (state : RouterState) where
   -- these causes, this end and this need of memory are those of what was read
-  record Agrees (told : List Verdict) (taken : Verdict × RouterState) (may : Bool) (reading : Reading) : Type 0 where
-    refused : (message_refusals family port source state reading ≡ []) ↔ (told ≡ [])
-    same : unless (message_refusals family port source state reading) state (read_taken family port source state reading) ≡ unless told state taken
+  record Agrees (reported : List Verdict) (taken : Verdict × RouterState) (may : Bool) (reading : Reading) : Type 0 where
+    refused : (message_refusals family port source state reading ≡ []) ↔ (reported ≡ [])
+    same : unless (message_refusals family port source state reading) state (read_taken family port source state reading) ≡ unless reported state taken
     grows : IsTrue (read_may_grow family port source state reading) → IsTrue may
 
   by_hello : (faults : List HelloFault) (said : Hello) →
       Agrees (map (λ fault. verdict.Malformed (malformed.Hello fault)) faults ++ hello_causes port source state said.parameters)
-      (hello_taken port source state said.parameters) (not (needs_no_memory source said.parameters (neighbours_on port state))) (hello_by (judged faults said))
+      (hello_heard port source state said.parameters) (not (needs_no_memory source said.parameters (neighbours_on port state))) (hello_by (judged faults said))
   by_hello [] said = record { refused = (λ e. e, λ e. e); same = refl; grows = λ g. g }
   by_hello (fault ∷ faults) said = record { refused = (λ e. absurd cc, λ e. absurd cc); same = refl; grows = λ g. absurd (false≢true g) }
 
   by_message : (faults : List JpFault) (message : Message) →
       Agrees (map (λ fault. verdict.Malformed (malformed.JoinPrune fault)) faults ++ message_causes family port source state message)
-      (message_taken family port state message) (nat_lt 0 (new_by family port message state)) (message_by (judged faults message))
+      (message_heard family port state message) (nat_lt 0 (new_by family port message state)) (message_by (judged faults message))
   by_message [] message = record { refused = (λ e. e, λ e. e); same = refl; grows = λ g. g }
   by_message (fault ∷ faults) message = record { refused = (λ e. absurd cc, λ e. absurd cc); same = refl; grows = λ g. absurd (false≢true g) }
 
   by_frame : (faults : List FrameFault) (body : Content) →
       Agrees (map (λ fault. verdict.Malformed (malformed.Frame fault)) faults ++ body_causes family port source state body)
-      (body_taken family port source state body) (may_grow family port source state body) (read_by family (judged faults body))
+      (body_heard family port source state body) (may_grow family port source state body) (read_by family (judged faults body))
   by_frame [] (other type) = record { refused = (λ e. e, λ e. e); same = refl; grows = λ g. g }
   by_frame [] (hello body) = by_hello (hello_faults body) (hello_of family body)
   by_frame [] (join_prune body) = by_message (join_prune_faults family body) (message_of family body)
   by_frame (fault ∷ faults) body = record { refused = (λ e. absurd cc, λ e. absurd cc); same = refl; grows = λ g. absurd (false≢true g) }
 
   -- the port's own address comes first
-  own_refused : (mine : Bool) (told more : List Verdict) → (told ≡ []) ↔ (more ≡ []) →
-      (fault_if mine verdict.Mine ++ told ≡ []) ↔ (fault_if mine verdict.Mine ++ more ≡ [])
-  own_refused true told more both = (λ e. absurd cc, λ e. absurd cc)
-  own_refused false told more both = both
+  own_refused : (mine : Bool) (reported more : List Verdict) → (reported ≡ []) ↔ (more ≡ []) →
+      (fault_if mine verdict.Mine ++ reported ≡ []) ↔ (fault_if mine verdict.Mine ++ more ≡ [])
+  own_refused true reported more both = (λ e. absurd cc, λ e. absurd cc)
+  own_refused false reported more both = both
 
-  own_same : (mine : Bool) (told more : List Verdict) (taken end : Verdict × RouterState) → unless told state taken ≡ unless more state end →
-      unless (fault_if mine verdict.Mine ++ told) state taken ≡ unless (fault_if mine verdict.Mine ++ more) state end
-  own_same true told more taken end same = refl
-  own_same false told more taken end same = same
+  own_same : (mine : Bool) (reported more : List Verdict) (taken end : Verdict × RouterState) → unless reported state taken ≡ unless more state end →
+      unless (fault_if mine verdict.Mine ++ reported) state taken ≡ unless (fault_if mine verdict.Mine ++ more) state end
+  own_same true reported more taken end same = refl
+  own_same false reported more taken end same = same
 
 pub taken_as_read : (family : AddressFamily) (packet : Packet) (state : RouterState) → IsTakenAsRead family packet state
 taken_as_read family packet state =
     let agrees = by_frame family packet.port packet.source state (frame_faults family packet.source packet.destination packet.bytes) (content packet.bytes) in
     let mine : Bool = pointwise nat_eq packet.source (own_address packet.port state) in
-    let told = message_refusals family packet.port packet.source state (packet_read family packet) in
+    let reported = message_refusals family packet.port packet.source state (packet_read family packet) in
     let more : List Verdict = map (λ fault. verdict.Malformed (malformed.Frame fault)) (frame_faults family packet.source packet.destination packet.bytes)
     ++ body_causes family packet.port packet.source state (content packet.bytes) in
     let whole : fault_if mine verdict.Mine ++ more ≡ causes family packet state = own_first mine _ _ in
     record {
       refused = subst (λ all. (read_causes family packet.port packet.source state (packet_read family packet) ≡ []) ↔ (all ≡ [])) whole
-          (own_refused family packet.port packet.source state mine told more agrees.refused);
-      received_is = own_same family packet.port packet.source state mine told more _ _ agrees.same
-          ∙ ap (λ all. unless all state (body_taken family packet.port packet.source state (content packet.bytes))) whole;
+          (own_refused family packet.port packet.source state mine reported more agrees.refused);
+      received_is = own_same family packet.port packet.source state mine reported more _ _ agrees.same
+          ∙ ap (λ all. unless all state (body_heard family packet.port packet.source state (content packet.bytes))) whole;
       grows = agrees.grows;
     }
   where
@@ -85,7 +85,7 @@ pub as_packet : {E : Type 0} (family : AddressFamily) (packet : Packet) (state :
     (answer : Result Verdict E) (new : RouterState) →
     Receives (read_causes family packet.port packet.source state reading) (read_received family packet.port packet.source state reading) state answer new →
     Receives (causes family packet state) (received family packet state) state answer new
-as_packet family packet state law reading is (Ok told) new takes =
+as_packet family packet state law reading is (Ok reported) new takes =
     takes ∙ (ap (read_received family packet.port packet.source state) is ∙ law.received_is)
 as_packet family packet state law reading is (Err refused) new takes = (
   law.refused.0 (ap (read_causes family packet.port packet.source state) (sym is) ∙ takes.0),
@@ -95,6 +95,6 @@ as_packet family packet state law reading is (Err refused) new takes = (
 pub packet_wants : {E : Type 0} (family : AddressFamily) (packet : Packet) (state : RouterState) → IsTakenAsRead family packet state → (reading : Reading) → reading ≡ packet_read family packet →
     (answer : Result Verdict E) → OnErr answer (IsTrue (read_may_grow family packet.port packet.source state reading)) →
     OnErr answer (IsTrue (may_grow family packet.port packet.source state (content packet.bytes)))
-packet_wants family packet state law reading is (Ok told) wants = tt
+packet_wants family packet state law reading is (Ok reported) wants = tt
 packet_wants family packet state law reading is (Err refused) wants =
     law.grows (subst (λ r. IsTrue (read_may_grow family packet.port packet.source state r)) is wants)

@@ -43,6 +43,6 @@ module _ {A : Type 0} (family : AddressFamily) (bytes_of : A → List ℕ) (port
       ∙ ap (λ p. faults_of (length ports) (position (λ (port : PortConfig A). address_test (port_seen bytes_of port)) ports) p)
       (position_map delay_test (port_seen bytes_of) ports)
 
-  pub told : {B : Type 0} (value : B) (result : Result B ConfigFault) → result ≡ judged plain_faults value →
+  pub reported : {B : Type 0} (value : B) (result : Result B ConfigFault) → result ≡ judged plain_faults value →
       result ≡ judged (config_faults family setup) value
-  told value result is = is ∙ sym (ap (λ faults. judged faults value) same_faults)
+  reported value result is = is ∙ sym (ap (λ faults. judged faults value) same_faults)

@@ -5,15 +5,15 @@ use Rattle.std.proofs.lemmas.List.{set-get_or, get_or_read, length-set}
 use Rattle.std.specs.declared.alloc.AllocError.{AllocError}
 use Rattle.pim_addr.specs.Faults.{fault_if}
 use Rattle.pim_hello.specs.Hello.{Parameters}
-use Rattle.pim_hello.specs.Neighbours.{Table, Hears, no_neighbours, without_ended, is_full, heard_from, passed_to, neighbour_at, needs_no_memory, told}
+use Rattle.pim_hello.specs.Neighbours.{Table, Hears, no_neighbours, without_ended, is_full, heard_from, passed_to, neighbour_at, needs_no_memory, heard_as}
 use Rattle.pim_hello.specs.declared.heard.Heard.{Heard}
 use Rattle.pim_hello.specs.declared.heard.NeighbourFault.{NeighbourFault}
 use Rattle.pim_hello.specs.declared.heard.NeighbourFault.TheVariants.{Full, Memory}
 use Rattle.pim_router.specs.declared.verdict.Verdict.{Verdict}
 use Rattle.pim_router.specs.declared.verdict.Verdict.TheVariants as verdict
 use Rattle.pim_router.specs.declared.verdict.Store.TheVariants as store
-use Rattle.pim_router.specs.Packets.{Receives, unless, hello_causes, hello_taken, neighbours_on}
-use Rattle.pim_router.specs.Told.{hello_verdict}
+use Rattle.pim_router.specs.Packets.{Receives, unless, hello_causes, hello_heard, neighbours_on}
+use Rattle.pim_router.specs.Written.{hello_verdict}
 use Rattle.pim_router.specs.Sound.{IsCurrent, IsRouter}
 use Rattle.pim_router.specs.State.{RouterState, with_tables}
 use Rattle.pim_router.proofs.Current.{all_at, all_set, all_there, no_time_passes, hello_keeps}
@@ -24,7 +24,7 @@ module _ (state : RouterState) (port : ℕ) (sender : List ℕ) (said : Paramete
 
   abbrev taken_of : Table → Verdict × RouterState
   taken_of table = (
-    verdict.HelloTaken (told (neighbour_at sender table) said),
+    verdict.HelloTaken (heard_as (neighbour_at sender table) said),
     with_tables state (set state.tables port (heard_from sender said table)),
   )
 
@@ -47,7 +47,7 @@ module _ (state : RouterState) (port : ℕ) (sender : List ℕ) (said : Paramete
   on_row now row passed same (Ok heard) after hears =
       rw (not_full (is_full sender said row) (Ok heard ≡ Err Full) (ok_full heard) hears.full)
       (ap (λ h. (verdict.HelloTaken h, with_tables state (set state.tables port after))) hears.answer
-      ∙ ap (λ t. (verdict.HelloTaken (told (neighbour_at sender row) said), with_tables state (set state.tables port t)))
+      ∙ ap (λ t. (verdict.HelloTaken (heard_as (neighbour_at sender row) said), with_tables state (set state.tables port t)))
       (hears.table ∙ ap (heard_from sender said) passed))
   on_row now row passed same (Err Full) after hears =
       let full : is_full sender said row ≡ true = hears.full.0 refl in
@@ -95,7 +95,7 @@ module _ (state : RouterState) (port : ℕ) (sender : List ℕ) (said : Paramete
     there = sym (all_there row row_current.none_ended) ∙ ap without_ended is_row
 
     pub hello_ends : Receives (hello_causes port sender state said)
-        (unless (hello_causes port sender state said) state (hello_taken port sender state said)) state
+        (unless (hello_causes port sender state said) state (hello_heard port sender state said)) state
         (hello_verdict result) (with_tables state (set state.tables port after))
     hello_ends = subst (λ t. Ends t result after) there (on_row now row passed put_back result after hears)
 
@@ -116,14 +116,14 @@ module _ (state : RouterState) (port : ℕ) (sender : List ℕ) (said : Paramete
   pub hello_told : (now : RouterState) → state ≡ now → (result : Result Verdict AllocError) (heard : Result Heard NeighbourFault) →
       result ≡ hello_verdict heard → (after : RouterState) →
       Receives (hello_causes port sender state said)
-      (unless (hello_causes port sender state said) state (hello_taken port sender state said)) state (hello_verdict heard) after →
+      (unless (hello_causes port sender state said) state (hello_heard port sender state said)) state (hello_verdict heard) after →
       Receives (hello_causes port sender now said)
-      (unless (hello_causes port sender now said) now (hello_taken port sender now said)) now result after
+      (unless (hello_causes port sender now said) now (hello_heard port sender now said)) now result after
   hello_told now same result heard says after ends =
       subst (λ r. Receives (hello_causes port sender now said)
-      (unless (hello_causes port sender now said) now (hello_taken port sender now said)) now r after) (sym says)
+      (unless (hello_causes port sender now said) now (hello_heard port sender now said)) now r after) (sym says)
       (subst (λ n. Receives (hello_causes port sender n said)
-      (unless (hello_causes port sender n said) n (hello_taken port sender n said)) n (hello_verdict heard) after) same ends)
+      (unless (hello_causes port sender n said) n (hello_heard port sender n said)) n (hello_verdict heard) after) same ends)
 
   pub hello_wants_told : (now : RouterState) → state ≡ now → (result : Result Verdict AllocError) (heard : Result Heard NeighbourFault) →
       result ≡ hello_verdict heard → Wants (neighbours_on port state) (hello_verdict heard) → Wants (neighbours_on port now) result

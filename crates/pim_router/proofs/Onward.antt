@@ -12,7 +12,7 @@ use Rattle.pim_down.specs.Laws.{TimersRunOut}
 use Rattle.pim_down.specs.Time.{fired, with_records}
 use Rattle.pim_router.specs.declared.step.Step.{Step}
 use Rattle.pim_router.specs.declared.step.Step.TheVariants.{Echo, Refresh, Reached}
-use Rattle.pim_router.specs.Course.{Input, runs_to, takes, Telling, echo, refresh, verdict, Reaches, HasCourse, IsCourse}
+use Rattle.pim_router.specs.Course.{Input, runs_to, takes, RouterReport, echo, refresh, verdict, Reaches, HasCourse, IsCourse}
 use Rattle.pim_router.specs.Packets.{received}
 use Rattle.pim_router.specs.State.{RouterState, with_machines, with_tables, with_refresh, refresh_period}
 use Rattle.pim_router.specs.Time.{rests, moves, tells, has_ended, tick, turn, run_within, Runs, one_if, turns_left}
@@ -108,33 +108,33 @@ module _ (timers : TimersRunOut) (moment : ℕ) where
   -- ---- to the moment
 
   record HasReach (state : RouterState) : Type 0 where
-    told : List Telling
+    reported : List RouterReport
     after : RouterState
-    reaches : Reaches moment told state after
+    reaches : Reaches moment reported state after
 
-  one_turn : (state next after : RouterState) (told : List Telling) → turn moment state ≡ moves next → Reaches moment told next after →
-      Reaches moment told state after
+  one_turn : (state next after : RouterState) (reported : List RouterReport) → turn moment state ≡ moves next → Reaches moment reported next after →
+      Reaches moment reported state after
   unfolding Reaches
   one_turn state next after [] t more = run_more moment state next after Reached t more
-  one_turn state next after (echo port group what ∷ told) t more = (more.0, run_more moment state next more.0 (Echo port group what) t more.1, more.2)
-  one_turn state next after (refresh ∷ told) t more = (more.0, run_more moment state next more.0 Refresh t more.1, more.2)
-  one_turn state next after (verdict of_packet ∷ told) t more = more
+  one_turn state next after (echo port group what ∷ reported) t more = (more.0, run_more moment state next more.0 (Echo port group what) t more.1, more.2)
+  one_turn state next after (refresh ∷ reported) t more = (more.0, run_more moment state next more.0 Refresh t more.1, more.2)
+  one_turn state next after (verdict of_packet ∷ reported) t more = more
 
   reach_within : (n : ℕ) (state : RouterState) → turns_left moment state < n → HasReach state
   unfolding Reaches
   reach_within zero state less = absurd (omega (arith, less))
   reach_within (suc n) state less =
       elim (onward state) [
-        | resting t ↦ record { told = []; after = state; reaches = run_rests moment state t }
+        | resting t ↦ record { reported = []; after = state; reaches = run_rests moment state t }
         | moving next t nearer ↦
             let more = reach_within n next (omega (arith, less, nearer)) in
-            record { told = more.told; after = more.after; reaches = one_turn state next more.after more.told t more.reaches }
+            record { reported = more.reported; after = more.after; reaches = one_turn state next more.after more.reported t more.reaches }
         | echoing port group what next t nearer ↦
             let more = reach_within n next (omega (arith, less, nearer)) in
-            record { told = echo port group what ∷ more.told; after = more.after; reaches = (next, run_tells moment state next (Echo port group what) t, more.reaches) }
+            record { reported = echo port group what ∷ more.reported; after = more.after; reaches = (next, run_tells moment state next (Echo port group what) t, more.reaches) }
         | refreshing next t nearer ↦
             let more = reach_within n next (omega (arith, less, nearer)) in
-            record { told = refresh ∷ more.told; after = more.after; reaches = (next, run_tells moment state next Refresh t, more.reaches) }
+            record { reported = refresh ∷ more.reported; after = more.after; reaches = (next, run_tells moment state next Refresh t, more.reaches) }
       ]
 
   has_reach : (state : RouterState) → HasReach state
@@ -145,23 +145,23 @@ module _ (timers : TimersRunOut) (moment : ℕ) where
 module _ (timers : TimersRunOut) (family : AddressFamily) where
   pub every_course : (inputs : List Input) (state : RouterState) → HasCourse family inputs state
   unfolding IsCourse
-  every_course [] state = record { told = []; after = state; course = (refl, refl) }
+  every_course [] state = record { reported = []; after = state; course = (refl, refl) }
   every_course (runs_to moment ∷ inputs) state =
       let first = has_reach timers moment state in
       let more = every_course inputs first.after in
       record {
-        told = first.told ++ more.told;
+        reported = first.reported ++ more.reported;
         after = more.after;
-        course = record { before = first.told; behind = more.told; between = first.after; joined = refl; begins = first.reaches; goes_on = more.course };
+        course = record { before = first.reported; behind = more.reported; between = first.after; joined = refl; begins = first.reaches; goes_on = more.course };
       }
   every_course (takes packet ∷ inputs) state =
       let more = every_course inputs (received family packet state).1 in
       record {
-        told = verdict (received family packet state).0 ∷ more.told;
+        reported = verdict (received family packet state).0 ∷ more.reported;
         after = more.after;
         course = record {
           before = verdict (received family packet state).0 ∷ [];
-          behind = more.told;
+          behind = more.reported;
           between = (received family packet state).1;
           joined = refl;
           begins = (refl, refl);

@@ -187,9 +187,9 @@ module _ (twice : ExpiringTwiceIsExpiringOnce) (ports : List Port) (routes : Rou
   abbrev MachinesEnd : Type 0
   MachinesEnd = Option (Fires (List ℕ) × Downstream)
 
-  machines_pair : (told answer : Fires (List ℕ)) (end after : Downstream) → ◌≡◌ {A = MachinesEnd} (Some (told, end)) (Some (answer, after)) →
-      ◌≡◌ {A = Fires (List ℕ) × Downstream} (told, end) (answer, after)
-  machines_pair told answer end after e = cc
+  machines_pair : (reported answer : Fires (List ℕ)) (end after : Downstream) → ◌≡◌ {A = MachinesEnd} (Some (reported, end)) (Some (answer, after)) →
+      ◌≡◌ {A = Fires (List ℕ) × Downstream} (reported, end) (answer, after)
+  machines_pair reported answer end after e = cc
 
   machines_none : (answer : Fires (List ℕ)) (after : Downstream) → ◌≡◌ {A = MachinesEnd} None (Some (answer, after)) → ⊥
   machines_none answer after e = cc
@@ -200,16 +200,16 @@ module _ (twice : ExpiringTwiceIsExpiringOnce) (ports : List Port) (routes : Rou
     time_step : (b : Bool) → nat_lt machines.moment until ≡ b → fired machines.records ≡ None → Leads machines answer after
     unfolding down.run_within down.turn
     time_step true is quiet =
-        leads_on machines (down.tick machines) (λ told end. passes machines told end quiet (ltb-true machines.moment until is)) answer after
+        leads_on machines (down.tick machines) (λ reported end. passes machines reported end quiet (ltb-true machines.moment until is)) answer after
         (more (down.tick machines) (rw (quiet, is) at e))
     time_step false is quiet =
         subst (λ (x : Fires (List ℕ) × Downstream). Leads machines x.0 x.1) (machines_pair fires.Reached answer machines after (rw (quiet, is) at e))
-        (quiet, ltb-false machines.moment until is, λ told end runs. runs)
+        (quiet, ltb-false machines.moment until is, λ reported end runs. runs)
 
-    fire_step : (told : Fires (List ℕ)) (records : List (Record (List ℕ))) → fired machines.records ≡ Some (told, records) → Leads machines answer after
+    fire_step : (reported : Fires (List ℕ)) (records : List (Record (List ℕ))) → fired machines.records ≡ Some (reported, records) → Leads machines answer after
     unfolding down.run_within down.turn
     fire_step fires.Reached records f =
-        leads_on machines (with_records machines records) (λ told end. fires_on machines records told end f) answer after
+        leads_on machines (with_records machines records) (λ reported end. fires_on machines records reported end f) answer after
         (more (with_records machines records) (rw f at e))
     fire_step (fires.Echo port group what) records f =
         subst (λ (x : Fires (List ℕ) × Downstream). Leads machines x.0 x.1)

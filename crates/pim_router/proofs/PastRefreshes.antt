@@ -16,7 +16,7 @@ use Rattle.pim_router.specs.declared.config.PortConfig.{PortConfig}
 use Rattle.pim_router.specs.declared.step.Step.{Step}
 use Rattle.pim_router.specs.declared.step.Step.TheVariants.{Echo, Refresh, Reached}
 use Rattle.pim_router.specs.Laws.{RunsComeNearer}
-use Rattle.pim_router.specs.Refreshes.{RunsPast, told_behind, first_untold}
+use Rattle.pim_router.specs.Refreshes.{RunsPast, fires_behind, first_untold}
 use Rattle.pim_router.specs.Seen.{port_seen, router_seen}
 use Rattle.pim_router.specs.Sound.{IsRouter}
 use Rattle.pim_router.specs.State.{Port, RouterState, setup_of, with_refresh}
@@ -30,7 +30,7 @@ use Rattle.pim_router.proofs.Setups.{run_keeps}
 
 -- What leads from a state to another leads there past Refreshes, too.
 past_more : (refreshes moment : ℕ) (state next after : RouterState) (answer : Step (List ℕ)) →
-    ((told : Step (List ℕ)) (end : RouterState) → Runs moment next told end → Runs moment state told end) →
+    ((reported : Step (List ℕ)) (end : RouterState) → Runs moment next reported end → Runs moment state reported end) →
     RunsPast refreshes moment next answer after → RunsPast refreshes moment state answer after
 unfolding RunsPast
 past_more zero moment state next after answer lead runs = lead answer after runs
@@ -56,7 +56,7 @@ past_nearer nearer (suc refreshes) moment state after answer (between, runs, mor
     omega (arith, first, rest)
 
 -- what is told as reached is reached
-pub seen_behind : {A : Type 0} (bytes_of : A → List ℕ) (step : Fires A) → told_behind (fires_seen bytes_of step) ≡ Reached → step ≡ fires.Reached
+pub seen_behind : {A : Type 0} (bytes_of : A → List ℕ) (step : Fires A) → fires_behind (fires_seen bytes_of step) ≡ Reached → step ≡ fires.Reached
 seen_behind bytes_of (fires.Echo port group what) e = cc
 seen_behind bytes_of fires.Reached e = refl
 
@@ -77,9 +77,9 @@ at_most fires.Reached moment = omega arith
 abbrev MachinesEnd : Type 0
 MachinesEnd = Option (Fires (List ℕ) × Downstream)
 
-machines_pair : (told answer : Fires (List ℕ)) (end after : Downstream) → ◌≡◌ {A = MachinesEnd} (Some (told, end)) (Some (answer, after)) →
-    ◌≡◌ {A = Fires (List ℕ) × Downstream} (told, end) (answer, after)
-machines_pair told answer end after e = cc
+machines_pair : (reported answer : Fires (List ℕ)) (end after : Downstream) → ◌≡◌ {A = MachinesEnd} (Some (reported, end)) (Some (answer, after)) →
+    ◌≡◌ {A = Fires (List ℕ) × Downstream} (reported, end) (answer, after)
+machines_pair reported answer end after e = cc
 
 machines_none : (answer : Fires (List ℕ)) (after : Downstream) → ◌≡◌ {A = MachinesEnd} None (Some (answer, after)) → ⊥
 machines_none answer after e = cc
@@ -101,7 +101,7 @@ module _ (twice : ExpiringTwiceIsExpiringOnce) (ports : List Port) (routes : Rou
     later : machines.moment ≤ after.moment
     all : first_untold answer after.moment ≤ next + 60000 * refreshes
     no_more : next + 60000 * refreshes < max (first_untold answer after.moment) next + 60000
-    runs : RunsPast refreshes moment (at next machines) (told_behind answer) (at (next + 60000 * refreshes) after)
+    runs : RunsPast refreshes moment (at next machines) (fires_behind answer) (at (next + 60000 * refreshes) after)
 
   -- ---- at a Refresh
 
@@ -124,7 +124,7 @@ module _ (twice : ExpiringTwiceIsExpiringOnce) (ports : List Port) (routes : Rou
         later = p.later;
         all = omega (arith, p.all);
         no_more = omega (arith, p.no_more, goes);
-        runs = subst (λ n. RunsPast (suc p.refreshes) moment (at next machines) (told_behind answer) (at n after)) same
+        runs = subst (λ n. RunsPast (suc p.refreshes) moment (at next machines) (fires_behind answer) (at n after)) same
             (at (next + 60000) machines, due_run next machines quiet due, p.runs);
       }
 
@@ -162,8 +162,8 @@ module _ (twice : ExpiringTwiceIsExpiringOnce) (ports : List Port) (routes : Rou
     later = omega (arith, p.later);
     all = p.all;
     no_more = p.no_more;
-    runs = past_more p.refreshes moment (at next machines) (at next (down.tick machines)) (at (next + 60000 * p.refreshes) after) (told_behind answer)
-        (λ told end more. passes twice ports routes start next moment (machines.moment + 1) (omega (arith, before)) (omega (arith, soon)) machines told end quiet (omega arith) more)
+    runs = past_more p.refreshes moment (at next machines) (at next (down.tick machines)) (at (next + 60000 * p.refreshes) after) (fires_behind answer)
+        (λ reported end more. passes twice ports routes start next moment (machines.moment + 1) (omega (arith, before)) (omega (arith, soon)) machines reported end quiet (omega arith) more)
         p.runs;
   }
 
@@ -191,8 +191,8 @@ module _ (twice : ExpiringTwiceIsExpiringOnce) (ports : List Port) (routes : Rou
     later = p.later;
     all = p.all;
     no_more = p.no_more;
-    runs = past_more p.refreshes moment (at next machines) (at next (with_records machines records)) (at (next + 60000 * p.refreshes) after) (told_behind answer)
-        (λ told end more. fires_on twice ports routes start next moment 0 (omega arith) (omega arith) machines records told end f more)
+    runs = past_more p.refreshes moment (at next machines) (at next (with_records machines records)) (at (next + 60000 * p.refreshes) after) (fires_behind answer)
+        (λ reported end more. fires_on twice ports routes start next moment 0 (omega arith) (omega arith) machines records reported end f more)
         p.runs;
   }
 
@@ -225,7 +225,7 @@ module _ (twice : ExpiringTwiceIsExpiringOnce) (ports : List Port) (routes : Rou
         subst (λ (x : Fires (List ℕ) × Downstream). Past next machines x.0 x.1) (machines_pair fires.Reached answer machines after (rw (quiet, is) at e))
         (ends next machines (nat_lt machines.moment next) refl bound quiet (ltb-false machines.moment moment is))
 
-    fire_step : (told : Fires (List ℕ)) (records : List (Record (List ℕ))) → fired machines.records ≡ Some (told, records) → Past next machines answer after
+    fire_step : (reported : Fires (List ℕ)) (records : List (Record (List ℕ))) → fired machines.records ≡ Some (reported, records) → Past next machines answer after
     unfolding down.run_within down.turn
     fire_step fires.Reached records f =
         fires_past next machines after answer records f (more next (with_records machines records) bound (rw f at e))
@@ -263,13 +263,13 @@ module _ (twice : ExpiringTwiceIsExpiringOnce) {A : Type 0} (bytes_of : A → Li
 
   past_told : (answer : Fires (List ℕ)) (refreshes : ℕ) → down.Runs moment machines answer after →
       first_untold answer after.moment ≤ next + 60000 * refreshes → next + 60000 * refreshes < max (first_untold answer after.moment) next + 60000 →
-      RunsPast refreshes moment now (told_behind answer) (seen after left (next + 60000 * refreshes))
+      RunsPast refreshes moment now (fires_behind answer) (seen after left (next + 60000 * refreshes))
   past_told answer refreshes runs all no_more =
       let p = past_within twice (map (port_seen bytes_of) ports) routes tables moment runs.turns next machines after answer sound.0 runs.within in
       let count = one_count (first_untold answer after.moment) next p.refreshes refreshes p.all p.no_more all no_more in
-      subst (λ s. RunsPast refreshes moment s (told_behind answer) (seen after left (next + 60000 * refreshes))) starts
-      (subst (λ ts. RunsPast refreshes moment (seen machines (map (expired_at machines.moment) tables) next) (told_behind answer) (seen after ts (next + 60000 * refreshes))) (sym is_left)
-      (subst (λ n. RunsPast n moment (seen machines (map (expired_at machines.moment) tables) next) (told_behind answer) (seen after (map (expired_at after.moment) tables) (next + 60000 * n))) count p.runs))
+      subst (λ s. RunsPast refreshes moment s (fires_behind answer) (seen after left (next + 60000 * refreshes))) starts
+      (subst (λ ts. RunsPast refreshes moment (seen machines (map (expired_at machines.moment) tables) next) (fires_behind answer) (seen after ts (next + 60000 * refreshes))) (sym is_left)
+      (subst (λ n. RunsPast n moment (seen machines (map (expired_at machines.moment) tables) next) (fires_behind answer) (seen after (map (expired_at after.moment) tables) (next + 60000 * n))) count p.runs))
 
   module _ (step : Fires A) (stopped end refreshes : ℕ) (is_now : stopped ≡ after.moment) (is_end : end ≡ first_untold step stopped)
       (all : end ≤ next + 60000 * refreshes) (no_more : next + 60000 * refreshes < max end next + 60000) where
@@ -280,9 +280,9 @@ module _ (twice : ExpiringTwiceIsExpiringOnce) {A : Type 0} (bytes_of : A → Li
     turned = omega arith
 
     pub past_ran : down.Runs moment machines (fires_seen bytes_of step) after →
-        RunsPast refreshes moment now (told_behind (fires_seen bytes_of step)) (seen after left (next + refreshes * 60000))
+        RunsPast refreshes moment now (fires_behind (fires_seen bytes_of step)) (seen after left (next + refreshes * 60000))
     past_ran runs =
-        subst (λ n. RunsPast refreshes moment now (told_behind (fires_seen bytes_of step)) (seen after left n)) turned
+        subst (λ n. RunsPast refreshes moment now (fires_behind (fires_seen bytes_of step)) (seen after left n)) turned
         (past_told (fires_seen bytes_of step) refreshes runs (subst (λ n. n ≤ next + 60000 * refreshes) ended all) (subst (λ n. next + 60000 * refreshes < max n next + 60000) ended no_more))
 
     pub past_sound : after.ports ≡ machines.ports → machines.moment ≤ after.moment →

@@ -15,8 +15,8 @@ use Rattle.pim_router.specs.declared.config.PortConfig.{PortConfig}
 use Rattle.pim_router.specs.declared.verdict.Verdict.{Verdict}
 use Rattle.pim_router.specs.declared.verdict.Verdict.TheVariants as verdict
 use Rattle.pim_router.specs.declared.verdict.Store.TheVariants as store
-use Rattle.pim_router.specs.Packets.{Receives, unless, room_causes, message_taken, needed_by, new_by, timing_on}
-use Rattle.pim_router.specs.Told.{message_verdict}
+use Rattle.pim_router.specs.Packets.{Receives, unless, room_causes, message_heard, needed_by, new_by, timing_on}
+use Rattle.pim_router.specs.Written.{message_verdict}
 use Rattle.pim_router.specs.Seen.{router_seen}
 use Rattle.pim_router.specs.State.{RouterState, with_machines}
 
@@ -30,7 +30,7 @@ wants_memory new (Err machines.Memory) wants = lt-ltb 0 new (omega (arith, wants
 module _ (family : AddressFamily) (port : ℕ) (message : Message) (old : RouterState) where
   abbrev Applies : Result (Unit {0}) HearFault → Downstream → Type 0
   Applies result after = Receives (room_causes family port old message)
-      (unless (room_causes family port old message) old (message_taken family port old message)) old
+      (unless (room_causes family port old message) old (message_heard family port old message)) old
       (message_verdict result) (with_machines old after)
 
   pub applies : (result : Result (Unit {0}) HearFault) (after : Downstream) →
@@ -61,8 +61,8 @@ module _ {A : Type 0} (bytes_of : A → List ℕ) (ports : List (PortConfig A)) 
 
   module _ (family : AddressFamily) (port : ℕ) (message : Message) where
     abbrev Applied : RouterState → Result Verdict AllocError → RouterState → Type 0
-    Applied now told after = Receives (room_causes family port now message)
-        (unless (room_causes family port now message) now (message_taken family port now message)) now told after
+    Applied now reported after = Receives (room_causes family port now message)
+        (unless (room_causes family port now message) now (message_heard family port now message)) now reported after
 
     applied_seen : (timing : Timing) → timing ≡ timing_on port seen → (result : Result (Unit {0}) HearFault) (after : Downstream) →
         OnOk result (after ≡ heard port message (rp_of family routes) timing machines) → OnErr result (after ≡ machines) →
@@ -75,18 +75,18 @@ module _ {A : Type 0} (bytes_of : A → List ℕ) (ports : List (PortConfig A)) 
 
     pub applied_now : (now : RouterState) → seen ≡ now → (timing : Timing) → timing ≡ timing_on port now → (result : Result (Unit {0}) HearFault) (after : Downstream) →
         OnOk result (after ≡ heard port message (rp_of family routes) timing machines) → OnErr result (after ≡ machines) →
-        IsWithin machines.limit (needed_by family port message seen) result → (told : Result Verdict AllocError) → told ≡ message_verdict result →
-        Applied now told (router_seen bytes_of ports routes after tables next)
-    applied_now now same timing is result after ok err room told says =
+        IsWithin machines.limit (needed_by family port message seen) result → (reported : Result Verdict AllocError) → reported ≡ message_verdict result →
+        Applied now reported (router_seen bytes_of ports routes after tables next)
+    applied_now now same timing is result after ok err room reported says =
         subst (λ t. Applied now t (router_seen bytes_of ports routes after tables next)) (sym says)
         (subst (λ n. timing ≡ timing_on port n → Applied n (message_verdict result) (router_seen bytes_of ports routes after tables next)) same
         (λ here. applied_seen timing here result after ok err room) is)
 
     -- memory is wanting only where it makes a record
     pub applied_wants : (now : RouterState) → seen ≡ now → (result : Result (Unit {0}) HearFault) →
-        MayWantMemory (new_by family port message seen) result → (told : Result Verdict AllocError) → told ≡ message_verdict result →
-        OnErr told (IsTrue (nat_lt 0 (new_by family port message now)))
-    applied_wants now same result wants told says =
+        MayWantMemory (new_by family port message seen) result → (reported : Result Verdict AllocError) → reported ≡ message_verdict result →
+        OnErr reported (IsTrue (nat_lt 0 (new_by family port message now)))
+    applied_wants now same result wants reported says =
         subst (λ t. OnErr t (IsTrue (nat_lt 0 (new_by family port message now)))) (sym says)
         (subst (λ n. OnErr (message_verdict result) (IsTrue (nat_lt 0 (new_by family port message n)))) same
         (wants_memory (new_by family port message seen) result wants))

@@ -41,18 +41,18 @@ module _ (twice : ExpiringTwiceIsExpiringOnce) {A : Type 0} (bytes_of : A → Li
   ends : at after ≡ seen after left next
   ends = ap (λ ts. seen after ts next) (sym is_left)
 
-  abbrev Told : Step (List ℕ) → RouterState → Type 0
-  Told step end = Runs moment now step end
+  abbrev Written : Step (List ℕ) → RouterState → Type 0
+  Written step end = Runs moment now step end
 
   pub echo_told : (port : ℕ) (group : List ℕ) (what : What (List ℕ)) → down.Runs until machines (fires.Echo port group what) after →
-      Told (Echo port group what) (seen after left next)
+      Written (Echo port group what) (seen after left next)
   echo_told port group what runs =
       subst (λ s. Runs moment s (Echo port group what) (seen after left next)) starts
       (subst (λ e. Runs moment (at machines) (Echo port group what) e) ends
       (told_echo twice (map (port_seen bytes_of) ports) routes tables next moment until before_next before_moment machines after port group what runs))
 
   pub reached_told : down.Runs until machines fires.Reached after → after.moment < next → after.moment ≡ max machines.moment until →
-      Told Reached (seen after left next)
+      Written Reached (seen after left next)
   reached_told runs before there =
       subst (λ s. Runs moment s Reached (seen after left next)) starts
       (subst (λ e. Runs moment (at machines) Reached e) ends
@@ -64,7 +64,7 @@ module _ (twice : ExpiringTwiceIsExpiringOnce) {A : Type 0} (bytes_of : A → Li
       ap (λ (refresh : ℕ). with_refresh (at after) refresh) all ∙ ap (λ ts. seen after ts (next + 60000)) (sym is_left)
 
   pub refresh_told : down.Runs until machines fires.Reached after → next ≤ after.moment → after.moment ≤ max machines.moment until →
-      Told Refresh (seen after left (next + 60000))
+      Written Refresh (seen after left (next + 60000))
   refresh_told runs due there =
       let bound = sound.0 in
       subst (λ s. Runs moment s Refresh (seen after left (next + 60000))) starts

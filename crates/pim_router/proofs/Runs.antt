@@ -8,10 +8,10 @@ use Rattle.pim_router.specs.Time.{Outcome, rests, moves, tells, turn, run_on, ru
 abbrev pub Answer : Type 0
 Answer = Option (Step (List ℕ) × RouterState)
 
-pub pair_of : (told answer : Step (List ℕ)) (end after : RouterState) →
-    ◌≡◌ {A = Answer} (Some (told, end)) (Some (answer, after)) →
-    ◌≡◌ {A = Step (List ℕ) × RouterState} (told, end) (answer, after)
-pair_of told answer end after e = cc
+pub pair_of : (reported answer : Step (List ℕ)) (end after : RouterState) →
+    ◌≡◌ {A = Answer} (Some (reported, end)) (Some (answer, after)) →
+    ◌≡◌ {A = Step (List ℕ) × RouterState} (reported, end) (answer, after)
+pair_of reported answer end after e = cc
 
 pub no_run : (answer : Step (List ℕ)) (after : RouterState) → ◌≡◌ {A = Answer} None (Some (answer, after)) → ⊥
 no_run answer after e = cc
@@ -56,8 +56,8 @@ one_end (suc m) (suc n) moment state x y a b =
     one_on (turn moment state) state (run_within m moment) (run_within n moment) x y
     (λ next u v c d. one_end m n moment next u v c d) a b
 
-pub run_once : (moment : ℕ) (state after other : RouterState) (answer told : Step (List ℕ)) →
-    Runs moment state answer after → Runs moment state told other → (answer ≡ told) × (after ≡ other)
-run_once moment state after other answer told a b =
-    let same = one_end a.turns b.turns moment state (answer, after) (told, other) a.within b.within in
+pub run_once : (moment : ℕ) (state after other : RouterState) (answer reported : Step (List ℕ)) →
+    Runs moment state answer after → Runs moment state reported other → (answer ≡ reported) × (after ≡ other)
+run_once moment state after other answer reported a b =
+    let same = one_end a.turns b.turns moment state (answer, after) (reported, other) a.within b.within in
     (ap (λ (x : Step (List ℕ) × RouterState). x.0) same, ap (λ (x : Step (List ℕ) × RouterState). x.1) same)

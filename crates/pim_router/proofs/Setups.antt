@@ -12,7 +12,7 @@ use Rattle.pim_router.specs.declared.verdict.Verdict.{Verdict}
 use Rattle.pim_router.specs.State.{RouterState, setup_of}
 use Rattle.pim_router.specs.Packets.{Receives, unless}
 use Rattle.pim_router.specs.Reading.{Reading, read_hello, read_message, read_other, read_fault, read_causes, read_taken, read_received}
-use Rattle.pim_router.specs.Time.{Outcome, rests, moves, tells, has_ended, told, turn, turn_of_timers, turn_of_time, run_on, run_within, Runs}
+use Rattle.pim_router.specs.Time.{Outcome, rests, moves, tells, has_ended, reported, turn, turn_of_timers, turn_of_time, run_on, run_within, Runs}
 use Rattle.pim_router.proofs.Runs.{Answer, pair_of, no_run}
 
 -- ---- a packet
@@ -24,15 +24,15 @@ taken_keeps family port source state (read_message message) = refl
 taken_keeps family port source state (read_other type) = refl
 taken_keeps family port source state (read_fault fault) = refl
 
-unless_keeps : (told : List Verdict) (state : RouterState) (taken : Verdict × RouterState) → setup_of taken.1 ≡ setup_of state →
-    setup_of (unless told state taken).1 ≡ setup_of state
+unless_keeps : (reported : List Verdict) (state : RouterState) (taken : Verdict × RouterState) → setup_of taken.1 ≡ setup_of state →
+    setup_of (unless reported state taken).1 ≡ setup_of state
 unless_keeps [] state taken keeps = keeps
 unless_keeps (cause ∷ others) state taken keeps = refl
 
-receives_keep : {E : Type 0} (told : List Verdict) (end : Verdict × RouterState) (old : RouterState) (result : Result Verdict E)
-    (new : RouterState) → setup_of end.1 ≡ setup_of old → Receives told end old result new → setup_of new ≡ setup_of old
-receives_keep told end old (Ok verdict) new keeps ends = ap (λ (x : Verdict × RouterState). setup_of x.1) ends ∙ keeps
-receives_keep told end old (Err refused) new keeps ends = ap setup_of ends.1
+receives_keep : {E : Type 0} (reported : List Verdict) (end : Verdict × RouterState) (old : RouterState) (result : Result Verdict E)
+    (new : RouterState) → setup_of end.1 ≡ setup_of old → Receives reported end old result new → setup_of new ≡ setup_of old
+receives_keep reported end old (Ok verdict) new keeps ends = ap (λ (x : Verdict × RouterState). setup_of x.1) ends ∙ keeps
+receives_keep reported end old (Err refused) new keeps ends = ap setup_of ends.1
 
 pub reading_keeps : {E : Type 0} (family : AddressFamily) (port : ℕ) (source : List ℕ) (old : RouterState) (reading : Reading)
     (result : Result Verdict E) (new : RouterState) →
@@ -56,7 +56,7 @@ module _ (moment : ℕ) (state : RouterState) where
   either_keeps true first second x y = x
   either_keeps false first second x y = y
 
-  told_keeps : (answer : Fires (List ℕ)) (after : RouterState) → setup_of after ≡ setup_of state → Keeps state (told answer after)
+  told_keeps : (answer : Fires (List ℕ)) (after : RouterState) → setup_of after ≡ setup_of state → Keeps state (reported answer after)
   told_keeps fires.Reached after keeps = keeps
   told_keeps (fires.Echo port group what) after keeps = keeps
 

@@ -24,11 +24,11 @@ use Rattle.pim_router.specs.Happening.{Happening, timer_fired, gone_of, gone_fro
 use Rattle.pim_router.specs.Seen.{port_seen, router_seen}
 use Rattle.pim_router.specs.Sound.{IsRouter}
 use Rattle.pim_router.specs.State.{Port, RouterState, setup_of, with_tables, with_refresh}
-use Rattle.pim_router.specs.Time.{rests, moves, tells, has_ended, told, turn, turn_of_timers, tick, turns_left}
+use Rattle.pim_router.specs.Time.{rests, moves, tells, has_ended, reported, turn, turn_of_timers, tick, turns_left}
 use Rattle.pim_router.proofs.Passing.{none_ended, none_goes, goes, nobody_over, later_tables, ticked, quiet_turn, current_at_start}
 use Rattle.pim_router.proofs.PastRefreshes.{one_count}
 use Rattle.pim_router.proofs.RunTo.{sound_again}
-use Rattle.pim_router.proofs.Happenings.{Told, pass_none, pass_first, pass_quietly, passing_goes_on, passes_near, one_nearer}
+use Rattle.pim_router.proofs.Happenings.{Written, pass_none, pass_first, pass_quietly, passing_goes_on, passes_near, one_nearer}
 
 -- ---- where nobody goes
 
@@ -95,20 +95,20 @@ left_pair held said end after e = cc
 left_none : (said : Firing (List ℕ)) (after : Downstream) → ◌≡◌ {A = MachinesLeft} None (Some (said, after)) → ⊥
 left_none said after e = cc
 
-left_by : (machines after : Downstream) (told : Firing (List ℕ)) → firing_in machines ≡ Some (told, after) →
-    (records : List (Record (List ℕ))) × (firing machines.records ≡ Some (told, records)) × (with_records machines records ≡ after)
-left_by machines after told e = by (firing machines.records) refl e
+left_by : (machines after : Downstream) (reported : Firing (List ℕ)) → firing_in machines ≡ Some (reported, after) →
+    (records : List (Record (List ℕ))) × (firing machines.records ≡ Some (reported, records)) × (with_records machines records ≡ after)
+left_by machines after reported e = by (firing machines.records) refl e
   where
-    by : (o : Option (Firing (List ℕ) × List (Record (List ℕ)))) → firing machines.records ≡ o → fired_in machines o ≡ Some (told, after) →
-        (records : List (Record (List ℕ))) × (firing machines.records ≡ Some (told, records)) × (with_records machines records ≡ after)
-    by None is f = absurd (left_none told after f)
+    by : (o : Option (Firing (List ℕ) × List (Record (List ℕ)))) → firing machines.records ≡ o → fired_in machines o ≡ Some (reported, after) →
+        (records : List (Record (List ℕ))) × (firing machines.records ≡ Some (reported, records)) × (with_records machines records ≡ after)
+    by None is f = absurd (left_none reported after f)
     by (Some (said, records)) is f =
-        let pairs = left_pair said told (with_records machines records) after f in
+        let pairs = left_pair said reported (with_records machines records) after f in
         (records, is ∙ ap (λ (x : Firing (List ℕ) × Downstream). Some (x.0, records)) pairs, ap (λ (x : Firing (List ℕ) × Downstream). x.1) pairs)
 
 -- ---- those whose time is over go
 
-they_pass : (moment : ℕ) (state after : RouterState) (said : Told) → Passes moment (with_tables state (map without_ended state.tables)) said after →
+they_pass : (moment : ℕ) (state after : RouterState) (said : Written) → Passes moment (with_tables state (map without_ended state.tables)) said after →
     Passes moment state (at_moment state.machines.moment (gone_from 0 state.tables) ++ said) after
 unfolding happens_in
 they_pass moment state after said more =
@@ -143,7 +143,7 @@ module _ (twice : ExpiringTwiceIsExpiringOnce) (more_said : FiringSaysMore) (por
 
   -- ---- a refresh
 
-  refresh_passes : (next : ℕ) (machines : Downstream) (after : RouterState) (said : Told) → fired machines.records ≡ None → next ≡ machines.moment →
+  refresh_passes : (next : ℕ) (machines : Downstream) (after : RouterState) (said : Written) → fired machines.records ≡ None → next ≡ machines.moment →
       Passes moment (at (next + 60000) machines) said after → Passes moment (at next machines) said after
   refresh_passes next machines after said quiet due more =
       let zero_left : next - machines.moment ≡ 0 = omega (arith, due) in
@@ -155,7 +155,7 @@ module _ (twice : ExpiringTwiceIsExpiringOnce) (more_said : FiringSaysMore) (por
 
   -- ---- a millisecond
 
-  tick_passes : (next : ℕ) (machines : Downstream) (after : RouterState) (said : Told) → fired machines.records ≡ None → machines.moment < next → machines.moment < moment →
+  tick_passes : (next : ℕ) (machines : Downstream) (after : RouterState) (said : Written) → fired machines.records ≡ None → machines.moment < next → machines.moment < moment →
       Passes moment (at next (down.tick machines)) said after →
       Passes moment (at next machines) (at_moment (machines.moment + 1) (gone_from 0 (map (passed_to (machines.moment + 1)) (map (expired_at machines.moment) start))) ++ said) after
   tick_passes next machines after said quiet before soon more =
@@ -239,7 +239,7 @@ module _ (twice : ExpiringTwiceIsExpiringOnce) (more_said : FiringSaysMore) (por
 
   -- ---- the timer that fires
 
-  told_next : (step : Fires (List ℕ)) (after : RouterState) → next_of (told step after) ≡ Some after
+  told_next : (step : Fires (List ℕ)) (after : RouterState) → next_of (reported step after) ≡ Some after
   told_next fires.Reached after = refl
   told_next (fires.Echo port group what) after = refl
 
@@ -365,15 +365,15 @@ module _ (twice : ExpiringTwiceIsExpiringOnce) (more_said : FiringSaysMore) {A :
             FiresTo moment now (option_map (firing_seen bytes_of) o) (seen after left (next + 60000 * refreshes))
         by None is f = let e : end ≡ after.moment + 1 = is ∙ ap (λ n. n + 1) is_now in
             fires_none refreshes f (subst (λ m. m ≤ next + 60000 * refreshes) e all) (subst (λ m. next + 60000 * refreshes < max m next + 60000) e no_more)
-        by (Some told) is f = let e : end ≡ after.moment = is ∙ is_now in
-            fires_some (firing_seen bytes_of told) refreshes f (subst (λ m. m ≤ next + 60000 * refreshes) e all) (subst (λ m. next + 60000 * refreshes < max m next + 60000) e no_more)
+        by (Some reported) is f = let e : end ≡ after.moment = is ∙ is_now in
+            fires_some (firing_seen bytes_of reported) refreshes f (subst (λ m. m ≤ next + 60000 * refreshes) e all) (subst (λ m. next + 60000 * refreshes < max m next + 60000) e no_more)
 
     bounds : (after.moment ≤ end) × (end ≤ after.moment + 1)
     bounds = by o is_end
       where
         by : (o : Option (Firing A)) → end ≡ first_unpassed o stopped → (after.moment ≤ end) × (end ≤ after.moment + 1)
         by None is = (omega (arith, is, is_now), omega (arith, is, is_now))
-        by (Some told) is = (omega (arith, is, is_now), omega (arith, is, is_now))
+        by (Some reported) is = (omega (arith, is, is_now), omega (arith, is, is_now))
 
     pub fires_sound : after.ports ≡ machines.ports → machines.moment ≤ after.moment →
         (after.moment ≤ next + refreshes * 60000) × IsRouter (seen after left (next + refreshes * 60000))
@@ -394,7 +394,7 @@ module _ (twice : ExpiringTwiceIsExpiringOnce) (more_said : FiringSaysMore) {A :
 pub fires_nearer : TimersRunOut → {A : Type 0} (bytes_of : A → List ℕ) (moment : ℕ) (state after : RouterState) (o : Option (Firing A)) → FiresTo moment state (option_map (firing_seen bytes_of) o) after → o ≢ None →
     turns_left moment after < turns_left moment state
 fires_nearer timers bytes_of moment state after None fires goes = absurd (goes refl)
-fires_nearer timers bytes_of moment state after (Some told) fires goes =
+fires_nearer timers bytes_of moment state after (Some reported) fires goes =
     let near = passes_near timers moment state fires.before _ fires.passes in
     let less = one_nearer timers moment fires.before after _ fires.fires in
     omega (arith, near, less)

@@ -9,7 +9,7 @@ use Rattle.pim_down.specs.Time.{fired}
 use Rattle.pim_router.specs.declared.step.Step.{Step}
 use Rattle.pim_router.specs.declared.step.Step.TheVariants.{Echo, Refresh, Reached}
 use Rattle.pim_router.specs.State.{RouterState}
-use Rattle.pim_router.specs.Time.{Outcome, rests, moves, tells, has_ended, told, turn, turn_of_timers, turn_of_time, tick, run_within, Runs}
+use Rattle.pim_router.specs.Time.{Outcome, rests, moves, tells, has_ended, reported, turn, turn_of_timers, turn_of_time, tick, run_within, Runs}
 use Rattle.pim_router.proofs.Runs.{pair_of, no_run, run_more}
 
 rests_moves : (next : RouterState) → rests ≡ moves next → ⊥
@@ -70,7 +70,7 @@ module _ (moment : ℕ) (state : RouterState) (step : Step (List ℕ)) (end : Ro
   said_refresh true after h = ap is_reached (sym (told_step Refresh step after end h))
   said_refresh false after h = said_time (nat_lt state.machines.moment moment) _ h
 
-  said_timers : (answer : Fires (List ℕ)) (after : RouterState) → told answer after ≡ tells step end → is_reached step ≡ false
+  said_timers : (answer : Fires (List ℕ)) (after : RouterState) → reported answer after ≡ tells step end → is_reached step ≡ false
   said_timers fires.Reached after h = absurd (moves_tells after step end h)
   said_timers (fires.Echo port group what) after h = ap is_reached (sym (told_step (Echo port group what) step after end h))
 

@@ -6,21 +6,21 @@ use Rattle.pim_addr.specs.Routes.{rp_of}
 use Rattle.pim_form.specs.Messages.{Writing, AreCanonical}
 use Rattle.pim_form.specs.NormalForm.{GroupForm, Demand, IsFormOf}
 use Rattle.pim_form.specs.TooBig.{too_big}
-use Rattle.pim_form.specs.TowardLaws.{asked_of}
+use Rattle.pim_form.specs.TowardLaws.{demand_toward}
 use Rattle.pim_router.specs.State.{RouterState}
 
 -- The traffic that the router's machines want (RFC 7761, 4.1), as far as its route table leads the
 -- RP or the source to this neighbour.
-abbrev pub asked : AddressFamily → List ℕ → RouterState → Demand
-asked family neighbour state = asked_of family state.routes neighbour state.machines
+abbrev pub demanded : AddressFamily → List ℕ → RouterState → Demand
+demanded family neighbour state = demand_toward family state.routes neighbour state.machines
 
 -- The messages are canonical messages of the normal form of what is asked of the writer's upstream
 -- neighbour.
-pub record IsAskedBy (family : AddressFamily) (writing : Writing) (state : RouterState) (messages : List (List ℕ))
+pub record IsDemandedBy (family : AddressFamily) (writing : Writing) (state : RouterState) (messages : List (List ℕ))
     : Type 0 where
   pub form : List GroupForm
-  pub is : IsFormOf family (asked family writing.upstream state) form
-  pub told : AreCanonical family writing (rp_of family state.routes) form messages
+  pub is : IsFormOf family (demanded family writing.upstream state) form
+  pub reported : AreCanonical family writing (rp_of family state.routes) form messages
 
 -- ---- stars that are too big for a message
 
@@ -29,7 +29,7 @@ pub record IsAskedBy (family : AddressFamily) (writing : Writing) (state : Route
 pub record IsTooBig (family : AddressFamily) (writing : Writing) (state : RouterState) (group : Option (List ℕ))
     : Type 0 where
   pub form : List GroupForm
-  pub is : IsFormOf family (asked family writing.upstream state) form
+  pub is : IsFormOf family (demanded family writing.upstream state) form
   pub least : too_big family writing.budget form ≡ group
 
 -- The same for two routers, where a group of the first router precedes each of the second.

@@ -36,5 +36,5 @@ config_faults family setup =
 -- is the value, or `Memory`.
 abbrev pub IsMadeUnless : {A : Type 0} → List ConfigFault → A → Result A ConfigFault → Type 0
 IsMadeUnless [] value (Ok made) = made ≡ value
-IsMadeUnless [] value (Err told) = told ≡ Memory
+IsMadeUnless [] value (Err reported) = reported ≡ Memory
 IsMadeUnless (first ∷ others) value result = result ≡ Err first

@@ -17,14 +17,14 @@ pub data Input : Type 0 where
 
 -- One report of the router: a PruneEcho or a refresh on the way to a moment, or the verdict on a
 -- packet.
-pub data Telling : Type 0 where
-  echo : ℕ → List ℕ → What (List ℕ) → Telling
-  refresh : Telling
-  verdict : Verdict → Telling
+pub data RouterReport : Type 0 where
+  echo : ℕ → List ℕ → What (List ℕ) → RouterReport
+  refresh : RouterReport
+  verdict : Verdict → RouterReport
 
 -- Consecutive runs up to the moment until nothing is due: they report this list of echoes and
 -- refreshes, and leave the state `after`.
-unfoldable pub Reaches : ℕ → List Telling → RouterState → RouterState → Type 0
+unfoldable pub Reaches : ℕ → List RouterReport → RouterState → RouterState → Type 0
 Reaches moment [] state after = Runs moment state Reached after
 Reaches moment (echo port group what ∷ more) state after =
     (between : RouterState) × Runs moment state (Echo port group what) between × Reaches moment more between after
@@ -33,29 +33,29 @@ Reaches moment (refresh ∷ more) state after =
 Reaches moment (verdict of_packet ∷ more) state after = ⊥
 
 -- What the router reports of one input, and the state after it.
-abbrev pub Gives : AddressFamily → Input → List Telling → RouterState → RouterState → Type 0
-Gives family (runs_to moment) told state after = Reaches moment told state after
-Gives family (takes packet) told state after =
-    (told ≡ verdict (received family packet state).0 ∷ []) × (after ≡ (received family packet state).1)
+abbrev pub Gives : AddressFamily → Input → List RouterReport → RouterState → RouterState → Type 0
+Gives family (runs_to moment) reported state after = Reaches moment reported state after
+Gives family (takes packet) reported state after =
+    (reported ≡ verdict (received family packet state).0 ∷ []) × (after ≡ (received family packet state).1)
 
 -- Two steps one after the other: the reports of both joined, and the state between them.
-pub record Follows (First Then : List Telling → RouterState → RouterState → Type 0) (told : List Telling)
+pub record Follows (First Then : List RouterReport → RouterState → RouterState → Type 0) (reported : List RouterReport)
     (state after : RouterState) : Type 0 where
-  pub before : List Telling
-  pub behind : List Telling
+  pub before : List RouterReport
+  pub behind : List RouterReport
   pub between : RouterState
-  pub joined : told ≡ before ++ behind
+  pub joined : reported ≡ before ++ behind
   pub begins : First before state between
   pub goes_on : Then behind between after
 
--- The router gets these inputs in order, reports `told`, and has the state `after` at the end.
-unfoldable pub IsCourse : AddressFamily → List Input → List Telling → RouterState → RouterState → Type 0
-IsCourse family [] told state after = (told ≡ []) × (after ≡ state)
-IsCourse family (input ∷ inputs) told state after =
-    Follows (Gives family input) (IsCourse family inputs) told state after
+-- The router gets these inputs in order, reports `reported`, and has the state `after` at the end.
+unfoldable pub IsCourse : AddressFamily → List Input → List RouterReport → RouterState → RouterState → Type 0
+IsCourse family [] reported state after = (reported ≡ []) × (after ≡ state)
+IsCourse family (input ∷ inputs) reported state after =
+    Follows (Gives family input) (IsCourse family inputs) reported state after
 
 -- There is a course over these inputs from this state.
 pub record HasCourse (family : AddressFamily) (inputs : List Input) (state : RouterState) : Type 0 where
-  pub told : List Telling
+  pub reported : List RouterReport
   pub after : RouterState
-  pub course : IsCourse family inputs told state after
+  pub course : IsCourse family inputs reported state after

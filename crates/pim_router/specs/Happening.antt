@@ -35,14 +35,14 @@ gone_from port (table ∷ tables) = gone_of port table ++ gone_from (port + 1) t
 -- The firing, if there is one.
 abbrev pub fired_of : Option (Firing (List ℕ) × List (Record (List ℕ))) → List Happening
 fired_of None = []
-fired_of (Some (told, records)) = timer_fired told ∷ []
+fired_of (Some (reported, records)) = timer_fired reported ∷ []
 
 -- What happens in the next turn, at the present moment.
 unfoldable pub happens_in : RouterState → List Happening
 happens_in state =
     if list_any has_ended state.tables then gone_from 0 state.tables else fired_of (firing state.machines.records)
 
--- The state after a turn, whether it tells something or not; `None` where nothing is left to do.
+-- The state after a turn, whether it reports something or not; `None` where nothing is left to do.
 abbrev pub next_of : Outcome → Option RouterState
 next_of rests = None
 next_of (moves after) = Some after
@@ -55,16 +55,16 @@ abbrev pub at_moment : ℕ → List Happening → List (ℕ × Happening)
 at_moment moment happenings = map (λ (happening : Happening). (moment, happening)) happenings
 
 -- What happened first, and then what happens afterwards.
-abbrev pub told_then : List (ℕ × Happening) → Option (List (ℕ × Happening) × RouterState) →
+abbrev pub happens_then : List (ℕ × Happening) → Option (List (ℕ × Happening) × RouterState) →
     Option (List (ℕ × Happening) × RouterState)
-told_then first None = None
-told_then first (Some (more, after)) = Some (first ++ more, after)
+happens_then first None = None
+happens_then first (Some (more, after)) = Some (first ++ more, after)
 
 -- How it goes on after a turn.
 abbrev pub pass_on : Option RouterState → List (ℕ × Happening) →
     (RouterState → Option (List (ℕ × Happening) × RouterState)) → Option (List (ℕ × Happening) × RouterState)
 pass_on None first more = None
-pass_on (Some next) first more = told_then first (more next)
+pass_on (Some next) first more = happens_then first (more next)
 
 -- What happens in this number of turns up to a moment, each thing with its moment, and the state
 -- after them. `None` where nothing is left to do before.
@@ -74,27 +74,27 @@ in_turns (suc turns) moment state =
     pass_on (next_of (turn moment state)) (at_moment state.machines.moment (happens_in state)) (in_turns turns moment)
 
 -- Some turns up to the moment lead from `state` to `after`, and this happens in them.
-pub record Passes (moment : ℕ) (state : RouterState) (told : List (ℕ × Happening)) (after : RouterState) : Type 0 where
+pub record Passes (moment : ℕ) (state : RouterState) (reported : List (ℕ × Happening)) (after : RouterState) : Type 0 where
   pub turns : ℕ
-  pub passed : in_turns turns moment state ≡ Some (told, after)
+  pub passed : in_turns turns moment state ≡ Some (reported, after)
 
 -- All turns up to the moment lead from `state` to `after`, where nothing is left to do, and this
 -- happens in them.
-pub record Happens (moment : ℕ) (state : RouterState) (told : List (ℕ × Happening)) (after : RouterState) : Type 0 where
-  pub passes : Passes moment state told after
+pub record Happens (moment : ℕ) (state : RouterState) (reported : List (ℕ × Happening)) (after : RouterState) : Type 0 where
+  pub passes : Passes moment state reported after
   pub ends : turn moment after ≡ rests
 
 -- A list of all that happens from the state up to the moment, with the state then.
 pub record HasHappened (moment : ℕ) (state : RouterState) : Type 0 where
-  pub told : List (ℕ × Happening)
+  pub reported : List (ℕ × Happening)
   pub after : RouterState
-  pub happens : Happens moment state told after
+  pub happens : Happens moment state reported after
 
 -- Some turns up to the moment lead from `state` to `after`. If they end as `Reached`, nothing is
 -- left to do there.
 pub record HasPassed (moment : ℕ) (state : RouterState) (answer : Step (List ℕ)) (after : RouterState) : Type 0 where
-  pub told : List (ℕ × Happening)
-  pub passes : Passes moment state told after
+  pub reported : List (ℕ × Happening)
+  pub passes : Passes moment state reported after
   pub ends : answer ≡ Reached → turn moment after ≡ rests
 
 -- ---- up to the first timer that fires
@@ -114,17 +114,17 @@ gone_between state after =
 
 -- In some turns up to the moment neighbours go, and nothing else happens. In the one turn after
 -- them this timer fires, which leaves the state `after`.
-pub record FiresAfter (moment : ℕ) (state : RouterState) (told : Firing (List ℕ)) (after : RouterState) : Type 0 where
+pub record FiresAfter (moment : ℕ) (state : RouterState) (reported : Firing (List ℕ)) (after : RouterState) : Type 0 where
   pub before : RouterState
   pub passes : Passes moment state (gone_between state after) before
-  pub fires : in_turns 1 moment before ≡ Some ((after.machines.moment, timer_fired told) ∷ [], after)
+  pub fires : in_turns 1 moment before ≡ Some ((after.machines.moment, timer_fired reported) ∷ [], after)
 
 -- What passes up to a moment, or until one timer of the machines has fired. `None`: all turns up to
 -- the moment, in which neighbours go and nothing else happens. Otherwise the turns up to the first
 -- one in which a timer fires.
 abbrev pub FiresTo : ℕ → RouterState → Option (Firing (List ℕ)) → RouterState → Type 0
 FiresTo moment state None after = Happens moment state (gone_between state after) after
-FiresTo moment state (Some told) after = FiresAfter moment state told after
+FiresTo moment state (Some reported) after = FiresAfter moment state reported after
 
 -- ---- the next neighbour whose time is over
 
@@ -137,5 +137,5 @@ first_timeout (table ∷ tables) = sooner (next_end table) (first_timeout tables
 -- The first moment whose refresh hasn't passed where a run stopped at `moment`. A timer fires
 -- before the refresh of its millisecond; else it is the next moment.
 abbrev pub first_unpassed : {A : Type 0} → Option (Firing A) → ℕ → ℕ
-first_unpassed (Some told) moment = moment
+first_unpassed (Some reported) moment = moment
 first_unpassed None moment = moment + 1

@@ -4,7 +4,7 @@ use Rattle.std.specs.Prelude.{List, [], ◌∷◌, ◌++◌, map, Some}
 use Rattle.pim_addr.specs.declared.family.AddressFamily.{AddressFamily}
 use Rattle.pim_router.specs.declared.step.Step.{Step}
 use Rattle.pim_router.specs.declared.step.Step.TheVariants.{Reached}
-use Rattle.pim_router.specs.Course.{Input, Telling, IsCourse, HasCourse}
+use Rattle.pim_router.specs.Course.{Input, RouterReport, IsCourse, HasCourse}
 use Rattle.pim_down.specs.declared.machines.step.Firing.{Firing}
 use Rattle.pim_hello.specs.Laws.{comes_by}
 use Rattle.pim_hello.specs.Neighbours.{passed_to}
@@ -17,8 +17,8 @@ use Rattle.pim_router.specs.Time.{Runs, turns_left}
 
 -- A run up to a moment has at most one end: its step and its state are determined.
 abbrev pub RunHasOneEnd : Type 0
-RunHasOneEnd = (moment : ℕ) (state after other : RouterState) (answer told : Step (List ℕ)) →
-    Runs moment state answer after → Runs moment state told other → (answer ≡ told) × (after ≡ other)
+RunHasOneEnd = (moment : ℕ) (state after other : RouterState) (answer reported : Step (List ℕ)) →
+    Runs moment state answer after → Runs moment state reported other → (answer ≡ reported) × (after ≡ other)
 
 -- A run that reaches a moment, and then a run up to a later one, are one run up to the later
 -- moment.
@@ -34,14 +34,14 @@ RunsComeNearer = (moment : ℕ) (state after : RouterState) (answer : Step (List
 -- The reports and the final state of a course are determined by the inputs and the first state.
 abbrev pub CourseHasOneEnd : Type 0
 CourseHasOneEnd = (family : AddressFamily) (inputs : List Input) (state after other : RouterState)
-    (told said : List Telling) → IsCourse family inputs told state after → IsCourse family inputs said state other →
-    (told ≡ said) × (after ≡ other)
+    (reported said : List RouterReport) → IsCourse family inputs reported state after → IsCourse family inputs said state other →
+    (reported ≡ said) × (after ≡ other)
 
 -- A course over one list and then a course over another are one course over both lists joined.
 abbrev pub CourseGoesOn : Type 0
 CourseGoesOn = (family : AddressFamily) (earlier later : List Input) (state between after : RouterState)
-    (told more : List Telling) → IsCourse family earlier told state between → IsCourse family later more between after →
-    IsCourse family (earlier ++ later) (told ++ more) state after
+    (reported more : List RouterReport) → IsCourse family earlier reported state between → IsCourse family later more between after →
+    IsCourse family (earlier ++ later) (reported ++ more) state after
 
 -- From every state there is a course over every list of inputs.
 abbrev pub EveryListHasACourse : Type 0
@@ -53,20 +53,20 @@ EveryListHasACourse = (family : AddressFamily) (inputs : List Input) (state : Ro
 -- Turns up to a moment, and then turns up to a later one, are turns up to the later one. What
 -- happens in them follows one after the other.
 abbrev pub PassingGoesOn : Type 0
-PassingGoesOn = (earlier later : ℕ) (state between after : RouterState) (told more : List (ℕ × Happening)) →
-    earlier ≤ later → Passes earlier state told between → Passes later between more after →
-    Passes later state (told ++ more) after
+PassingGoesOn = (earlier later : ℕ) (state between after : RouterState) (reported more : List (ℕ × Happening)) →
+    earlier ≤ later → Passes earlier state reported between → Passes later between more after →
+    Passes later state (reported ++ more) after
 
 -- Whatever happens up to a later moment after some turns happens after what happened in these.
 abbrev pub HappeningGoesOn : Type 0
-HappeningGoesOn = (earlier later : ℕ) (state between after : RouterState) (told more : List (ℕ × Happening)) →
-    earlier ≤ later → Passes earlier state told between → Happens later between more after →
-    Happens later state (told ++ more) after
+HappeningGoesOn = (earlier later : ℕ) (state between after : RouterState) (reported more : List (ℕ × Happening)) →
+    earlier ≤ later → Passes earlier state reported between → Happens later between more after →
+    Happens later state (reported ++ more) after
 
 -- What happens up to a moment, and the state then, are determined.
 abbrev pub HappeningHasOneEnd : Type 0
-HappeningHasOneEnd = (moment : ℕ) (state after other : RouterState) (told said : List (ℕ × Happening)) →
-    Happens moment state told after → Happens moment state said other → (told ≡ said) × (after ≡ other)
+HappeningHasOneEnd = (moment : ℕ) (state after other : RouterState) (reported said : List (ℕ × Happening)) →
+    Happens moment state reported after → Happens moment state said other → (reported ≡ said) × (after ≡ other)
 
 -- From every state there is a list of what happens up to every moment.
 abbrev pub EveryStateGoesOn : Type 0
@@ -80,8 +80,8 @@ RunsPastAreTurns = (refreshes moment : ℕ) (state after : RouterState) (answer 
 
 -- Up to the first timer that fires, neighbours go, and then the timer fires.
 abbrev pub FiringPasses : Type 0
-FiringPasses = (moment : ℕ) (state after : RouterState) (told : Firing (List ℕ)) → FiresAfter moment state told after →
-    Passes moment state (gone_between state after ++ (after.machines.moment, timer_fired told) ∷ []) after
+FiringPasses = (moment : ℕ) (state after : RouterState) (reported : Firing (List ℕ)) → FiresAfter moment state reported after →
+    Passes moment state (gone_between state after ++ (after.machines.moment, timer_fired reported) ∷ []) after
 
 -- No neighbour goes before `first_timeout`.
 abbrev pub NobodyGoesBeforeFirstTimeout : Type 0

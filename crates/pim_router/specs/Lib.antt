@@ -4,7 +4,7 @@ pub mod Config
 pub mod Sound
 pub mod Packets
 pub mod Reading
-pub mod Told
+pub mod Written
 pub mod Time
 pub mod Refreshes
 pub mod Happening

@@ -4,14 +4,14 @@ use Rattle.std.specs.Prelude.{◌≡◌, ℕ, List, Option}
 use Rattle.pim_addr.specs.declared.family.AddressFamily.{AddressFamily}
 use Rattle.pim_form.specs.Messages.{Writing}
 use Rattle.pim_form.specs.NormalForm.{GroupForm}
-use Rattle.pim_router.specs.Canonical.{IsAskedBy, IsTooBig}
-use Rattle.pim_router.specs.Change.{IsToldOf, IsTooBigToTell}
+use Rattle.pim_router.specs.Canonical.{IsDemandedBy, IsTooBig}
+use Rattle.pim_router.specs.Change.{IsChangeOf, IsChangeTooBig}
 use Rattle.pim_router.specs.State.{RouterState}
 
 -- What is asked of a neighbour has at most one list of canonical messages.
-abbrev pub OneListIsAsked : Type 0
-OneListIsAsked = (family : AddressFamily) (writing : Writing) (state : RouterState) (one other : List (List ℕ)) →
-    IsAskedBy family writing state one → IsAskedBy family writing state other → one ≡ other
+abbrev pub OneListIsDemanded : Type 0
+OneListIsDemanded = (family : AddressFamily) (writing : Writing) (state : RouterState) (one other : List (List ℕ)) →
+    IsDemandedBy family writing state one → IsDemandedBy family writing state other → one ≡ other
 
 -- The least group whose star is too big for a message is one, or there is none.
 abbrev pub OneIsTooBig : Type 0
@@ -19,13 +19,13 @@ OneIsTooBig = (family : AddressFamily) (writing : Writing) (state : RouterState)
     IsTooBig family writing state one → IsTooBig family writing state other → one ≡ other
 
 -- The change from a form to what is asked now has at most one list of messages.
-abbrev pub OneListIsTold : Type 0
-OneListIsTold = (family : AddressFamily) (writing : Writing) (last : List GroupForm) (state : RouterState)
-    (one other : List (List ℕ)) → IsToldOf family writing last state one →
-    IsToldOf family writing last state other → one ≡ other
+abbrev pub OneListIsTheChange : Type 0
+OneListIsTheChange = (family : AddressFamily) (writing : Writing) (last : List GroupForm) (state : RouterState)
+    (one other : List (List ℕ)) → IsChangeOf family writing last state one →
+    IsChangeOf family writing last state other → one ≡ other
 
 -- The least group of that change whose star is too big for a message is one, or there is none.
-abbrev pub OneIsTooBigToTell : Type 0
-OneIsTooBigToTell = (family : AddressFamily) (writing : Writing) (last : List GroupForm) (state : RouterState)
-    (one other : Option (List ℕ)) → IsTooBigToTell family writing last state one →
-    IsTooBigToTell family writing last state other → one ≡ other
+abbrev pub OneChangeIsTooBig : Type 0
+OneChangeIsTooBig = (family : AddressFamily) (writing : Writing) (last : List GroupForm) (state : RouterState)
+    (one other : Option (List ℕ)) → IsChangeTooBig family writing last state one →
+    IsChangeTooBig family writing last state other → one ≡ other

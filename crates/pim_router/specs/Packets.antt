@@ -10,8 +10,8 @@ use Rattle.pim_frame.specs.Frame.{Content, hello, join_prune, other, content, fr
 use Rattle.pim_hello.specs.Faults.{faults as hello_faults}
 use Rattle.pim_hello.specs.Hello.{Parameters}
 use Rattle.pim_hello.specs.Value.{hello_of}
-use Rattle.pim_hello.specs.Interval.{override_interval}
-use Rattle.pim_hello.specs.Neighbours.{Table, neighbour_at, hellos_of, without_ended, heard_from, told, is_full}
+use Rattle.pim_hello.specs.Interval.{jp_override_interval}
+use Rattle.pim_hello.specs.Neighbours.{Table, neighbour_at, hellos_of, without_ended, heard_from, heard_as, is_full}
 use Rattle.pim_hello.specs.Neighbours.{needs_no_memory}
 use Rattle.pim_jp.specs.Faults.{faults as join_prune_faults}
 use Rattle.pim_jp.specs.Message.{Message, message_of}
@@ -47,7 +47,7 @@ knows port source state = is_some (neighbour_at source (neighbours_on port state
 -- (4.5.1).
 abbrev pub timing_on : ℕ → RouterState → Timing
 timing_on port state = record {
-  override_ms = override_interval (port_at port state).propagation (port_at port state).override_ms
+  override_ms = jp_override_interval (port_at port state).propagation (port_at port state).override_ms
       (hellos_of (neighbours_on port state));
   several = nat_lt 1 (length (neighbours_on port state).entries);
 }
@@ -107,26 +107,26 @@ causes family packet state =
 
 -- The verdict and the state after a Hello that is taken: the port keeps what it says, or removes
 -- the neighbour at a goodbye (RFC 7761, 4.3.1).
-abbrev pub hello_taken : ℕ → List ℕ → RouterState → Parameters → Verdict × RouterState
-hello_taken port source state said = (
-  verdict.HelloTaken (told (neighbour_at source (neighbours_on port state)) said),
+abbrev pub hello_heard : ℕ → List ℕ → RouterState → Parameters → Verdict × RouterState
+hello_heard port source state said = (
+  verdict.HelloTaken (heard_as (neighbour_at source (neighbours_on port state)) said),
   with_tables state (slice_set state.tables port (heard_from source said (neighbours_on port state))),
 )
 
 -- The verdict and the state after a Join/Prune message that is taken: it acts on the port's
 -- machines by the state machines of RFC 7761, 4.5.
-abbrev pub message_taken : AddressFamily → ℕ → RouterState → Message → Verdict × RouterState
-message_taken family port state message = (
+abbrev pub message_heard : AddressFamily → ℕ → RouterState → Message → Verdict × RouterState
+message_heard family port state message = (
   verdict.Applied,
   with_machines state (heard port message (rp_of family state.routes) (timing_on port state) state.machines),
 )
 
 -- The verdict and the state after a body that no cause refuses. A message of another type changes
 -- nothing.
-abbrev pub body_taken : AddressFamily → ℕ → List ℕ → RouterState → Content → Verdict × RouterState
-body_taken family port source state (other type) = (verdict.OtherType type, state)
-body_taken family port source state (hello body) = hello_taken port source state (hello_of family body).parameters
-body_taken family port source state (join_prune body) = message_taken family port state (message_of family body)
+abbrev pub body_heard : AddressFamily → ℕ → List ℕ → RouterState → Content → Verdict × RouterState
+body_heard family port source state (other type) = (verdict.OtherType type, state)
+body_heard family port source state (hello body) = hello_heard port source state (hello_of family body).parameters
+body_heard family port source state (join_prune body) = message_heard family port state (message_of family body)
 
 -- ---- the verdict, and the state after the packet
 
@@ -139,13 +139,13 @@ unless (cause ∷ others) state taken = (cause, state)
 -- The verdict on a packet, and the state after it.
 abbrev pub received : AddressFamily → Packet → RouterState → Verdict × RouterState
 received family packet state = unless (causes family packet state) state
-    (body_taken family packet.port packet.source state (content packet.bytes))
+    (body_heard family packet.port packet.source state (content packet.bytes))
 
 -- The result of a call that receives a packet, and the state that it leaves. An error comes only
 -- where no cause refuses the packet, and then nothing changes.
 abbrev pub Receives : {E : Type 0} → List Verdict → Verdict × RouterState → RouterState → Result Verdict E →
     RouterState → Type 0
-Receives causes end old (Ok told) new = (told, new) ≡ end
+Receives causes end old (Ok reported) new = (reported, new) ≡ end
 Receives causes end old (Err refused) new = (causes ≡ []) × (new ≡ old)
 
 -- ---- which packets may need memory

@@ -22,11 +22,11 @@ use Rattle.pim_router.specs.declared.verdict.Malformed.TheVariants as malformed
 use Rattle.pim_router.specs.declared.verdict.Verdict.{Verdict}
 use Rattle.pim_router.specs.declared.verdict.Verdict.TheVariants as verdict
 use Rattle.pim_router.specs.Packets.{Packet, causes, received, unless, own_address, neighbours_on, may_grow, new_by}
-use Rattle.pim_router.specs.Packets.{hello_causes, hello_taken, message_causes, message_taken}
+use Rattle.pim_router.specs.Packets.{hello_causes, hello_heard, message_causes, message_heard}
 use Rattle.pim_router.specs.State.{RouterState}
 
--- What a PIM message reads as: a Hello (RFC 7761, 4.9.2), a Join/Prune (4.9.5), a message of another
--- type, or a message with this first fault.
+-- What a PIM message reads as: a Hello (RFC 7761, 4.9.2), a Join/Prune (4.9.5), a message of
+-- another type, or a message with this first fault.
 pub data Reading : Type 0 where
   read_hello : Hello → Reading
   read_message : Message → Reading
@@ -83,8 +83,8 @@ module _ (family : AddressFamily) (port : ℕ) (source : List ℕ) (state : Rout
 
   -- The verdict and the state after a message that no cause refuses.
   abbrev pub read_taken : Reading → Verdict × RouterState
-  read_taken (read_hello said) = hello_taken port source state said.parameters
-  read_taken (read_message message) = message_taken family port state message
+  read_taken (read_hello said) = hello_heard port source state said.parameters
+  read_taken (read_message message) = message_heard family port state message
   read_taken (read_other type) = (verdict.OtherType type, state)
   read_taken (read_fault fault) = (verdict.Malformed fault, state)
 

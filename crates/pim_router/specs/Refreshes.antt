@@ -15,9 +15,9 @@ RunsPast (suc refreshes) moment state answer after =
     (between : RouterState) × Runs moment state Refresh between × RunsPast refreshes moment between answer after
 
 -- The end of such a run as the end of a router's run: an echo, or the moment is reached.
-abbrev pub told_behind : Fires (List ℕ) → Step (List ℕ)
-told_behind (fires.Echo port group what) = Echo port group what
-told_behind fires.Reached = Reached
+abbrev pub fires_behind : Fires (List ℕ) → Step (List ℕ)
+fires_behind (fires.Echo port group what) = Echo port group what
+fires_behind fires.Reached = Reached
 
 -- The first moment whose refresh a run that stopped at `moment` hasn't counted. At an echo it is
 -- that moment, since an echo comes before the refresh of its millisecond; else it is the next

@@ -37,9 +37,9 @@ pub data Outcome : Type 0 where
 
 -- The outcome where a timer of the machines fired: a PruneEcho stops the run, anything else lets it
 -- go on.
-abbrev pub told : Fires (List ℕ) → RouterState → Outcome
-told fires.Reached state = moves state
-told (fires.Echo port group what) state = tells (Echo port group what) state
+abbrev pub reported : Fires (List ℕ) → RouterState → Outcome
+reported fires.Reached state = moves state
+reported (fires.Echo port group what) state = tells (Echo port group what) state
 
 -- A millisecond passes, unless the moment is reached.
 abbrev pub turn_of_time : ℕ → RouterState → Outcome
@@ -55,7 +55,7 @@ turn_of_refresh moment state =
 abbrev pub turn_of_timers : ℕ → RouterState → Option (Fires (List ℕ) × List (Record (List ℕ))) → Outcome
 turn_of_timers moment state None = turn_of_refresh moment state
 turn_of_timers moment state (Some (answer, records)) =
-    told answer (with_machines state (with_records state.machines records))
+    reported answer (with_machines state (with_records state.machines records))
 
 -- One turn up to a moment. Within a millisecond neighbours whose time is over go first. Then
 -- Prune-Pending Timers fire in key order, then Expiry Timers in key order (RFC 7761, 4.5), then the

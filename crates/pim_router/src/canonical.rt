@@ -5,13 +5,14 @@
 
 ghost use Rattle.std.specs.Prelude.{◌≡◌, ◌≢◌, ◌↔◌, IsTrue, Err, IfOk, option_map};
 ghost use Rattle.pim_form.specs.NormalForm.{Agree};
-ghost use Rattle.pim_form.specs.Refused.{told_too_big};
-ghost use Rattle.pim_router.specs.Canonical.{asked, IsAskedBy, IsTooBig, IsFirstTooBig};
+ghost use Rattle.pim_form.specs.Refused.{group_too_big};
+ghost use Rattle.pim_router.specs.Canonical.{demanded, IsDemandedBy, IsTooBig, IsFirstTooBig};
 
 use crate::router::Router;
 use pim_addr::Family;
 use pim_emit::{canonical_messages, star_too_big};
-use pim_form::{FormFault, Messages, Writer, same_messages_same_asked};
+use pim_form::laws::same_messages_same_demand_toward;
+use pim_form::{FormFault, Messages, Writer};
 use std::alloc::Global;
 
 impl<'a, F: Family> Router<'a, F> {
@@ -26,9 +27,9 @@ impl<'a, F: Family> Router<'a, F> {
     /// of the writer's budget alone, exactly if there is one. Otherwise `Memory` where memory is
     /// refused.
     pub fn canonical(&self, alloc: Global, writer: &Writer<F>) -> Result<Messages, FormFault<F>>
-        ensures canonical { IfOk result (IsAskedBy F.family writer.now self.now) }
+        ensures canonical { IfOk result (IsDemandedBy F.family writer.now self.now) }
         ensures too_big { IsTooBig F.family writer.now self.now
-            (option_map F.bytes_of (told_too_big result)) }
+            (option_map F.bytes_of (group_too_big result)) }
         ensures tables { result ≢ Err FormFault.Tables }
     {
         let ports = self.ports();
@@ -72,12 +73,12 @@ pub fn same_wants<F: Family>(
     writer: &Writer<F>,
 ) -> Result<bool, FormFault<F>>
     ensures wants { IfOk result (λ same. IsTrue same ↔
-        Agree F.family (asked F.family writer.now.upstream a.now)
-        (asked F.family writer.now.upstream b.now)) }
+        Agree F.family (demanded F.family writer.now.upstream a.now)
+        (demanded F.family writer.now.upstream b.now)) }
     ensures tables { (result ≡ Err FormFault.Tables) ↔ (a.now.routes ≢ b.now.routes) }
     ensures too_big { a.now.routes ≡ b.now.routes →
         IsFirstTooBig F.family writer.now a.now b.now
-        (option_map F.bytes_of (told_too_big result)) }
+        (option_map F.bytes_of (group_too_big result)) }
 {
     if !a.routes().equals(b.routes()) {
         return Err(FormFault::Tables);
@@ -85,7 +86,7 @@ pub fn same_wants<F: Family>(
     if let Some(group) = first_too_big::<F>(a, b, writer) {
         return Err(FormFault::TooBig(group));
     }
-    same_messages_same_asked();
+    same_messages_same_demand_toward();
     a.routes().is_sound();
     writer.is_writing();
     let one = a.canonical(alloc, writer)?;

@@ -9,8 +9,9 @@ ghost use Rattle.pim_router.specs.Laws.{TheEndedGoAtFirstTimeout};
 ghost use Rattle.pim_router.specs.Laws.{RunsPastAreTurns, EveryStateGoesOn};
 ghost use Rattle.pim_router.specs.Reading.{PacketIsTakenAsRead};
 
-use pim_down::timers_run_out;
-use pim_hello::time_is_over_from_next_end;
+pub use crate::one_list::{one_list_is_demanded, one_list_is_the_change};
+use pim_down::laws::timers_run_out;
+use pim_hello::laws::time_is_over_from_next_end;
 
 /// A port takes a packet as it takes what the packet's message reads as.
 pub fn packet_is_taken_as_read()

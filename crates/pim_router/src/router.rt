@@ -17,20 +17,20 @@ ghost use Rattle.pim_hello.specs.Seen.{hello_seen};
 ghost use Rattle.pim_hello.specs.Walk.{neighbour_seen};
 ghost use Rattle.pim_router.specs.Config.{config_faults, IsMadeUnless};
 ghost use Rattle.pim_router.specs.Packets.{Receives, causes, received, message_causes};
-ghost use Rattle.pim_router.specs.Packets.{hello_causes, hello_taken, new_by, may_grow};
-ghost use Rattle.pim_router.specs.Packets.{message_taken, room_causes, unless, timing_on, knows};
+ghost use Rattle.pim_router.specs.Packets.{hello_causes, hello_heard, new_by, may_grow};
+ghost use Rattle.pim_router.specs.Packets.{message_heard, room_causes, unless, timing_on, knows};
 ghost use Rattle.pim_router.specs.Packets.{neighbours_on};
 ghost use Rattle.pim_router.specs.Reading.{reading_seen, message_refusals, read_causes};
 ghost use Rattle.pim_router.specs.Reading.{read_taken, read_received, read_may_grow};
 ghost use Rattle.pim_router.specs.Seen.{setup_seen, port_seen, packet_seen, step_seen};
 ghost use Rattle.pim_router.specs.Time.{Runs, turns_left};
-ghost use Rattle.pim_router.specs.Refreshes.{RunsPast, told_behind, first_untold};
+ghost use Rattle.pim_router.specs.Refreshes.{RunsPast, fires_behind, first_untold};
 ghost use Rattle.pim_router.specs.Happening.{FiresTo, first_timeout, first_unpassed};
 ghost use Rattle.pim_router.specs.declared.step.Step.TheVariants.{Reached};
 ghost use Rattle.pim_down.specs.declared.machines.step.Step.TheVariants as fires;
 ghost use Rattle.pim_down.specs.Records.{count_on};
 ghost use Rattle.pim_down.specs.Seen.{step_seen as fires_seen, firing_seen};
-ghost use Rattle.pim_router.specs.Told.{hello_verdict, message_verdict};
+ghost use Rattle.pim_router.specs.Written.{hello_verdict, message_verdict};
 ghost use Rattle.pim_router.specs.Sound.{IsRouter};
 ghost use Rattle.pim_router.specs.State.{new_router, port_at, setup_of, table_at};
 
@@ -40,10 +40,11 @@ use crate::message::{PimMessage, read_message};
 use crate::step::Step;
 use crate::verdict::{Store, Verdict};
 use pim_addr::{Family, Routes};
-use pim_down::{Firing, HearFault, Ports, Step as Fires, Timing, firing_says_more, timers_run_out};
+use pim_down::laws::{firing_says_more, timers_run_out};
+use pim_down::{Firing, HearFault, Ports, Step as Fires, Timing};
+use pim_hello::laws::expiring_twice_is_expiring_once;
 use pim_hello::{
     Heard, Hello, KnownNeighbour, KnownNeighbours, NeighbourFault, Neighbours, PortDelays,
-    expiring_twice_is_expiring_once,
 };
 use pim_jp::JpView;
 use std::alloc::{AllocError, Global};
@@ -368,12 +369,12 @@ impl<'a, F: Family> Router<'a, F> {
         hello: &Hello<'_, F>,
     ) -> Result<Verdict, AllocError>
         requires { port < length self.old.ports }
-        ensures told { Receives
+        ensures reported { Receives
             (hello_causes port (F.bytes_of src) self.old (hello_seen F.family hello.now).parameters)
             (unless
             (hello_causes port (F.bytes_of src) self.old (hello_seen F.family hello.now).parameters)
             self.old
-            (hello_taken port (F.bytes_of src) self.old (hello_seen F.family hello.now).parameters))
+            (hello_heard port (F.bytes_of src) self.old (hello_seen F.family hello.now).parameters))
             self.old result self.new }
         ensures memory { OnErr result (IsTrue (not (needs_no_memory (F.bytes_of src)
             (hello_seen F.family hello.now).parameters (neighbours_on port self.old)))) }
@@ -389,9 +390,9 @@ impl<'a, F: Family> Router<'a, F> {
     /// Applies a Join/Prune message that is for this port to its machines.
     fn apply(&mut self, port: usize, message: &JpView<'_, F>) -> Result<Verdict, AllocError>
         requires { port < length self.old.ports }
-        ensures told { Receives (room_causes F.family port self.old message.now)
+        ensures reported { Receives (room_causes F.family port self.old message.now)
             (unless (room_causes F.family port self.old message.now) self.old
-            (message_taken F.family port self.old message.now)) self.old result self.new }
+            (message_heard F.family port self.old message.now)) self.old result self.new }
         ensures memory { OnErr result
             (IsTrue (nat_lt 0 (new_by F.family port message.now self.old))) }
     {
@@ -409,9 +410,10 @@ impl<'a, F: Family> Router<'a, F> {
         message: &JpView<'_, F>,
     ) -> Result<Verdict, AllocError>
         requires { port < length self.old.ports }
-        ensures told { Receives (message_causes F.family port (F.bytes_of src) self.old message.now)
+        ensures reported { Receives
+            (message_causes F.family port (F.bytes_of src) self.old message.now)
             (unless (message_causes F.family port (F.bytes_of src) self.old message.now) self.old
-            (message_taken F.family port self.old message.now)) self.old result self.new }
+            (message_heard F.family port self.old message.now)) self.old result self.new }
         ensures memory { OnErr result
             (IsTrue (nat_lt 0 (new_by F.family port message.now self.old))) }
     {
@@ -432,14 +434,15 @@ impl<'a, F: Family> Router<'a, F> {
         message: &PimMessage<'_, F>,
     ) -> Result<Verdict, AllocError>
         requires { port < length self.old.ports }
-        ensures told { Receives
+        ensures reported { Receives
             (message_refusals F.family port (F.bytes_of src) self.old
             (reading_seen F.family message.now))
             (unless
             (message_refusals F.family port (F.bytes_of src) self.old
             (reading_seen F.family message.now))
             self.old
-            (read_taken F.family port (F.bytes_of src) self.old (reading_seen F.family message.now)))
+            (read_taken F.family port (F.bytes_of src) self.old
+            (reading_seen F.family message.now)))
             self.old result self.new }
         ensures memory { OnErr result (IsTrue (read_may_grow F.family port (F.bytes_of src) self.old
             (reading_seen F.family message.now))) }
@@ -464,8 +467,9 @@ impl<'a, F: Family> Router<'a, F> {
         message: &PimMessage<'_, F>,
     ) -> Result<Verdict, AllocError>
         requires { port < length self.old.ports }
-        ensures told { Receives
-            (read_causes F.family port (F.bytes_of src) self.old (reading_seen F.family message.now))
+        ensures reported { Receives
+            (read_causes F.family port (F.bytes_of src) self.old
+            (reading_seen F.family message.now))
             (read_received F.family port (F.bytes_of src) self.old
             (reading_seen F.family message.now))
             self.old result self.new }
@@ -501,7 +505,7 @@ impl<'a, F: Family> Router<'a, F> {
     ) -> Result<Verdict, AllocError>
         requires port { port < length self.old.ports }
         requires bytes { length bytes.now < 2 ^ 32 }
-        ensures told { Receives
+        ensures reported { Receives
             (causes F.family (packet_seen F.bytes_of port src dst bytes.now) self.old)
             (received F.family (packet_seen F.bytes_of port src dst bytes.now) self.old) self.old
             result self.new }
@@ -574,7 +578,7 @@ impl<'a, F: Family> Router<'a, F> {
     pub fn run_past_refreshes(&mut self, moment: u64) -> (Fires<F::Addr>, u64)
         requires { moment ≤ 10 ^ 15 }
         ensures run { RunsPast result.1 moment self.old
-            (told_behind (fires_seen F.bytes_of result.0)) self.new }
+            (fires_behind (fires_seen F.bytes_of result.0)) self.new }
         ensures later { self.old.machines.moment ≤ self.new.machines.moment }
         ensures moment { self.new.machines.moment ≤ max self.old.machines.moment moment }
         ensures reached { result.0 ≡ fires.Reached →
@@ -591,7 +595,7 @@ impl<'a, F: Family> Router<'a, F> {
     fn run_machines(&mut self, moment: u64) -> (Fires<F::Addr>, u64)
         requires { moment ≤ 10 ^ 15 }
         ensures run { RunsPast result.1 moment self.old
-            (told_behind (fires_seen F.bytes_of result.0)) self.new }
+            (fires_behind (fires_seen F.bytes_of result.0)) self.new }
         ensures later { self.old.machines.moment ≤ self.new.machines.moment }
         ensures moment { self.new.machines.moment ≤ max self.old.machines.moment moment }
         ensures reached { result.0 ≡ fires.Reached →

@@ -53,15 +53,15 @@ module _ {K : Type 0} (By : Taken → K → RouterState → Option (List ℕ) �
 
       -- ---- a capture's fault
 
-      module _ (merge' : MergeState) (told : MergeFault) (stops : StopsAfter end start w.taken merge' told) where
+      module _ (merge' : MergeState) (reported : MergeFault) (stops : StopsAfter end start w.taken merge' reported) where
         abbrev Stops : RunFault → Type 0
         Stops fault = Runs By Begins end start merge' kept state old {A = Bool} then now new (Err fault)
 
-        stopped : told.fault ≢ Memory → Stops (run.Capture told)
+        stopped : reported.fault ≢ Memory → Stops (run.Capture reported)
         stopped other =
             record { taken = w.taken; are = stops.are; first = w.run.first; no_memory = other; cause = stops.cause; tallies = stops.tallies; numbered = stops.numbered; turns = w.turns }
 
-        by_fault : (fault : CaptureFault) → told.fault ≡ fault → Stops (stop_by told fault)
+        by_fault : (fault : CaptureFault) → reported.fault ≡ fault → Stops (stop_by reported fault)
         by_fault Memory is = record { taken = w.taken; kept' = then; between = now; mid = new; turns = w.turns; last = inl (w.run.first, refl) }
         by_fault Magic is = stopped (λ e. cc)
         by_fault LinkType is = stopped (λ e. cc)
@@ -76,8 +76,8 @@ module _ {K : Type 0} (By : Taken → K → RouterState → Option (List ℕ) �
         by_fault (InterfaceNames one other) is = stopped (λ e. cc)
         by_fault (LinkNumber number) is = stopped (λ e. cc)
 
-        pub failed : (answer : RunFault) → answer ≡ stopped_by told → Stops answer
-        failed answer is = subst Stops (sym is) (by_fault told.fault refl)
+        pub failed : (answer : RunFault) → answer ≡ stopped_by reported → Stops answer
+        failed answer is = subst Stops (sym is) (by_fault reported.fault refl)
 
       -- ---- a turn
 
@@ -130,7 +130,7 @@ module _ {K : Type 0} (By : Taken → K → RouterState → Option (List ℕ) �
 
     pub ends_so : (merge : MergeState) (then : K) (now : RouterState) (new : Option (List ℕ)) (fault : RunFault) → Runs By Begins end start merge kept state old {A = Bool} then now new (Err fault)
         → Runs By Begins end start merge kept state old {A = Unit {0}} then now new (Err fault)
-    ends_so merge then now new (run.Capture told) p = p
+    ends_so merge then now new (run.Capture reported) p = p
     ends_so merge then now new run.Output p = p
     ends_so merge then now new run.Memory p = p
 

@@ -1,5 +1,5 @@
--- The definitions of `pim_run`. `Run` says what a run does, `Faults` why it stops; `Underway` serves
--- private functions only.
+-- The definitions of `pim_run`. `Run` says what a run does, `Faults` why it stops; `Underway`
+-- serves private functions only.
 pub mod Faults
 pub mod Run
 pub mod Underway

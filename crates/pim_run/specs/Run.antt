@@ -46,16 +46,16 @@ module _ {K : Type 0}
     -- capture, or a read of that capture failed in the call. It is never a lack of memory. The
     -- tallies of `merge'` count these turns, and the fault has the number of the record after those
     -- of its capture.
-    pub record StopsAt (told : MergeFault) (kept' : K) (after : RouterState) (new : Option (List ℕ)) : Type 0 where
+    pub record StopsAt (reported : MergeFault) (kept' : K) (after : RouterState) (new : Option (List ℕ)) : Type 0 where
       pub taken : List Taken
-      pub are : AreBefore end merge told taken
+      pub are : AreBefore end merge reported taken
       pub first : AreFirst end merge taken
-      pub no_memory : told.fault ≢ fault.Memory
-      pub cause : IsRefusal {A = ⊤} (lane_at told.capture merge.lanes).failures
-          (lane_at told.capture merge'.lanes).failures (Err told.fault)
-          ⊎ AreAll end merge (Some (told.capture, told.fault)) taken
+      pub no_memory : reported.fault ≢ fault.Memory
+      pub cause : IsRefusal {A = ⊤} (lane_at reported.capture merge.lanes).failures
+          (lane_at reported.capture merge'.lanes).failures (Err reported.fault)
+          ⊎ AreAll end merge (Some (reported.capture, reported.fault)) taken
       pub tallies : tallies_of merge'.lanes ≡ tallies_after (tallies_of merge.lanes) taken
-      pub numbered : IsNumbered (tallies_of merge'.lanes) told
+      pub numbered : IsNumbered (tallies_of merge'.lanes) reported
       pub turns : AreTaken taken kept state old kept' after new
 
     -- Some first turns were taken, and at most one more was begun.
@@ -71,6 +71,6 @@ module _ {K : Type 0}
     -- What `run` returns and leaves.
     abbrev pub Runs : {A : Type 0} → K → RouterState → Option (List ℕ) → Result A RunFault → Type 0
     Runs kept' after new (Ok done) = RunsThrough kept' after new
-    Runs kept' after new (Err (Capture told)) = StopsAt told kept' after new
+    Runs kept' after new (Err (Capture reported)) = StopsAt reported kept' after new
     Runs kept' after new (Err Output) = BreaksOff new
     Runs kept' after new (Err Memory) = BreaksOff new

@@ -5,7 +5,7 @@ use Rattle.pim_addr.specs.declared.route_fault.RouteFault.{RouteFault}
 use Rattle.pim_addr.specs.Routes.{RouteTable, no_routes, rp_faults, via_faults, with_rp, with_via}
 use Rattle.pim_lines.specs.AnyAddress.{address_bytes}
 use Rattle.pim_request.specs.declared.command.PortRow.{PortRow}
-use Rattle.pim_request.specs.declared.command.Row.{Row}
+use Rattle.pim_request.specs.declared.command.RouteRow.{RouteRow}
 use Rattle.pim_answers.specs.declared.fault.Fault.{Fault}
 use Rattle.pim_answers.specs.Answered.{RefusedIf, RefusedBy, OrMemory, Done}
 use Rattle.pim_answers.specs.Families.{differ_from, family_words}
@@ -45,7 +45,7 @@ port_keeps row gathered next words p =
     let end : Gathered = with_port (family_with gathered row.address) row gathered in
     if_tested (differ_from (family_with gathered row.address) (row.address ∷ [])) family_words words gathered next (OrMemory gathered (Done end)) (if_memory gathered end next words) p
 
-row_keeps : (row : Row) (faults : AddressFamily → List RouteFault) (table : RouteTable) (gathered next : Gathered) (words : List ℕ) → AddsRow row faults table gathered (fault_line words) next → next ≡ gathered
+row_keeps : (row : RouteRow) (faults : AddressFamily → List RouteFault) (table : RouteTable) (gathered next : Gathered) (words : List ℕ) → AddsRow row faults table gathered (fault_line words) next → next ≡ gathered
 row_keeps row faults table gathered next words p =
     let family : AddressFamily = family_with gathered row.prefix in
     let end : Gathered = with_routes family table gathered in

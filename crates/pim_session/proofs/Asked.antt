@@ -4,14 +4,14 @@ use Rattle.pim_text.specs.Read.{IsRead}
 use Rattle.pim_request.specs.declared.command.Sender.{Sender}
 use Rattle.pim_request.specs.declared.command.WordsFault.{WordsFault}
 use Rattle.pim_request.specs.Commands.{StatesSender, IsSenderFault}
-use Rattle.pim_items.specs.declared.items.Item.TheVariants.{Line, LongLine, Text as TextOf}
-use Rattle.pim_items.specs.declared.items.TextItem.{TextItem}
-use Rattle.pim_items.specs.Items.{Text, Item, a_line, a_long_line, a_text, bytes_of_lines, has_long_line, text_limit}
-use Rattle.pim_items.specs.Reading.{Reading, Holds, IsText, IsItem}
+use Rattle.pim_request.specs.declared.items.Item.TheVariants.{Line, LongLine, Text as TextOf}
+use Rattle.pim_request.specs.declared.items.TextItem.{TextItem}
+use Rattle.pim_request.specs.Items.{Text, Item, a_line, a_long_line, a_text, bytes_of_lines, has_long_line, text_limit}
+use Rattle.pim_request.specs.Reading.{Reading, Holds, IsText, IsItem}
 use Rattle.pim_session.specs.declared.request.Request.{Request}
 use Rattle.pim_session.specs.declared.request.Request.TheVariants.{Command, From}
-use Rattle.pim_session.specs.Request.{long_line_words, wrong_words, AsksLine, AsksText, Asks}
-use Rattle.pim_session.specs.Seen.{AsksFrom}
+use Rattle.pim_session.specs.Request.{long_line_words, wrong_words, RequestsLine, RequestsText, Requests}
+use Rattle.pim_session.specs.Seen.{RequestsFrom}
 
 -- ---- what is held
 
@@ -30,51 +30,51 @@ long_held true text from_line bytes holds long = holds.1
 -- ---- a text with a fault
 
 module _ (text : Text) (is_too_long : Bool) (from_line line bytes : List ℕ) (holds : Holds is_too_long text from_line bytes) (same : line ≡ from_line) where
-  pub words_asked : (fault : WordsFault) (words : List ℕ) → IsSenderFault line fault → words ≡ wrong_words fault → AsksText text (Err words)
+  pub words_asked : (fault : WordsFault) (words : List ℕ) → IsSenderFault line fault → words ≡ wrong_words fault → RequestsText text (Err words)
   words_asked fault words wrong is = inl (fault, subst (λ (l : List ℕ). IsSenderFault l fault) (same ∙ head_held is_too_long text from_line bytes holds) wrong, is)
 
-  pub long_asked_text : (sender : Sender) (words : List ℕ) → StatesSender line sender → is_too_long ≡ true → words ≡ codes "text too-long" → AsksText text (Err words)
+  pub long_asked_text : (sender : Sender) (words : List ℕ) → StatesSender line sender → is_too_long ≡ true → words ≡ codes "text too-long" → RequestsText text (Err words)
   long_asked_text sender words states long is =
       inr (sender, subst (λ (l : List ℕ). StatesSender l sender) (same ∙ head_held is_too_long text from_line bytes holds) states, inl (long_held is_too_long text from_line bytes holds long, is))
 
 -- ---- a held text
 
-pub from_asked : (text : Text) (sender : Sender) (bytes : List ℕ) (is_sent : Bool) (asked : Result Request (List ℕ)) → StatesSender text.head sender → bytes ≡ bytes_of_lines text.lines → length bytes ≤ text_limit → is_sent ≡ text.is_sent
-    → AsksFrom sender bytes is_sent asked → AsksText text asked
-from_asked text sender bytes is_sent (Ok (Command command)) states is short same asks = absurd asks
-from_asked text sender bytes is_sent (Ok (From from)) states is short same asks =
+pub from_asked : (text : Text) (sender : Sender) (bytes : List ℕ) (is_sent : Bool) (requested : Result Request (List ℕ)) → StatesSender text.head sender → bytes ≡ bytes_of_lines text.lines → length bytes ≤ text_limit → is_sent ≡ text.is_sent
+    → RequestsFrom sender bytes is_sent requested → RequestsText text requested
+from_asked text sender bytes is_sent (Ok (Command command)) states is short same requests = absurd requests
+from_asked text sender bytes is_sent (Ok (From from)) states is short same requests =
     record {
-      sender = subst (StatesSender text.head) (sym asks.0) states;
-      is_sent = sym same ∙ asks.2;
-      bytes = asks.1 ∙ is;
-      short = subst (λ (l : List ℕ). length l ≤ text_limit) (sym asks.1) short;
-      stated = subst (λ (l : List ℕ). IsRead l from.stated) (sym asks.1) asks.3;
+      sender = subst (StatesSender text.head) (sym requests.0) states;
+      is_sent = sym same ∙ requests.2;
+      bytes = requests.1 ∙ is;
+      short = subst (λ (l : List ℕ). length l ≤ text_limit) (sym requests.1) short;
+      stated = subst (λ (l : List ℕ). IsRead l from.stated) (sym requests.1) requests.3;
     }
-from_asked text sender bytes is_sent (Err words) states is short same asks =
+from_asked text sender bytes is_sent (Err words) states is short same requests =
     let limit : length (bytes_of_lines text.lines) ≤ text_limit = subst (λ (l : List ℕ). length l ≤ text_limit) is short in
-    inr (sender, states, inr (limit, rw (sym is, sym same) asks))
+    inr (sender, states, inr (limit, rw (sym is, sym same) requests))
 
 -- ---- items
 
-pub line_asked : (some : Item) (reading : Reading) (asked : Result Request (List ℕ)) → IsItem some Line reading → AsksLine reading.line asked → Asks some asked
-line_asked (a_line line) reading asked is asks = subst (λ (l : List ℕ). AsksLine l asked) is asks
-line_asked a_long_line reading asked is asks = absurd is
-line_asked (a_text text) reading asked is asks = absurd is
+pub line_asked : (some : Item) (reading : Reading) (requested : Result Request (List ℕ)) → IsItem some Line reading → RequestsLine reading.line requested → Requests some requested
+line_asked (a_line line) reading requested is requests = subst (λ (l : List ℕ). RequestsLine l requested) is requests
+line_asked a_long_line reading requested is requests = absurd is
+line_asked (a_text text) reading requested is requests = absurd is
 
-pub long_asked : (some : Item) (reading : Reading) (words : List ℕ) → IsItem some LongLine reading → words ≡ long_line_words → Asks some (Err words)
+pub long_asked : (some : Item) (reading : Reading) (words : List ℕ) → IsItem some LongLine reading → words ≡ long_line_words → Requests some (Err words)
 long_asked (a_line line) reading words is same = absurd is
 long_asked a_long_line reading words is same = ap Err same
 long_asked (a_text text) reading words is same = absurd is
 
-pub long_text_asked : (some : Item) (item : TextItem) (reading : Reading) (words : List ℕ) → IsItem some (TextOf item) reading → item.has_long_line ≡ true → words ≡ long_line_words → Asks some (Err words)
+pub long_text_asked : (some : Item) (item : TextItem) (reading : Reading) (words : List ℕ) → IsItem some (TextOf item) reading → item.has_long_line ≡ true → words ≡ long_line_words → Requests some (Err words)
 long_text_asked (a_line line) item reading words is long same = absurd is
 long_text_asked a_long_line item reading words is long same = absurd is
 long_text_asked (a_text text) item reading words is long same =
     let s : has_long_line text ≡ true = sym is.has_long_line ∙ long in rw s (ap Err same)
 
-pub text_asked : (some : Item) (item : TextItem) (reading : Reading) (asked : Result Request (List ℕ)) → IsItem some (TextOf item) reading → item.has_long_line ≡ false
-    → ((text : Text) → IsText text item reading → has_long_line text ≡ false → AsksText text asked) → Asks some asked
-text_asked (a_line line) item reading asked is short asks = absurd is
-text_asked a_long_line item reading asked is short asks = absurd is
-text_asked (a_text text) item reading asked is short asks =
-    let s : has_long_line text ≡ false = sym is.has_long_line ∙ short in rw s (asks text is s)
+pub text_asked : (some : Item) (item : TextItem) (reading : Reading) (requested : Result Request (List ℕ)) → IsItem some (TextOf item) reading → item.has_long_line ≡ false
+    → ((text : Text) → IsText text item reading → has_long_line text ≡ false → RequestsText text requested) → Requests some requested
+text_asked (a_line line) item reading requested is short requests = absurd is
+text_asked a_long_line item reading requested is short requests = absurd is
+text_asked (a_text text) item reading requested is short requests =
+    let s : has_long_line text ≡ false = sym is.has_long_line ∙ short in rw s (requests text is s)

@@ -10,7 +10,7 @@ use Rattle.pim_addr.specs.Address.{mask_length, is_source}
 use Rattle.pim_addr.specs.Faults.{fault_if}
 use Rattle.pim_addr.specs.Routes.{IsRefusedBy, Prefix, RouteTable, prefix_faults, room_faults, is_group_prefix, rp_faults, via_faults, with_rp, with_via}
 use Rattle.pim_lines.specs.AnyAddress.{is_in, address_bytes}
-use Rattle.pim_request.specs.declared.command.Row.{Row}
+use Rattle.pim_request.specs.declared.command.RouteRow.{RouteRow}
 use Rattle.pim_answers.specs.declared.fault.Fault.{Fault}
 use Rattle.pim_answers.specs.Fault.{fault_words, done_text}
 use Rattle.pim_answers.specs.Lines.{ok_line, fault_line}
@@ -45,31 +45,31 @@ capped_fits family bits small is = by_length family bits small is (nat_lt 255 bi
 abbrev faults_at : AddressFamily → List ℕ → (ℕ → List RouteFault) → ℕ → List RouteFault
 faults_at family address others bits = prefix_faults family (record { bits = bits; address = address }) ++ others bits
 
-record Same (family : AddressFamily) (address : List ℕ) (others : ℕ → List RouteFault) (bits small : ℕ) (told : Result (Unit {0}) RouteFault) : Type 0 where
-  pub refused : IsRefusedBy (faults_at family address others bits) told
-  pub taken : OnOk told (small ≡ bits)
+record Same (family : AddressFamily) (address : List ℕ) (others : ℕ → List RouteFault) (bits small : ℕ) (reported : Result (Unit {0}) RouteFault) : Type 0 where
+  pub refused : IsRefusedBy (faults_at family address others bits) reported
+  pub taken : OnOk reported (small ≡ bits)
 
-ok_is : (told : Result (Unit {0}) RouteFault) (P : Type 0) → P → OnOk told P
+ok_is : (reported : Result (Unit {0}) RouteFault) (P : Type 0) → P → OnOk reported P
 ok_is (Ok done) P p = p
 ok_is (Err fault) P p = tt
 
-err_is : (told : Result (Unit {0}) RouteFault) (fault : RouteFault) (P : Type 0) → told ≡ Err fault → OnOk told P
+err_is : (reported : Result (Unit {0}) RouteFault) (fault : RouteFault) (P : Type 0) → reported ≡ Err fault → OnOk reported P
 err_is (Ok done) fault P is = absurd cc
 err_is (Err other) fault P is = tt
 
-first_told : (family : AddressFamily) (address : List ℕ) (others : ℕ → List RouteFault) (bits : ℕ) (told : Result (Unit {0}) RouteFault) → nat_lt (mask_length family) bits ≡ true
-    → (IsRefusedBy (faults_at family address others bits) told → told ≡ Err Length) × (told ≡ Err Length → IsRefusedBy (faults_at family address others bits) told)
-first_told family address others bits told long = rw long ((λ p. p), (λ p. p))
+first_told : (family : AddressFamily) (address : List ℕ) (others : ℕ → List RouteFault) (bits : ℕ) (reported : Result (Unit {0}) RouteFault) → nat_lt (mask_length family) bits ≡ true
+    → (IsRefusedBy (faults_at family address others bits) reported → reported ≡ Err Length) × (reported ≡ Err Length → IsRefusedBy (faults_at family address others bits) reported)
+first_told family address others bits reported long = rw long ((λ p. p), (λ p. p))
 
-same_told : (family : AddressFamily) (address : List ℕ) (others : ℕ → List RouteFault) (bits small : ℕ) (told : Result (Unit {0}) RouteFault) → Fits family bits small
-    → IsRefusedBy (faults_at family address others small) told → Same family address others bits small told
-same_told family address others bits small told (inl same) refused =
-    record { refused = subst (λ (n : ℕ). IsRefusedBy (faults_at family address others n) told) same refused; taken = ok_is told (small ≡ bits) same }
-same_told family address others bits small told (inr (low, high)) refused =
-    let is : told ≡ Err Length = (first_told family address others small told low).0 refused in
-    record { refused = (first_told family address others bits told high).1 is; taken = err_is told Length (small ≡ bits) is }
+same_told : (family : AddressFamily) (address : List ℕ) (others : ℕ → List RouteFault) (bits small : ℕ) (reported : Result (Unit {0}) RouteFault) → Fits family bits small
+    → IsRefusedBy (faults_at family address others small) reported → Same family address others bits small reported
+same_told family address others bits small reported (inl same) refused =
+    record { refused = subst (λ (n : ℕ). IsRefusedBy (faults_at family address others n) reported) same refused; taken = ok_is reported (small ≡ bits) same }
+same_told family address others bits small reported (inr (low, high)) refused =
+    let is : reported ≡ Err Length = (first_told family address others small reported low).0 refused in
+    record { refused = (first_told family address others bits reported high).1 is; taken = err_is reported Length (small ≡ bits) is }
 
-both_ok : (told : Result (Unit {0}) RouteFault) (P Q R : Type 0) → (P → Q → R) → OnOk told P → OnOk told Q → OnOk told R
+both_ok : (reported : Result (Unit {0}) RouteFault) (P Q R : Type 0) → (P → Q → R) → OnOk reported P → OnOk reported Q → OnOk reported R
 both_ok (Ok done) P Q R f p q = f p q
 both_ok (Err fault) P Q R f p q = tt
 
@@ -80,19 +80,19 @@ abbrev pub after : AddressFamily → Gathered → Result (Unit {0}) Fault → Ro
 after family gathered result routes =
     record { family = fixed_after gathered.family family result; ports = gathered.ports; routes = routes; limit = gathered.limit }
 
-module _ (family : AddressFamily) (row : Row) (gathered : Gathered) (same : family_with gathered row.prefix ≡ family) (within : is_in family row.prefix ≡ true) (also : is_in family row.to ≡ true) where
-  by_faults : (faults : AddressFamily → List RouteFault) (table new : RouteTable) (told : Result (Unit {0}) RouteFault) (result : Result (Unit {0}) Fault) (list : List RouteFault) → faults family ≡ list → IsRefusedBy list told → IsAdded told result
-      → OnOk told (new ≡ table) → OnErr told (new ≡ gathered.routes) → AddsRow row faults table gathered (done_text result) (after family gathered result new)
+module _ (family : AddressFamily) (row : RouteRow) (gathered : Gathered) (same : family_with gathered row.prefix ≡ family) (within : is_in family row.prefix ≡ true) (also : is_in family row.to ≡ true) where
+  by_faults : (faults : AddressFamily → List RouteFault) (table new : RouteTable) (reported : Result (Unit {0}) RouteFault) (result : Result (Unit {0}) Fault) (list : List RouteFault) → faults family ≡ list → IsRefusedBy list reported → IsAdded reported result
+      → OnOk reported (new ≡ table) → OnErr reported (new ≡ gathered.routes) → AddsRow row faults table gathered (done_text result) (after family gathered result new)
   by_faults faults table new (Ok done) (Ok one) [] none refused added ok err =
       subst (λ (t : RouteTable). AddsRow row faults table gathered ok_line (with_routes family t gathered)) (sym ok) (row_added family row gathered faults table same within also none)
   by_faults faults table new (Ok done) (Ok one) (first ∷ others) some refused added ok err = absurd cc
   by_faults faults table new (Ok done) (Err fault) list is refused added ok err = absurd added
-  by_faults faults table new (Err told) (Ok one) list is refused added ok err = absurd added
-  by_faults faults table new (Err told) (Err fault) [] none refused added ok err =
+  by_faults faults table new (Err reported) (Ok one) list is refused added ok err = absurd added
+  by_faults faults table new (Err reported) (Err fault) [] none refused added ok err =
       subst (λ (t : RouteTable). AddsRow row faults table gathered (fault_line (fault_words fault)) (after family gathered (Err fault) t)) (sym err)
       (row_unheld family row gathered faults table same (fault_words fault) within also none (added ∙ ap route_words refused))
-  by_faults faults table new (Err told) (Err fault) (first ∷ others) some refused added ok err =
-      let e : told ≡ first = cc in
+  by_faults faults table new (Err reported) (Err fault) (first ∷ others) some refused added ok err =
+      let e : reported ≡ first = cc in
       subst (λ (t : RouteTable). AddsRow row faults table gathered (fault_line (fault_words fault)) (after family gathered (Err fault) t)) (sym err)
       (row_refused family row gathered faults table same first others (fault_words fault) within also some (added ∙ ap route_words e))
 
@@ -104,52 +104,52 @@ module _ (family : AddressFamily) (row : Row) (gathered : Gathered) (same : fami
   via_others bits = let prefix : Prefix = record { bits = bits; address = address_bytes row.prefix } in
       fault_if (not (is_source family (address_bytes row.to))) Kind ++ room_faults prefix gathered.routes.vias
 
-  rp_at : (small : ℕ) (new : RouteTable) (told : Result (Unit {0}) RouteFault) (result : Result (Unit {0}) Fault) → small ≡ min row.length 255
-      → OnOk told (new ≡ with_rp (record { bits = small; address = address_bytes row.prefix }) (address_bytes row.to) gathered.routes) → OnErr told (new ≡ gathered.routes)
-      → IsRefusedBy (rp_faults family (record { bits = small; address = address_bytes row.prefix }) (address_bytes row.to) gathered.routes.rps) told → IsAdded told result
+  rp_at : (small : ℕ) (new : RouteTable) (reported : Result (Unit {0}) RouteFault) (result : Result (Unit {0}) Fault) → small ≡ min row.length 255
+      → OnOk reported (new ≡ with_rp (record { bits = small; address = address_bytes row.prefix }) (address_bytes row.to) gathered.routes) → OnErr reported (new ≡ gathered.routes)
+      → IsRefusedBy (rp_faults family (record { bits = small; address = address_bytes row.prefix }) (address_bytes row.to) gathered.routes.rps) reported → IsAdded reported result
       → AddsRp row gathered (done_text result) (after family gathered result new)
-  rp_at small new told result is ok err refused added =
-      let said : Same family (address_bytes row.prefix) rp_others row.length small told =
-      same_told family (address_bytes row.prefix) rp_others row.length small told (capped_fits family row.length small is) refused in
-      let held : OnOk told (new ≡ with_rp (prefix_of row) (address_bytes row.to) gathered.routes) =
-      both_ok told (small ≡ row.length) (new ≡ with_rp (record { bits = small; address = address_bytes row.prefix }) (address_bytes row.to) gathered.routes) (new ≡ with_rp (prefix_of row) (address_bytes row.to) gathered.routes)
+  rp_at small new reported result is ok err refused added =
+      let said : Same family (address_bytes row.prefix) rp_others row.length small reported =
+      same_told family (address_bytes row.prefix) rp_others row.length small reported (capped_fits family row.length small is) refused in
+      let held : OnOk reported (new ≡ with_rp (prefix_of row) (address_bytes row.to) gathered.routes) =
+      both_ok reported (small ≡ row.length) (new ≡ with_rp (record { bits = small; address = address_bytes row.prefix }) (address_bytes row.to) gathered.routes) (new ≡ with_rp (prefix_of row) (address_bytes row.to) gathered.routes)
       (λ e p. subst (λ (n : ℕ). new ≡ with_rp (record { bits = n; address = address_bytes row.prefix }) (address_bytes row.to) gathered.routes) e p) said.taken ok in
-      by_faults (λ family. rp_faults family (prefix_of row) (address_bytes row.to) gathered.routes.rps) (with_rp (prefix_of row) (address_bytes row.to) gathered.routes) new told result
+      by_faults (λ family. rp_faults family (prefix_of row) (address_bytes row.to) gathered.routes.rps) (with_rp (prefix_of row) (address_bytes row.to) gathered.routes) new reported result
       (rp_faults family (prefix_of row) (address_bytes row.to) gathered.routes.rps) refl said.refused added held err
 
   -- a row to an RP
-  pub rp_told : (small : ℕ) (address to : List ℕ) (new : RouteTable) (told : Result (Unit {0}) RouteFault) (result : Result (Unit {0}) Fault) → small ≡ min row.length 255 → address ≡ address_bytes row.prefix → to ≡ address_bytes row.to
-      → OnOk told (new ≡ with_rp (record { bits = small; address = address }) to gathered.routes) → OnErr told (new ≡ gathered.routes)
-      → IsRefusedBy (rp_faults family (record { bits = small; address = address }) to gathered.routes.rps) told → IsAdded told result
+  pub rp_told : (small : ℕ) (address to : List ℕ) (new : RouteTable) (reported : Result (Unit {0}) RouteFault) (result : Result (Unit {0}) Fault) → small ≡ min row.length 255 → address ≡ address_bytes row.prefix → to ≡ address_bytes row.to
+      → OnOk reported (new ≡ with_rp (record { bits = small; address = address }) to gathered.routes) → OnErr reported (new ≡ gathered.routes)
+      → IsRefusedBy (rp_faults family (record { bits = small; address = address }) to gathered.routes.rps) reported → IsAdded reported result
       → AddsRp row gathered (done_text result) (after family gathered result new)
-  rp_told small address to new told result is from onto ok err refused added =
-      rp_at small new told result is
-      (subst (λ (t : List ℕ). OnOk told (new ≡ with_rp (record { bits = small; address = address_bytes row.prefix }) t gathered.routes)) onto
-      (subst (λ (a : List ℕ). OnOk told (new ≡ with_rp (record { bits = small; address = a }) to gathered.routes)) from ok)) err
-      (subst (λ (t : List ℕ). IsRefusedBy (rp_faults family (record { bits = small; address = address_bytes row.prefix }) t gathered.routes.rps) told) onto
-      (subst (λ (a : List ℕ). IsRefusedBy (rp_faults family (record { bits = small; address = a }) to gathered.routes.rps) told) from refused)) added
+  rp_told small address to new reported result is from onto ok err refused added =
+      rp_at small new reported result is
+      (subst (λ (t : List ℕ). OnOk reported (new ≡ with_rp (record { bits = small; address = address_bytes row.prefix }) t gathered.routes)) onto
+      (subst (λ (a : List ℕ). OnOk reported (new ≡ with_rp (record { bits = small; address = a }) to gathered.routes)) from ok)) err
+      (subst (λ (t : List ℕ). IsRefusedBy (rp_faults family (record { bits = small; address = address_bytes row.prefix }) t gathered.routes.rps) reported) onto
+      (subst (λ (a : List ℕ). IsRefusedBy (rp_faults family (record { bits = small; address = a }) to gathered.routes.rps) reported) from refused)) added
 
-  via_at : (small : ℕ) (new : RouteTable) (told : Result (Unit {0}) RouteFault) (result : Result (Unit {0}) Fault) → small ≡ min row.length 255
-      → OnOk told (new ≡ with_via (record { bits = small; address = address_bytes row.prefix }) (address_bytes row.to) gathered.routes) → OnErr told (new ≡ gathered.routes)
-      → IsRefusedBy (via_faults family (record { bits = small; address = address_bytes row.prefix }) (address_bytes row.to) gathered.routes.vias) told → IsAdded told result
+  via_at : (small : ℕ) (new : RouteTable) (reported : Result (Unit {0}) RouteFault) (result : Result (Unit {0}) Fault) → small ≡ min row.length 255
+      → OnOk reported (new ≡ with_via (record { bits = small; address = address_bytes row.prefix }) (address_bytes row.to) gathered.routes) → OnErr reported (new ≡ gathered.routes)
+      → IsRefusedBy (via_faults family (record { bits = small; address = address_bytes row.prefix }) (address_bytes row.to) gathered.routes.vias) reported → IsAdded reported result
       → AddsVia row gathered (done_text result) (after family gathered result new)
-  via_at small new told result is ok err refused added =
-      let said : Same family (address_bytes row.prefix) via_others row.length small told =
-      same_told family (address_bytes row.prefix) via_others row.length small told (capped_fits family row.length small is) refused in
-      let held : OnOk told (new ≡ with_via (prefix_of row) (address_bytes row.to) gathered.routes) =
-      both_ok told (small ≡ row.length) (new ≡ with_via (record { bits = small; address = address_bytes row.prefix }) (address_bytes row.to) gathered.routes) (new ≡ with_via (prefix_of row) (address_bytes row.to) gathered.routes)
+  via_at small new reported result is ok err refused added =
+      let said : Same family (address_bytes row.prefix) via_others row.length small reported =
+      same_told family (address_bytes row.prefix) via_others row.length small reported (capped_fits family row.length small is) refused in
+      let held : OnOk reported (new ≡ with_via (prefix_of row) (address_bytes row.to) gathered.routes) =
+      both_ok reported (small ≡ row.length) (new ≡ with_via (record { bits = small; address = address_bytes row.prefix }) (address_bytes row.to) gathered.routes) (new ≡ with_via (prefix_of row) (address_bytes row.to) gathered.routes)
       (λ e p. subst (λ (n : ℕ). new ≡ with_via (record { bits = n; address = address_bytes row.prefix }) (address_bytes row.to) gathered.routes) e p) said.taken ok in
-      by_faults (λ family. via_faults family (prefix_of row) (address_bytes row.to) gathered.routes.vias) (with_via (prefix_of row) (address_bytes row.to) gathered.routes) new told result
+      by_faults (λ family. via_faults family (prefix_of row) (address_bytes row.to) gathered.routes.vias) (with_via (prefix_of row) (address_bytes row.to) gathered.routes) new reported result
       (via_faults family (prefix_of row) (address_bytes row.to) gathered.routes.vias) refl said.refused added held err
 
   -- a row to an upstream neighbour
-  pub via_told : (small : ℕ) (address to : List ℕ) (new : RouteTable) (told : Result (Unit {0}) RouteFault) (result : Result (Unit {0}) Fault) → small ≡ min row.length 255 → address ≡ address_bytes row.prefix → to ≡ address_bytes row.to
-      → OnOk told (new ≡ with_via (record { bits = small; address = address }) to gathered.routes) → OnErr told (new ≡ gathered.routes)
-      → IsRefusedBy (via_faults family (record { bits = small; address = address }) to gathered.routes.vias) told → IsAdded told result
+  pub via_told : (small : ℕ) (address to : List ℕ) (new : RouteTable) (reported : Result (Unit {0}) RouteFault) (result : Result (Unit {0}) Fault) → small ≡ min row.length 255 → address ≡ address_bytes row.prefix → to ≡ address_bytes row.to
+      → OnOk reported (new ≡ with_via (record { bits = small; address = address }) to gathered.routes) → OnErr reported (new ≡ gathered.routes)
+      → IsRefusedBy (via_faults family (record { bits = small; address = address }) to gathered.routes.vias) reported → IsAdded reported result
       → AddsVia row gathered (done_text result) (after family gathered result new)
-  via_told small address to new told result is from onto ok err refused added =
-      via_at small new told result is
-      (subst (λ (t : List ℕ). OnOk told (new ≡ with_via (record { bits = small; address = address_bytes row.prefix }) t gathered.routes)) onto
-      (subst (λ (a : List ℕ). OnOk told (new ≡ with_via (record { bits = small; address = a }) to gathered.routes)) from ok)) err
-      (subst (λ (t : List ℕ). IsRefusedBy (via_faults family (record { bits = small; address = address_bytes row.prefix }) t gathered.routes.vias) told) onto
-      (subst (λ (a : List ℕ). IsRefusedBy (via_faults family (record { bits = small; address = a }) to gathered.routes.vias) told) from refused)) added
+  via_told small address to new reported result is from onto ok err refused added =
+      via_at small new reported result is
+      (subst (λ (t : List ℕ). OnOk reported (new ≡ with_via (record { bits = small; address = address_bytes row.prefix }) t gathered.routes)) onto
+      (subst (λ (a : List ℕ). OnOk reported (new ≡ with_via (record { bits = small; address = a }) to gathered.routes)) from ok)) err
+      (subst (λ (t : List ℕ). IsRefusedBy (via_faults family (record { bits = small; address = address_bytes row.prefix }) t gathered.routes.vias) reported) onto
+      (subst (λ (a : List ℕ). IsRefusedBy (via_faults family (record { bits = small; address = a }) to gathered.routes.vias) reported) from refused)) added

@@ -6,11 +6,11 @@ use Rattle.pim_device.specs.Device.{AppendsAll}
 use Rattle.pim_request.specs.declared.command.Command.{Command as AnyCommand}
 use Rattle.pim_request.specs.declared.command.Command.TheVariants.{Port, Rp, Via, Limit, Start, Run, Packet, Now, Next, State, Wants, Neighbours, Messages, Keep, Change, Same, Reset}
 use Rattle.pim_request.specs.declared.command.Packet.{Packet as PacketOf}
-use Rattle.pim_request.specs.declared.command.Kept.{Kept as Keeping}
+use Rattle.pim_request.specs.declared.command.KeptWhat.{KeptWhat as Keeping}
 use Rattle.pim_router.specs.State.{RouterState}
 use Rattle.pim_answers.specs.declared.packets.FromText.{FromText}
 use Rattle.pim_answers.specs.Answered.{Answered, Wrote}
-use Rattle.pim_answers.specs.Asking.{AnswersKeep}
+use Rattle.pim_answers.specs.Demanding.{AnswersKeep}
 use Rattle.pim_answers.specs.Kept.{Kept}
 use Rattle.pim_answers.specs.Lines.{ok_line, fault_line}
 use Rattle.pim_answers.specs.Packets.{AnswersPacket, AnswersFrom}
@@ -215,12 +215,12 @@ module _ (family : AddressFamily) (router : RouterState) (kept : List Kept) wher
 
 -- ---- before `start`, and whether it is asked for
 
-configured_text : {E : Type 0} (start after : Session) (asked : Result Request (List ℕ)) (old new : Option (List ℕ)) (r : Result (Unit {0}) E) (q : Result Bool E) (text : List ℕ)
-    → q ≡ result_and r (Ok false) → Answers start asked text after → AppendsAll old new r text → Configured start asked old new q after
-configured_text start after asked old new (Ok x) q text is does written =
-    subst (λ p. Configured start asked old new p after) (sym is) (record { text = text; does = does; written = written })
-configured_text start after asked old new (Err e) q text is does written =
-    subst (λ p. Configured start asked old new p after) (sym is) (record { text = text; after = after; does = does; written = written })
+configured_text : {E : Type 0} (start after : Session) (requested : Result Request (List ℕ)) (old new : Option (List ℕ)) (r : Result (Unit {0}) E) (q : Result Bool E) (text : List ℕ)
+    → q ≡ result_and r (Ok false) → Answers start requested text after → AppendsAll old new r text → Configured start requested old new q after
+configured_text start after requested old new (Ok x) q text is does written =
+    subst (λ p. Configured start requested old new p after) (sym is) (record { text = text; does = does; written = written })
+configured_text start after requested old new (Err e) q text is does written =
+    subst (λ p. Configured start requested old new p after) (sym is) (record { text = text; after = after; does = does; written = written })
 
 module _ {E : Type 0} (begin : Gathered) (kept : List Kept) (old new : Option (List ℕ)) where
   -- a command other than `start`

@@ -4,7 +4,7 @@ use Rattle.std.proofs.lemmas.List.{take-append-le, take_all, length-take}
 use Rattle.std.proofs.KnownBytes.{Appends-trans}
 use Rattle.std.specs.Io.KnownBytes.{Appends, Keeps}
 use Rattle.pim_device.specs.Device.{AppendsFront}
-use Rattle.pim_items.specs.Items.{Item}
+use Rattle.pim_request.specs.Items.{Item}
 use Rattle.pim_session.specs.Dialog.{IsAnswer, IsDialog, AnswersFirst, AnswersAll, Wrote}
 use Rattle.pim_session.specs.State.{Session}
 use Rattle.pim_session.specs.Underway.{Went}

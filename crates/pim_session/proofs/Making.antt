@@ -2,14 +2,14 @@
 use Rattle.std.proofs.Common.{◌≡◌, ℕ, List, [], ◌∷◌, Option, Result, Ok, Err, codes, refl, sym, ap, subst, ◌∙◌, inl, inr}
 use Rattle.pim_addr.specs.declared.family.AddressFamily.{AddressFamily}
 use Rattle.pim_device.specs.Device.{AppendsAll}
-use Rattle.pim_request.specs.declared.command.Kept.{Kept as Keeping}
+use Rattle.pim_request.specs.declared.command.KeptWhat.{KeptWhat as Keeping}
 use Rattle.pim_router.specs.declared.config.ConfigFault.{ConfigFault}
 use Rattle.pim_router.specs.Config.{config_faults, IsMadeUnless}
 use Rattle.pim_router.specs.State.{RouterState, new_router}
 use Rattle.pim_answers.specs.declared.fault.Fault.{Fault}
 use Rattle.pim_answers.specs.declared.kept.AnyForm.{AnyForm}
 use Rattle.pim_answers.specs.Answered.{Answered}
-use Rattle.pim_answers.specs.Asking.{AnswersKeep}
+use Rattle.pim_answers.specs.Demanding.{AnswersKeep}
 use Rattle.pim_answers.specs.Fault.{fault_words}
 use Rattle.pim_answers.specs.Kept.{Kept, with_kept}
 use Rattle.pim_answers.specs.Lines.{ok_line, fault_line}
@@ -50,8 +50,8 @@ module _ (family : AddressFamily) (keeping : Keeping) (router : RouterState) (ke
   refused_text fault (inr (inr (same, has, words))) = rw (same, has) (inr (ap fault_line words, refl))
 
   kept_text : (form : AnyForm) (after : List Kept) → IsKeptFor family keeping router kept (Ok form) → after ≡ with_kept (any_seen keeping.name.now form) kept → AnswersKeep family keeping router kept ok_line after
-  kept_text form after (same, has, (asked_form, is, seen)) holds =
-      rw (same, has) (inl (asked_form, is, (refl, holds ∙ ap (λ (one : Kept). with_kept one kept) (seen keeping.name.now))))
+  kept_text form after (same, has, (demanded_form, is, seen)) holds =
+      rw (same, has) (inl (demanded_form, is, (refl, holds ∙ ap (λ (one : Kept). with_kept one kept) (seen keeping.name.now))))
 
   unheld_text : (form : AnyForm) (words : List ℕ) → IsKeptFor family keeping router kept (Ok form) → words ≡ codes "memory" → AnswersKeep family keeping router kept (fault_line words) kept
   unheld_text form words (same, has, rest) are = rw (same, has) (inr (ap fault_line are, refl))

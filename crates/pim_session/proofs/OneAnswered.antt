@@ -6,7 +6,7 @@ use Rattle.pim_addr.specs.Routes.{RouteTable, with_rp, with_via, rp_faults, via_
 use Rattle.pim_lines.specs.declared.either.AnyAddress.{AnyAddress}
 use Rattle.pim_text.specs.declared.line.Stated.{Stated}
 use Rattle.pim_request.specs.declared.command.PortRow.{PortRow}
-use Rattle.pim_request.specs.declared.command.Row.{Row}
+use Rattle.pim_request.specs.declared.command.RouteRow.{RouteRow}
 use Rattle.pim_request.specs.declared.command.Sender.{Sender}
 use Rattle.pim_request.specs.declared.command.Writing.{Writing}
 use Rattle.pim_request.specs.declared.command.Command.{Command as AnyCommand}
@@ -56,7 +56,7 @@ module _ {S : Type 0} where
 
 -- ---- before `start`
 
-add_row : (row : Row) (faults : AddressFamily → List RouteFault) (table : RouteTable) (gathered : Gathered) → OneAnswer (AddsRow row faults table gathered)
+add_row : (row : RouteRow) (faults : AddressFamily → List RouteFault) (table : RouteTable) (gathered : Gathered) → OneAnswer (AddsRow row faults table gathered)
 add_row row faults table gathered =
     let end = with_routes (family_with gathered row.prefix) table gathered in
     refused_if (differ_from (family_with gathered row.prefix) (row.prefix ∷ row.to ∷ [])) family_words gathered _
@@ -124,9 +124,9 @@ module _ (laws : Laws) (family : AddressFamily) where
   tells (Same comparison) router kept text other is too room more = laws.same family comparison router kept text other is too room more
   tells command router kept text other is too room more = is ∙ sym too
 
-  told : (command : AnyCommand) (state : RouterState × List Kept) (text other : List ℕ) (after end : RouterState × List Kept)
+  reported : (command : AnyCommand) (state : RouterState × List Kept) (text other : List ℕ) (after end : RouterState × List Kept)
       → Reports family command state.0 state.1 text × (after ≡ state) → Reports family command state.0 state.1 other × (end ≡ state) → text ≢ memory_line → other ≢ memory_line → (text ≡ other) × (after ≡ end)
-  told command state text other after end is too room more = (tells command state.0 state.1 text other is.0 too.0 room more, is.1 ∙ sym too.1)
+  reported command state text other after end is too room more = (tells command state.0 state.1 text other is.0 too.0 room more, is.1 ∙ sym too.1)
 
   pairs : (a b : RouterState) (c d : List Kept) → a ≡ b → c ≡ d → Path (RouterState × List Kept) (a, c) (b, d)
   pairs a b c d first second = λ i. (first i, second i)
@@ -141,7 +141,7 @@ module _ (laws : Laws) (family : AddressFamily) where
   serves (Keep keeping) state text other after end is too room more =
       let same = laws.keep family keeping state.0 state.1 text other after.1 end.1 is.0 too.0 room more in
       (same.0, pairs after.0 end.0 after.1 end.1 (is.1 ∙ sym too.1) same.1)
-  serves command state text other after end is too room more = told command state text other after end is too room more
+  serves command state text other after end is too room more = reported command state text other after end is too room more
 
   takes_text : (from : FromText) (state : RouterState × List Kept) (text other : List ℕ) (after end : RouterState × List Kept)
       → AnswersFrom family from state.0 text after.0 × (after.1 ≡ state.1) → AnswersFrom family from state.0 other end.0 × (end.1 ≡ state.1)
@@ -171,8 +171,8 @@ module _ (kept : List Kept) (text : List ℕ) (after : Session) where
 
   other_command : (phase : Phase) (one other : AnyCommand) → SameCommand one other → Does phase other → Does phase one
   other_command phase (Port one) (Port other) same does = subst (λ (x : PortRow). Does phase (Port x)) (sym same) does
-  other_command phase (Rp one) (Rp other) same does = subst (λ (x : Row). Does phase (Rp x)) (sym same) does
-  other_command phase (Via one) (Via other) same does = subst (λ (x : Row). Does phase (Via x)) (sym same) does
+  other_command phase (Rp one) (Rp other) same does = subst (λ (x : RouteRow). Does phase (Rp x)) (sym same) does
+  other_command phase (Via one) (Via other) same does = subst (λ (x : RouteRow). Does phase (Via x)) (sym same) does
   other_command phase (Limit one) (Limit other) same does = subst (λ (x : ℕ). Does phase (Limit x)) (sym same) does
   other_command phase Start Start same does = does
   other_command phase (Run one) (Run other) same does = subst (λ (x : ℕ). Does phase (Run x)) (sym same) does
@@ -220,8 +220,8 @@ module _ (kept : List Kept) (text : List ℕ) (after : Session) where
 
 -- ---- what is asked for
 
-pub one_answered : Laws → (session : Session) (asked wanted : Result Request (List ℕ)) (text other : List ℕ) (after end : Session) → SameAsked asked wanted
-    → Answers session asked text after → Answers session wanted other end → text ≢ memory_line → other ≢ memory_line → (text ≡ other) × (after ≡ end)
+pub one_answered : Laws → (session : Session) (requested wanted : Result Request (List ℕ)) (text other : List ℕ) (after end : Session) → SameAsked requested wanted
+    → Answers session requested text after → Answers session wanted other end → text ≢ memory_line → other ≢ memory_line → (text ≡ other) × (after ≡ end)
 one_answered laws session (Ok request) (Ok another) text other after end same is too room more =
     one_in laws session.kept session.phase request text other after end is (other_request session.kept other end session.phase request another same too) room more
 one_answered laws session (Ok request) (Err words) text other after end same is too room more = absurd same

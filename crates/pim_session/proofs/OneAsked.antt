@@ -7,11 +7,11 @@ use Rattle.pim_text.specs.OneReading.{OneRead, OneWrongLine, NoWrongLineIfStated
 use Rattle.pim_request.specs.declared.command.WordsFault.{WordsFault}
 use Rattle.pim_request.specs.declared.command.WordsFault.TheVariants.{Word, Address, Hex}
 use Rattle.pim_request.specs.OneRequest.{SameCommand, SameFault, OneCommand, OneWordsFault, NoFaultIfStated, OneSender, OneSenderFault, NoSenderFaultIfStated}
-use Rattle.pim_items.specs.Items.{Item, a_line, a_long_line, a_text, Text, bytes_of_lines, has_long_line}
+use Rattle.pim_request.specs.Items.{Item, a_line, a_long_line, a_text, Text, bytes_of_lines, has_long_line}
 use Rattle.pim_answers.specs.declared.packets.FromText.{FromText}
 use Rattle.pim_session.specs.declared.request.Request.{Request}
 use Rattle.pim_session.specs.declared.request.Request.TheVariants.{Command, From}
-use Rattle.pim_session.specs.Request.{wrong_words, long_line_words, IsWrongIn, IsBadText, IsTextFault, IsFrom, AsksLine, AsksText, AsksTextOf, Asks}
+use Rattle.pim_session.specs.Request.{wrong_words, long_line_words, IsWrongIn, IsBadText, IsTextFault, IsFrom, RequestsLine, RequestsText, RequestsTextOf, Requests}
 
 -- ---- the same request
 
@@ -54,7 +54,7 @@ same_words one other same = absurd same
 module _ (laws : Laws) where
   -- ---- lines
 
-  of_line : (line : List ℕ) (one other : Result Request (List ℕ)) → AsksLine line one → AsksLine line other → SameAsked one other
+  of_line : (line : List ℕ) (one other : Result Request (List ℕ)) → RequestsLine line one → RequestsLine line other → SameAsked one other
   of_line line (Ok (Command one)) (Ok (Command other)) is too = laws.command line one other is too
   of_line line (Ok (Command one)) (Ok (From other)) is too = absurd too
   of_line line (Ok (Command one)) (Err words) is (fault, has, so) = absurd (laws.no_words line one fault is has)
@@ -108,7 +108,7 @@ module _ (laws : Laws) where
         text = same;
       }
 
-  of_text : (text : Text) (one other : Result Request (List ℕ)) → AsksText text one → AsksText text other → SameAsked one other
+  of_text : (text : Text) (one other : Result Request (List ℕ)) → RequestsText text one → RequestsText text other → SameAsked one other
   of_text text (Ok (Command one)) other is too = absurd is
   of_text text (Ok (From one)) (Ok (Command other)) is too = absurd too
   of_text text (Ok (From one)) (Ok (From other)) is too = one_from text one other is too
@@ -124,11 +124,11 @@ module _ (laws : Laws) where
   both_long words (Err one) (Ok other) is too = absurd cc
   both_long words (Err one) (Err other) is too = let both : Path (Result Request (List ℕ)) (Err one) (Err other) = is ∙ sym too in cc
 
-  of_some_text : (long : Bool) (text : Text) (one other : Result Request (List ℕ)) → AsksTextOf long text one → AsksTextOf long text other → SameAsked one other
+  of_some_text : (long : Bool) (text : Text) (one other : Result Request (List ℕ)) → RequestsTextOf long text one → RequestsTextOf long text other → SameAsked one other
   of_some_text true text one other is too = both_long long_line_words one other is too
   of_some_text false text one other is too = of_text text one other is too
 
-  pub one_asked : (item : Item) (one other : Result Request (List ℕ)) → Asks item one → Asks item other → SameAsked one other
+  pub one_asked : (item : Item) (one other : Result Request (List ℕ)) → Requests item one → Requests item other → SameAsked one other
   one_asked (a_line line) one other is too = of_line line one other is too
   one_asked a_long_line one other is too = both_long long_line_words one other is too
   one_asked (a_text text) one other is too = of_some_text (has_long_line text) text one other is too

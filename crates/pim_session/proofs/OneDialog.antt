@@ -12,18 +12,18 @@ use Rattle.pim_session.proofs.OneAnswered.{one_answered}
 use Rattle.pim_session.proofs.OneAnswered as answering
 
 pub one_answer_to_item : asking.Laws → answering.Laws → OneAnswerToItem
-one_answer_to_item asked answered session item text other after end is too room more =
-    one_answered answered session is.asked too.asked text other after end
-    (one_asked asked item is.asked too.asked is.asks too.asks)
+one_answer_to_item requested answered session item text other after end is too room more =
+    one_answered answered session is.requested too.requested text other after end
+    (one_asked requested item is.requested too.requested is.requests too.requests)
     is.answers too.answers room more
 
-pub one_dialog : OneAnswerToItem → OneDialog
+pub laws : OneAnswerToItem → OneDialog
 unfolding IsDialogWithRoom
-one_dialog one session [] text other after end is too = (is.0 ∙ sym too.0, is.1 ∙ sym too.1)
-one_dialog one session (item ∷ items) text other after end (first, between, others, answer, room, cut, rest) (f, b, more, reply, space, so, left) =
+laws one session [] text other after end is too = (is.0 ∙ sym too.0, is.1 ∙ sym too.1)
+laws one session (item ∷ items) text other after end (first, between, others, answer, room, cut, rest) (f, b, more, reply, space, so, left) =
     let same = one session item first f between b answer reply room space in
     let head = same.0 in
-    let tail = one_dialog one between items others more after end rest (subst (λ (s : Session). IsDialogWithRoom s items more end) (sym same.1) left) in
+    let tail = laws one between items others more after end rest (subst (λ (s : Session). IsDialogWithRoom s items more end) (sym same.1) left) in
     let back = tail.0 in
     (cut ∙ ((λ i. head i ++ back i) ∙ sym so), tail.1)
 

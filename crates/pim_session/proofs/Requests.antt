@@ -5,7 +5,7 @@ use Rattle.pim_request.specs.declared.command.Command.{Command}
 use Rattle.pim_request.specs.declared.command.Command.TheVariants.{Port, Rp, Via, Limit, Start, Run, Packet, Now, Next, State, Wants, Neighbours, Messages, Keep, Change, Same, Reset}
 use Rattle.pim_request.specs.Commands.{States}
 use Rattle.pim_request.specs.Forms.{words_of}
-use Rattle.pim_items.specs.Items.{line_limit}
+use Rattle.pim_request.specs.Items.{line_limit}
 use Rattle.pim_session.specs.Seen.{IsFitCommand}
 
 -- each of these words has at most so many bytes

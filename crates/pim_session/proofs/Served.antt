@@ -4,15 +4,15 @@ use Rattle.std.specs.Option.{IfSome}
 use Rattle.std.specs.Io.KnownBytes.{Appends, Keeps}
 use Rattle.pim_device.specs.Device.{AppendsFront}
 use Rattle.pim_request.specs.declared.command.Command.TheVariants.{Start}
-use Rattle.pim_items.specs.declared.input.Stopped.{Stopped}
-use Rattle.pim_items.specs.declared.input.Stopped.TheVariants as stopped
-use Rattle.pim_items.specs.declared.items.Item.{Item as Given}
-use Rattle.pim_items.specs.Items.{Item, items_of}
-use Rattle.pim_items.specs.Reading.{Reading, IsItem, GivesItem, LeavesLess}
+use Rattle.pim_request.specs.declared.input.Stopped.{Stopped}
+use Rattle.pim_request.specs.declared.input.Stopped.TheVariants as stopped
+use Rattle.pim_request.specs.declared.items.Item.{Item as Given}
+use Rattle.pim_request.specs.Items.{Item, items_of}
+use Rattle.pim_request.specs.Reading.{Reading, IsItem, GivesItem, LeavesLess}
 use Rattle.pim_session.specs.declared.request.Request.{Request}
 use Rattle.pim_session.specs.declared.request.Request.TheVariants.{Command}
-use Rattle.pim_session.specs.declared.serving.Ending.{Ending}
-use Rattle.pim_session.specs.declared.serving.Ending.TheVariants.{Refused, Reset, Input}
+use Rattle.pim_session.specs.declared.serving.SessionEnd.{SessionEnd}
+use Rattle.pim_session.specs.declared.serving.SessionEnd.TheVariants.{Refused, Reset, Input}
 use Rattle.pim_answers.specs.Answered.{Whole, RefusedBy, OrMemory, Done}
 use Rattle.pim_answers.specs.Kept.{Kept}
 use Rattle.pim_addr.specs.declared.family.AddressFamily.{AddressFamily}
@@ -22,7 +22,7 @@ use Rattle.pim_answers.specs.Lines.{ok_line, fault_line, memory_line}
 use Rattle.pim_session.specs.Answers.{Answers, session_in}
 use Rattle.pim_session.specs.Dialog.{Converses, IsAnswer}
 use Rattle.pim_session.specs.Gathering.{Starts, config_words, setup_of}
-use Rattle.pim_session.specs.Request.{Asks}
+use Rattle.pim_session.specs.Request.{Requests}
 use Rattle.pim_session.specs.State.{Gathered, Phase, Session, gathering, serving}
 use Rattle.pim_session.specs.Underway.{Configured, GoesOn, Ended, Begins, BeginsServing, IsRefused}
 use Rattle.pim_session.proofs.Underway.{on_some, at_failed_read, at_failed_flush, started, ended_after}
@@ -39,13 +39,13 @@ module _ (from old mid later coming : Option (List ℕ)) (start now : Session) (
   all_stopped stopped.Output = at_failed_flush from old mid later coming start now w keeps
 
   -- a start, after it was recognised
-  pub started_so : (later' new left : Option (List ℕ)) (now' : Session) (item : Given) (reading : Reading) (asked : Result Request (List ℕ)) (kept : List Kept) (r : Result Ending Stopped)
-      → IfSome coming (λ bytes. GivesItem bytes (Ok (Some item)) reading) → ((some : Item) → IsItem some item reading → Asks some asked)
-      → (asked ≡ Ok (Command Start)) × (later' ≡ later) × (now' ≡ now)
+  pub started_so : (later' new left : Option (List ℕ)) (now' : Session) (item : Given) (reading : Reading) (requested : Result Request (List ℕ)) (kept : List Kept) (r : Result SessionEnd Stopped)
+      → IfSome coming (λ bytes. GivesItem bytes (Ok (Some item)) reading) → ((some : Item) → IsItem some item reading → Requests some requested)
+      → (requested ≡ Ok (Command Start)) × (later' ≡ later) × (now' ≡ now)
       → IfSome reading.coming (λ bytes. Begins now' bytes later' new left kept r) → IfSome from (λ bytes. Ended start (items_of bytes) old new left kept now' r)
-  started_so later' new left now' item reading asked kept r gives asks (recognised, same, after) begins =
+  started_so later' new left now' item reading requested kept r gives requests (recognised, same, after) begins =
       subst (λ (n : Session). IfSome from (λ bytes. Ended start (items_of bytes) old new left kept n r)) (sym after)
-      (started from old mid later coming start now item reading asked w keeps gives asks new left kept r recognised
+      (started from old mid later coming start now item reading requested w keeps gives requests new left kept r recognised
       (subst (λ (l : Option (List ℕ)). IfSome reading.coming (λ bytes. Begins now bytes l new left kept r)) same
       (subst (λ (n : Session). IfSome reading.coming (λ bytes. Begins n bytes later' new left kept r)) after begins)))
 
@@ -73,7 +73,7 @@ same_keeps : (now : Option (List ℕ)) → Keeps now now
 same_keeps None = tt
 same_keeps (Some xs) = refl
 
-pub begun_serving : (from old mid new coming : Option (List ℕ)) (start served : Session) (kept : List Kept) (r : Result Ending Stopped) → Appends old mid ok_line
+pub begun_serving : (from old mid new coming : Option (List ℕ)) (start served : Session) (kept : List Kept) (r : Result SessionEnd Stopped) → Appends old mid ok_line
     → IfSome from (λ bytes. Ended served (items_of bytes) mid new coming kept start r) → IfSome from (λ bytes. BeginsServing start bytes served old new coming kept r)
 begun_serving from old mid new coming start served kept r written = on_some from (λ bytes. Ended served (items_of bytes) mid new coming kept start r) (λ bytes. BeginsServing start bytes served old new coming kept r)
     (λ bytes it item answer. ended_after start served (item ∷ items_of bytes) (items_of bytes) old mid mid new coming kept start
@@ -84,27 +84,27 @@ begun_failed None old new coming start served kept written = tt
 begun_failed (Some bytes) old new coming start served kept written = λ item answer. front_one start served item (items_of bytes) old new ok_line answer written
 
 module _ (gathered : Gathered) (kept : List Kept) where
-  answer_start : (item : Item) (text : List ℕ) (phase : Phase) → Asks item (Ok (Command Start)) → Starts gathered.family gathered text phase → IsAnswer (session_in (gathering gathered) kept) item text (session_in phase kept)
-  answer_start item text phase asks starts = record { asked = Ok (Command Start); asks = asks; answers = (phase, starts, refl) }
+  answer_start : (item : Item) (text : List ℕ) (phase : Phase) → Requests item (Ok (Command Start)) → Starts gathered.family gathered text phase → IsAnswer (session_in (gathering gathered) kept) item text (session_in phase kept)
+  answer_start item text phase requests starts = record { requested = Ok (Command Start); requests = requests; answers = (phase, starts, refl) }
 
-  pub start_served : (from old new coming : Option (List ℕ)) (phase : Phase) (later : List Kept) (r : Result Ending Stopped) → Starts gathered.family gathered ok_line phase
+  pub start_served : (from old new coming : Option (List ℕ)) (phase : Phase) (later : List Kept) (r : Result SessionEnd Stopped) → Starts gathered.family gathered ok_line phase
       → IfSome from (λ bytes. BeginsServing (session_in (gathering gathered) kept) bytes (session_in phase kept) old new coming later r) → IfSome from (λ bytes. Begins (session_in (gathering gathered) kept) bytes old new coming later r)
   start_served from old new coming phase later r starts = on_some from (λ bytes. BeginsServing (session_in (gathering gathered) kept) bytes (session_in phase kept) old new coming later r)
-      (λ bytes. Begins (session_in (gathering gathered) kept) bytes old new coming later r) (λ bytes it item asks. it item (answer_start item ok_line phase asks starts))
+      (λ bytes. Begins (session_in (gathering gathered) kept) bytes old new coming later r) (λ bytes it item requests. it item (answer_start item ok_line phase requests starts))
 
-  pub start_refused : (from old new : Option (List ℕ)) (words : List ℕ) (r : Result Ending Stopped) → Starts gathered.family gathered (fault_line words) (gathering gathered) → IsRefused words old new r
+  pub start_refused : (from old new : Option (List ℕ)) (words : List ℕ) (r : Result SessionEnd Stopped) → Starts gathered.family gathered (fault_line words) (gathering gathered) → IsRefused words old new r
       → IfSome from (λ bytes. Begins (session_in (gathering gathered) kept) bytes old new from kept r)
   start_refused None old new words r starts it = tt
-  start_refused (Some bytes) old new words (Ok Refused) starts it = λ item asks. record {
+  start_refused (Some bytes) old new words (Ok Refused) starts it = λ item requests. record {
     rest = bytes;
     known = refl;
-    went = went_one (session_in (gathering gathered) kept) (session_in (gathering gathered) kept) item (items_of bytes) old new (fault_line words) (answer_start item (fault_line words) (gathering gathered) asks starts) it;
+    went = went_one (session_in (gathering gathered) kept) (session_in (gathering gathered) kept) item (items_of bytes) old new (fault_line words) (answer_start item (fault_line words) (gathering gathered) requests starts) it;
   }
   start_refused (Some bytes) old new words (Ok Reset) starts it = absurd it
   start_refused (Some bytes) old new words (Ok Input) starts it = absurd it
   start_refused (Some bytes) old new words (Err stopped.Input) starts it = absurd it
-  start_refused (Some bytes) old new words (Err stopped.Output) starts it = λ item asks.
-      front_one (session_in (gathering gathered) kept) (session_in (gathering gathered) kept) item (items_of bytes) old new (fault_line words) (answer_start item (fault_line words) (gathering gathered) asks starts) it
+  start_refused (Some bytes) old new words (Err stopped.Output) starts it = λ item requests.
+      front_one (session_in (gathering gathered) kept) (session_in (gathering gathered) kept) item (items_of bytes) old new (fault_line words) (answer_start item (fault_line words) (gathering gathered) requests starts) it
 
 -- memory is refused where the router is made
 
@@ -120,12 +120,12 @@ memory_instead (Some fixed) gathered family router it =
 
 -- ---- whether a start is asked for
 
-pub recognised : (E : Type 0) (begin after : Session) (asked : Result Request (List ℕ)) (old new : Option (List ℕ)) (starts : Bool) → starts ≡ true → Configured {E = E} begin asked old new (Ok starts) after
-    → (asked ≡ Ok (Command Start)) × (new ≡ old) × (after ≡ begin)
-recognised E begin after asked old new true is it = it
-recognised E begin after asked old new false is it = absurd cc
+pub recognised : (E : Type 0) (begin after : Session) (requested : Result Request (List ℕ)) (old new : Option (List ℕ)) (starts : Bool) → starts ≡ true → Configured {E = E} begin requested old new (Ok starts) after
+    → (requested ≡ Ok (Command Start)) × (new ≡ old) × (after ≡ begin)
+recognised E begin after requested old new true is it = it
+recognised E begin after requested old new false is it = absurd cc
 
-pub not_recognised : (E : Type 0) (begin after : Session) (asked : Result Request (List ℕ)) (old new : Option (List ℕ)) (starts : Bool) → starts ≡ false → Configured {E = E} begin asked old new (Ok starts) after
-    → Whole (Answers begin asked) old new after
-not_recognised E begin after asked old new true is it = absurd cc
-not_recognised E begin after asked old new false is it = it
+pub not_recognised : (E : Type 0) (begin after : Session) (requested : Result Request (List ℕ)) (old new : Option (List ℕ)) (starts : Bool) → starts ≡ false → Configured {E = E} begin requested old new (Ok starts) after
+    → Whole (Answers begin requested) old new after
+not_recognised E begin after requested old new true is it = absurd cc
+not_recognised E begin after requested old new false is it = it

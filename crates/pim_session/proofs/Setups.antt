@@ -5,7 +5,7 @@ use Rattle.pim_addr.specs.declared.route_fault.RouteFault.{RouteFault}
 use Rattle.pim_addr.specs.Routes.{RouteTable}
 use Rattle.pim_lines.specs.AnyAddress.{is_in}
 use Rattle.pim_request.specs.declared.command.PortRow.{PortRow}
-use Rattle.pim_request.specs.declared.command.Row.{Row}
+use Rattle.pim_request.specs.declared.command.RouteRow.{RouteRow}
 use Rattle.pim_answers.specs.Families.{family_words}
 use Rattle.pim_answers.specs.Lines.{ok_line, fault_line}
 use Rattle.pim_session.specs.Gathering.{family_with, with_port, with_routes, route_words, AddsPort, AddsRow}
@@ -25,7 +25,7 @@ module _ (family : AddressFamily) (row : PortRow) (gathered : Gathered) (same : 
 
 -- ---- rows of the table
 
-module _ (family : AddressFamily) (row : Row) (gathered : Gathered) (faults : AddressFamily → List RouteFault) (table : RouteTable) (same : family_with gathered row.prefix ≡ family) where
+module _ (family : AddressFamily) (row : RouteRow) (gathered : Gathered) (faults : AddressFamily → List RouteFault) (table : RouteTable) (same : family_with gathered row.prefix ≡ family) where
   pub prefix_refused : (words : List ℕ) → is_in family row.prefix ≡ false → words ≡ family_words → AddsRow row faults table gathered (fault_line words) gathered
   prefix_refused words other is = rw (same, other) (ap fault_line is, refl)
 

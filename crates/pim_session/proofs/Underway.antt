@@ -5,20 +5,20 @@ use Rattle.std.specs.Io.KnownBytes.{Appends, Keeps}
 use Rattle.std.proofs.KnownBytes.{Appends-trans}
 use Rattle.pim_device.specs.Device.{AppendsFront}
 use Rattle.pim_request.specs.declared.command.Command.TheVariants.{Start}
-use Rattle.pim_items.specs.declared.input.Stopped.{Stopped}
-use Rattle.pim_items.specs.declared.input.Stopped.TheVariants as stopped
-use Rattle.pim_items.specs.declared.items.Item.{Item as Given}
-use Rattle.pim_items.specs.Items.{Item, items_of}
-use Rattle.pim_items.specs.Reading.{Reading, IsItem, IsFirstItem, GivesItem}
+use Rattle.pim_request.specs.declared.input.Stopped.{Stopped}
+use Rattle.pim_request.specs.declared.input.Stopped.TheVariants as stopped
+use Rattle.pim_request.specs.declared.items.Item.{Item as Given}
+use Rattle.pim_request.specs.Items.{Item, items_of}
+use Rattle.pim_request.specs.Reading.{Reading, IsItem, IsFirstItem, GivesItem}
 use Rattle.pim_session.specs.declared.request.Request.{Request}
 use Rattle.pim_session.specs.declared.request.Request.TheVariants.{Command}
-use Rattle.pim_session.specs.declared.serving.Ending.{Ending}
-use Rattle.pim_session.specs.declared.serving.Ending.TheVariants.{Refused, Reset, Input}
+use Rattle.pim_session.specs.declared.serving.SessionEnd.{SessionEnd}
+use Rattle.pim_session.specs.declared.serving.SessionEnd.TheVariants.{Refused, Reset, Input}
 use Rattle.pim_answers.specs.Answered.{Whole, Part}
 use Rattle.pim_answers.specs.Kept.{Kept}
 use Rattle.pim_session.specs.Answers.{Answers}
 use Rattle.pim_session.specs.Dialog.{IsAnswer, AnswersFirst, AnswersAll, Wrote}
-use Rattle.pim_session.specs.Request.{Asks}
+use Rattle.pim_session.specs.Request.{Requests}
 use Rattle.pim_session.specs.State.{Session}
 use Rattle.pim_session.specs.Underway.{Went, GoesOn, Ended, Begins}
 use Rattle.pim_session.proofs.Dialogs.{went_none, went_one, went_on, went_all, went_first, went_front, all_none, first_none, front_none, front_one, keeps_nil}
@@ -49,7 +49,7 @@ module _ (start now : Session) (items left : List Item) (old mid later new comin
   stays : Went start items old later left now
   stays = went_on start now items left old mid later w now left (went_none now left mid later keeps)
 
-  pub ended_after : (r : Result Ending Stopped) → Ended now left later new coming kept refused r → Ended start items old new coming kept refused r
+  pub ended_after : (r : Result SessionEnd Stopped) → Ended now left later new coming kept refused r → Ended start items old new coming kept refused r
   ended_after (Ok Reset) it = record { rest = it.rest; known = it.known; went = went_on start now items left old later new stays _ (items_of it.rest) it.went }
   ended_after (Ok Refused) it = record { rest = it.rest; known = it.known; went = went_on start now items left old later new stays refused (items_of it.rest) it.went }
   ended_after (Ok Input) it = went_all start now items left old later new stays it
@@ -58,18 +58,18 @@ module _ (start now : Session) (items left : List Item) (old mid later new comin
 
 -- what is known of one item, after some
 module _ (start now : Session) (items : List Item) (old mid later coming : Option (List ℕ)) (w : GoesOn start items old mid coming now) (keeps : Keeps mid later)
-    (item : Given) (reading : Reading) (gives : IfSome coming (λ bytes. GivesItem bytes (Ok (Some item)) reading)) (asked : Result Request (List ℕ))
-    (asks : (some : Item) → IsItem some item reading → Asks some asked) where
+    (item : Given) (reading : Reading) (gives : IfSome coming (λ bytes. GivesItem bytes (Ok (Some item)) reading)) (requested : Result Request (List ℕ))
+    (requests : (some : Item) → IsItem some item reading → Requests some requested) where
   first_item : IsFirstItem w.rest item reading
   first_item = subst (λ (c : Option (List ℕ)). IfSome c (λ bytes. GivesItem bytes (Ok (Some item)) reading)) w.known gives
 
   so_far : Went start items old mid (first_item.first ∷ items_of first_item.rest) now
   so_far = subst (λ (l : List Item). Went start items old mid l now) first_item.items w.went
 
-  answer_of : (text : List ℕ) (after : Session) → Answers now asked text after → IsAnswer now first_item.first text after
-  answer_of text after answers = record { asked = asked; asks = asks first_item.first first_item.is; answers = answers }
+  answer_of : (text : List ℕ) (after : Session) → Answers now requested text after → IsAnswer now first_item.first text after
+  answer_of text after answers = record { requested = requested; requests = requests first_item.first first_item.is; answers = answers }
 
-  pub answered_here : (new : Option (List ℕ)) (after : Session) → Whole (Answers now asked) later new after → GoesOn start items old new reading.coming after
+  pub answered_here : (new : Option (List ℕ)) (after : Session) → Whole (Answers now requested) later new after → GoesOn start items old new reading.coming after
   answered_here new after it = record {
     rest = first_item.rest;
     known = first_item.coming;
@@ -77,18 +77,18 @@ module _ (start now : Session) (items : List Item) (old mid later coming : Optio
         (went_one now after first_item.first (items_of first_item.rest) mid new it.text (answer_of it.text after it.does) (kept_then mid later new it.text keeps it.written));
   }
 
-  pub failed_here : (new : Option (List ℕ)) → Part (Answers now asked) later new → Wrote (AnswersFirst start items) (AppendsFront old new)
+  pub failed_here : (new : Option (List ℕ)) → Part (Answers now requested) later new → Wrote (AnswersFirst start items) (AppendsFront old new)
   failed_here new it =
       went_front start now items (first_item.first ∷ items_of first_item.rest) old mid new so_far
       (front_one now it.after first_item.first (items_of first_item.rest) mid new it.text (answer_of it.text it.after it.does) (front_then mid later new it.text keeps it.written))
 
   -- an item that asks for a start
-  pub started_here : (new later_coming : Option (List ℕ)) (kept : List Kept) (r : Result Ending Stopped) → asked ≡ Ok (Command Start) → IfSome reading.coming (λ bytes. Begins now bytes later new later_coming kept r)
+  pub started_here : (new later_coming : Option (List ℕ)) (kept : List Kept) (r : Result SessionEnd Stopped) → requested ≡ Ok (Command Start) → IfSome reading.coming (λ bytes. Begins now bytes later new later_coming kept r)
       → Ended start items old new later_coming kept now r
   started_here new later_coming kept r is begins =
       let first = first_item in
       let begin : Begins now first.rest later new later_coming kept r = subst (λ (c : Option (List ℕ)). IfSome c (λ bytes. Begins now bytes later new later_coming kept r)) first.coming begins in
-      let ended : Ended now (first.first ∷ items_of first.rest) later new later_coming kept now r = begin first.first (subst (λ (a : Result Request (List ℕ)). Asks first.first a) is (asks first.first first.is)) in
+      let ended : Ended now (first.first ∷ items_of first.rest) later new later_coming kept now r = begin first.first (subst (λ (a : Result Request (List ℕ)). Requests first.first a) is (requests first.first first.is)) in
       ended_after start now items (first.first ∷ items_of first.rest) old mid later new later_coming kept now so_far keeps r ended
 
 -- ---- the same, where the input may not be known
@@ -115,24 +115,24 @@ at_failed_flush None old mid later coming start now w keeps = tt
 at_failed_flush (Some bytes) old mid later coming start now w keeps =
     went_front start now (items_of bytes) (items_of w.rest) old mid later w.went (front_none now (items_of w.rest) mid later keeps)
 
-module _ (from old mid later coming : Option (List ℕ)) (start now : Session) (item : Given) (reading : Reading) (asked : Result Request (List ℕ)) where
+module _ (from old mid later coming : Option (List ℕ)) (start now : Session) (item : Given) (reading : Reading) (requested : Result Request (List ℕ)) where
   -- an item was answered
   pub answered : IfSome from (λ bytes. GoesOn start (items_of bytes) old mid coming now) → Keeps mid later → IfSome coming (λ bytes. GivesItem bytes (Ok (Some item)) reading)
-      → ((some : Item) → IsItem some item reading → Asks some asked) → (new : Option (List ℕ)) (after : Session) → Whole (Answers now asked) later new after
+      → ((some : Item) → IsItem some item reading → Requests some requested) → (new : Option (List ℕ)) (after : Session) → Whole (Answers now requested) later new after
       → IfSome from (λ bytes. GoesOn start (items_of bytes) old new reading.coming after)
-  answered w keeps gives asks new after it = on_some from (λ bytes. GoesOn start (items_of bytes) old mid coming now) (λ bytes. GoesOn start (items_of bytes) old new reading.coming after)
-      (λ bytes v. answered_here start now (items_of bytes) old mid later coming v keeps item reading gives asked asks new after it) w
+  answered w keeps gives requests new after it = on_some from (λ bytes. GoesOn start (items_of bytes) old mid coming now) (λ bytes. GoesOn start (items_of bytes) old new reading.coming after)
+      (λ bytes v. answered_here start now (items_of bytes) old mid later coming v keeps item reading gives requested requests new after it) w
 
   -- the answer to an item was written in part
   pub failed : IfSome from (λ bytes. GoesOn start (items_of bytes) old mid coming now) → Keeps mid later → IfSome coming (λ bytes. GivesItem bytes (Ok (Some item)) reading)
-      → ((some : Item) → IsItem some item reading → Asks some asked) → (new : Option (List ℕ)) → Part (Answers now asked) later new
+      → ((some : Item) → IsItem some item reading → Requests some requested) → (new : Option (List ℕ)) → Part (Answers now requested) later new
       → IfSome from (λ bytes. Wrote (AnswersFirst start (items_of bytes)) (AppendsFront old new))
-  failed w keeps gives asks new it = on_some from (λ bytes. GoesOn start (items_of bytes) old mid coming now) (λ bytes. Wrote (AnswersFirst start (items_of bytes)) (AppendsFront old new))
-      (λ bytes v. failed_here start now (items_of bytes) old mid later coming v keeps item reading gives asked asks new it) w
+  failed w keeps gives requests new it = on_some from (λ bytes. GoesOn start (items_of bytes) old mid coming now) (λ bytes. Wrote (AnswersFirst start (items_of bytes)) (AppendsFront old new))
+      (λ bytes v. failed_here start now (items_of bytes) old mid later coming v keeps item reading gives requested requests new it) w
 
   -- an item asked for a start
   pub started : IfSome from (λ bytes. GoesOn start (items_of bytes) old mid coming now) → Keeps mid later → IfSome coming (λ bytes. GivesItem bytes (Ok (Some item)) reading)
-      → ((some : Item) → IsItem some item reading → Asks some asked) → (new later_coming : Option (List ℕ)) (kept : List Kept) (r : Result Ending Stopped) → asked ≡ Ok (Command Start)
+      → ((some : Item) → IsItem some item reading → Requests some requested) → (new later_coming : Option (List ℕ)) (kept : List Kept) (r : Result SessionEnd Stopped) → requested ≡ Ok (Command Start)
       → IfSome reading.coming (λ bytes. Begins now bytes later new later_coming kept r) → IfSome from (λ bytes. Ended start (items_of bytes) old new later_coming kept now r)
-  started w keeps gives asks new later_coming kept r is begins = on_some from (λ bytes. GoesOn start (items_of bytes) old mid coming now) (λ bytes. Ended start (items_of bytes) old new later_coming kept now r)
-      (λ bytes v. started_here start now (items_of bytes) old mid later coming v keeps item reading gives asked asks new later_coming kept r is begins) w
+  started w keeps gives requests new later_coming kept r is begins = on_some from (λ bytes. GoesOn start (items_of bytes) old mid coming now) (λ bytes. Ended start (items_of bytes) old new later_coming kept now r)
+      (λ bytes v. started_here start now (items_of bytes) old mid later coming v keeps item reading gives requested requests new later_coming kept r is begins) w

@@ -10,7 +10,7 @@ use Rattle.pim_router.specs.State.{RouterState}
 use Rattle.pim_session.specs.declared.request.Request.{Request}
 use Rattle.pim_session.specs.declared.request.Request.TheVariants.{Command, From}
 use Rattle.pim_answers.specs.Answered.{Refused}
-use Rattle.pim_answers.specs.Asking.{AnswersMessages, AnswersKeep, AnswersChange, AnswersSame}
+use Rattle.pim_answers.specs.Demanding.{AnswersMessages, AnswersKeep, AnswersChange, AnswersSame}
 use Rattle.pim_session.specs.Gathering.{AddsPort, AddsRp, AddsVia, Starts, with_limit}
 use Rattle.pim_answers.specs.Answered.{Done}
 use Rattle.pim_answers.specs.Lines.{fault_line}
@@ -58,7 +58,7 @@ AnswersBefore (Command command) gathered kept = Gathering (Gathers command) gath
 
 -- ---- after `start`
 
--- A command that tells of the router, and changes nothing. One that gathers is refused.
+-- A command that reports on the router, and changes nothing. One that gathers is refused.
 abbrev pub Reports : AddressFamily → AnyCommand → RouterState → List Kept → List ℕ → Type 0
 Reports family Now router kept = AnswersNow router
 Reports family Next router kept = AnswersNext router

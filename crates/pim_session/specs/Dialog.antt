@@ -2,19 +2,19 @@
 use Rattle.std.specs.Prelude.{◌≡◌, ℕ, List, [], ◌∷◌, ◌++◌, Option, Result, Ok, Err}
 use Rattle.std.specs.Io.KnownBytes.{Appends}
 use Rattle.pim_device.specs.Device.{AppendsFront}
-use Rattle.pim_items.specs.declared.input.Stopped.{Stopped}
-use Rattle.pim_items.specs.declared.input.Stopped.TheVariants.{Input, Output}
-use Rattle.pim_items.specs.Items.{Item, items_of}
+use Rattle.pim_request.specs.declared.input.Stopped.{Stopped}
+use Rattle.pim_request.specs.declared.input.Stopped.TheVariants.{Input, Output}
+use Rattle.pim_request.specs.Items.{Item, items_of}
 use Rattle.pim_session.specs.declared.request.Request.{Request}
 use Rattle.pim_session.specs.Answers.{Answers}
-use Rattle.pim_session.specs.Request.{Asks}
+use Rattle.pim_session.specs.Request.{Requests}
 use Rattle.pim_session.specs.State.{Session}
 
 -- An item is answered by this text, and this is the session after it.
 pub record IsAnswer (session : Session) (item : Item) (text : List ℕ) (after : Session) : Type 0 where
-  pub asked : Result Request (List ℕ)
-  pub asks : Asks item asked
-  pub answers : Answers session asked text after
+  pub requested : Result Request (List ℕ)
+  pub requests : Requests item requested
+  pub answers : Answers session requested text after
 
 -- The items are answered by this text, and this is the session after them.
 unfoldable pub IsDialog : Session → List Item → List ℕ → Session → Type 0

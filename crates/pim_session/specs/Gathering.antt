@@ -9,7 +9,7 @@ use Rattle.pim_addr.specs.Routes.{Prefix, RouteTable, with_rp, with_via, rp_faul
 use Rattle.pim_lines.specs.declared.either.AnyAddress.{AnyAddress}
 use Rattle.pim_lines.specs.declared.either.AnyAddress.TheVariants.{V4, V6}
 use Rattle.pim_request.specs.declared.command.PortRow.{PortRow}
-use Rattle.pim_request.specs.declared.command.Row.{Row}
+use Rattle.pim_request.specs.declared.command.RouteRow.{RouteRow}
 use Rattle.pim_lines.specs.AnyAddress.{address_bytes}
 use Rattle.pim_router.specs.declared.config.ConfigFault.{ConfigFault}
 use Rattle.pim_router.specs.declared.config.ConfigFault.TheVariants as config
@@ -55,7 +55,7 @@ with_routes family routes gathered =
     record { family = Some family; ports = gathered.ports; routes = routes; limit = gathered.limit }
 
 -- The prefix of a row.
-abbrev pub prefix_of : Row → Prefix
+abbrev pub prefix_of : RouteRow → Prefix
 prefix_of row = record { bits = row.length; address = address_bytes row.prefix }
 
 -- The words of a row that the route table refuses.
@@ -74,7 +74,7 @@ AddsPort row gathered =
     (OrMemory gathered (Done (with_port (family_with gathered row.address) row gathered)))
 
 -- `rp` and `via`: these are the faults of the row, and this is the table with it.
-abbrev pub AddsRow : Row → (AddressFamily → List RouteFault) → RouteTable → Gathered → List ℕ →
+abbrev pub AddsRow : RouteRow → (AddressFamily → List RouteFault) → RouteTable → Gathered → List ℕ →
     Gathered → Type 0
 AddsRow row faults table gathered =
     RefusedIf (differ_from (family_with gathered row.prefix) (row.prefix ∷ row.to ∷ [])) family_words
@@ -83,14 +83,14 @@ AddsRow row faults table gathered =
     (OrMemory gathered (Done (with_routes (family_with gathered row.prefix) table gathered))))
 
 -- `rp`
-abbrev pub AddsRp : Row → Gathered → List ℕ → Gathered → Type 0
+abbrev pub AddsRp : RouteRow → Gathered → List ℕ → Gathered → Type 0
 AddsRp row gathered =
     AddsRow row (λ family. rp_faults family (prefix_of row) (address_bytes row.to)
     gathered.routes.rps)
     (with_rp (prefix_of row) (address_bytes row.to) gathered.routes) gathered
 
 -- `via`
-abbrev pub AddsVia : Row → Gathered → List ℕ → Gathered → Type 0
+abbrev pub AddsVia : RouteRow → Gathered → List ℕ → Gathered → Type 0
 AddsVia row gathered =
     AddsRow row (λ family. via_faults family (prefix_of row) (address_bytes row.to)
     gathered.routes.vias)

@@ -1,7 +1,7 @@
 -- A session has one dialog, but that memory may be refused: the statements of the laws in
--- `src/one_dialog.rt`.
+-- `src/laws.rt`.
 use Rattle.std.specs.Prelude.{◌≡◌, ◌≢◌, ℕ, List, [], ◌∷◌, ◌++◌}
-use Rattle.pim_items.specs.Items.{Item}
+use Rattle.pim_request.specs.Items.{Item}
 use Rattle.pim_answers.specs.Lines.{memory_line}
 use Rattle.pim_answers.specs.OneAnswer.{OneAnswer}
 use Rattle.pim_session.specs.Dialog.{IsAnswer, IsDialog}

@@ -8,8 +8,8 @@ use Rattle.pim_request.specs.declared.command.Sender.{Sender}
 use Rattle.pim_request.specs.declared.command.WordsFault.{WordsFault}
 use Rattle.pim_request.specs.declared.command.WordsFault.TheVariants.{Word, Address, Hex}
 use Rattle.pim_request.specs.Commands.{States, StatesSender, IsWordsFault, IsSenderFault}
-use Rattle.pim_items.specs.Items.{Item, a_line, a_long_line, a_text, Text, bytes_of_lines}
-use Rattle.pim_items.specs.Items.{has_long_line, text_limit}
+use Rattle.pim_request.specs.Items.{Item, a_line, a_long_line, a_text, Text, bytes_of_lines}
+use Rattle.pim_request.specs.Items.{has_long_line, text_limit}
 use Rattle.pim_answers.specs.declared.packets.FromText.{FromText}
 use Rattle.pim_session.specs.declared.request.Request.{Request}
 use Rattle.pim_session.specs.declared.request.Request.TheVariants.{Command, From}
@@ -64,26 +64,26 @@ pub record IsFrom (text : Text) (from : FromText) : Type 0 where
 -- ---- requests
 
 -- What a line asks for, or the words of its fault.
-abbrev pub AsksLine : List ℕ → Result Request (List ℕ) → Type 0
-AsksLine line (Ok (Command command)) = States line command
-AsksLine line (Ok (From from)) = ⊥
-AsksLine line (Err words) = (fault : WordsFault) × IsWordsFault line fault
+abbrev pub RequestsLine : List ℕ → Result Request (List ℕ) → Type 0
+RequestsLine line (Ok (Command command)) = States line command
+RequestsLine line (Ok (From from)) = ⊥
+RequestsLine line (Err words) = (fault : WordsFault) × IsWordsFault line fault
     × (words ≡ wrong_words fault)
 
 -- What a text asks for, or the words of its fault.
-abbrev pub AsksText : Text → Result Request (List ℕ) → Type 0
-AsksText text (Ok (Command command)) = ⊥
-AsksText text (Ok (From from)) = IsFrom text from
-AsksText text (Err words) = IsTextFault text words
+abbrev pub RequestsText : Text → Result Request (List ℕ) → Type 0
+RequestsText text (Ok (Command command)) = ⊥
+RequestsText text (Ok (From from)) = IsFrom text from
+RequestsText text (Err words) = IsTextFault text words
 
 -- The same, where one of its lines may be too long.
-abbrev pub AsksTextOf : Bool → Text → Result Request (List ℕ) → Type 0
-AsksTextOf true text asked = asked ≡ Err long_line_words
-AsksTextOf false text asked = AsksText text asked
+abbrev pub RequestsTextOf : Bool → Text → Result Request (List ℕ) → Type 0
+RequestsTextOf true text requested = requested ≡ Err long_line_words
+RequestsTextOf false text requested = RequestsText text requested
 
 -- What an item asks for, or the words of the first of the faults that depend on no state: of a line
 -- that is too long, of the words from the left, of the text.
-abbrev pub Asks : Item → Result Request (List ℕ) → Type 0
-Asks (a_line line) asked = AsksLine line asked
-Asks a_long_line asked = asked ≡ Err long_line_words
-Asks (a_text text) asked = AsksTextOf (has_long_line text) text asked
+abbrev pub Requests : Item → Result Request (List ℕ) → Type 0
+Requests (a_line line) requested = RequestsLine line requested
+Requests a_long_line requested = requested ≡ Err long_line_words
+Requests (a_text text) requested = RequestsTextOf (has_long_line text) text requested

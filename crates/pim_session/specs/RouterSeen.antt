@@ -6,12 +6,12 @@ use Rattle.pim_form.specs.NormalForm.{GroupForm, IsFormOf}
 use Rattle.pim_lines.specs.AnyAddress.{address_bytes}
 use Rattle.pim_request.specs.declared.command.Command.{Command}
 use Rattle.pim_request.specs.declared.command.Command.TheVariants.{Change, Same}
-use Rattle.pim_request.specs.declared.command.Kept.{Kept as Keeping}
-use Rattle.pim_router.specs.Canonical.{asked}
+use Rattle.pim_request.specs.declared.command.KeptWhat.{KeptWhat as Keeping}
+use Rattle.pim_router.specs.Canonical.{demanded}
 use Rattle.pim_router.specs.State.{RouterState}
 use Rattle.pim_answers.specs.declared.fault.Fault.{Fault}
 use Rattle.pim_answers.specs.declared.kept.AnyForm.{AnyForm}
-use Rattle.pim_answers.specs.Asking.{kept_now, name_words}
+use Rattle.pim_answers.specs.Demanding.{kept_now, name_words}
 use Rattle.pim_answers.specs.Families.{differ_from, family_words}
 use Rattle.pim_answers.specs.Fault.{fault_words}
 use Rattle.pim_answers.specs.Kept.{Kept, lacks_place}
@@ -45,16 +45,16 @@ StartsSo gathered (Ok router) = Starts gathered.family gathered ok_line (serving
 StartsSo gathered (Err fault) = Starts gathered.family gathered (fault_line (fault_words fault))
     (gathering gathered)
 
--- What `keep` makes: the form of what is asked of the neighbour now, where the command has no fault;
--- else its first fault, or memory is refused.
+-- What `keep` makes: the form of what is asked of the neighbour now, where the command has no
+-- fault; else its first fault, or memory is refused.
 abbrev pub IsKeptFor : AddressFamily → Keeping → RouterState → List Kept → Result AnyForm Fault →
     Type 0
 IsKeptFor family keeping router kept (Ok form) =
     (differ_from family (keeping.upstream ∷ []) ≡ false)
     × (lacks_place keeping.name.now kept ≡ false)
-    × ((asked_form : List GroupForm) × IsFormOf family (asked family (address_bytes
-    keeping.upstream) router) asked_form
-    × ((name : List ℕ) → any_seen name form ≡ kept_now family name asked_form router))
+    × ((demanded_form : List GroupForm) × IsFormOf family (demanded family (address_bytes
+    keeping.upstream) router) demanded_form
+    × ((name : List ℕ) → any_seen name form ≡ kept_now family name demanded_form router))
 IsKeptFor family keeping router kept (Err fault) =
     (differ_from family (keeping.upstream ∷ []) ≡ true) × (fault_words fault ≡ family_words)
     ⊎ (differ_from family (keeping.upstream ∷ []) ≡ false)

@@ -5,7 +5,7 @@ use Rattle.pim_request.specs.declared.command.Command.{Command as AnyCommand}
 use Rattle.pim_request.specs.declared.command.Command.TheVariants as of_line
 use Rattle.pim_request.specs.declared.command.Sender.{Sender}
 use Rattle.pim_request.specs.Forms.{IsHex}
-use Rattle.pim_items.specs.Items.{line_limit}
+use Rattle.pim_request.specs.Items.{line_limit}
 use Rattle.pim_answers.specs.declared.fault.Fault.{Fault}
 use Rattle.pim_session.specs.declared.request.Request.{Request}
 use Rattle.pim_session.specs.declared.request.Request.TheVariants.{Command, From}
@@ -34,8 +34,8 @@ IsFitIfAny (Ok request) = IsFit request
 IsFitIfAny (Err fault) = Unit {0}
 
 -- What a text of these bytes asks for, which isn't too long, after a `from` line with this sender.
-abbrev pub AsksFrom : Sender → List ℕ → Bool → Result Request (List ℕ) → Type 0
-AsksFrom sender bytes is_sent (Ok (Command command)) = ⊥
-AsksFrom sender bytes is_sent (Ok (From from)) =
+abbrev pub RequestsFrom : Sender → List ℕ → Bool → Result Request (List ℕ) → Type 0
+RequestsFrom sender bytes is_sent (Ok (Command command)) = ⊥
+RequestsFrom sender bytes is_sent (Ok (From from)) =
     (from.sender ≡ sender) × (from.text.now ≡ bytes) × (is_sent ≡ true) × IsRead bytes from.stated
-AsksFrom sender bytes is_sent (Err words) = SaysWrong bytes is_sent words
+RequestsFrom sender bytes is_sent (Err words) = SaysWrong bytes is_sent words

@@ -72,8 +72,8 @@ module _ {F A N : Type 0} (family : AddressFamily) (bytes_of : A → List ℕ) w
       Does (rows_seen bytes_of fixed limit old) (done_text result) (rows_seen bytes_of
       (fixed_after fixed family result) limit new)
 
--- What is gathered after the first row, where these rows are then there; nothing but the limit after a
--- fault.
+-- What is gathered after the first row, where these rows are then there; nothing but the limit
+-- after a fault.
 abbrev pub first_seen : {X : Type 0} → (ℕ → X → Gathered) → ℕ → Result X Fault → Gathered
 first_seen seen limit (Ok rows) = seen limit rows
 first_seen seen limit (Err fault) = any_seen limit Free
@@ -85,10 +85,10 @@ AddsFirst seen row result = (limit : ℕ) → Adds row (any_seen limit Free) (do
 
 -- The fault of a row that the table refuses, as one of the command.
 abbrev pub IsAdded : Result (Unit {0}) RouteFault → Result (Unit {0}) Fault → Type 0
-IsAdded (Ok told) (Ok done) = Unit {0}
-IsAdded (Ok told) (Err fault) = ⊥
-IsAdded (Err told) (Ok done) = ⊥
-IsAdded (Err told) (Err fault) = fault_words fault ≡ route_words told
+IsAdded (Ok reported) (Ok done) = Unit {0}
+IsAdded (Ok reported) (Err fault) = ⊥
+IsAdded (Err reported) (Ok done) = ⊥
+IsAdded (Err reported) (Err fault) = fault_words fault ≡ route_words reported
 
 -- The row that a command adds, if it adds one.
 abbrev pub row_in : Command → Option AnyRow

@@ -10,14 +10,14 @@
 //! those of `pim_request`. Room for the longest item, and at `start` for the longest message, is
 //! made in advance. So `fault memory` never comes in place of a fault of words, lines, families or
 //! ports. By a law, two dialogs of the same items that nowhere answer it are the same.
+//! Callers: `pim_main`.
 #![tactic(auto)]
 
-mod one_dialog;
+pub mod laws;
 mod request;
 mod routers;
 mod serving;
 mod session;
 mod setup;
 
-pub use one_dialog::{item_has_one_answer, session_has_one_dialog};
 pub use session::session_into;

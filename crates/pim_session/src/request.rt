@@ -3,17 +3,19 @@
 ghost use Rattle.std.specs.Prelude.{◌≡◌, ◌≤◌, ◌<◌, ◌^◌, ◌==◌, count_by, true, false, length, IfOk};
 ghost use Rattle.std.specs.Prelude.{IfErr};
 ghost use Rattle.pim_text.specs.Read.{IsRead};
-ghost use Rattle.pim_items.specs.Items.{Item as SomeItem, Text as SomeText, has_long_line};
-ghost use Rattle.pim_items.specs.Items.{line_limit, text_limit};
-ghost use Rattle.pim_items.specs.Reading.{IsItem, IsText};
+ghost use Rattle.pim_request.specs.Items.{Item as SomeItem, Text as SomeText, has_long_line};
+ghost use Rattle.pim_request.specs.Items.{line_limit, text_limit};
+ghost use Rattle.pim_request.specs.Reading.{IsItem, IsText};
 ghost use Rattle.pim_answers.specs.Fault.{fault_words};
-ghost use Rattle.pim_session.specs.Request.{wrong_words, IsWrongIn, AsksLine, AsksText, Asks};
-ghost use Rattle.pim_session.specs.Seen.{request_seen, IsFitIfAny, AsksFrom};
+ghost use Rattle.pim_session.specs.Request.{wrong_words, IsWrongIn, RequestsLine, RequestsText};
+ghost use Rattle.pim_session.specs.Request.{Requests};
+ghost use Rattle.pim_session.specs.Seen.{request_seen, IsFitIfAny, RequestsFrom};
 
 use pim_addr::Feed;
 use pim_answers::{Fault, FromText};
-use pim_items::{Item, Items, TextItem};
-use pim_request::{Command, Sender, WordsFault, read_command, read_sender};
+use pim_request::{
+    Command, InputItems, Item, Sender, TextItem, WordsFault, read_command, read_sender,
+};
 use pim_text::{Stated, read_message_text};
 
 /// What an item asks for.
@@ -66,7 +68,7 @@ fn request_of_held<'a>(
     is_sent: bool,
 ) -> Result<Request<'a>, Fault<'a>>
     requires { length text.now ≤ text_limit }
-    ensures asks { AsksFrom sender text.now is_sent (request_seen result) }
+    ensures requests { RequestsFrom sender text.now is_sent (request_seen result) }
     ensures fit { IsFitIfAny result }
 {
     match stated_by(text, is_sent) {
@@ -81,11 +83,11 @@ fn request_of_held<'a>(
 
 /// What a text asks for whose lines are short enough.
 fn request_of_text<'a, R: Feed>(
-    items: &'a Items<R>,
+    items: &'a InputItems<R>,
     item: TextItem,
 ) -> Result<Request<'a>, Fault<'a>>
-    ensures asks { (text : SomeText) → IsText text item items.now → has_long_line text ≡ false →
-        AsksText text (request_seen result) }
+    ensures requests { (text : SomeText) → IsText text item items.now → has_long_line text ≡ false →
+        RequestsText text (request_seen result) }
     ensures fit { IsFitIfAny result }
 {
     let sender = match read_sender(items.from_line()) {
@@ -101,7 +103,7 @@ fn request_of_text<'a, R: Feed>(
 /// The command that a line states, or the fault of its words.
 fn request_of_line<'a>(line: &'a [u8]) -> Result<Request<'a>, Fault<'a>>
     requires { length line.now ≤ line_limit }
-    ensures asks { AsksLine line.now (request_seen result) }
+    ensures requests { RequestsLine line.now (request_seen result) }
     ensures fit { IsFitIfAny result }
 {
     match read_command(line) {
@@ -113,11 +115,11 @@ fn request_of_line<'a>(line: &'a [u8]) -> Result<Request<'a>, Fault<'a>>
 /// What the last item asks for, or the first of the faults that depend on no state: a line that is
 /// too long, the words of the line, a text that is too long or states no message.
 pub(crate) fn request_of<'a, R: Feed>(
-    items: &'a Items<R>,
+    items: &'a InputItems<R>,
     item: Item,
 ) -> Result<Request<'a>, Fault<'a>>
-    ensures asks { (some : SomeItem) → IsItem some item items.now →
-        Asks some (request_seen result) }
+    ensures requests { (some : SomeItem) → IsItem some item items.now →
+        Requests some (request_seen result) }
     ensures fit { IsFitIfAny result }
 {
     match item {

@@ -4,7 +4,7 @@ ghost use Rattle.std.specs.Prelude.{◌≡◌, ◌≤◌, ◌<◌, ◌*◌, ◌^
 ghost use Rattle.pim_device.specs.Device.{failures_after};
 ghost use Rattle.pim_request.specs.Forms.{IsHex};
 ghost use Rattle.pim_answers.specs.Answered.{Answered, Wrote};
-ghost use Rattle.pim_answers.specs.Asking.{AnswersKeep};
+ghost use Rattle.pim_answers.specs.Demanding.{AnswersKeep};
 ghost use Rattle.pim_answers.specs.Fault.{fault_words};
 ghost use Rattle.pim_answers.specs.Kept.{Kept as KeptSeen, kept_as};
 ghost use Rattle.pim_answers.specs.Packets.{AnswersPacket, AnswersFrom, room_limit};
@@ -18,11 +18,11 @@ ghost use Rattle.pim_session.specs.SetupSeen.{rows_seen, gathered_seen, StartsRo
 use crate::setup::{AnyRows, Rows, Setup};
 use pim_addr::{Drain, Failed, Family, V4, V6};
 use pim_answers::{
-    AnyForm, Fault, Found, FromText, Room, Store, answer_change, answer_from, answer_messages,
+    AnyForm, Fault, FoundForm, FromText, Room, Store, answer_change, answer_from, answer_messages,
     answer_neighbours, answer_next, answer_now, answer_packet, answer_run, answer_same,
     answer_state, answer_wants, form_to_keep, write_fault, write_ok,
 };
-use pim_request::{Command, Kept, Packet};
+use pim_request::{Command, KeptWhat, Packet};
 use pim_router::{Config, ConfigFault, Router};
 use std::alloc::Global;
 
@@ -149,7 +149,7 @@ fn form_for<'c>(
     alloc: Global,
     router: &AnyRouter<'_>,
     store: &Store,
-    command: &Kept<'c>,
+    command: &KeptWhat<'c>,
 ) -> Result<AnyForm, Fault<'c>>
     ensures { IsKeptFor (family_in router.now) command.now (state_in router.now)
         (store_seen store.now) result }
@@ -171,7 +171,7 @@ pub(crate) fn keep_any<W: Drain>(
     alloc: Global,
     router: &AnyRouter<'_>,
     store: &mut Store,
-    command: &Kept<'_>,
+    command: &KeptWhat<'_>,
     answers: &mut W,
 ) -> Result<(), Failed>
     ensures answered { Answered
@@ -200,16 +200,16 @@ fn name_of<'c>(command: &Command<'c>) -> &'c [u8]
     }
 }
 
-/// Answers a command that tells of the router and changes nothing, with what was found under its
+/// Answers a command that reports on the router and changes nothing, with what was found under its
 /// name. Refuses one that gathers.
 fn report<F: Family, W: Drain>(
     alloc: Global,
     router: &Router<'_, F>,
-    found: &Found<'_, F>,
+    found: &FoundForm<'_, F>,
     command: &Command<'_>,
     answers: &mut W,
 ) -> Result<(), Failed>
-    ensures told { (kept : List KeptSeen) → IsFound F.family F.bytes_of (name_in command.now)
+    ensures reported { (kept : List KeptSeen) → IsFound F.family F.bytes_of (name_in command.now)
         found.now
         (kept_as (name_in command.now) kept) → Wrote (Reports F.family command.now router.now kept)
         (W.contents answers.old) (W.contents answers.new) result }
@@ -230,7 +230,7 @@ fn report<F: Family, W: Drain>(
     }
 }
 
-/// Answers a command that tells of the router and changes nothing, or refuses one that gathers.
+/// Answers a command that reports on the router and changes nothing, or refuses one that gathers.
 pub(crate) fn report_any<W: Drain>(
     alloc: Global,
     router: &AnyRouter<'_>,
@@ -238,7 +238,7 @@ pub(crate) fn report_any<W: Drain>(
     command: &Command<'_>,
     answers: &mut W,
 ) -> Result<(), Failed>
-    ensures told { Wrote
+    ensures reported { Wrote
         (Reports (family_in router.now) command.now (state_in router.now) (store_seen store.now))
         (W.contents answers.old) (W.contents answers.new) result }
     ensures count { W.failures answers.new ≡ failures_after (W.failures answers.old) result }

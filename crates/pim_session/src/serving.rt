@@ -2,8 +2,8 @@
 
 ghost use Rattle.std.specs.Prelude.{◌≡◌, ◌≢◌, ◌≤◌, Ok, IfSome};
 ghost use Rattle.pim_device.specs.Device.{failures_after};
-ghost use Rattle.pim_items.specs.Reading.{CountsReads, flush_failures_after};
-ghost use Rattle.pim_items.specs.Items.{items_of};
+ghost use Rattle.pim_request.specs.Reading.{CountsReads, flush_failures_after};
+ghost use Rattle.pim_request.specs.Items.{items_of};
 ghost use Rattle.pim_answers.specs.Answered.{Answered};
 ghost use Rattle.pim_answers.specs.Fault.{fault_words};
 ghost use Rattle.pim_answers.specs.StoreSeen.{store_seen};
@@ -20,13 +20,12 @@ use crate::routers::{AnyRouter, from_any, keep_any, make_router, packet_any, rep
 use crate::setup::Setup;
 use pim_addr::{Drain, Failed, Feed};
 use pim_answers::{Fault, Room, Store, write_fault, write_ok};
-use pim_items::{Answers, Items, Stopped};
-use pim_request::Command;
+use pim_request::{Answers, Command, InputItems, Stopped};
 use std::alloc::Global;
 
 /// How a session with a router ends.
 #[derive(Clone, Copy, Debug, PartialEq, Eq)]
-pub(crate) enum Ending {
+pub(crate) enum SessionEnd {
     /// There is no router: its configuration has a fault.
     Refused,
     /// The router was forgotten.
@@ -114,20 +113,20 @@ fn answer_or_refuse<W: Drain>(
     router: &mut AnyRouter<'_>,
     store: &mut Store,
     room: &mut Room,
-    asked: Result<Request<'_>, Fault<'_>>,
+    requested: Result<Request<'_>, Fault<'_>>,
     answers: &mut W,
 ) -> Result<bool, Failed>
-    requires { IsFitIfAny asked }
+    requires { IsFitIfAny requested }
     ensures answered { Answered
         (Answers (session_in (serving (family_in router.old) (state_in router.old))
         (store_seen store.old))
-        (request_seen asked.entry))
+        (request_seen requested.entry))
         (W.contents answers.old) (W.contents answers.new) result
         (λ serves. session_after serves (family_in router.new) (state_in router.new)
         (store_seen store.new)) }
     ensures count { W.failures answers.new ≡ failures_after (W.failures answers.old) result }
 {
-    match asked {
+    match requested {
         Ok(request) => answer_request(alloc, router, store, room, &request, answers),
         Err(fault) => write_fault(answers, &fault).and(Ok(true)),
     }
@@ -138,40 +137,40 @@ fn serve<R: Feed, W: Answers>(
     alloc: Global,
     router: &mut AnyRouter<'_>,
     room: &mut Room,
-    items: &mut Items<R>,
+    items: &mut InputItems<R>,
     store: &mut Store,
     answers: &mut W,
-) -> Result<Ending, Stopped>
+) -> Result<SessionEnd, Stopped>
     ensures ended { (refused : Session) → IfSome items.old.coming (λ bytes. Ended
         (session_in (serving (family_in router.old) (state_in router.old)) (store_seen store.old))
         (items_of bytes) (W.contents answers.old) (W.contents answers.new) items.new.coming
         (store_seen store.new) refused result) }
-    ensures started { result ≢ Ok Ending.Refused }
+    ensures started { result ≢ Ok SessionEnd.Refused }
     ensures left { items.new.left ≤ items.old.left }
     ensures reads { CountsReads result items.new.unread items.old.failures items.new.failures }
     ensures count { W.failures answers.new ≡ flush_failures_after (W.failures answers.old) result }
 {
     'items: loop {
         let Some(item) = items.next(answers)? else {
-            return Ok(Ending::Input);
+            return Ok(SessionEnd::Input);
         };
-        let asked = request_of(items, item);
-        match answer_or_refuse(alloc, router, store, room, asked, answers) {
+        let requested = request_of(items, item);
+        match answer_or_refuse(alloc, router, store, room, requested, answers) {
             Ok(true) => {}
-            Ok(false) => return Ok(Ending::Reset),
+            Ok(false) => return Ok(SessionEnd::Reset),
             Err(_) => return Err(Stopped::Output),
         }
     }
 }
 
 /// Writes why there is no router.
-fn refuse<W: Drain>(answers: &mut W, fault: &Fault<'_>) -> Result<Ending, Stopped>
+fn refuse<W: Drain>(answers: &mut W, fault: &Fault<'_>) -> Result<SessionEnd, Stopped>
     ensures refused { IsRefused (fault_words fault.now)
         (W.contents answers.old) (W.contents answers.new) result }
     ensures count { W.failures answers.new ≡ flush_failures_after (W.failures answers.old) result }
 {
     match write_fault(answers, fault) {
-        Ok(()) => Ok(Ending::Refused),
+        Ok(()) => Ok(SessionEnd::Refused),
         Err(_) => Err(Stopped::Output),
     }
 }
@@ -181,15 +180,15 @@ fn begin<R: Feed, W: Answers>(
     alloc: Global,
     router: &mut AnyRouter<'_>,
     room: &mut Room,
-    items: &mut Items<R>,
+    items: &mut InputItems<R>,
     store: &mut Store,
     answers: &mut W,
-) -> Result<Ending, Stopped>
+) -> Result<SessionEnd, Stopped>
     ensures begun { (start : Session) → IfSome items.old.coming (λ bytes. BeginsServing start bytes
         (session_in (serving (family_in router.old) (state_in router.old)) (store_seen store.old))
         (W.contents answers.old) (W.contents answers.new) items.new.coming (store_seen store.new)
         result) }
-    ensures started { result ≢ Ok Ending.Refused }
+    ensures started { result ≢ Ok SessionEnd.Refused }
     ensures left { items.new.left ≤ items.old.left }
     ensures reads { CountsReads result items.new.unread items.old.failures items.new.failures }
     ensures count { W.failures answers.new ≡ flush_failures_after (W.failures answers.old) result }
@@ -204,16 +203,16 @@ fn begin<R: Feed, W: Answers>(
 pub(crate) fn start<R: Feed, W: Answers>(
     alloc: Global,
     setup: &Setup,
-    items: &mut Items<R>,
+    items: &mut InputItems<R>,
     store: &mut Store,
     answers: &mut W,
-) -> Result<Ending, Stopped>
+) -> Result<SessionEnd, Stopped>
     ensures begins { IfSome items.old.coming (λ bytes. Begins
         (session_in (gathering (gathered_seen setup.now)) (store_seen store.old)) bytes
         (W.contents answers.old) (W.contents answers.new) items.new.coming (store_seen store.new)
         result) }
     ensures left { items.new.left ≤ items.old.left }
-    ensures refused { result ≡ Ok Ending.Refused → store_seen store.new ≡ store_seen store.old }
+    ensures refused { result ≡ Ok SessionEnd.Refused → store_seen store.new ≡ store_seen store.old }
     ensures reads { CountsReads result items.new.unread items.old.failures items.new.failures }
     ensures count { W.failures answers.new ≡ flush_failures_after (W.failures answers.old) result }
 {

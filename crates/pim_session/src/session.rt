@@ -2,7 +2,7 @@
 
 ghost use Rattle.std.specs.Prelude.{◌≡◌, List, None, Ok, IfSome};
 ghost use Rattle.pim_device.specs.Device.{failures_after};
-ghost use Rattle.pim_items.specs.Reading.{CountsReads, flush_failures_after};
+ghost use Rattle.pim_request.specs.Reading.{CountsReads, flush_failures_after};
 ghost use Rattle.pim_answers.specs.Answered.{Answered};
 ghost use Rattle.pim_session.specs.Answers.{Gathers, session_in};
 ghost use Rattle.pim_session.specs.Dialog.{Converses};
@@ -14,12 +14,11 @@ ghost use Rattle.pim_answers.specs.StoreSeen.{store_seen};
 ghost use Rattle.pim_session.specs.Underway.{Configured};
 
 use crate::request::{Request, request_of};
-use crate::serving::{Ending, start};
+use crate::serving::{SessionEnd, start};
 use crate::setup::{AnyRow, Setup};
 use pim_addr::{Drain, Failed, Feed};
 use pim_answers::{Fault, Store, write_done, write_fault, write_ok};
-use pim_items::{Answers, Items, Stopped};
-use pim_request::Command;
+use pim_request::{Answers, Command, InputItems, Stopped};
 use std::alloc::Global;
 
 /// The row that a command adds to the set-up.
@@ -117,16 +116,16 @@ fn configure_by_request<W: Drain>(
 fn configure_by<W: Drain>(
     alloc: Global,
     setup: &mut Setup,
-    asked: Result<Request<'_>, Fault<'_>>,
+    requested: Result<Request<'_>, Fault<'_>>,
     answers: &mut W,
 ) -> Result<bool, Failed>
     ensures configured { (kept : List Kept) → Configured
-        (session_in (gathering (gathered_seen setup.old)) kept) (request_seen asked.entry)
+        (session_in (gathering (gathered_seen setup.old)) kept) (request_seen requested.entry)
         (W.contents answers.old) (W.contents answers.new) result
         (session_in (gathering (gathered_seen setup.new)) kept) }
     ensures count { W.failures answers.new ≡ failures_after (W.failures answers.old) result }
 {
-    match asked {
+    match requested {
         Ok(request) => configure_by_request(alloc, setup, &request, answers),
         Err(fault) => write_fault(answers, &fault).and(Ok(false)),
     }
@@ -137,7 +136,7 @@ fn answer_all<R: Feed, W: Answers>(
     alloc: Global,
     setup: &mut Setup,
     store: &mut Store,
-    items: &mut Items<R>,
+    items: &mut InputItems<R>,
     answers: &mut W,
 ) -> Result<(), Stopped>
     ensures ended { IfSome items.old.coming (λ bytes. Converses
@@ -150,15 +149,15 @@ fn answer_all<R: Feed, W: Answers>(
         let Some(item) = items.next(answers)? else {
             return Ok(());
         };
-        let asked = request_of(items, item);
-        let Ok(starts) = configure_by(alloc, setup, asked, answers) else {
+        let requested = request_of(items, item);
+        let Ok(starts) = configure_by(alloc, setup, requested, answers) else {
             return Err(Stopped::Output);
         };
         if starts {
             match start(alloc, setup, items, store, answers)? {
-                Ending::Refused => {}
-                Ending::Reset => setup.reset(),
-                Ending::Input => return Ok(()),
+                SessionEnd::Refused => {}
+                SessionEnd::Reset => setup.reset(),
+                SessionEnd::Input => return Ok(()),
             }
         }
     }
@@ -177,7 +176,7 @@ fn answer_all<R: Feed, W: Answers>(
 /// - `Output`: the device that takes the answers failed. A prefix of the answers was written.
 pub fn session_into<R: Feed, W: Answers>(
     alloc: Global,
-    items: &mut Items<R>,
+    items: &mut InputItems<R>,
     answers: &mut W,
 ) -> Result<(), Stopped>
     ensures converses { IfSome items.old.coming (λ input. Converses new_session input

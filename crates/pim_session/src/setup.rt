@@ -13,7 +13,7 @@ ghost use Rattle.pim_session.specs.State.{nothing_gathered};
 use pim_addr::{Family, RouteFault, Routes, V4, V6};
 use pim_answers::Fault;
 use pim_lines::{AnyAddress, of_family};
-use pim_request::{PortRow, Row};
+use pim_request::{PortRow, RouteRow};
 use pim_router::PortConfig;
 use std::alloc::Global;
 
@@ -55,9 +55,9 @@ pub(crate) enum AnyRow {
     /// A port.
     Port(PortRow),
     /// An RP.
-    Rp(Row),
+    Rp(RouteRow),
     /// An upstream neighbour.
-    Via(Row),
+    Via(RouteRow),
 }
 
 /// The fault of a row that the route table refuses.
@@ -75,10 +75,10 @@ fn route_fault(fault: RouteFault) -> Fault<'static>
 }
 
 /// `Ok` where the table took the row, else its fault.
-fn added(told: Result<(), RouteFault>) -> Result<(), Fault<'static>>
-    ensures { IsAdded told result }
+fn added(reported: Result<(), RouteFault>) -> Result<(), Fault<'static>>
+    ensures { IsAdded reported result }
 {
-    match told {
+    match reported {
         Ok(()) => Ok(()),
         Err(fault) => Err(route_fault(fault)),
     }
@@ -126,7 +126,7 @@ impl<F: Family> Rows<F> {
     }
 
     /// Adds a row to an RP.
-    fn add_rp(&mut self, row: &Row) -> Result<(), Fault<'static>>
+    fn add_rp(&mut self, row: &RouteRow) -> Result<(), Fault<'static>>
         ensures { AddsTo F.family F.bytes_of (AddsRp row.now) row.now.prefix self.old result
             self.new }
     {
@@ -140,7 +140,7 @@ impl<F: Family> Rows<F> {
     }
 
     /// Adds a row to an upstream neighbour.
-    fn add_via(&mut self, row: &Row) -> Result<(), Fault<'static>>
+    fn add_via(&mut self, row: &RouteRow) -> Result<(), Fault<'static>>
         ensures { AddsTo F.family F.bytes_of (AddsVia row.now) row.now.prefix self.old result
             self.new }
     {
@@ -217,7 +217,8 @@ impl Setup {
     /// Adds a row. The first row that is accepted fixes the family. After a fault nothing has
     /// changed.
     pub(crate) fn add(&mut self, alloc: Global, row: &AnyRow) -> Result<(), Fault<'static>>
-        ensures { Adds row.now (gathered_seen self.old) (done_text result) (gathered_seen self.new) }
+        ensures { Adds row.now (gathered_seen self.old) (done_text result)
+            (gathered_seen self.new) }
     {
         match &mut self.rows {
             AnyRows::Free => {

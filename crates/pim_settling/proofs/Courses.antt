@@ -5,7 +5,7 @@ use Rattle.pim_down.specs.declared.machines.machine.Machine.{Machine}
 use Rattle.pim_down.specs.declared.machines.step.Step.TheVariants.{Reached}
 use Rattle.pim_down.specs.Records.{IsAscending, machine_at}
 use Rattle.pim_down.specs.Time.{Downstream}
-use Rattle.pim_down.specs.Laws.{KeysAreToldApart, HearingKeepsTheOrder, HearingActsAtEachKey}
+use Rattle.pim_down.specs.Laws.{KeysAreDistinct, HearingKeepsTheOrder, HearingActsAtEachKey}
 use Rattle.pim_fresh.specs.Exchange.{Exchange, starts}
 use Rattle.pim_fresh.specs.Deliveries.{Delivery}
 use Rattle.pim_fresh.specs.Hearing.{after_message}
@@ -17,7 +17,7 @@ use Rattle.pim_settling.proofs.Events.{heard_on}
 
 -- the laws of the machines that this rests on
 pub record Machines : Type 0 where
-  pub keys : KeysAreToldApart
+  pub keys : KeysAreDistinct
   pub order : HearingKeepsTheOrder
   pub hears : HearingActsAtEachKey
 

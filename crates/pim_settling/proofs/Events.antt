@@ -12,8 +12,8 @@ use Rattle.pim_down.specs.declared.machines.machine.Machine.{Machine}
 use Rattle.pim_down.specs.Key.{same_key}
 use Rattle.pim_down.specs.Tables.{Start, machine_in, greater, on_join, on_prune, on_star_join, on_rpt_prune, on_end}
 use Rattle.pim_down.specs.Hearing.{Event, key_of, on_own, is_rpt, is_star_join, is_rpt_on, is_rpt_of, on_rpts, effect, effects, at_end, heard_at}
-use Rattle.pim_down.specs.Laws.{KeysAreToldApart}
-use Rattle.pim_settling.specs.Course.{Course, absent, stays, waits, IsHeld, IsPending, IsOnBy, IsOn, pruned, excepted, named, Within, after_event, after_events, at_the_end, course_heard}
+use Rattle.pim_down.specs.Laws.{KeysAreDistinct}
+use Rattle.pim_settling.specs.Course.{Course, absent, stays, waits, IsHeld, IsPending, IsOnBy, IsOn, pruned, excepted, course_of_unit, Within, after_event, after_events, at_the_end, course_heard}
 
 -- ---- a machine within a message
 
@@ -93,7 +93,7 @@ module _ (now : ℕ) (start : Start) where
   unmarked false what course held r is = is
   unmarked true what course held r is = absurd (false≢true (sym r ∙ is.0))
 
-  own_course : (joins starred : Bool) (what : What (List ℕ)) (course : Course) (held : Option Machine) → IsMarked starred what now course held → IsOn what now (named joins what ends course) (on_own joins what start held)
+  own_course : (joins starred : Bool) (what : What (List ℕ)) (course : Course) (held : Option Machine) → IsMarked starred what now course held → IsOn what now (course_of_unit joins what ends course) (on_own joins what start held)
   own_course true starred Star course held is = joins_at Star course held refl (unmarked starred Star course held refl is)
   own_course true starred (Source source) course held is = joins_at (Source source) course held refl (unmarked starred (Source source) course held refl is)
   own_course true starred (Rpt source) course held is = refl
@@ -146,7 +146,7 @@ and_other : (a b : Bool) → (a && b) ≡ true → b ≡ true
 and_other true b e = e
 and_other false b e = absurd (false≢true e)
 
-module _ (keys : KeysAreToldApart) (port now : ℕ) (start : Start) where
+module _ (keys : KeysAreDistinct) (port now : ℕ) (start : Start) where
   -- where a machine is within a message; one that a Join(*,G) came to is one of the port
   pub record IsWithin (key : Key (List ℕ)) (within : Within) (held : Option Machine) : Type 0 where
     pub marked : IsMarked within.starred key.what now within.course held
@@ -175,12 +175,12 @@ module _ (keys : KeysAreToldApart) (port now : ℕ) (start : Start) where
       star_by true = rpts_by (is_rpt_of port event.group key) refl
 
       by : (b : Bool) → same_key (key_of port event) key ≡ b
-          → IsWithin key (cond b (record { course = named event.joins event.what ends within.course; starred = false }) (cond (is_star_join event) (cond (is_rpt_of port event.group key) (record { course = within.course; starred = true }) within) within))
+          → IsWithin key (cond b (record { course = course_of_unit event.joins event.what ends within.course; starred = false }) (cond (is_star_join event) (cond (is_rpt_of port event.group key) (record { course = within.course; starred = true }) within) within))
           (cond b (on_own event.joins event.what start held) (cond (is_star_join event) (on_rpts port event.group key held) held))
       by true s =
           let same : event.what ≡ key.what = ap (λ (k : Key (List ℕ)). k.what) ((keys (key_of port event) key).1.0 s) in
           record {
-            marked = subst (λ (what : What (List ℕ)). IsOn key.what now (named event.joins what ends within.course) (on_own event.joins what start held)) (sym same)
+            marked = subst (λ (what : What (List ℕ)). IsOn key.what now (course_of_unit event.joins what ends within.course) (on_own event.joins what start held)) (sym same)
                 (own_course now start event.joins within.starred key.what within.course held is.marked);
             of_port = λ t. absurd (false≢true t);
           }

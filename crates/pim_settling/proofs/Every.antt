@@ -14,17 +14,17 @@ use Rattle.pim_down.specs.declared.machines.key.What.TheVariants.{Star, Source, 
 use Rattle.pim_down.specs.declared.machines.key.Key.{Key}
 use Rattle.pim_down.specs.Key.{same_key}
 use Rattle.pim_down.specs.Hearing.{Event, is_known, event, list_events, key_of}
-use Rattle.pim_down.specs.Laws.{KeysAreToldApart}
+use Rattle.pim_down.specs.Laws.{KeysAreDistinct}
 use Rattle.pim_form.specs.NormalForm.{GroupForm, same_address, is_listed, groups_of}
 use Rattle.pim_form.specs.Merge.{by_order}
 use Rattle.pim_form.specs.Settled.{group_in, unwanted}
-use Rattle.pim_fresh.specs.Exchange.{is_named}
-use Rattle.pim_change.specs.declared.unit.Kind.{Kind}
-use Rattle.pim_change.specs.declared.unit.Kind.TheVariants.{JoinRpt, PruneRpt, JoinSource, PruneSource}
-use Rattle.pim_change.specs.Change.{Telling, star_joined, star_pruned, told, lacking, star_change, sources_change, group_change, ChangeUnit, unit_of, inserted, in_order, change_at, change}
-use Rattle.pim_change.specs.Told.{rp_entry, GroupTellings, set_in_front, in_front, grouped}
+use Rattle.pim_fresh.specs.Exchange.{has_unit_of}
+use Rattle.pim_change.specs.declared.unit.ActionKind.{ActionKind}
+use Rattle.pim_change.specs.declared.unit.ActionKind.TheVariants.{JoinRpt, PruneRpt, JoinSource, PruneSource}
+use Rattle.pim_change.specs.Change.{Action, star_joined, star_pruned, of_source, lacking, star_change, sources_change, group_change, ChangeUnit, unit_of, inserted, in_order, change_at, change}
+use Rattle.pim_change.specs.Written.{rp_entry, GroupActions, set_in_front, in_front, grouped}
 use Rattle.pim_settling.specs.Runs.{run_events, run_at, KnowRps}
-use Rattle.pim_settling.specs.Telling.{told_if, rpt_told, told_of}
+use Rattle.pim_settling.specs.Carrying.{carried_if, rpt_carried, carried_of}
 use Rattle.pim_settling.proofs.Units.{itself, told_here}
 use Rattle.pim_settling.proofs.Only.{or_left, or_second, joined_of, pruned_of, all_joined, all_pruned, first_joined, first_pruned, excepted_named, events_of_sets}
 
@@ -136,7 +136,7 @@ module _ (group : List ℕ) where
   either_listed : (old new : List GroupForm) (what : What (List ℕ)) (joins : Bool) → told_here old new group what ≡ Some joins → Listed (in_order (groups_of old ++ groups_of new))
   either_listed old new what joins t = by (is_listed group (groups_of old)) (is_listed group (groups_of new)) refl refl
     where
-      nothing : (what : What (List ℕ)) → told_of (unwanted group) (unwanted group) what ≡ None
+      nothing : (what : What (List ℕ)) → carried_of (unwanted group) (unwanted group) what ≡ None
       nothing Star = refl
       nothing (Source source) = refl
       nothing (Rpt source) = refl
@@ -145,84 +145,84 @@ module _ (group : List ℕ) where
       by true b e f = in_order_listed (groups_of old ++ groups_of new) (any_left (same_address group) (groups_of old) (groups_of new) e)
       by false true e f = in_order_listed (groups_of old ++ groups_of new) (any_right (same_address group) (groups_of old) (groups_of new) f)
       by false false e f =
-          let none : told_here old new group what ≡ None = ap (λ o. told_of o (group_in group new) what) (unlisted group old e) ∙ ap (λ n. told_of (unwanted group) n what) (unlisted group new f) ∙ nothing what in
+          let none : told_here old new group what ≡ None = ap (λ o. carried_of o (group_in group new) what) (unlisted group old e) ∙ ap (λ n. carried_of (unwanted group) n what) (unlisted group new f) ∙ nothing what in
           let crossed : Some joins ≡ None = sym t ∙ none in
           absurd cc
 
 -- ---- what is told is named
 
-module _ (keys : KeysAreToldApart) (rps : List ℕ → Option (List ℕ)) (old new : List GroupForm) (port : ℕ) (stars_old : KnowRps rps old) (stars_new : KnowRps rps new) (group : List ℕ) where
+module _ (keys : KeysAreDistinct) (rps : List ℕ → Option (List ℕ)) (old new : List GroupForm) (port : ℕ) (stars_old : KnowRps rps old) (stars_new : KnowRps rps new) (group : List ℕ) where
   abbrev key_for : What (List ℕ) → Key (List ℕ)
   key_for what = record { port = port; group = group; what = what }
 
-  abbrev joined_here : List ℕ → Telling → List Event
+  abbrev joined_here : List ℕ → Action → List Event
   joined_here g this = joined_of keys rps old new port g this
 
-  abbrev pruned_here : List ℕ → Telling → List Event
+  abbrev pruned_here : List ℕ → Action → List Event
   pruned_here g this = pruned_of keys rps old new port g this
 
   abbrev names_unit : Key (List ℕ) → ChangeUnit → Bool
-  names_unit key this = is_named port key (joined_here this.group this.telling) || is_named port key (pruned_here this.group this.telling)
+  names_unit key this = has_unit_of port key (joined_here this.group this.action) || has_unit_of port key (pruned_here this.group this.action)
 
-  abbrev names_telling : What (List ℕ) → Telling → Bool
+  abbrev names_telling : What (List ℕ) → Action → Bool
   names_telling what this = names_unit (key_for what) (unit_of group this)
 
   own_key : (what : What (List ℕ)) → same_key (key_for what) (key_for what) ≡ true
   own_key what = (keys (key_for what) (key_for what)).1.1 refl
 
-  joins_named : (known : Option (List ℕ)) → rps group ≡ known → is_some known ≡ true → is_named port (key_for Star) (list_events rps true group (rp_entry known)) ≡ true
+  joins_named : (known : Option (List ℕ)) → rps group ≡ known → is_some known ≡ true → has_unit_of port (key_for Star) (list_events rps true group (rp_entry known)) ≡ true
   joins_named None k s = absurd (false≢true s)
   joins_named (Some rp) k s =
       let same : is_known (rps group) rp ≡ true = ap (λ o. is_known o rp) k ∙ itself rp in
-      ap (λ b. is_named port (key_for Star) (cond (true && not b) [] (event true group Star) ++ [])) same ∙ or_left (same_key (key_for Star) (key_for Star)) false (own_key Star)
+      ap (λ b. has_unit_of port (key_for Star) (cond (true && not b) [] (event true group Star) ++ [])) same ∙ or_left (same_key (key_for Star) (key_for Star)) false (own_key Star)
 
-  prunes_named : (known : Option (List ℕ)) → is_some known ≡ true → is_named port (key_for Star) (list_events rps false group (rp_entry known)) ≡ true
+  prunes_named : (known : Option (List ℕ)) → is_some known ≡ true → has_unit_of port (key_for Star) (list_events rps false group (rp_entry known)) ≡ true
   prunes_named None s = absurd (false≢true s)
   prunes_named (Some rp) s = or_left (same_key (key_for Star) (key_for Star)) false (own_key Star)
 
-  star_named : (o n : Option (List (List ℕ))) → (group_in group old).star ≡ o → (group_in group new).star ≡ n → (joins : Bool) → told_if (is_some o) (is_some n) ≡ Some joins → list_any (names_telling Star) (star_change o n) ≡ true
+  star_named : (o n : Option (List (List ℕ))) → (group_in group old).star ≡ o → (group_in group new).star ≡ n → (joins : Bool) → carried_if (is_some o) (is_some n) ≡ Some joins → list_any (names_telling Star) (star_change o n) ≡ true
   star_named None None a b joins t = absurd cc
   star_named None (Some exceptions) a b joins t =
       or_left (names_telling Star (star_joined exceptions)) false
-      (or_left (is_named port (key_for Star) (joined_here group (star_joined exceptions))) (is_named port (key_for Star) (pruned_here group (star_joined exceptions)))
+      (or_left (has_unit_of port (key_for Star) (joined_here group (star_joined exceptions))) (has_unit_of port (key_for Star) (pruned_here group (star_joined exceptions)))
       (joins_named (rps group) refl (stars_new group (ap is_some b))))
   star_named (Some excepted) None a b joins t =
       or_left (names_telling Star star_pruned) false
-      (or_second (is_named port (key_for Star) (joined_here group star_pruned)) (is_named port (key_for Star) (pruned_here group star_pruned)) (prunes_named (rps group) (stars_old group (ap is_some a))))
+      (or_second (has_unit_of port (key_for Star) (joined_here group star_pruned)) (has_unit_of port (key_for Star) (pruned_here group star_pruned)) (prunes_named (rps group) (stars_old group (ap is_some a))))
   star_named (Some excepted) (Some exceptions) a b joins t = absurd cc
 
   -- each of a list is told so
-  kind_named : (kind : Kind) (what : List ℕ → What (List ℕ)) (source : List ℕ) (xs : List (List ℕ)) → (names_telling (what source) (told kind source) ≡ true) → is_listed source xs ≡ true → list_any (names_telling (what source)) (map (told kind) xs) ≡ true
+  kind_named : (kind : ActionKind) (what : List ℕ → What (List ℕ)) (source : List ℕ) (xs : List (List ℕ)) → (names_telling (what source) (of_source kind source) ≡ true) → is_listed source xs ≡ true → list_any (names_telling (what source)) (map (of_source kind) xs) ≡ true
   kind_named kind what source xs own l =
-      any_map (names_telling (what source)) (told kind) xs
-      (any_weaker (λ x. names_telling (what source) (told kind x)) (same_address source) xs (λ x s. subst (λ (y : List ℕ). names_telling (what source) (told kind y) ≡ true) (same_text source x (sym s)) own) l)
+      any_map (names_telling (what source)) (of_source kind) xs
+      (any_weaker (λ x. names_telling (what source) (of_source kind x)) (same_address source) xs (λ x s. subst (λ (y : List ℕ). names_telling (what source) (of_source kind y) ≡ true) (same_text source x (sym s)) own) l)
 
-  join_source : (source : List ℕ) → names_telling (Source source) (told JoinSource source) ≡ true
+  join_source : (source : List ℕ) → names_telling (Source source) (of_source JoinSource source) ≡ true
   join_source source = or_left (same_key (key_for (Source source)) (key_for (Source source)) || false) false (or_left (same_key (key_for (Source source)) (key_for (Source source))) false (own_key (Source source)))
 
-  prune_source : (source : List ℕ) → names_telling (Source source) (told PruneSource source) ≡ true
+  prune_source : (source : List ℕ) → names_telling (Source source) (of_source PruneSource source) ≡ true
   prune_source source = or_left (same_key (key_for (Source source)) (key_for (Source source))) false (own_key (Source source))
 
-  join_rpt : (source : List ℕ) → names_telling (Rpt source) (told JoinRpt source) ≡ true
+  join_rpt : (source : List ℕ) → names_telling (Rpt source) (of_source JoinRpt source) ≡ true
   join_rpt source = or_left (same_key (key_for (Rpt source)) (key_for (Rpt source)) || false) false (or_left (same_key (key_for (Rpt source)) (key_for (Rpt source))) false (own_key (Rpt source)))
 
-  prune_rpt : (source : List ℕ) → names_telling (Rpt source) (told PruneRpt source) ≡ true
+  prune_rpt : (source : List ℕ) → names_telling (Rpt source) (of_source PruneRpt source) ≡ true
   prune_rpt source = or_left (same_key (key_for (Rpt source)) (key_for (Rpt source))) false (own_key (Rpt source))
 
-  source_named : (source : List ℕ) (was is : List (List ℕ)) (joins : Bool) → told_if (is_listed source was) (is_listed source is) ≡ Some joins → list_any (names_telling (Source source)) (sources_change was is) ≡ true
+  source_named : (source : List ℕ) (was is : List (List ℕ)) (joins : Bool) → carried_if (is_listed source was) (is_listed source is) ≡ Some joins → list_any (names_telling (Source source)) (sources_change was is) ≡ true
   source_named source was is joins t = by (is_listed source was) (is_listed source is) refl refl t
     where
-      by : (a b : Bool) → is_listed source was ≡ a → is_listed source is ≡ b → told_if a b ≡ Some joins → list_any (names_telling (Source source)) (sources_change was is) ≡ true
+      by : (a b : Bool) → is_listed source was ≡ a → is_listed source is ≡ b → carried_if a b ≡ Some joins → list_any (names_telling (Source source)) (sources_change was is) ≡ true
       by false false e f u = absurd cc
       by true true e f u = absurd cc
       by false true e f u =
-          any_left (names_telling (Source source)) (map (told JoinSource) (lacking is was)) (map (told PruneSource) (lacking was is))
+          any_left (names_telling (Source source)) (map (of_source JoinSource) (lacking is was)) (map (of_source PruneSource) (lacking was is))
           (kind_named JoinSource Source source (lacking is was) (join_source source) (is_lacking source is was f e))
       by true false e f u =
-          any_right (names_telling (Source source)) (map (told JoinSource) (lacking is was)) (map (told PruneSource) (lacking was is))
+          any_right (names_telling (Source source)) (map (of_source JoinSource) (lacking is was)) (map (of_source PruneSource) (lacking was is))
           (kind_named PruneSource Source source (lacking was is) (prune_source source) (is_lacking source was is e f))
 
-  rpt_named : (source : List ℕ) (o n : Option (List (List ℕ))) (joins : Bool) → rpt_told o n source ≡ Some joins → list_any (names_telling (Rpt source)) (star_change o n) ≡ true
+  rpt_named : (source : List ℕ) (o n : Option (List (List ℕ))) (joins : Bool) → rpt_carried o n source ≡ Some joins → list_any (names_telling (Rpt source)) (star_change o n) ≡ true
   rpt_named source None None joins t = absurd cc
   rpt_named source (Some excepted) None joins t = absurd cc
   rpt_named source None (Some exceptions) joins t = by (is_listed source exceptions) refl t
@@ -231,18 +231,18 @@ module _ (keys : KeysAreToldApart) (rps : List ℕ → Option (List ℕ)) (old n
       by false l u = absurd cc
       by true l u =
           or_left (names_telling (Rpt source) (star_joined exceptions)) false
-          (or_second (is_named port (key_for (Rpt source)) (joined_here group (star_joined exceptions))) (is_named port (key_for (Rpt source)) (pruned_here group (star_joined exceptions)))
+          (or_second (has_unit_of port (key_for (Rpt source)) (joined_here group (star_joined exceptions))) (has_unit_of port (key_for (Rpt source)) (pruned_here group (star_joined exceptions)))
           (excepted_named keys rps old new port group source exceptions l))
   rpt_named source (Some excepted) (Some exceptions) joins t = by (is_listed source exceptions) (is_listed source excepted) refl refl t
     where
-      by : (a b : Bool) → is_listed source exceptions ≡ a → is_listed source excepted ≡ b → told_if a b ≡ Some joins → list_any (names_telling (Rpt source)) (star_change (Some excepted) (Some exceptions)) ≡ true
+      by : (a b : Bool) → is_listed source exceptions ≡ a → is_listed source excepted ≡ b → carried_if a b ≡ Some joins → list_any (names_telling (Rpt source)) (star_change (Some excepted) (Some exceptions)) ≡ true
       by false false e f u = absurd cc
       by true true e f u = absurd cc
       by false true e f u =
-          any_left (names_telling (Rpt source)) (map (told JoinRpt) (lacking excepted exceptions)) (map (told PruneRpt) (lacking exceptions excepted))
+          any_left (names_telling (Rpt source)) (map (of_source JoinRpt) (lacking excepted exceptions)) (map (of_source PruneRpt) (lacking exceptions excepted))
           (kind_named JoinRpt Rpt source (lacking excepted exceptions) (join_rpt source) (is_lacking source excepted exceptions f e))
       by true false e f u =
-          any_right (names_telling (Rpt source)) (map (told JoinRpt) (lacking excepted exceptions)) (map (told PruneRpt) (lacking exceptions excepted))
+          any_right (names_telling (Rpt source)) (map (of_source JoinRpt) (lacking excepted exceptions)) (map (of_source PruneRpt) (lacking exceptions excepted))
           (kind_named PruneRpt Rpt source (lacking exceptions excepted) (prune_rpt source) (is_lacking source exceptions excepted e f))
 
   group_named : (what : What (List ℕ)) (joins : Bool) → told_here old new group what ≡ Some joins → list_any (names_telling what) (group_change (group_in group old) (group_in group new)) ≡ true
@@ -267,67 +267,67 @@ module _ (keys : KeysAreToldApart) (rps : List ℕ → Option (List ℕ)) (old n
 
   -- ---- the message of a run
 
-  abbrev set_events_here : List ℕ → List Telling → List Event
+  abbrev set_events_here : List ℕ → List Action → List Event
   set_events_here g tellings = all_joined keys rps old new port g tellings ++ all_pruned keys rps old new port g tellings
 
-  abbrev events_here : List GroupTellings → List Event
+  abbrev events_here : List GroupActions → List Event
   events_here sets = events_of_sets keys rps old new port sets
 
   module _ (key : Key (List ℕ)) where
     abbrev names : Event → Bool
     names this = same_key (key_of port this) key
 
-    set_own : (g : List ℕ) (this : Telling) (tellings : List Telling) → names_unit key (unit_of g this) ≡ true → is_named port key (set_events_here g (this ∷ tellings)) ≡ true
+    set_own : (g : List ℕ) (this : Action) (tellings : List Action) → names_unit key (unit_of g this) ≡ true → has_unit_of port key (set_events_here g (this ∷ tellings)) ≡ true
     set_own g this tellings n =
-        elim (is_named port key (joined_here g this)) as (λ b. is_named port key (joined_here g this) ≡ b → (b || is_named port key (pruned_here g this)) ≡ true → is_named port key (set_events_here g (this ∷ tellings)) ≡ true) [
+        elim (has_unit_of port key (joined_here g this)) as (λ b. has_unit_of port key (joined_here g this) ≡ b → (b || has_unit_of port key (pruned_here g this)) ≡ true → has_unit_of port key (set_events_here g (this ∷ tellings)) ≡ true) [
           | true ↦ λ s m.
               any_left names (all_joined keys rps old new port g (this ∷ tellings)) (all_pruned keys rps old new port g (this ∷ tellings))
-              (ap (is_named port key) (first_joined keys rps old new port g this tellings) ∙ any_left names (joined_here g this) (all_joined keys rps old new port g tellings) s)
+              (ap (has_unit_of port key) (first_joined keys rps old new port g this tellings) ∙ any_left names (joined_here g this) (all_joined keys rps old new port g tellings) s)
           | false ↦ λ s m.
               any_right names (all_joined keys rps old new port g (this ∷ tellings)) (all_pruned keys rps old new port g (this ∷ tellings))
-              (ap (is_named port key) (first_pruned keys rps old new port g this tellings) ∙ any_left names (pruned_here g this) (all_pruned keys rps old new port g tellings) m)
+              (ap (has_unit_of port key) (first_pruned keys rps old new port g this tellings) ∙ any_left names (pruned_here g this) (all_pruned keys rps old new port g tellings) m)
         ] refl n
 
-    set_more : (g : List ℕ) (this : Telling) (tellings : List Telling) → is_named port key (set_events_here g tellings) ≡ true → is_named port key (set_events_here g (this ∷ tellings)) ≡ true
+    set_more : (g : List ℕ) (this : Action) (tellings : List Action) → has_unit_of port key (set_events_here g tellings) ≡ true → has_unit_of port key (set_events_here g (this ∷ tellings)) ≡ true
     set_more g this tellings n =
-        elim (is_named port key (all_joined keys rps old new port g tellings)) as (λ b. is_named port key (all_joined keys rps old new port g tellings) ≡ b → (b || is_named port key (all_pruned keys rps old new port g tellings)) ≡ true → is_named port key (set_events_here g (this ∷ tellings)) ≡ true) [
+        elim (has_unit_of port key (all_joined keys rps old new port g tellings)) as (λ b. has_unit_of port key (all_joined keys rps old new port g tellings) ≡ b → (b || has_unit_of port key (all_pruned keys rps old new port g tellings)) ≡ true → has_unit_of port key (set_events_here g (this ∷ tellings)) ≡ true) [
           | true ↦ λ s m.
               any_left names (all_joined keys rps old new port g (this ∷ tellings)) (all_pruned keys rps old new port g (this ∷ tellings))
-              (ap (is_named port key) (first_joined keys rps old new port g this tellings) ∙ any_right names (joined_here g this) (all_joined keys rps old new port g tellings) s)
+              (ap (has_unit_of port key) (first_joined keys rps old new port g this tellings) ∙ any_right names (joined_here g this) (all_joined keys rps old new port g tellings) s)
           | false ↦ λ s m.
               any_right names (all_joined keys rps old new port g (this ∷ tellings)) (all_pruned keys rps old new port g (this ∷ tellings))
-              (ap (is_named port key) (first_pruned keys rps old new port g this tellings) ∙ any_right names (pruned_here g this) (all_pruned keys rps old new port g tellings) m)
+              (ap (has_unit_of port key) (first_pruned keys rps old new port g this tellings) ∙ any_right names (pruned_here g this) (all_pruned keys rps old new port g tellings) m)
         ] refl (sym (list_any-append names (all_joined keys rps old new port g tellings) (all_pruned keys rps old new port g tellings)) ∙ n)
 
-    front_own : (this : ChangeUnit) (sets : List GroupTellings) → names_unit key this ≡ true → is_named port key (events_here (in_front this sets)) ≡ true
-    front_own this [] n = any_left names (set_events_here this.group (this.telling ∷ [])) [] (set_own this.group this.telling [] n)
+    front_own : (this : ChangeUnit) (sets : List GroupActions) → names_unit key this ≡ true → has_unit_of port key (events_here (in_front this sets)) ≡ true
+    front_own this [] n = any_left names (set_events_here this.group (this.action ∷ [])) [] (set_own this.group this.action [] n)
     front_own this (first ∷ sets) n =
-        elim (same_address this.group first.group) as (λ b. is_named port key (events_here (set_in_front b this first sets)) ≡ true) [
-          | true ↦ any_left names (set_events_here this.group (this.telling ∷ first.tellings)) (events_here sets) (set_own this.group this.telling first.tellings n)
-          | false ↦ any_left names (set_events_here this.group (this.telling ∷ [])) (events_here (first ∷ sets)) (set_own this.group this.telling [] n)
+        elim (same_address this.group first.group) as (λ b. has_unit_of port key (events_here (set_in_front b this first sets)) ≡ true) [
+          | true ↦ any_left names (set_events_here this.group (this.action ∷ first.tellings)) (events_here sets) (set_own this.group this.action first.tellings n)
+          | false ↦ any_left names (set_events_here this.group (this.action ∷ [])) (events_here (first ∷ sets)) (set_own this.group this.action [] n)
         ]
 
-    front_more : (this : ChangeUnit) (sets : List GroupTellings) → is_named port key (events_here sets) ≡ true → is_named port key (events_here (in_front this sets)) ≡ true
+    front_more : (this : ChangeUnit) (sets : List GroupActions) → has_unit_of port key (events_here sets) ≡ true → has_unit_of port key (events_here (in_front this sets)) ≡ true
     front_more this [] n = absurd (false≢true n)
     front_more this (first ∷ sets) n =
-        elim (same_address this.group first.group) as (λ b. same_address this.group first.group ≡ b → is_named port key (events_here (set_in_front b this first sets)) ≡ true) [
+        elim (same_address this.group first.group) as (λ b. same_address this.group first.group ≡ b → has_unit_of port key (events_here (set_in_front b this first sets)) ≡ true) [
           | true ↦ λ s.
               let same : this.group ≡ first.group = same_text this.group first.group (sym s) in
-              elim (is_named port key (set_events_here first.group first.tellings)) as (λ c. is_named port key (set_events_here first.group first.tellings) ≡ c → (c || is_named port key (events_here sets)) ≡ true
-              → is_named port key (set_events_here this.group (this.telling ∷ first.tellings) ++ events_here sets) ≡ true) [
+              elim (has_unit_of port key (set_events_here first.group first.tellings)) as (λ c. has_unit_of port key (set_events_here first.group first.tellings) ≡ c → (c || has_unit_of port key (events_here sets)) ≡ true
+              → has_unit_of port key (set_events_here this.group (this.action ∷ first.tellings) ++ events_here sets) ≡ true) [
                 | true ↦ λ t m.
-                    any_left names (set_events_here this.group (this.telling ∷ first.tellings)) (events_here sets)
-                    (set_more this.group this.telling first.tellings (ap (λ g. is_named port key (set_events_here g first.tellings)) same ∙ t))
-                | false ↦ λ t m. any_right names (set_events_here this.group (this.telling ∷ first.tellings)) (events_here sets) m
+                    any_left names (set_events_here this.group (this.action ∷ first.tellings)) (events_here sets)
+                    (set_more this.group this.action first.tellings (ap (λ g. has_unit_of port key (set_events_here g first.tellings)) same ∙ t))
+                | false ↦ λ t m. any_right names (set_events_here this.group (this.action ∷ first.tellings)) (events_here sets) m
               ] refl (sym (list_any-append names (set_events_here first.group first.tellings) (events_here sets)) ∙ n)
-          | false ↦ λ s. any_right names (set_events_here this.group (this.telling ∷ [])) (events_here (first ∷ sets)) n
+          | false ↦ λ s. any_right names (set_events_here this.group (this.action ∷ [])) (events_here (first ∷ sets)) n
         ] refl
 
-    run_names : (run : List ChangeUnit) → list_any (names_unit key) run ≡ true → is_named port key (run_events rps run) ≡ true
+    run_names : (run : List ChangeUnit) → list_any (names_unit key) run ≡ true → has_unit_of port key (run_events rps run) ≡ true
     unfolding grouped
     run_names [] n = absurd (false≢true n)
     run_names (this ∷ run) n =
-        elim (names_unit key this) as (λ b. names_unit key this ≡ b → (b || list_any (names_unit key) run) ≡ true → is_named port key (events_here (in_front this (grouped run))) ≡ true) [
+        elim (names_unit key this) as (λ b. names_unit key this ≡ b → (b || list_any (names_unit key) run) ≡ true → has_unit_of port key (events_here (in_front this (grouped run))) ≡ true) [
           | true ↦ λ s m. front_own this (grouped run) s
           | false ↦ λ s m. front_more this (grouped run) (run_names run m)
         ] refl n
@@ -336,15 +336,15 @@ module _ (keys : KeysAreToldApart) (rps : List ℕ → Option (List ℕ)) (old n
     pub record IsIn (runs : List (List ChangeUnit)) : Type 0 where
       pub number : ℕ
       pub less : number < length runs
-      pub named : is_named port key (run_events rps (run_at number runs)) ≡ true
+      pub has_unit : has_unit_of port key (run_events rps (run_at number runs)) ≡ true
 
     find : (runs : List (List ChangeUnit)) → list_any (names_unit key) (flat_map (λ run. run) runs) ≡ true → IsIn runs
     unfolding run_at
     find [] n = absurd (false≢true n)
     find (run ∷ runs) n =
         elim (list_any (names_unit key) run) as (λ b. list_any (names_unit key) run ≡ b → (b || list_any (names_unit key) (flat_map (λ r. r) runs)) ≡ true → IsIn (run ∷ runs)) [
-          | true ↦ λ s m. record { number = 0; less = omega arith; named = run_names run s }
-          | false ↦ λ s m. let there = find runs m in record { number = suc there.number; less = omega (arith, there.less); named = there.named }
+          | true ↦ λ s m. record { number = 0; less = omega arith; has_unit = run_names run s }
+          | false ↦ λ s m. let there = find runs m in record { number = suc there.number; less = omega (arith, there.less); has_unit = there.has_unit }
         ] refl (sym (list_any-append (names_unit key) run (flat_map (λ r. r) runs)) ∙ n)
 
   pub every : (runs : List (List ChangeUnit)) → flat_map (λ run. run) runs ≡ change old new → (what : What (List ℕ)) (joins : Bool) → told_here old new group what ≡ Some joins → IsIn (key_for what) runs

@@ -7,7 +7,7 @@ use Rattle.pim_down.specs.declared.machines.machine.Record.{Record}
 use Rattle.pim_down.specs.Key.{key_cmp, same_key}
 use Rattle.pim_down.specs.Records.{IsBelow, IsAscending, machine_at, recorded}
 use Rattle.pim_down.specs.Time.{first_due, with_first, machine_after, record_after}
-use Rattle.pim_down.specs.Laws.{KeysAreToldApart}
+use Rattle.pim_down.specs.Laws.{KeysAreDistinct}
 
 abbrev pub Records : Type 0
 Records = List (Record (List ℕ))
@@ -42,7 +42,7 @@ ticked_at key (held ∷ records) =
       | false ↦ ticked_at key records
     ]
 
-module _ (keys : KeysAreToldApart) where
+module _ (keys : KeysAreDistinct) where
   same_keys : (a b : Key (List ℕ)) → same_key a b ≡ true → a ≡ b
   same_keys a b e = (keys a b).1.0 e
 

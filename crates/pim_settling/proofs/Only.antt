@@ -11,16 +11,16 @@ use Rattle.pim_down.specs.declared.machines.key.What.TheVariants.{Star, Rpt}
 use Rattle.pim_down.specs.declared.machines.key.Key.{Key}
 use Rattle.pim_down.specs.Key.{same_key}
 use Rattle.pim_down.specs.Hearing.{Event, is_known, event, entry_events, list_events, set_events, key_of, is_star_join}
-use Rattle.pim_down.specs.Laws.{KeysAreToldApart}
+use Rattle.pim_down.specs.Laws.{KeysAreDistinct}
 use Rattle.pim_form.specs.NormalForm.{GroupForm, same_address, is_listed}
 use Rattle.pim_form.specs.Rows.{exceptions_of}
 use Rattle.pim_form.specs.Settled.{group_in}
-use Rattle.pim_fresh.specs.Exchange.{is_named}
-use Rattle.pim_change.specs.declared.unit.Kind.TheVariants.{JoinRpt, PruneRpt, JoinSource, PruneSource}
-use Rattle.pim_change.specs.Change.{Telling, star_joined, star_pruned, told, ChangeUnit}
-use Rattle.pim_change.specs.Told.{rp_entry, excepted_entries, joined_entries, pruned_entries, GroupTellings, set_in_front, in_front, grouped, told_set}
+use Rattle.pim_fresh.specs.Exchange.{has_unit_of}
+use Rattle.pim_change.specs.declared.unit.ActionKind.TheVariants.{JoinRpt, PruneRpt, JoinSource, PruneSource}
+use Rattle.pim_change.specs.Change.{Action, star_joined, star_pruned, of_source, ChangeUnit}
+use Rattle.pim_change.specs.Written.{rp_entry, excepted_entries, joined_entries, pruned_entries, GroupActions, set_in_front, in_front, grouped, written_set}
 use Rattle.pim_settling.specs.Runs.{run_events}
-use Rattle.pim_settling.specs.Telling.{told_if, rpt_told, IsTold, rpt_at, ExceptionsFollow, TellsOnly}
+use Rattle.pim_settling.specs.Carrying.{carried_if, rpt_carried, IsCarried, rpt_at, ExceptionsFollow, CarriesOnly}
 use Rattle.pim_settling.proofs.Units.{all_append, itself, or_true, told_here, Says, UnitSays}
 
 pub or_left : (a b : Bool) → a ≡ true → (a || b) ≡ true
@@ -30,36 +30,36 @@ or_left false b e = absurd (false≢true e)
 pub or_second : (a b : Bool) → b ≡ true → (a || b) ≡ true
 or_second a b e = ap (λ c. a || c) e ∙ or_true a
 
-module _ (keys : KeysAreToldApart) (rps : List ℕ → Option (List ℕ)) (old new : List GroupForm) (port : ℕ) where
+module _ (keys : KeysAreDistinct) (rps : List ℕ → Option (List ℕ)) (old new : List GroupForm) (port : ℕ) where
   -- ---- the events of a telling
 
-  abbrev pub joined_of : List ℕ → Telling → List Event
+  abbrev pub joined_of : List ℕ → Action → List Event
   joined_of group this = list_events rps true group (joined_entries (rps group) this)
 
-  abbrev pub pruned_of : List ℕ → Telling → List Event
+  abbrev pub pruned_of : List ℕ → Action → List Event
   pruned_of group this = list_events rps false group (pruned_entries (rps group) this)
 
-  abbrev pub all_joined : List ℕ → List Telling → List Event
+  abbrev pub all_joined : List ℕ → List Action → List Event
   all_joined group tellings = list_events rps true group (flat_map (joined_entries (rps group)) tellings)
 
-  abbrev pub all_pruned : List ℕ → List Telling → List Event
+  abbrev pub all_pruned : List ℕ → List Action → List Event
   all_pruned group tellings = list_events rps false group (flat_map (pruned_entries (rps group)) tellings)
 
-  pub first_joined : (group : List ℕ) (this : Telling) (tellings : List Telling) → all_joined group (this ∷ tellings) ≡ joined_of group this ++ all_joined group tellings
+  pub first_joined : (group : List ℕ) (this : Action) (tellings : List Action) → all_joined group (this ∷ tellings) ≡ joined_of group this ++ all_joined group tellings
   first_joined group this tellings = flat_map-append (entry_events rps true group) (joined_entries (rps group) this) (flat_map (joined_entries (rps group)) tellings)
 
-  pub first_pruned : (group : List ℕ) (this : Telling) (tellings : List Telling) → all_pruned group (this ∷ tellings) ≡ pruned_of group this ++ all_pruned group tellings
+  pub first_pruned : (group : List ℕ) (this : Action) (tellings : List Action) → all_pruned group (this ∷ tellings) ≡ pruned_of group this ++ all_pruned group tellings
   first_pruned group this tellings = flat_map-append (entry_events rps false group) (pruned_entries (rps group) this) (flat_map (pruned_entries (rps group)) tellings)
 
   -- ---- each is told
 
   abbrev AllTold : List Event → Type 0
-  AllTold events = AllByRecursion (IsTold old new) events
+  AllTold events = AllByRecursion (IsCarried old new) events
 
   new_star_told : (group : List ℕ) (exceptions : List (List ℕ)) → Says old new group (star_joined exceptions) → told_here old new group Star ≡ Some true
   new_star_told group exceptions says = by (group_in group old).star (group_in group new).star says.0 says.1
     where
-      by : (o n : Option (List (List ℕ))) → o ≡ None → n ≡ Some exceptions → told_if (is_some o) (is_some n) ≡ Some true
+      by : (o n : Option (List (List ℕ))) → o ≡ None → n ≡ Some exceptions → carried_if (is_some o) (is_some n) ≡ Some true
       by None (Some others) a b = refl
       by None None a b = absurd cc
       by (Some excepted) n a b = absurd cc
@@ -77,7 +77,7 @@ module _ (keys : KeysAreToldApart) (rps : List ℕ → Option (List ℕ)) (old n
 
   exception_told : (group source : List ℕ) (exceptions : List (List ℕ)) → Says old new group (star_joined exceptions) → is_listed source exceptions ≡ true → told_here old new group (Rpt source) ≡ Some false
   exception_told group source exceptions says listed =
-      ap (λ o. rpt_told o (group_in group new).star source) says.0 ∙ ap (λ o. rpt_told None o source) says.1 ∙ ap (λ b. cond b (Some false) None) listed
+      ap (λ o. rpt_carried o (group_in group new).star source) says.0 ∙ ap (λ o. rpt_carried None o source) says.1 ∙ ap (λ b. cond b (Some false) None) listed
 
   exceptions_told : (group : List ℕ) (exceptions xs : List (List ℕ)) → Says old new group (star_joined exceptions) → ((s : List ℕ) → is_listed s xs ≡ true → is_listed s exceptions ≡ true)
       → AllTold (list_events rps false group (excepted_entries xs))
@@ -85,75 +85,75 @@ module _ (keys : KeysAreToldApart) (rps : List ℕ → Option (List ℕ)) (old n
   exceptions_told group exceptions (x ∷ xs) says are =
       (exception_told group x exceptions says (are x (or_left (same_address x x) (is_listed x xs) (itself x))), exceptions_told group exceptions xs says (λ s l. are s (or_second (same_address s x) (is_listed s xs) l)))
 
-  joined_told : (group : List ℕ) (this : Telling) → Says old new group this → AllTold (joined_of group this)
+  joined_told : (group : List ℕ) (this : Action) → Says old new group this → AllTold (joined_of group this)
   joined_told group (star_joined exceptions) says = joins_star group (rps group) refl (new_star_told group exceptions says)
   joined_told group star_pruned says = tt
-  joined_told group (told JoinRpt source) says = (says, tt)
-  joined_told group (told PruneRpt source) says = tt
-  joined_told group (told JoinSource source) says = (says, tt)
-  joined_told group (told PruneSource source) says = tt
+  joined_told group (of_source JoinRpt source) says = (says, tt)
+  joined_told group (of_source PruneRpt source) says = tt
+  joined_told group (of_source JoinSource source) says = (says, tt)
+  joined_told group (of_source PruneSource source) says = tt
 
-  pruned_told : (group : List ℕ) (this : Telling) → Says old new group this → AllTold (pruned_of group this)
+  pruned_told : (group : List ℕ) (this : Action) → Says old new group this → AllTold (pruned_of group this)
   pruned_told group (star_joined exceptions) says = exceptions_told group exceptions exceptions says (λ s l. l)
   pruned_told group star_pruned says = prunes_star group (rps group) says
-  pruned_told group (told JoinRpt source) says = tt
-  pruned_told group (told PruneRpt source) says = (says, tt)
-  pruned_told group (told JoinSource source) says = tt
-  pruned_told group (told PruneSource source) says = (says, tt)
+  pruned_told group (of_source JoinRpt source) says = tt
+  pruned_told group (of_source PruneRpt source) says = (says, tt)
+  pruned_told group (of_source JoinSource source) says = tt
+  pruned_told group (of_source PruneSource source) says = (says, tt)
 
-  all_joined_told : (group : List ℕ) (tellings : List Telling) → AllByRecursion (Says old new group) tellings → AllTold (all_joined group tellings)
+  all_joined_told : (group : List ℕ) (tellings : List Action) → AllByRecursion (Says old new group) tellings → AllTold (all_joined group tellings)
   all_joined_told group [] says = tt
   all_joined_told group (this ∷ tellings) says =
-      subst AllTold (sym (first_joined group this tellings)) (all_append (IsTold old new) (joined_of group this) (all_joined group tellings) (joined_told group this says.0) (all_joined_told group tellings says.1))
+      subst AllTold (sym (first_joined group this tellings)) (all_append (IsCarried old new) (joined_of group this) (all_joined group tellings) (joined_told group this says.0) (all_joined_told group tellings says.1))
 
-  all_pruned_told : (group : List ℕ) (tellings : List Telling) → AllByRecursion (Says old new group) tellings → AllTold (all_pruned group tellings)
+  all_pruned_told : (group : List ℕ) (tellings : List Action) → AllByRecursion (Says old new group) tellings → AllTold (all_pruned group tellings)
   all_pruned_told group [] says = tt
   all_pruned_told group (this ∷ tellings) says =
-      subst AllTold (sym (first_pruned group this tellings)) (all_append (IsTold old new) (pruned_of group this) (all_pruned group tellings) (pruned_told group this says.0) (all_pruned_told group tellings says.1))
+      subst AllTold (sym (first_pruned group this tellings)) (all_append (IsCarried old new) (pruned_of group this) (all_pruned group tellings) (pruned_told group this says.0) (all_pruned_told group tellings says.1))
 
   -- ---- exceptions follow their star
 
-  abbrev pub named_in : List ℕ → List ℕ → List Event → Bool
-  named_in group source events = is_named port (rpt_at port group source) events
+  abbrev pub length_in : List ℕ → List ℕ → List Event → Bool
+  length_in group source events = has_unit_of port (rpt_at port group source) events
 
-  pub excepted_named : (group source : List ℕ) (exceptions : List (List ℕ)) → is_listed source exceptions ≡ true → named_in group source (list_events rps false group (excepted_entries exceptions)) ≡ true
+  pub excepted_named : (group source : List ℕ) (exceptions : List (List ℕ)) → is_listed source exceptions ≡ true → length_in group source (list_events rps false group (excepted_entries exceptions)) ≡ true
   excepted_named group source [] l = absurd (false≢true l)
   excepted_named group source (x ∷ xs) l =
-      elim (same_address source x) as (λ b. same_address source x ≡ b → (b || is_listed source xs) ≡ true → (same_key (rpt_at port group x) (rpt_at port group source) || named_in group source (list_events rps false group (excepted_entries xs))) ≡ true) [
+      elim (same_address source x) as (λ b. same_address source x ≡ b → (b || is_listed source xs) ≡ true → (same_key (rpt_at port group x) (rpt_at port group source) || length_in group source (list_events rps false group (excepted_entries xs))) ≡ true) [
         | true ↦ λ s f.
             let same : source ≡ x = same_text source x (sym s) in
-            or_left (same_key (rpt_at port group x) (rpt_at port group source)) (named_in group source (list_events rps false group (excepted_entries xs)))
+            or_left (same_key (rpt_at port group x) (rpt_at port group source)) (length_in group source (list_events rps false group (excepted_entries xs)))
             ((keys (rpt_at port group x) (rpt_at port group source)).1.1 (ap (rpt_at port group) (sym same)))
-        | false ↦ λ s f. or_second (same_key (rpt_at port group x) (rpt_at port group source)) (named_in group source (list_events rps false group (excepted_entries xs))) (excepted_named group source xs f)
+        | false ↦ λ s f. or_second (same_key (rpt_at port group x) (rpt_at port group source)) (length_in group source (list_events rps false group (excepted_entries xs))) (excepted_named group source xs f)
       ] refl l
 
   -- what a new star excepts is named by these events
-  abbrev Covers : List ℕ → List Event → Telling → Type 0
-  Covers group events (star_joined exceptions) = (source : List ℕ) → is_listed source exceptions ≡ true → named_in group source events ≡ true
+  abbrev Covers : List ℕ → List Event → Action → Type 0
+  Covers group events (star_joined exceptions) = (source : List ℕ) → is_listed source exceptions ≡ true → length_in group source events ≡ true
   Covers group events star_pruned = Unit {0}
-  Covers group events (told kind source) = Unit {0}
+  Covers group events (of_source kind source) = Unit {0}
 
-  named_left : (key : Key (List ℕ)) (one other : List Event) → is_named port key one ≡ true → is_named port key (one ++ other) ≡ true
-  named_left key one other n = list_any-append (λ e. same_key (key_of port e) key) one other ∙ or_left (is_named port key one) (is_named port key other) n
+  named_left : (key : Key (List ℕ)) (one other : List Event) → has_unit_of port key one ≡ true → has_unit_of port key (one ++ other) ≡ true
+  named_left key one other n = list_any-append (λ e. same_key (key_of port e) key) one other ∙ or_left (has_unit_of port key one) (has_unit_of port key other) n
 
-  named_right : (key : Key (List ℕ)) (one other : List Event) → is_named port key other ≡ true → is_named port key (one ++ other) ≡ true
-  named_right key one other n = list_any-append (λ e. same_key (key_of port e) key) one other ∙ or_second (is_named port key one) (is_named port key other) n
+  named_right : (key : Key (List ℕ)) (one other : List Event) → has_unit_of port key other ≡ true → has_unit_of port key (one ++ other) ≡ true
+  named_right key one other n = list_any-append (λ e. same_key (key_of port e) key) one other ∙ or_second (has_unit_of port key one) (has_unit_of port key other) n
 
-  covers_own : (group : List ℕ) (this : Telling) (others : List Event) → Covers group (pruned_of group this ++ others) this
+  covers_own : (group : List ℕ) (this : Action) (others : List Event) → Covers group (pruned_of group this ++ others) this
   covers_own group (star_joined exceptions) others = λ source l. named_left (rpt_at port group source) (pruned_of group (star_joined exceptions)) others (excepted_named group source exceptions l)
   covers_own group star_pruned others = tt
-  covers_own group (told kind source) others = tt
+  covers_own group (of_source kind source) others = tt
 
-  covers_more : (group : List ℕ) (front events : List Event) (tellings : List Telling) → AllByRecursion (Covers group events) tellings → AllByRecursion (Covers group (front ++ events)) tellings
+  covers_more : (group : List ℕ) (front events : List Event) (tellings : List Action) → AllByRecursion (Covers group events) tellings → AllByRecursion (Covers group (front ++ events)) tellings
   covers_more group front events [] all = tt
   covers_more group front events (this ∷ tellings) all = (one this all.0, covers_more group front events tellings all.1)
     where
-      one : (this : Telling) → Covers group events this → Covers group (front ++ events) this
+      one : (this : Action) → Covers group events this → Covers group (front ++ events) this
       one (star_joined exceptions) c = λ source l. named_right (rpt_at port group source) front events (c source l)
       one star_pruned c = tt
-      one (told kind source) c = tt
+      one (of_source kind source) c = tt
 
-  covered : (group : List ℕ) (tellings : List Telling) → AllByRecursion (Covers group (all_pruned group tellings)) tellings
+  covered : (group : List ℕ) (tellings : List Action) → AllByRecursion (Covers group (all_pruned group tellings)) tellings
   covered group [] = tt
   covered group (this ∷ tellings) =
       subst (λ (events : List Event). AllByRecursion (Covers group events) (this ∷ tellings)) (sym (first_pruned group this tellings))
@@ -176,79 +176,79 @@ module _ (keys : KeysAreToldApart) (rps : List ℕ → Option (List ℕ)) (old n
   excepted_quiet group [] = tt
   excepted_quiet group (x ∷ xs) = (refl, excepted_quiet group xs)
 
-  pruned_quiet : (group : List ℕ) (this : Telling) → AllByRecursion LeadsNothing (pruned_of group this)
+  pruned_quiet : (group : List ℕ) (this : Action) → AllByRecursion LeadsNothing (pruned_of group this)
   pruned_quiet group (star_joined exceptions) = excepted_quiet group exceptions
   pruned_quiet group star_pruned = by (rps group)
     where
       by : (known : Option (List ℕ)) → AllByRecursion LeadsNothing (list_events rps false group (rp_entry known))
       by None = tt
       by (Some rp) = (refl, tt)
-  pruned_quiet group (told JoinRpt source) = tt
-  pruned_quiet group (told PruneRpt source) = (refl, tt)
-  pruned_quiet group (told JoinSource source) = tt
-  pruned_quiet group (told PruneSource source) = (refl, tt)
+  pruned_quiet group (of_source JoinRpt source) = tt
+  pruned_quiet group (of_source PruneRpt source) = (refl, tt)
+  pruned_quiet group (of_source JoinSource source) = tt
+  pruned_quiet group (of_source PruneSource source) = (refl, tt)
 
-  all_pruned_quiet : (group : List ℕ) (tellings : List Telling) → AllByRecursion LeadsNothing (all_pruned group tellings)
+  all_pruned_quiet : (group : List ℕ) (tellings : List Action) → AllByRecursion LeadsNothing (all_pruned group tellings)
   all_pruned_quiet group [] = tt
   all_pruned_quiet group (this ∷ tellings) =
       subst (AllByRecursion LeadsNothing) (sym (first_pruned group this tellings)) (all_append LeadsNothing (pruned_of group this) (all_pruned group tellings) (pruned_quiet group this) (all_pruned_quiet group tellings))
 
   -- a telling's joined entries in front of events that name what its star excepts
   follow_star : (group : List ℕ) (exceptions : List (List ℕ)) (known : Option (List ℕ)) (events : List Event) → Says old new group (star_joined exceptions)
-      → ((source : List ℕ) → is_listed source exceptions ≡ true → named_in group source events ≡ true) → Follow events → Follow (list_events rps true group (rp_entry known) ++ events)
+      → ((source : List ℕ) → is_listed source exceptions ≡ true → length_in group source events ≡ true) → Follow events → Follow (list_events rps true group (rp_entry known) ++ events)
   unfolding Follow
-  follow_star group exceptions None events says named f = f
-  follow_star group exceptions (Some rp) events says named f =
+  follow_star group exceptions None events says has_unit f = f
+  follow_star group exceptions (Some rp) events says has_unit f =
       elim (is_known (rps group) rp) as (λ b. Follow ((cond (true && not b) [] (event true group Star) ++ []) ++ events)) [
-        | true ↦ (λ source s l. named source (ap (λ o. is_listed source (exceptions_of o)) (sym says.1) ∙ l), f)
+        | true ↦ (λ source s l. has_unit source (ap (λ o. is_listed source (exceptions_of o)) (sym says.1) ∙ l), f)
         | false ↦ f
       ]
 
-  follow_joined : (group : List ℕ) (this : Telling) (events : List Event) → Says old new group this → Covers group events this → Follow events → Follow (joined_of group this ++ events)
+  follow_joined : (group : List ℕ) (this : Action) (events : List Event) → Says old new group this → Covers group events this → Follow events → Follow (joined_of group this ++ events)
   unfolding Follow
   follow_joined group (star_joined exceptions) events says covers f = follow_star group exceptions (rps group) events says covers f
   follow_joined group star_pruned events says covers f = f
-  follow_joined group (told JoinRpt source) events says covers f = (λ other s l. absurd (false≢true s), f)
-  follow_joined group (told PruneRpt source) events says covers f = f
-  follow_joined group (told JoinSource source) events says covers f = (λ other s l. absurd (false≢true s), f)
-  follow_joined group (told PruneSource source) events says covers f = f
+  follow_joined group (of_source JoinRpt source) events says covers f = (λ other s l. absurd (false≢true s), f)
+  follow_joined group (of_source PruneRpt source) events says covers f = f
+  follow_joined group (of_source JoinSource source) events says covers f = (λ other s l. absurd (false≢true s), f)
+  follow_joined group (of_source PruneSource source) events says covers f = f
 
-  covers_behind : (group : List ℕ) (front events : List Event) (this : Telling) → Covers group events this → Covers group (front ++ events) this
+  covers_behind : (group : List ℕ) (front events : List Event) (this : Action) → Covers group events this → Covers group (front ++ events) this
   covers_behind group front events (star_joined exceptions) c = λ source l. named_right (rpt_at port group source) front events (c source l)
   covers_behind group front events star_pruned c = tt
-  covers_behind group front events (told kind source) c = tt
+  covers_behind group front events (of_source kind source) c = tt
 
-  follow_all_joined : (group : List ℕ) (tellings : List Telling) (events : List Event) → AllByRecursion (Says old new group) tellings → AllByRecursion (Covers group events) tellings → Follow events → Follow (all_joined group tellings ++ events)
+  follow_all_joined : (group : List ℕ) (tellings : List Action) (events : List Event) → AllByRecursion (Says old new group) tellings → AllByRecursion (Covers group events) tellings → Follow events → Follow (all_joined group tellings ++ events)
   follow_all_joined group [] events says covers f = f
   follow_all_joined group (this ∷ tellings) events says covers f =
       subst Follow (sym (ap (λ l. l ++ events) (first_joined group this tellings) ∙ append_assoc (joined_of group this) (all_joined group tellings) events))
       (follow_joined group this (all_joined group tellings ++ events) says.0 (covers_behind group (all_joined group tellings) events this covers.0) (follow_all_joined group tellings events says.1 covers.1 f))
 
-  covers_front : (group : List ℕ) (events others : List Event) (tellings : List Telling) → AllByRecursion (Covers group events) tellings → AllByRecursion (Covers group (events ++ others)) tellings
+  covers_front : (group : List ℕ) (events others : List Event) (tellings : List Action) → AllByRecursion (Covers group events) tellings → AllByRecursion (Covers group (events ++ others)) tellings
   covers_front group events others [] all = tt
   covers_front group events others (this ∷ tellings) all = (one this all.0, covers_front group events others tellings all.1)
     where
-      one : (this : Telling) → Covers group events this → Covers group (events ++ others) this
+      one : (this : Action) → Covers group events this → Covers group (events ++ others) this
       one (star_joined exceptions) c = λ source l. named_left (rpt_at port group source) events others (c source l)
       one star_pruned c = tt
-      one (told kind source) c = tt
+      one (of_source kind source) c = tt
 
   -- ---- sets
 
-  abbrev SetSays : GroupTellings → Type 0
+  abbrev SetSays : GroupActions → Type 0
   SetSays this = AllByRecursion (Says old new this.group) this.tellings
 
-  abbrev pub events_of_sets : List GroupTellings → List Event
-  events_of_sets sets = flat_map (set_events rps) (map (told_set rps) sets)
+  abbrev pub events_of_sets : List GroupActions → List Event
+  events_of_sets sets = flat_map (set_events rps) (map (written_set rps) sets)
 
-  sets_told : (sets : List GroupTellings) → AllByRecursion SetSays sets → AllTold (events_of_sets sets)
+  sets_told : (sets : List GroupActions) → AllByRecursion SetSays sets → AllTold (events_of_sets sets)
   sets_told [] says = tt
   sets_told (this ∷ sets) says =
-      all_append (IsTold old new) (all_joined this.group this.tellings ++ all_pruned this.group this.tellings) (events_of_sets sets)
-      (all_append (IsTold old new) (all_joined this.group this.tellings) (all_pruned this.group this.tellings) (all_joined_told this.group this.tellings says.0) (all_pruned_told this.group this.tellings says.0))
+      all_append (IsCarried old new) (all_joined this.group this.tellings ++ all_pruned this.group this.tellings) (events_of_sets sets)
+      (all_append (IsCarried old new) (all_joined this.group this.tellings) (all_pruned this.group this.tellings) (all_joined_told this.group this.tellings says.0) (all_pruned_told this.group this.tellings says.0))
       (sets_told sets says.1)
 
-  sets_follow : (sets : List GroupTellings) → AllByRecursion SetSays sets → Follow (events_of_sets sets)
+  sets_follow : (sets : List GroupActions) → AllByRecursion SetSays sets → Follow (events_of_sets sets)
   unfolding Follow
   sets_follow [] says = tt
   sets_follow (this ∷ sets) says =
@@ -257,7 +257,7 @@ module _ (keys : KeysAreToldApart) (rps : List ℕ → Option (List ℕ)) (old n
       (follow_all_joined this.group this.tellings (all_pruned this.group this.tellings ++ events_of_sets sets) says.0
       (covers_front this.group (all_pruned this.group this.tellings) (events_of_sets sets) this.tellings (covered this.group this.tellings)) rest)
 
-  front_says : (this : ChangeUnit) (sets : List GroupTellings) → UnitSays old new this → AllByRecursion SetSays sets → AllByRecursion SetSays (in_front this sets)
+  front_says : (this : ChangeUnit) (sets : List GroupActions) → UnitSays old new this → AllByRecursion SetSays sets → AllByRecursion SetSays (in_front this sets)
   front_says this [] says others = ((says, tt), tt)
   front_says this (first ∷ sets) says others =
       elim (same_address this.group first.group) as (λ b. same_address this.group first.group ≡ b → AllByRecursion SetSays (set_in_front b this first sets)) [
@@ -270,10 +270,10 @@ module _ (keys : KeysAreToldApart) (rps : List ℕ → Option (List ℕ)) (old n
   grouped_say [] says = tt
   grouped_say (this ∷ run) says = front_says this (grouped run) says.0 (grouped_say run says.1)
 
-  both : (events : List Event) → AllTold events → Follow events → TellsOnly port old new events
-  unfolding Follow TellsOnly
+  both : (events : List Event) → AllTold events → Follow events → CarriesOnly port old new events
+  unfolding Follow CarriesOnly
   both [] all f = tt
   both (this ∷ events) all f = (all.0, f.0, both events all.1 f.1)
 
-  pub run_tells_only : (run : List ChangeUnit) → AllByRecursion (UnitSays old new) run → TellsOnly port old new (run_events rps run)
+  pub run_tells_only : (run : List ChangeUnit) → AllByRecursion (UnitSays old new) run → CarriesOnly port old new (run_events rps run)
   run_tells_only run says = let sets = grouped_say run says in both (run_events rps run) (sets_told (grouped run) sets) (sets_follow (grouped run) sets)

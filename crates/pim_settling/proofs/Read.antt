@@ -8,12 +8,12 @@ use Rattle.pim_form.specs.Messages.{Writing, IsRpOf, HaveRps}
 use Rattle.pim_form.specs.NormalForm.{GroupForm, same_address}
 use Rattle.pim_form.specs.Settled.{group_in}
 use Rattle.pim_change.specs.Change.{ChangeUnit}
-use Rattle.pim_change.specs.Told.{told_message, grouped}
+use Rattle.pim_change.specs.Written.{written_message, grouped}
 use Rattle.pim_change.specs.Laws.{AreReadAsRuns, ChangeIsRead}
 use Rattle.pim_settling.specs.Runs.{run_events, run_at, KnowRps, AreEventsOf}
-use Rattle.pim_settling.specs.Laws.{ToldChangeSettles}
+use Rattle.pim_settling.specs.Laws.{WrittenChangeSettles}
 use Rattle.pim_settling.proofs.Courses.{Machines}
-use Rattle.pim_settling.proofs.Runs.{runs_tell_the_change}
+use Rattle.pim_settling.proofs.Runs.{runs_carry_the_change}
 use Rattle.pim_settling.proofs.Settling.{change_settles}
 use Rattle.std.specs.Cmp.Lexicographic.{same_text}
 
@@ -46,7 +46,7 @@ module _ (family : AddressFamily) (writing : Writing) (rps : List ℕ → Option
   heard_as [] [] events read are number = are number ∙ no_run
   heard_as [] (bytes ∷ messages) events read are number = absurd read
   heard_as (run ∷ runs) [] events read are number = absurd read
-  heard_as (run ∷ runs) (bytes ∷ messages) events read are zero = are.0 (told_message writing rps run) read.0
+  heard_as (run ∷ runs) (bytes ∷ messages) events read are zero = are.0 (written_message writing rps run) read.0
   heard_as (run ∷ runs) (bytes ∷ messages) events read are (suc number) = heard_as runs messages (λ n. events (suc n)) read.1 are.1 number
 
   as_many : (runs : List (List ChangeUnit)) (messages : List (List ℕ)) → AreReadAsRuns family writing rps runs messages → length runs ≡ length messages
@@ -56,10 +56,10 @@ module _ (family : AddressFamily) (writing : Writing) (rps : List ℕ → Option
   as_many (run ∷ runs) [] read = absurd read
   as_many (run ∷ runs) (bytes ∷ messages) read = ap suc (as_many runs messages read.1)
 
-pub told_change_settles : Machines → ChangeIsRead → ToldChangeSettles
-told_change_settles laws reads family writing rps old new messages exchange start after deliveries moment is normal_old normal_new have_old have_new told events came sound settled hears enough =
-    let read = reads family writing rps old new messages is normal_old normal_new have_old have_new told in
+pub written_change_settles : Machines → ChangeIsRead → WrittenChangeSettles
+written_change_settles laws reads family writing rps old new messages exchange start after deliveries moment is normal_old normal_new have_old have_new reported events came sound settled hears enough =
+    let read = reads family writing rps old new messages is normal_old normal_new have_old have_new reported in
     let many = as_many family writing rps read.runs messages read.read in
     change_settles laws family exchange old new start after deliveries moment sound settled
-    (runs_tell_the_change laws.keys rps old new read.runs exchange deliveries read.whole (know_rps family rps old have_old) (know_rps family rps new have_new)
+    (runs_carry_the_change laws.keys rps old new read.runs exchange deliveries read.whole (know_rps family rps old have_old) (know_rps family rps new have_new)
     (heard_as family writing rps read.runs messages exchange.messages read.read events) (λ number less. came number (omega (arith, less, many)))) hears enough

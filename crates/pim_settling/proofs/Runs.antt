@@ -1,23 +1,23 @@
 -- The messages of the runs of a change tell exactly the change.
 use Rattle.std.proofs.Common.{sym, ap, subst, ◌∙◌}
-use Rattle.pim_down.specs.Laws.{KeysAreToldApart}
-use Rattle.pim_fresh.specs.Exchange.{is_named}
+use Rattle.pim_down.specs.Laws.{KeysAreDistinct}
+use Rattle.pim_fresh.specs.Exchange.{has_unit_of}
 use Rattle.pim_settling.specs.Runs.{run_at}
-use Rattle.pim_settling.specs.Telling.{TellsOnly}
-use Rattle.pim_settling.specs.Laws.{RunsTellTheChange}
+use Rattle.pim_settling.specs.Carrying.{CarriesOnly}
+use Rattle.pim_settling.specs.Laws.{RunsCarryTheChange}
 use Rattle.pim_settling.proofs.Units.{runs_say}
 use Rattle.pim_settling.proofs.Only.{run_tells_only}
 use Rattle.pim_settling.proofs.Every.{every}
 
-pub runs_tell_the_change : KeysAreToldApart → RunsTellTheChange
-runs_tell_the_change keys rps old new runs exchange deliveries whole stars_old stars_new heard came = record {
+pub runs_carry_the_change : KeysAreDistinct → RunsCarryTheChange
+runs_carry_the_change keys rps old new runs exchange deliveries whole stars_old stars_new heard came = record {
   only = λ number.
-      subst (TellsOnly exchange.port old new) (sym (heard number)) (run_tells_only keys rps old new exchange.port (run_at number runs) (runs_say old new number runs whole));
+      subst (CarriesOnly exchange.port old new) (sym (heard number)) (run_tells_only keys rps old new exchange.port (run_at number runs) (runs_say old new number runs whole));
   all = λ group what joins t.
       let there = every keys rps old new exchange.port stars_old stars_new group runs whole what joins t in
       record {
         message = there.number;
         delivered = came there.number there.less;
-        named = ap (is_named exchange.port (record { port = exchange.port; group = group; what = what })) (heard there.number) ∙ there.named;
+        has_unit = ap (has_unit_of exchange.port (record { port = exchange.port; group = group; what = what })) (heard there.number) ∙ there.has_unit;
       };
 }

@@ -17,19 +17,19 @@ use Rattle.pim_down.specs.Hearing.{is_rpt}
 use Rattle.pim_down.specs.Records.{machine_at, state_of_machine}
 use Rattle.pim_down.specs.Sound.{IsReal, has_state, is_pending}
 use Rattle.pim_down.specs.Tables.{machine_in}
-use Rattle.pim_down.specs.Laws.{KeysAreToldApart}
+use Rattle.pim_down.specs.Laws.{KeysAreDistinct}
 use Rattle.pim_form.specs.NormalForm.{GroupForm, is_listed}
 use Rattle.pim_form.specs.Settled.{group_in, joins_if, prunes_if, rpt_settles, machine_settles}
-use Rattle.pim_fresh.specs.Exchange.{Exchange, is_named}
+use Rattle.pim_fresh.specs.Exchange.{Exchange, has_unit_of}
 use Rattle.pim_fresh.specs.Deliveries.{Delivery, is_delivered, final_moment}
-use Rattle.pim_fresh.specs.Expected.{asked_state}
-use Rattle.pim_settling.specs.Course.{Course, absent, stays, waits, IsHeld, IsOn, IsPast, named}
+use Rattle.pim_fresh.specs.Expected.{state_wanted}
+use Rattle.pim_settling.specs.Course.{Course, absent, stays, waits, IsHeld, IsOn, IsPast, course_of_unit}
 use Rattle.pim_settling.specs.Hearing.{course_of}
-use Rattle.pim_settling.specs.Telling.{told_if, rpt_told, TellsChange}
+use Rattle.pim_settling.specs.Carrying.{carried_if, rpt_carried, CarriesChange}
 use Rattle.pim_settling.specs.Laws.{ChangeSettles}
 use Rattle.pim_settling.proofs.Courses.{Machines, courses_are_kept}
 use Rattle.pim_settling.proofs.Messages.{is_starred}
-use Rattle.pim_settling.proofs.Tellings.{or_right, at, told, star_comes, IsReached, comes_here, reached, left_alone, star_ends}
+use Rattle.pim_settling.proofs.Tellings.{or_right, at, reported, star_comes, IsReached, comes_here, reached, left_alone, star_ends}
 
 -- ---- the course of a machine that is held
 
@@ -59,7 +59,7 @@ module _ (family : AddressFamily) (ports now : ℕ) where
   waiting_on key PruneTmp expires_in timer e = absurd (false≢true e)
   waiting_on key PrunePendingTmp expires_in timer e = absurd (false≢true e)
 
-  state_is : (what : What (List ℕ)) (state : State) → has_state what state ≡ true → is_pending state ≡ false → state ≡ asked_state what
+  state_is : (what : What (List ℕ)) (state : State) → has_state what state ≡ true → is_pending state ≡ false → state ≡ state_wanted what
   state_is Star Join h p = refl
   state_is Star PrunePending h p = absurd (false≢true (sym p))
   state_is Star Prune h p = absurd (false≢true h)
@@ -89,7 +89,7 @@ module _ (family : AddressFamily) (ports now : ℕ) where
           let whole : machine_in machine.state machine.expires_in (Some timer) ≡ Some machine = λ i. Some (record { state = machine.state; expires_in = machine.expires_in; pending = sym p i }) in
           subst (λ (m : Option Machine). IsOn key.what now (waits (now + timer.ends_in)) m) whole (waiting_on key machine.state machine.expires_in timer busy)
 
-  real_at : (keys : KeysAreToldApart) (records : List (Record (List ℕ))) → AllByRecursion (IsReal family ports) records → (key : Key (List ℕ)) (machine : Machine) → machine_at key records ≡ Some machine → IsReal family ports (record { key = key; machine = machine })
+  real_at : (keys : KeysAreDistinct) (records : List (Record (List ℕ))) → AllByRecursion (IsReal family ports) records → (key : Key (List ℕ)) (machine : Machine) → machine_at key records ≡ Some machine → IsReal family ports (record { key = key; machine = machine })
   unfolding machine_at
   real_at keys [] all key machine e = absurd cc
   real_at keys (held ∷ records) all key machine e =
@@ -101,7 +101,7 @@ module _ (family : AddressFamily) (ports now : ℕ) where
         | false ↦ λ s f. real_at keys records all.1 key machine f
       ] refl e
 
-  pub sound_on : (keys : KeysAreToldApart) (records : List (Record (List ℕ))) → AllByRecursion (IsReal family ports) records → (key : Key (List ℕ)) → IsOn key.what now (course_now now (machine_at key records)) (machine_at key records)
+  pub sound_on : (keys : KeysAreDistinct) (records : List (Record (List ℕ))) → AllByRecursion (IsReal family ports) records → (key : Key (List ℕ)) → IsOn key.what now (course_now now (machine_at key records)) (machine_at key records)
   sound_on keys records all key = by (machine_at key records) refl
     where
       by : (held : Option Machine) → machine_at key records ≡ held → IsOn key.what now (course_now now held) held
@@ -116,7 +116,7 @@ kept_if false = absent
 
 module _ (now : ℕ) where
   -- a machine in the state that its unit asks for, with a prune-pending timer, is on no course
-  no_timer : (what : What (List ℕ)) (machine : Machine) (timer : Pending) → machine.pending ≡ Some timer → machine.state ≡ asked_state what → IsOn what now (waits (now + timer.ends_in)) (Some machine) → ⊥
+  no_timer : (what : What (List ℕ)) (machine : Machine) (timer : Pending) → machine.pending ≡ Some timer → machine.state ≡ state_wanted what → IsOn what now (waits (now + timer.ends_in)) (Some machine) → ⊥
   no_timer Star machine timer p s (inr other) = let crossed : Some machine ≡ None = other.1 in absurd cc
   no_timer (Source source) machine timer p s (inr other) = let crossed : Some machine ≡ None = other.1 in absurd cc
   no_timer (Rpt source) machine timer p s (inr other) =
@@ -136,13 +136,13 @@ module _ (now : ℕ) where
       let crossed : Prune ≡ PrunePending = sym s ∙ pending in
       absurd cc
 
-  steady : (what : What (List ℕ)) (held : Option Machine) → state_of_machine held ≡ Some (asked_state what) → IsOn what now (course_now now held) held → course_now now held ≡ stays
+  steady : (what : What (List ℕ)) (held : Option Machine) → state_of_machine held ≡ Some (state_wanted what) → IsOn what now (course_now now held) held → course_now now held ≡ stays
   steady what None s is = absurd cc
   steady what (Some machine) s is = by machine.pending refl is
     where
       by : (pending : Option Pending) → machine.pending ≡ pending → IsOn what now (course_by now pending) (Some machine) → course_by now pending ≡ stays
       by None p on = refl
-      by (Some timer) p on = let state : machine.state ≡ asked_state what = cc in absurd (no_timer what machine timer p state on)
+      by (Some timer) p on = let state : machine.state ≡ state_wanted what = cc in absurd (no_timer what machine timer p state on)
 
   gone : (held : Option Machine) → not (is_some (state_of_machine held)) ≡ true → course_now now held ≡ absent
   gone None s = refl
@@ -164,7 +164,7 @@ module _ (now : ℕ) where
   in_prune (Some PruneTmp) e = absurd (false≢true e)
   in_prune (Some PrunePendingTmp) e = absurd (false≢true e)
 
-  pub joined_course : (what : What (List ℕ)) (asked : Bool) (held : Option Machine) → asked_state what ≡ Join → joins_if asked (state_of_machine held) ≡ true → IsOn what now (course_now now held) held → course_now now held ≡ kept_if asked
+  pub joined_course : (what : What (List ℕ)) (asked : Bool) (held : Option Machine) → state_wanted what ≡ Join → joins_if asked (state_of_machine held) ≡ true → IsOn what now (course_now now held) held → course_now now held ≡ kept_if asked
   joined_course what true held a e is = steady what held (in_join (state_of_machine held) e ∙ ap Some (sym a)) is
   joined_course what false held a e is = gone held e
 
@@ -186,19 +186,19 @@ module _ (moment : ℕ) where
   kept_state : (state : State) (held : Option Machine) → IsHeld state held → state_of_machine held ≡ Some state
   kept_state state held is = ap state_of_machine is.is
 
-  kept_now : (what : What (List ℕ)) (held : Option Machine) → IsPast what moment stays held → state_of_machine held ≡ Some (asked_state what)
-  kept_now what held past = kept_state (asked_state what) held past
+  kept_now : (what : What (List ℕ)) (held : Option Machine) → IsPast what moment stays held → state_of_machine held ≡ Some (state_wanted what)
+  kept_now what held past = kept_state (state_wanted what) held past
 
   absent_now : (what : What (List ℕ)) (held : Option Machine) → IsPast what moment absent held → state_of_machine held ≡ None
   absent_now what held past = ap state_of_machine past
 
   -- (*,G) and (S,G)
-  pub joined_if : (what : What (List ℕ)) (asked : Bool) (held : Option Machine) → asked_state what ≡ Join → IsPast what moment (kept_if asked) held → joins_if asked (state_of_machine held) ≡ true
+  pub joined_if : (what : What (List ℕ)) (asked : Bool) (held : Option Machine) → state_wanted what ≡ Join → IsPast what moment (kept_if asked) held → joins_if asked (state_of_machine held) ≡ true
   joined_if what true held a past = ap (joins_if true) (kept_now what held past ∙ ap Some a)
   joined_if what false held a past = ap (joins_if false) (absent_now what held past)
 
   -- a prune-pending timer that is over led to NoInfo
-  pub over : (what : What (List ℕ)) (until : ℕ) (held : Option Machine) → asked_state what ≡ Join → until ≤ moment → IsPast what moment (waits until) held → joins_if false (state_of_machine held) ≡ true
+  pub over : (what : What (List ℕ)) (until : ℕ) (held : Option Machine) → state_wanted what ≡ Join → until ≤ moment → IsPast what moment (waits until) held → joins_if false (state_of_machine held) ≡ true
   over Star until held a least (inl waiting) = absurd (omega (arith, least, waiting.0))
   over (Source source) until held a least (inl waiting) = absurd (omega (arith, least, waiting.0))
   over Star until held a least (inr other) = ap (λ m. joins_if false (state_of_machine m)) other.1
@@ -228,7 +228,7 @@ came_any exchange test message (delivery ∷ earlier) d n =
       | false ↦ λ s f. or_right (test delivery.message) (list_any (λ delivery. test delivery.message) earlier) (came_any exchange test message earlier f n)
     ] refl d
 
-module _ (keys : KeysAreToldApart) (exchange : Exchange) (old new : List GroupForm) (deliveries : List Delivery) (tells : TellsChange exchange old new deliveries) (now moment : ℕ)
+module _ (keys : KeysAreDistinct) (exchange : Exchange) (old new : List GroupForm) (deliveries : List Delivery) (tells : CarriesChange exchange old new deliveries) (now moment : ℕ)
     (enough : final_moment exchange.timing.override_ms deliveries ≤ moment) (group : List ℕ) where
   abbrev before : GroupForm
   before = group_in group old
@@ -237,7 +237,7 @@ module _ (keys : KeysAreToldApart) (exchange : Exchange) (old new : List GroupFo
   wanted = group_in group new
 
   abbrev told_here : What (List ℕ) → Option Bool
-  told_here what = told keys exchange.port old new group what
+  told_here what = reported keys exchange.port old new group what
 
   abbrev heard : What (List ℕ) → Course → Course
   heard what course = course_of exchange (at keys exchange.port old new group what) course deliveries
@@ -246,20 +246,20 @@ module _ (keys : KeysAreToldApart) (exchange : Exchange) (old new : List GroupFo
   reaches what course joins t =
       let came = tells.all group what joins t in
       reached keys exchange old new tells.only group what course joins t deliveries
-      (came_any exchange (λ message. is_named exchange.port (at keys exchange.port old new group what) (exchange.messages message)) came.message deliveries came.delivered came.named)
+      (came_any exchange (λ message. has_unit_of exchange.port (at keys exchange.port old new group what) (exchange.messages message)) came.message deliveries came.delivered came.has_unit)
 
   star_came : (source : List ℕ) (course : Course) → told_here Star ≡ Some true → list_any (comes_here keys exchange old new tells.only group (Rpt source) course) deliveries ≡ true
   star_came source course t =
       let came = tells.all group Star true t in
       came_any exchange (λ message. is_starred keys exchange.port (at keys exchange.port old new group (Rpt source)) (exchange.messages message)) came.message deliveries came.delivered
-      (star_comes keys exchange.port old new group source (exchange.messages came.message) t (tells.only came.message) came.named)
+      (star_comes keys exchange.port old new group source (exchange.messages came.message) t (tells.only came.message) came.has_unit)
 
   -- where nothing is told of it, it stays as it was
   alone : (what : What (List ℕ)) (course : Course) (held : Option Machine) → told_here what ≡ None → (told_here Star ≡ Some true → is_rpt what ≡ true → ⊥) → IsPast what moment (heard what course) held → IsPast what moment course held
   alone what course held t star past = subst (λ (c : Course). IsPast what moment c held) (left_alone keys exchange old new tells.only group what course t deliveries star) past
 
   -- (*,G) and (S,G), by whether it was asked for and whether it is
-  joined_settles : (what : What (List ℕ)) (was is : Bool) (course : Course) (held : Option Machine) → asked_state what ≡ Join → is_rpt what ≡ false → told_here what ≡ told_if was is → course ≡ kept_if was
+  joined_settles : (what : What (List ℕ)) (was is : Bool) (course : Course) (held : Option Machine) → state_wanted what ≡ Join → is_rpt what ≡ false → told_here what ≡ carried_if was is → course ≡ kept_if was
       → IsPast what moment (heard what course) held → joins_if is (state_of_machine held) ≡ true
   joined_settles what true true course held a r t c past =
       joined_if moment what true held a (subst (λ (d : Course). IsPast what moment d held) c (alone what course held t (λ s e. absurd (false≢true (sym r ∙ e))) past))
@@ -269,16 +269,16 @@ module _ (keys : KeysAreToldApart) (exchange : Exchange) (old new : List GroupFo
       let here = reaches what course true t in
       joined_if moment what true held a (subst (λ (d : Course). IsPast what moment d held) (here.is ∙ joins what here.ends course r) past)
     where
-      joins : (what : What (List ℕ)) (ends : ℕ) (course : Course) → is_rpt what ≡ false → named true what ends course ≡ stays
+      joins : (what : What (List ℕ)) (ends : ℕ) (course : Course) → is_rpt what ≡ false → course_of_unit true what ends course ≡ stays
       joins Star ends course r = refl
       joins (Source source) ends course r = refl
       joins (Rpt source) ends course r = absurd (false≢true (sym r))
   joined_settles what true false course held a r t c past =
       let here = reaches what course false t in
       let least : here.ends ≤ moment = omega (arith, here.bound, enough) in
-      over moment what here.ends held a least (subst (λ (d : Course). IsPast what moment d held) (here.is ∙ ap (named false what here.ends) c ∙ prunes what here.ends r) past)
+      over moment what here.ends held a least (subst (λ (d : Course). IsPast what moment d held) (here.is ∙ ap (course_of_unit false what here.ends) c ∙ prunes what here.ends r) past)
     where
-      prunes : (what : What (List ℕ)) (ends : ℕ) → is_rpt what ≡ false → named false what ends stays ≡ waits ends
+      prunes : (what : What (List ℕ)) (ends : ℕ) → is_rpt what ≡ false → course_of_unit false what ends stays ≡ waits ends
       prunes Star ends r = refl
       prunes (Source source) ends r = refl
       prunes (Rpt source) ends r = absurd (false≢true (sym r))
@@ -287,16 +287,16 @@ module _ (keys : KeysAreToldApart) (exchange : Exchange) (old new : List GroupFo
   rpt_stays : (source : List ℕ) (course : Course) (held : Option Machine) → before.star ≡ None → wanted.star ≡ None → (course ≡ stays) ⊎ (course ≡ absent) → IsPast (Rpt source) moment (heard (Rpt source) course) held
       → rpt_settles None source (state_of_machine held) ≡ true
   rpt_stays source course held b w c past =
-      let untold : told_here (Rpt source) ≡ None = ap (λ o. rpt_told o wanted.star source) b ∙ ap (λ o. rpt_told None o source) w in
-      let unstarred : told_here Star ≡ None = ap (λ o. told_if (is_some o) (is_some wanted.star)) b ∙ ap (λ o. told_if false (is_some o)) w in
+      let untold : told_here (Rpt source) ≡ None = ap (λ o. rpt_carried o wanted.star source) b ∙ ap (λ o. rpt_carried None o source) w in
+      let unstarred : told_here Star ≡ None = ap (λ o. carried_if (is_some o) (is_some wanted.star)) b ∙ ap (λ o. carried_if false (is_some o)) w in
       either_if moment source course held c (alone (Rpt source) course held untold (λ s e. let crossed : None ≡ Some true = sym unstarred ∙ s in absurd cc) past)
 
   -- a star that goes leaves them
   rpt_left : (source : List ℕ) (excepted : List (List ℕ)) (course : Course) (held : Option Machine) → before.star ≡ Some excepted → wanted.star ≡ None → course ≡ kept_if (is_listed source excepted)
       → IsPast (Rpt source) moment (heard (Rpt source) course) held → rpt_settles None source (state_of_machine held) ≡ true
   rpt_left source excepted course held b w c past =
-      let untold : told_here (Rpt source) ≡ None = ap (λ o. rpt_told o wanted.star source) b ∙ ap (λ o. rpt_told (Some excepted) o source) w in
-      let unstarred : told_here Star ≡ Some false = ap (λ o. told_if (is_some o) (is_some wanted.star)) b ∙ ap (λ o. told_if true (is_some o)) w in
+      let untold : told_here (Rpt source) ≡ None = ap (λ o. rpt_carried o wanted.star source) b ∙ ap (λ o. rpt_carried (Some excepted) o source) w in
+      let unstarred : told_here Star ≡ Some false = ap (λ o. carried_if (is_some o) (is_some wanted.star)) b ∙ ap (λ o. carried_if true (is_some o)) w in
       either_if moment source course held (kept_either (is_listed source excepted) c)
       (alone (Rpt source) course held untold (λ s e. let crossed : Some false ≡ Some true = sym unstarred ∙ s in absurd cc) past)
     where
@@ -309,13 +309,13 @@ module _ (keys : KeysAreToldApart) (exchange : Exchange) (old new : List GroupFo
       → course ≡ kept_if (is_listed source excepted) → IsPast (Rpt source) moment (heard (Rpt source) course) held → prunes_if (is_listed source exceptions) (state_of_machine held) ≡ true
   rpt_kept source excepted exceptions course held b w c past = by (is_listed source exceptions) (is_listed source excepted) told_is c
     where
-      told_is : told_here (Rpt source) ≡ told_if (is_listed source exceptions) (is_listed source excepted)
-      told_is = ap (λ o. rpt_told o wanted.star source) b ∙ ap (λ o. rpt_told (Some excepted) o source) w
+      told_is : told_here (Rpt source) ≡ carried_if (is_listed source exceptions) (is_listed source excepted)
+      told_is = ap (λ o. rpt_carried o wanted.star source) b ∙ ap (λ o. rpt_carried (Some excepted) o source) w
 
       unstarred : told_here Star ≡ Some true → is_rpt (Rpt source) ≡ true → ⊥
-      unstarred s e = let crossed : None ≡ Some true = sym (ap (λ o. told_if (is_some o) (is_some wanted.star)) b ∙ ap (λ o. told_if true (is_some o)) w) ∙ s in absurd cc
+      unstarred s e = let crossed : None ≡ Some true = sym (ap (λ o. carried_if (is_some o) (is_some wanted.star)) b ∙ ap (λ o. carried_if true (is_some o)) w) ∙ s in absurd cc
 
-      by : (is was : Bool) → told_here (Rpt source) ≡ told_if is was → course ≡ kept_if was → prunes_if is (state_of_machine held) ≡ true
+      by : (is was : Bool) → told_here (Rpt source) ≡ carried_if is was → course ≡ kept_if was → prunes_if is (state_of_machine held) ≡ true
       by true true t k = pruned_if moment source true held (subst (λ (d : Course). IsPast (Rpt source) moment d held) k (alone (Rpt source) course held t unstarred past))
       by false false t k = pruned_if moment source false held (subst (λ (d : Course). IsPast (Rpt source) moment d held) k (alone (Rpt source) course held t unstarred past))
       by false true t k =
@@ -324,7 +324,7 @@ module _ (keys : KeysAreToldApart) (exchange : Exchange) (old new : List GroupFo
       by true false t k =
           let here = reaches (Rpt source) course false t in
           let least : here.ends ≤ moment = omega (arith, here.bound, enough) in
-          pruned_over moment source here.ends held least (subst (λ (d : Course). IsPast (Rpt source) moment d held) (here.is ∙ ap (named false (Rpt source) here.ends) k) past)
+          pruned_over moment source here.ends held least (subst (λ (d : Course). IsPast (Rpt source) moment d held) (here.is ∙ ap (course_of_unit false (Rpt source) here.ends) k) past)
 
   -- with a new star its exceptions are pruned, and all others go
   rpt_new : (source : List ℕ) (exceptions : List (List ℕ)) (course : Course) (held : Option Machine) → before.star ≡ None → wanted.star ≡ Some exceptions
@@ -332,10 +332,10 @@ module _ (keys : KeysAreToldApart) (exchange : Exchange) (old new : List GroupFo
   rpt_new source exceptions course held b w c past = by (is_listed source exceptions) told_is c
     where
       told_is : told_here (Rpt source) ≡ cond (is_listed source exceptions) (Some false) None
-      told_is = ap (λ o. rpt_told o wanted.star source) b ∙ ap (λ o. rpt_told None o source) w
+      told_is = ap (λ o. rpt_carried o wanted.star source) b ∙ ap (λ o. rpt_carried None o source) w
 
       starred : told_here Star ≡ Some true
-      starred = ap (λ o. told_if (is_some o) (is_some wanted.star)) b ∙ ap (λ o. told_if false (is_some o)) w
+      starred = ap (λ o. carried_if (is_some o) (is_some wanted.star)) b ∙ ap (λ o. carried_if false (is_some o)) w
 
       by : (is : Bool) → told_here (Rpt source) ≡ cond is (Some false) None → (course ≡ stays) ⊎ (course ≡ absent) → prunes_if is (state_of_machine held) ≡ true
       by false t c =
@@ -343,11 +343,11 @@ module _ (keys : KeysAreToldApart) (exchange : Exchange) (old new : List GroupFo
           (subst (λ (d : Course). IsPast (Rpt source) moment d held) (star_ends keys exchange old new tells.only group (Rpt source) course t deliveries (star_came source course starred)) past)
       by true t (inl k) =
           let here = reaches (Rpt source) course false t in
-          pruned_if moment source true held (subst (λ (d : Course). IsPast (Rpt source) moment d held) (here.is ∙ ap (named false (Rpt source) here.ends) k) past)
+          pruned_if moment source true held (subst (λ (d : Course). IsPast (Rpt source) moment d held) (here.is ∙ ap (course_of_unit false (Rpt source) here.ends) k) past)
       by true t (inr k) =
           let here = reaches (Rpt source) course false t in
           let least : here.ends ≤ moment = omega (arith, here.bound, enough) in
-          pruned_over moment source here.ends held least (subst (λ (d : Course). IsPast (Rpt source) moment d held) (here.is ∙ ap (named false (Rpt source) here.ends) k) past)
+          pruned_over moment source here.ends held least (subst (λ (d : Course). IsPast (Rpt source) moment d held) (here.is ∙ ap (course_of_unit false (Rpt source) here.ends) k) past)
 
   -- each machine of the group
   pub machine_ends : (what : What (List ℕ)) (held after : Option Machine) → IsOn what now (course_now now held) held → machine_settles before what (state_of_machine held) ≡ true

@@ -15,9 +15,9 @@ use Rattle.pim_down.specs.declared.machines.step.Step.TheVariants.{Echo, Reached
 use Rattle.pim_down.specs.Key.{same_key}
 use Rattle.pim_down.specs.Records.{IsAscending, machine_at}
 use Rattle.pim_down.specs.Tables.{machine_in}
-use Rattle.pim_down.specs.Time.{Downstream, rests, moves, Runs, expiry_after, pending_after, machine_after, expiry_due, pending_due, et_due, ppt_due, on_ppt, after_ppt, echo_of, first_due, with_first, fire_et, fire_ppt, fired, tick, with_records, told, turn_by, turn, run_on, run_within}
-use Rattle.pim_down.specs.Laws.{KeysAreToldApart}
-use Rattle.pim_fresh.specs.Expected.{asked_state}
+use Rattle.pim_down.specs.Time.{Downstream, rests, moves, Runs, expiry_after, pending_after, machine_after, expiry_due, pending_due, et_due, ppt_due, on_ppt, after_ppt, echo_of, first_due, with_first, fire_et, fire_ppt, fired, tick, with_records, reported, turn_by, turn, run_on, run_within}
+use Rattle.pim_down.specs.Laws.{KeysAreDistinct}
+use Rattle.pim_fresh.specs.Expected.{state_wanted}
 use Rattle.pim_settling.specs.Course.{Course, absent, stays, waits, IsHeld, IsPending, IsOn, IsPast}
 use Rattle.pim_settling.specs.Hearing.{Arrives, IsPrunedBy, NotEnded, NoneEnds}
 use Rattle.pim_settling.proofs.Fires.{Records, ticked_order, ticked_at, first_held, none_due, replaced_order, replaced_own, replaced_other}
@@ -38,7 +38,7 @@ ended until now machine is due =
 -- a prune-pending timer that is due leads a machine where its course says
 fires_on : (what : What (List ℕ)) (now : ℕ) (course : Course) (machine : Machine) → IsOn what now course (Some machine) → pending_due machine.pending ≡ true → IsOn what now course (on_ppt what machine)
 fires_on what now absent machine is due = absurd cc
-fires_on what now stays machine is due = absurd (false≢true (sym (kept_quiet (asked_state what) machine is) ∙ due))
+fires_on what now stays machine is due = absurd (false≢true (sym (kept_quiet (state_wanted what) machine is) ∙ due))
 fires_on Star now (waits until) machine (inr other) due = let none : Some machine ≡ None = other.1 in absurd cc
 fires_on (Source source) now (waits until) machine (inr other) due = let none : Some machine ≡ None = other.1 in absurd cc
 fires_on (Rpt source) now (waits until) machine (inr other) due = absurd (false≢true (sym (kept_quiet Prune machine other.1) ∙ due))
@@ -58,7 +58,7 @@ running left due = grind (arith, nat_tests)
 
 ticks_on : (what : What (List ℕ)) (now : ℕ) (course : Course) (held : Option Machine) → IsOn what now course held → IsQuiet held → IsOn what (now + 1) course (option_map (machine_after 1) held)
 ticks_on what now absent held is quiet = ap (option_map (machine_after 1)) is
-ticks_on what now stays held is quiet = kept_ticks (asked_state what) held is
+ticks_on what now stays held is quiet = kept_ticks (state_wanted what) held is
 ticks_on Star now (waits until) held (inr other) quiet = inr (omega (arith, other.0), ap (option_map (machine_after 1)) other.1)
 ticks_on (Source source) now (waits until) held (inr other) quiet = inr (omega (arith, other.0), ap (option_map (machine_after 1)) other.1)
 ticks_on (Rpt source) now (waits until) held (inr other) quiet = inr (omega (arith, other.0), kept_ticks Prune held other.1)
@@ -139,7 +139,7 @@ led_to passed (Rpt source) held machine e is =
 
 -- ---- a run
 
-module _ (keys : KeysAreToldApart) (courses : Key (List ℕ) → Course) (moment : ℕ) where
+module _ (keys : KeysAreDistinct) (courses : Key (List ℕ) → Course) (moment : ℕ) where
   -- the machines stand in key order, each is on its course, and no expiry timer ends up to the moment
   pub record IsKept (state : Downstream) : Type 0 where
     pub ascending : IsAscending state.records
@@ -218,7 +218,7 @@ module _ (keys : KeysAreToldApart) (courses : Key (List ℕ) → Course) (moment
 
   module _ (turns : ℕ) (state : Downstream) (answer : Step (List ℕ)) (after : Downstream) (kept : IsKept state)
       (more : (next : Downstream) → IsKept next → run_within turns moment next ≡ Some (answer, after) → IsEnd answer after) where
-    told_ends : (step : Step (List ℕ)) (next : Downstream) → IsKept next → run_on (told step next) state (run_within turns moment) ≡ Some (answer, after) → IsEnd answer after
+    told_ends : (step : Step (List ℕ)) (next : Downstream) → IsKept next → run_on (reported step next) state (run_within turns moment) ≡ Some (answer, after) → IsEnd answer after
     told_ends Reached next k r = more next k r
     told_ends (Echo port group what) next k r =
         let both : ◌≡◌ {A = Step (List ℕ) × Downstream} (Echo port group what, next) (answer, after) = cc in

@@ -8,10 +8,10 @@ use Rattle.pim_down.specs.declared.machines.key.What.{What}
 use Rattle.pim_down.specs.declared.machines.key.What.TheVariants.{Star, Source, Rpt}
 use Rattle.pim_form.specs.NormalForm.{GroupForm, same_address, is_listed, groups_of}
 use Rattle.pim_form.specs.Settled.{group_in}
-use Rattle.pim_change.specs.declared.unit.Kind.TheVariants.{JoinRpt, PruneRpt, JoinSource, PruneSource}
-use Rattle.pim_change.specs.Change.{Telling, star_joined, star_pruned, told, lacking, star_change, sources_change, group_change, ChangeUnit, unit_of, in_order, change_at, change}
+use Rattle.pim_change.specs.declared.unit.ActionKind.TheVariants.{JoinRpt, PruneRpt, JoinSource, PruneSource}
+use Rattle.pim_change.specs.Change.{Action, star_joined, star_pruned, of_source, lacking, star_change, sources_change, group_change, ChangeUnit, unit_of, in_order, change_at, change}
 use Rattle.pim_settling.specs.Runs.{run_at}
-use Rattle.pim_settling.specs.Telling.{told_if, rpt_told, told_of}
+use Rattle.pim_settling.specs.Carrying.{carried_if, rpt_carried, carried_of}
 
 -- ---- lists
 
@@ -58,43 +58,43 @@ lacking_all P one other each = lacking_of P one other one (λ s l. l) each
 
 module _ (old new : List GroupForm) where
   abbrev pub told_here : List ℕ → What (List ℕ) → Option Bool
-  told_here group what = told_of (group_in group old) (group_in group new) what
+  told_here group what = carried_of (group_in group old) (group_in group new) what
 
   -- what the telling says is told, of the machine that it is about
-  abbrev pub Says : List ℕ → Telling → Type 0
+  abbrev pub Says : List ℕ → Action → Type 0
   Says group (star_joined exceptions) = ((group_in group old).star ≡ None) × ((group_in group new).star ≡ Some exceptions)
   Says group star_pruned = told_here group Star ≡ Some false
-  Says group (told JoinRpt source) = told_here group (Rpt source) ≡ Some true
-  Says group (told PruneRpt source) = told_here group (Rpt source) ≡ Some false
-  Says group (told JoinSource source) = told_here group (Source source) ≡ Some true
-  Says group (told PruneSource source) = told_here group (Source source) ≡ Some false
+  Says group (of_source JoinRpt source) = told_here group (Rpt source) ≡ Some true
+  Says group (of_source PruneRpt source) = told_here group (Rpt source) ≡ Some false
+  Says group (of_source JoinSource source) = told_here group (Source source) ≡ Some true
+  Says group (of_source PruneSource source) = told_here group (Source source) ≡ Some false
 
-  went : (source : List ℕ) (group : List ℕ) (excepted exceptions : List (List ℕ)) → (group_in group old).star ≡ Some excepted → (group_in group new).star ≡ Some exceptions → told_here group (Rpt source) ≡ told_if (is_listed source exceptions) (is_listed source excepted)
-  went source group excepted exceptions o n = ap (λ s. rpt_told s (group_in group new).star source) o ∙ ap (λ s. rpt_told (Some excepted) s source) n
+  went : (source : List ℕ) (group : List ℕ) (excepted exceptions : List (List ℕ)) → (group_in group old).star ≡ Some excepted → (group_in group new).star ≡ Some exceptions → told_here group (Rpt source) ≡ carried_if (is_listed source exceptions) (is_listed source excepted)
+  went source group excepted exceptions o n = ap (λ s. rpt_carried s (group_in group new).star source) o ∙ ap (λ s. rpt_carried (Some excepted) s source) n
 
   star_says : (group : List ℕ) (before wanted : Option (List (List ℕ))) → (group_in group old).star ≡ before → (group_in group new).star ≡ wanted → AllByRecursion (Says group) (star_change before wanted)
   star_says group None None o n = tt
   star_says group None (Some exceptions) o n = ((o, n), tt)
-  star_says group (Some excepted) None o n = (ap (λ s. told_if (is_some s) (is_some (group_in group new).star)) o ∙ ap (λ s. told_if true (is_some s)) n, tt)
+  star_says group (Some excepted) None o n = (ap (λ s. carried_if (is_some s) (is_some (group_in group new).star)) o ∙ ap (λ s. carried_if true (is_some s)) n, tt)
   star_says group (Some excepted) (Some exceptions) o n =
-      all_append (Says group) (map (told JoinRpt) (lacking excepted exceptions)) (map (told PruneRpt) (lacking exceptions excepted))
-      (all_map (Says group) (told JoinRpt) (lacking excepted exceptions)
-      (lacking_all (λ s. Says group (told JoinRpt s)) excepted exceptions (λ s l m. went s group excepted exceptions o n ∙ ap (λ b. told_if b (is_listed s excepted)) m ∙ ap (told_if false) l)))
-      (all_map (Says group) (told PruneRpt) (lacking exceptions excepted)
-      (lacking_all (λ s. Says group (told PruneRpt s)) exceptions excepted (λ s l m. went s group excepted exceptions o n ∙ ap (λ b. told_if b (is_listed s excepted)) l ∙ ap (told_if true) m)))
+      all_append (Says group) (map (of_source JoinRpt) (lacking excepted exceptions)) (map (of_source PruneRpt) (lacking exceptions excepted))
+      (all_map (Says group) (of_source JoinRpt) (lacking excepted exceptions)
+      (lacking_all (λ s. Says group (of_source JoinRpt s)) excepted exceptions (λ s l m. went s group excepted exceptions o n ∙ ap (λ b. carried_if b (is_listed s excepted)) m ∙ ap (carried_if false) l)))
+      (all_map (Says group) (of_source PruneRpt) (lacking exceptions excepted)
+      (lacking_all (λ s. Says group (of_source PruneRpt s)) exceptions excepted (λ s l m. went s group excepted exceptions o n ∙ ap (λ b. carried_if b (is_listed s excepted)) l ∙ ap (carried_if true) m)))
 
   sources_say : (group : List ℕ) → AllByRecursion (Says group) (sources_change (group_in group old).sources (group_in group new).sources)
   sources_say group =
       let before = (group_in group old).sources in
       let wanted = (group_in group new).sources in
-      all_append (Says group) (map (told JoinSource) (lacking wanted before)) (map (told PruneSource) (lacking before wanted))
-      (all_map (Says group) (told JoinSource) (lacking wanted before)
-      (lacking_all (λ s. Says group (told JoinSource s)) wanted before (λ s l m. ap (λ b. told_if b (is_listed s wanted)) m ∙ ap (told_if false) l)))
-      (all_map (Says group) (told PruneSource) (lacking before wanted)
-      (lacking_all (λ s. Says group (told PruneSource s)) before wanted (λ s l m. ap (λ b. told_if b (is_listed s wanted)) l ∙ ap (told_if true) m)))
+      all_append (Says group) (map (of_source JoinSource) (lacking wanted before)) (map (of_source PruneSource) (lacking before wanted))
+      (all_map (Says group) (of_source JoinSource) (lacking wanted before)
+      (lacking_all (λ s. Says group (of_source JoinSource s)) wanted before (λ s l m. ap (λ b. carried_if b (is_listed s wanted)) m ∙ ap (carried_if false) l)))
+      (all_map (Says group) (of_source PruneSource) (lacking before wanted)
+      (lacking_all (λ s. Says group (of_source PruneSource s)) before wanted (λ s l m. ap (λ b. carried_if b (is_listed s wanted)) l ∙ ap (carried_if true) m)))
 
   abbrev pub UnitSays : ChangeUnit → Type 0
-  UnitSays this = Says this.group this.telling
+  UnitSays this = Says this.group this.action
 
   group_says : (group : List ℕ) → AllByRecursion UnitSays (change_at old new group)
   group_says group =

@@ -11,7 +11,7 @@ use Rattle.pim_down.specs.declared.machines.machine.Machine.{Machine}
 use Rattle.pim_down.specs.Key.{same_key}
 use Rattle.pim_down.specs.Tables.{machine_in}
 use Rattle.pim_down.specs.Hearing.{Event, key_of, is_rpt_of, is_star_join}
-use Rattle.pim_fresh.specs.Expected.{asked_state}
+use Rattle.pim_fresh.specs.Expected.{state_wanted}
 
 -- A machine isn't held; it is held, (*,G) and (S,G) in Join, (S,G,rpt) in Prune; or it is in
 -- Prune-Pending up to a moment, and then where its timer leads.
@@ -57,16 +57,16 @@ module _ (kept pending : State) where
 -- At this moment the machine is on this course. A Prune-Pending Timer that ends at this moment may
 -- have fired or not.
 abbrev pub IsOn : What (List ℕ) → ℕ → Course → Option Machine → Type 0
-IsOn what now course held = IsOnBy (asked_state what) PrunePending what now course held
+IsOn what now course held = IsOnBy (state_wanted what) PrunePending what now course held
 
 -- At this moment the machine is on this course, and a Prune-Pending Timer that ends by then has
 -- fired.
 abbrev pub IsPast : What (List ℕ) → ℕ → Course → Option Machine → Type 0
 IsPast what now absent held = held ≡ None
-IsPast what now stays held = IsHeld (asked_state what) held
+IsPast what now stays held = IsHeld (state_wanted what) held
 IsPast what now (waits until) held =
     ((now < until) × IsPending PrunePending (until - now) held)
-    ⊎ ((until ≤ now) × IsAt (asked_state what) PrunePending (led what) held)
+    ⊎ ((until ≤ now) × IsAt (state_wanted what) PrunePending (led what) held)
 
 -- ---- what is heard
 
@@ -85,13 +85,13 @@ excepted ends stays = stays
 excepted ends (waits until) = waits until
 
 -- The course after a Join (`true`) or a Prune of the machine.
-abbrev pub named : Bool → What (List ℕ) → ℕ → Course → Course
-named true Star ends course = stays
-named true (Source source) ends course = stays
-named true (Rpt source) ends course = absent
-named false Star ends course = pruned ends course
-named false (Source source) ends course = pruned ends course
-named false (Rpt source) ends course = excepted ends course
+abbrev pub course_of_unit : Bool → What (List ℕ) → ℕ → Course → Course
+course_of_unit true Star ends course = stays
+course_of_unit true (Source source) ends course = stays
+course_of_unit true (Rpt source) ends course = absent
+course_of_unit false Star ends course = pruned ends course
+course_of_unit false (Source source) ends course = pruned ends course
+course_of_unit false (Rpt source) ends course = excepted ends course
 
 -- A machine within a message: its course, and whether a Join(*,G) came to an (S,G,rpt) machine and
 -- no entry since names it (PruneTmp or Prune-Pending-Tmp in Figure 4). At the end of the message
@@ -104,7 +104,7 @@ pub record Within : Type 0 where
 abbrev pub after_event : ℕ → ℕ → Event → Key (List ℕ) → Within → Within
 after_event port ends event key within =
     if same_key (key_of port event) key
-    then record { course = named event.joins event.what ends within.course; starred = false }
+    then record { course = course_of_unit event.joins event.what ends within.course; starred = false }
     else (if is_star_join event
     then (if is_rpt_of port event.group key then record { course = within.course; starred = true } else within)
     else within)

@@ -11,13 +11,13 @@ use Rattle.pim_form.specs.NormalForm.{GroupForm, IsNormal, IsFormOf}
 use Rattle.pim_form.specs.Settled.{IsSettledAt}
 use Rattle.pim_form.specs.Wants.{wants}
 use Rattle.pim_change.specs.Change.{ChangeUnit, change}
-use Rattle.pim_change.specs.Told.{TellChange}
+use Rattle.pim_change.specs.Written.{CarryChange}
 use Rattle.pim_fresh.specs.Exchange.{Exchange}
 use Rattle.pim_fresh.specs.Deliveries.{Delivery, final_moment}
 use Rattle.pim_settling.specs.Course.{Course, IsOn, IsPast}
 use Rattle.pim_settling.specs.Hearing.{Hears, course_of}
 use Rattle.pim_settling.specs.Runs.{AreHeard, AllCame, KnowRps, AreEventsOf, EachCame}
-use Rattle.pim_settling.specs.Telling.{TellsChange}
+use Rattle.pim_settling.specs.Carrying.{CarriesChange}
 
 -- Each machine goes the course that the deliveries make of its own course.
 abbrev pub CoursesAreKept : Type 0
@@ -35,25 +35,25 @@ CoursesAreKept = (exchange : Exchange) (start after : Downstream) (deliveries : 
 abbrev pub ChangeSettles : Type 0
 ChangeSettles = (family : AddressFamily) (exchange : Exchange) (old new : List GroupForm) (start after : Downstream)
     (deliveries : List Delivery) (moment : ℕ) → IsSound family start → IsSettledAt exchange.port old start.records →
-    TellsChange exchange old new deliveries → Hears exchange start deliveries moment after →
+    CarriesChange exchange old new deliveries → Hears exchange start deliveries moment after →
     final_moment exchange.timing.override_ms deliveries ≤ moment →
     (after.moment ≡ moment) × IsSettledAt exchange.port new after.records
 
 -- If each message of a change came and the RPs of all stars are known, the messages say exactly
 -- that change, cut into any runs.
-abbrev pub RunsTellTheChange : Type 0
-RunsTellTheChange = (rps : List ℕ → Option (List ℕ)) (old new : List GroupForm) (runs : List (List ChangeUnit)) (exchange : Exchange)
+abbrev pub RunsCarryTheChange : Type 0
+RunsCarryTheChange = (rps : List ℕ → Option (List ℕ)) (old new : List GroupForm) (runs : List (List ChangeUnit)) (exchange : Exchange)
     (deliveries : List Delivery) → flat_map (λ run. run) runs ≡ change old new → KnowRps rps old → KnowRps rps new →
-    AreHeard rps runs exchange → AllCame runs deliveries → TellsChange exchange old new deliveries
+    AreHeard rps runs exchange → AllCame runs deliveries → CarriesChange exchange old new deliveries
 
 -- A port is settled at one normal form and hears the messages of the change to another one. Their
 -- bytes are read, each comes at least once and nothing else, and no Expiry Timer ends. From the
 -- final moment of these deliveries on it is settled at the other form.
-abbrev pub ToldChangeSettles : Type 0
-ToldChangeSettles = (family : AddressFamily) (writing : Writing) (rps : List ℕ → Option (List ℕ)) (old new : List GroupForm)
+abbrev pub WrittenChangeSettles : Type 0
+WrittenChangeSettles = (family : AddressFamily) (writing : Writing) (rps : List ℕ → Option (List ℕ)) (old new : List GroupForm)
     (messages : List (List ℕ)) (exchange : Exchange) (start after : Downstream) (deliveries : List Delivery)
     (moment : ℕ) → IsWriting family writing → IsNormal family old → IsNormal family new →
-    HaveRps family rps old → HaveRps family rps new → TellChange family writing rps old new messages →
+    HaveRps family rps old → HaveRps family rps new → CarryChange family writing rps old new messages →
     AreEventsOf family writing.own rps messages exchange.messages → EachCame messages deliveries →
     IsSound family start → IsSettledAt exchange.port old start.records →
     Hears exchange start deliveries moment after → final_moment exchange.timing.override_ms deliveries ≤ moment →

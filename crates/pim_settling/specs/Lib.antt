@@ -1,5 +1,5 @@
 pub mod Course
 pub mod Hearing
-pub mod Telling
+pub mod Carrying
 pub mod Runs
 pub mod Laws

@@ -9,13 +9,13 @@ use Rattle.pim_form.specs.Laws.{IsReadAs}
 use Rattle.pim_form.specs.NormalForm.{GroupForm}
 use Rattle.pim_form.specs.Settled.{group_in}
 use Rattle.pim_change.specs.Change.{ChangeUnit}
-use Rattle.pim_change.specs.Told.{told_sets}
+use Rattle.pim_change.specs.Written.{written_sets}
 use Rattle.pim_fresh.specs.Exchange.{Exchange}
 use Rattle.pim_fresh.specs.Deliveries.{Delivery, is_delivered}
 
 -- The events of the message of a run, for a port that knows the same RPs.
 abbrev pub run_events : (List ℕ → Option (List ℕ)) → List ChangeUnit → List Event
-run_events rps run = flat_map (set_events rps) (told_sets rps run)
+run_events rps run = flat_map (set_events rps) (written_sets rps run)
 
 -- The run of this number; an empty one after the last run.
 unfoldable pub run_at : ℕ → List (List ChangeUnit) → List ChangeUnit

@@ -7,15 +7,11 @@
 //!   Prune-Pending up to a moment and then where its timer leads (`courses_are_kept`).
 //! - A port is settled at one form and hears messages that say exactly the change to another form.
 //!   From the final moment of the deliveries on it is settled at the other form
-//!   (`change_settles`). `told_change_settles` says this of the bytes of `pim_change`.
+//!   (`change_settles`). `written_change_settles` says this of the bytes of `pim_change`.
 //!
 //! The messages of a change, however its units are cut into runs, say exactly that change
-//! (`runs_tell_the_change`). A router of one port that is settled at a normal form wants exactly
+//! (`runs_carry_the_change`). A router of one port that is settled at a normal form wants exactly
 //! what the form means (`settled_wants`).
 #![tactic(auto)]
 
-mod laws;
-
-pub use laws::{
-    change_settles, courses_are_kept, runs_tell_the_change, settled_wants, told_change_settles,
-};
+pub mod laws;

@@ -45,17 +45,17 @@ in_bytes family source destination text kind body message v sealed =
 -- ---- a message that is refused
 
 first_of : {E V : Type 0} (all : List E) (value : V) (fault : E) → judged all value ≡ Err fault → (others : List E) × (all ≡ fault ∷ others)
-first_of [] value fault told = absurd cc
-first_of (first ∷ others) value fault told = let same : first ≡ fault = cc in (others, ap (λ (f : _). f ∷ others) same)
+first_of [] value fault reported = absurd cc
+first_of (first ∷ others) value fault reported = let same : first ≡ fault = cc in (others, ap (λ (f : _). f ∷ others) same)
 
 none_of : {E V : Type 0} (all : List E) (value given : V) → judged all value ≡ Ok given → all ≡ []
-none_of [] value given told = refl
-none_of (first ∷ others) value given told = absurd cc
+none_of [] value given reported = refl
+none_of (first ∷ others) value given reported = absurd cc
 
 -- what was found of the bytes that are lent
-pub of_lent : (family : AddressFamily) (source destination lent message : List ℕ) (found told : Result (Unit {0}) BuildFault) → found ≡ judged (message_faults family source destination lent) (tt {0})
-    → lent ≡ message → found ≡ told → judged (message_faults family source destination message) (tt {0}) ≡ told
-of_lent family source destination lent message found told is same found_so = rw (← same, ← is) found_so
+pub of_lent : (family : AddressFamily) (source destination lent message : List ℕ) (found reported : Result (Unit {0}) BuildFault) → found ≡ judged (message_faults family source destination lent) (tt {0})
+    → lent ≡ message → found ≡ reported → judged (message_faults family source destination message) (tt {0}) ≡ reported
+of_lent family source destination lent message found reported is same found_so = rw (← same, ← is) found_so
 
 module _ (family : AddressFamily) (source destination text : List ℕ) where
   abbrev Refused : BuildFault → Type 0
@@ -79,9 +79,9 @@ module _ (family : AddressFamily) (source destination text : List ℕ) where
 
   pub refused : (kind : Bool) (body message : List ℕ) (fault : BuildFault) → IsSpelled family text kind body → IsSealed family source destination (kind_of kind) body message
       → length message ≡ length body + 4 → length body ≤ 65532 → judged (message_faults family source destination message) (tt {0}) ≡ Err fault → Causes fault
-  refused kind body message fault spelled sealed size short told =
+  refused kind body message fault spelled sealed size short reported =
       let v = value_of family text kind body spelled in
-      let first = first_of (message_faults family source destination message) (tt {0}) fault told in
+      let first = first_of (message_faults family source destination message) (tt {0}) fault reported in
       of_message (frame_faults family source destination message) (content message) fault first.0 first.1 (record {
         value = v.value;
         message = message;
@@ -118,7 +118,7 @@ module _ (family : AddressFamily) (source destination text : List ℕ) where
 
     pub built : (kind : Bool) (body message : List ℕ) → IsSpelled family text kind body → IsSealed family source destination (kind_of kind) body message
         → length message ≡ length body + 4 → length body ≤ 65532 → judged (message_faults family source destination message) (tt {0}) ≡ Ok (tt {0}) → IsBuilt family source destination text message
-    built kind body message spelled sealed size short told =
+    built kind body message spelled sealed size short reported =
         let v = value_of family text kind body spelled in
         let bytes = in_bytes family source destination text kind body message v sealed in
         let type = kind_of (is_hello v.value) in
@@ -129,6 +129,6 @@ module _ (family : AddressFamily) (source destination text : List ℕ) where
           states = v.states;
           bytes = bytes;
           size = omega (arith, size, short);
-          accepted = none_of (message_faults family source destination message) (tt {0}) (tt {0}) told;
+          accepted = none_of (message_faults family source destination message) (tt {0}) (tt {0}) reported;
           read = subst (IsReadAs family v.value) (sym same) (read_as v.value v.states short');
         }

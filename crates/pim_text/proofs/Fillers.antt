@@ -2,9 +2,9 @@
 use Rattle.std.proofs.Common.{◌≡◌, refl, ℕ, zero, suc, ◌<◌, true, List, [], ◌∷◌, ◌++◌, Some, codes}
 use Rattle.pim_text.specs.declared.line.Line.{Line}
 use Rattle.pim_text.specs.declared.line.Line.TheVariants.{Hello, Set, Join, Prune}
-use Rattle.pim_text.specs.declared.line.Asked.{Asked}
-use Rattle.pim_text.specs.declared.line.Asked.TheVariants.{Message, Options}
-use Rattle.pim_text.specs.declared.line.Asked.TheVariants.{Body as OfBody}
+use Rattle.pim_text.specs.declared.line.Expected.{Expected}
+use Rattle.pim_text.specs.declared.line.Expected.TheVariants.{Message, Options}
+use Rattle.pim_text.specs.declared.line.Expected.TheVariants.{Body as OfBody}
 use Rattle.std.proofs.Common.{lit<, lit≤}
 use Rattle.std.specs.Prelude.{slice_index}
 use Rattle.pim_addr.specs.declared.family.AddressFamily.TheVariants.{Ipv4}
@@ -14,16 +14,16 @@ use Rattle.pim_addr.specs.TextForms.{IsText, WrittenTextNames}
 use Rattle.pim_jp.specs.declared.entry.Entry.TheVariants.{Star}
 use Rattle.pim_lines.specs.declared.either.AnyAddress.TheVariants.{V4}
 use Rattle.pim_text.specs.Lines.{IsLine, AreLines, numbers_text}
-use Rattle.pim_text.specs.Asked.{after_all, is_whole}
+use Rattle.pim_text.specs.Expected.{after_all, is_whole}
 use Rattle.pim_text.proofs.Runs.{body}
 
 -- Lines that end a message.
-pub record Completion (asked : Asked) : Type 0 where
+pub record Completion (expected : Expected) : Type 0 where
   pub rest : List Line
   pub texts : List (List ℕ)
   pub are : AreLines rest texts
-  pub end : Asked
-  pub run : after_all asked rest ≡ Some end
+  pub end : Expected
+  pub run : after_all expected rest ≡ Some end
   pub whole : is_whole end ≡ true
 
 abbrev nought : List ℕ
@@ -76,7 +76,7 @@ module _ (written : WrittenTextNames) where
       let k = fill_joins joined pruned sets in
       record { rest = Join (Star (V4 nought)) ∷ k.rest; texts = entry_text (codes "join ") ∷ k.texts; are = (join_is, k.are); end = k.end; run = k.run; whole = k.whole }
 
-  pub complete : (asked : Asked) → Completion asked
+  pub complete : (expected : Expected) → Completion expected
   complete Message = record { rest = Hello ∷ []; texts = codes "hello\n" ∷ []; are = (refl, tt); end = Options 0; run = refl; whole = refl }
   complete (Options from) = record { rest = []; texts = []; are = tt; end = Options from; run = refl; whole = refl }
   complete (OfBody b) = fill_joins b.joined b.pruned b.sets

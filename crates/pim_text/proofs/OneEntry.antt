@@ -3,18 +3,18 @@ use Rattle.std.proofs.Common.{◌≡◌, ◌∙◌, sym, ap, ℕ, List, [], ◌�
 use Rattle.pim_jp.specs.declared.entry.Entry.{Entry}
 use Rattle.pim_jp.specs.declared.entry.Entry.TheVariants.{Star, Source, Rpt}
 use Rattle.pim_lines.specs.declared.either.AnyAddress.{AnyAddress}
-use Rattle.pim_text.specs.Lines.{IsNamed, IsEntry}
+use Rattle.pim_text.specs.Lines.{IsAddressAfter, IsEntry}
 use Rattle.pim_text.proofs.FieldEnds.{same_some}
 
 module _ (text : List ℕ) where
   abbrev IsStar : AnyAddress → Type 0
-  IsStar a = IsNamed (codes "star ") a (10 ∷ []) text
+  IsStar a = IsAddressAfter (codes "star ") a (10 ∷ []) text
 
   abbrev IsSource : AnyAddress → Type 0
-  IsSource a = IsNamed (codes "source ") a (10 ∷ []) text
+  IsSource a = IsAddressAfter (codes "source ") a (10 ∷ []) text
 
   abbrev IsRpt : AnyAddress → Type 0
-  IsRpt a = IsNamed (codes "rpt ") a (10 ∷ []) text
+  IsRpt a = IsAddressAfter (codes "rpt ") a (10 ∷ []) text
 
   star_or_source : (a b : AnyAddress) → IsStar a → IsSource b → ⊥
   star_or_source a b (one, names, is) (other, too, so) = omega (arith, ap (λ (l : List ℕ). get_or l 1 0) (sym is ∙ so))

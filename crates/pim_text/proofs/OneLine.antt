@@ -13,7 +13,7 @@ use Rattle.pim_text.specs.declared.line.Line.{Line}
 use Rattle.pim_text.specs.declared.line.Line.TheVariants.{Hello, Holdtime, Delays, Priority, Generation, Secondary, Head, Set, Join, Prune}
 use Rattle.pim_text.specs.Fields.{IsField, IsLed}
 use Rattle.pim_text.specs.HelloText.{bit}
-use Rattle.pim_text.specs.Lines.{IsNamed, number_text, numbers_text, IsEntry, IsEntryLine, delays_text, IsLine, AreLines}
+use Rattle.pim_text.specs.Lines.{IsAddressAfter, number_text, numbers_text, IsEntry, IsEntryLine, delays_text, IsLine, AreLines}
 use Rattle.pim_lines.specs.AnyAddress.{Names}
 use Rattle.pim_text.specs.OneReading.{OneName}
 use Rattle.pim_text.proofs.Bytes.{decimal_is_field, named_is_field}
@@ -83,16 +83,16 @@ differ : (m n : ℕ) → eqb m n ≡ false → m ≡ n → ⊥
 differ m n = eqb-false m n
 
 module _ (one : OneName) where
-  one_named : (words behind other text : List ℕ) (a b : AnyAddress) → IsLed behind → IsLed other → IsNamed words a behind text → IsNamed words b other text → (a ≡ b) × (behind ≡ other)
+  one_named : (words behind other text : List ℕ) (a b : AnyAddress) → IsLed behind → IsLed other → IsAddressAfter words a behind text → IsAddressAfter words b other text → (a ≡ b) × (behind ≡ other)
   one_named words behind other text a b led too (named, names, is) (call, calls, so) =
       let left = append_cancel_left words (named ++ behind) (call ++ other) (sym is ∙ so) in
       let cut = same_fields named call behind other (named_is_field named a names) (named_is_field call b calls) led too left in
       (one named a b names (subst (λ (t : List ℕ). Names t b) (sym cut.0) calls), cut.1)
 
-  at_end : (words text : List ℕ) (a b : AnyAddress) → IsNamed words a (10 ∷ []) text → IsNamed words b (10 ∷ []) text → a ≡ b
+  at_end : (words text : List ℕ) (a b : AnyAddress) → IsAddressAfter words a (10 ∷ []) text → IsAddressAfter words b (10 ∷ []) text → a ≡ b
   at_end words text a b is so = (one_named words (10 ∷ []) (10 ∷ []) text a b feed_is_led feed_is_led is so).0
 
-  some_at_end : (words text : List ℕ) (a : AnyAddress) → IsNamed words a (10 ∷ []) text → (b : AnyAddress) → IsNamed words b (10 ∷ []) text → Some a ≡ Some b
+  some_at_end : (words text : List ℕ) (a : AnyAddress) → IsAddressAfter words a (10 ∷ []) text → (b : AnyAddress) → IsAddressAfter words b (10 ∷ []) text → Some a ≡ Some b
   some_at_end words text a is b so = ap (λ (x : AnyAddress). Some x) (at_end words text a b is so)
 
   one_entry : (text : List ℕ) (a b : Entry AnyAddress) → IsEntry a text → IsEntry b text → a ≡ b

@@ -9,15 +9,15 @@ use Rattle.pim_lines.specs.declared.either.AnyAddress.{AnyAddress}
 use Rattle.pim_text.specs.declared.line.SetLine.{SetLine}
 use Rattle.pim_text.specs.declared.line.Line.{Line}
 use Rattle.pim_text.specs.declared.line.Line.TheVariants.{Hello, Holdtime, Delays, Priority, Generation, Secondary, Head, Set, Join, Prune}
-use Rattle.pim_text.specs.declared.line.Asked.{Asked}
-use Rattle.pim_text.specs.declared.line.Asked.TheVariants.{Message, Options}
-use Rattle.pim_text.specs.declared.line.Asked.TheVariants.{Body as OfBody}
+use Rattle.pim_text.specs.declared.line.Expected.{Expected}
+use Rattle.pim_text.specs.declared.line.Expected.TheVariants.{Message, Options}
+use Rattle.pim_text.specs.declared.line.Expected.TheVariants.{Body as OfBody}
 use Rattle.std.proofs.Common.{append_assoc}
 use Rattle.std.proofs.lemmas.Bool.{le-leb, leb-true}
 use Rattle.std.specs.Prelude.{nat_le}
 use Rattle.pim_text.specs.Lines.{AreLines}
 use Rattle.pim_text.specs.Value.{HelloValue, SetValue, TextValue, a_hello, a_message, option_line, delays_line_of, option_lines, set_lines, value_lines}
-use Rattle.pim_text.specs.Asked.{option_after, after, onward, after_all, ends, is_whole, asks_of_hello}
+use Rattle.pim_text.specs.Expected.{option_after, after, onward, after_all, ends, is_whole, expects_options}
 use Rattle.pim_text.specs.Read.{is_hello}
 use Rattle.pim_text.proofs.FieldEnds.{same_some, not_some}
 
@@ -45,32 +45,32 @@ are_split (line ∷ all) (text ∷ front) behind are =
 
 -- ---- what is asked for, in two parts
 
-pub first_step : (asked : Asked) (line : Line) (others : List Line) (end : Asked) → after_all asked (line ∷ others) ≡ Some end → (next : Asked) × (after asked line ≡ Some next) × (after_all next others ≡ Some end)
-first_step asked line others end run = at (after asked line) refl run
+pub first_step : (expected : Expected) (line : Line) (others : List Line) (end : Expected) → after_all expected (line ∷ others) ≡ Some end → (next : Expected) × (after expected line ≡ Some next) × (after_all next others ≡ Some end)
+first_step expected line others end run = at (after expected line) refl run
   where
-    at : (t : Option Asked) → after asked line ≡ t → onward t (λ next. after_all next others) ≡ Some end → (next : Asked) × (after asked line ≡ Some next) × (after_all next others ≡ Some end)
+    at : (t : Option Expected) → after expected line ≡ t → onward t (λ next. after_all next others) ≡ Some end → (next : Expected) × (after expected line ≡ Some next) × (after_all next others ≡ Some end)
     at None is e = absurd (not_some end e)
     at (Some next) is e = (next, is, e)
 
-pub one_step : (asked next : Asked) (line : Line) (others : List Line) → after asked line ≡ Some next → after_all asked (line ∷ others) ≡ after_all next others
-one_step asked next line others is = ap (λ (t : Option Asked). onward t (λ a. after_all a others)) is
+pub one_step : (expected next : Expected) (line : Line) (others : List Line) → after expected line ≡ Some next → after_all expected (line ∷ others) ≡ after_all next others
+one_step expected next line others is = ap (λ (t : Option Expected). onward t (λ a. after_all a others)) is
 
-pub run_append : (one two : List Line) (asked mid : Asked) → after_all asked one ≡ Some mid → after_all asked (one ++ two) ≡ after_all mid two
-run_append [] two asked mid run = ap (λ (a : Asked). after_all a two) (same_some asked mid run)
-run_append (line ∷ one) two asked mid run =
-    let k = first_step asked line one mid run in
-    one_step asked k.0 line (one ++ two) k.1 ∙ run_append one two k.0 mid k.2
+pub run_append : (one two : List Line) (expected mid : Expected) → after_all expected one ≡ Some mid → after_all expected (one ++ two) ≡ after_all mid two
+run_append [] two expected mid run = ap (λ (a : Expected). after_all a two) (same_some expected mid run)
+run_append (line ∷ one) two expected mid run =
+    let k = first_step expected line one mid run in
+    one_step expected k.0 line (one ++ two) k.1 ∙ run_append one two k.0 mid k.2
 
-pub run_split : (one two : List Line) (asked end : Asked) → after_all asked (one ++ two) ≡ Some end → (mid : Asked) × (after_all asked one ≡ Some mid) × (after_all mid two ≡ Some end)
-run_split [] two asked end run = (asked, refl, run)
-run_split (line ∷ one) two asked end run =
-    let k = first_step asked line (one ++ two) end run in
+pub run_split : (one two : List Line) (expected end : Expected) → after_all expected (one ++ two) ≡ Some end → (mid : Expected) × (after_all expected one ≡ Some mid) × (after_all mid two ≡ Some end)
+run_split [] two expected end run = (expected, refl, run)
+run_split (line ∷ one) two expected end run =
+    let k = first_step expected line (one ++ two) end run in
     let m = run_split one two k.0 end k.2 in
-    (m.0, one_step asked k.0 line one k.1 ∙ m.1, m.2)
+    (m.0, one_step expected k.0 line one k.1 ∙ m.1, m.2)
 
 -- ---- the lines of a message are asked for
 
-abbrev pub body : ℕ → ℕ → ℕ → Asked
+abbrev pub body : ℕ → ℕ → ℕ → Expected
 body joined pruned sets = OfBody (record { joined = joined; pruned = pruned; sets = sets })
 
 joins_run : (es : List (Entry AnyAddress)) (pruned sets : ℕ) → after_all (body (length es) pruned sets) (map Join es) ≡ Some (body 0 pruned sets)
@@ -115,7 +115,7 @@ hello_runs hello =
           ∙ (run_append (option_line Generation p.generation) _ (Options r.0) (Options g.0) g.2 ∙ a.1))),
     )
 
-pub value_runs : (value : TextValue) → (end : Asked) × (after_all Message (value_lines value) ≡ Some end) × (is_whole end ≡ true) × (asks_of_hello end ≡ is_hello value)
+pub value_runs : (value : TextValue) → (end : Expected) × (after_all Message (value_lines value) ≡ Some end) × (is_whole end ≡ true) × (expects_options end ≡ is_hello value)
 value_runs (a_hello hello) = let k = hello_runs hello in (Options k.0, k.1, refl, refl)
 value_runs (a_message message) = (body 0 0 0, sets_run message.sets, refl, refl)
 
@@ -143,7 +143,7 @@ body_at_end (suc joined) pruned sets is = absurd (false≢true is)
 same_set : (x : SetLine) (joins prunes : List (Entry AnyAddress)) → length joins ≡ x.joined → length prunes ≡ x.pruned → Set x ≡ Set (record { group = x.group; joined = length joins; pruned = length prunes })
 same_set x joins prunes j p = let a = sym j in let b = sym p in λ i. Set (record { group = x.group; joined = a i; pruned = b i })
 
-body_value : (all : List Line) (joined pruned sets : ℕ) (end : Asked) → after_all (body joined pruned sets) all ≡ Some end → is_whole end ≡ true → IsBody joined pruned sets all
+body_value : (all : List Line) (joined pruned sets : ℕ) (end : Expected) → after_all (body joined pruned sets) all ≡ Some end → is_whole end ≡ true → IsBody joined pruned sets all
 body_value [] joined pruned sets end run whole = body_at_end joined pruned sets (ap is_whole (same_some (body joined pruned sets) end run) ∙ whole)
 body_value (Join e ∷ all) (suc joined) pruned sets end run whole =
     let k = body_value all joined pruned sets end run whole in
@@ -187,7 +187,7 @@ pub record IsHello (from : ℕ) (all : List Line) : Type 0 where
   pub no_priority : 2 < from → hello.parameters.priority ≡ None
   pub no_generation : 3 < from → hello.parameters.generation ≡ None
 
-asked_from : (from place : ℕ) (next : Asked) → option_after from place (suc place) ≡ Some next → (from ≤ place) × (next ≡ Options (suc place))
+asked_from : (from place : ℕ) (next : Expected) → option_after from place (suc place) ≡ Some next → (from ≤ place) × (next ≡ Options (suc place))
 asked_from from place next is = at (nat_le from place) refl is
   where
     at : (t : Bool) → nat_le from place ≡ t → (if t then Some (Options (suc place)) else None) ≡ Some next → (from ≤ place) × (next ≡ Options (suc place))
@@ -197,12 +197,12 @@ asked_from from place next is = at (nat_le from place) refl is
 abbrev hello_of : (h : Option ℕ) (d : Option DelaysValue) (r g : Option ℕ) → List AnyAddress → HelloValue
 hello_of h d r g names = record { parameters = record { holdtime = h; lan = d; priority = r; generation = g }; addresses = names }
 
-option_value : (all : List Line) (from : ℕ) (end : Asked) → after_all (Options from) all ≡ Some end → IsHello from all
+option_value : (all : List Line) (from : ℕ) (end : Expected) → after_all (Options from) all ≡ Some end → IsHello from all
 option_value [] from end run = record { hello = hello_of None None None None []; are = refl; no_holdtime = λ _. refl; no_delays = λ _. refl; no_priority = λ _. refl; no_generation = λ _. refl }
 option_value (Holdtime n ∷ all) from end run =
     let step = first_step (Options from) (Holdtime n) all end run in
     let low = asked_from from 0 step.0 step.1 in
-    let k = option_value all 1 end (ap (λ (a : Asked). after_all a all) (sym low.1) ∙ step.2) in
+    let k = option_value all 1 end (ap (λ (a : Expected). after_all a all) (sym low.1) ∙ step.2) in
     let p = k.hello.parameters in
     record {
       hello = hello_of (Some n) p.lan p.priority p.generation k.hello.addresses;
@@ -215,7 +215,7 @@ option_value (Holdtime n ∷ all) from end run =
 option_value (Delays d ∷ all) from end run =
     let step = first_step (Options from) (Delays d) all end run in
     let low = asked_from from 1 step.0 step.1 in
-    let k = option_value all 2 end (ap (λ (a : Asked). after_all a all) (sym low.1) ∙ step.2) in
+    let k = option_value all 2 end (ap (λ (a : Expected). after_all a all) (sym low.1) ∙ step.2) in
     let p = k.hello.parameters in
     let none = k.no_holdtime (omega arith) in
     let nor = k.no_delays (omega arith) in
@@ -230,7 +230,7 @@ option_value (Delays d ∷ all) from end run =
 option_value (Priority n ∷ all) from end run =
     let step = first_step (Options from) (Priority n) all end run in
     let low = asked_from from 2 step.0 step.1 in
-    let k = option_value all 3 end (ap (λ (a : Asked). after_all a all) (sym low.1) ∙ step.2) in
+    let k = option_value all 3 end (ap (λ (a : Expected). after_all a all) (sym low.1) ∙ step.2) in
     let p = k.hello.parameters in
     let none = k.no_holdtime (omega arith) in
     let nor = k.no_delays (omega arith) in
@@ -246,7 +246,7 @@ option_value (Priority n ∷ all) from end run =
 option_value (Generation n ∷ all) from end run =
     let step = first_step (Options from) (Generation n) all end run in
     let low = asked_from from 3 step.0 step.1 in
-    let k = option_value all 4 end (ap (λ (a : Asked). after_all a all) (sym low.1) ∙ step.2) in
+    let k = option_value all 4 end (ap (λ (a : Expected). after_all a all) (sym low.1) ∙ step.2) in
     let p = k.hello.parameters in
     let none = k.no_holdtime (omega arith) in
     let nor = k.no_delays (omega arith) in
@@ -278,7 +278,7 @@ option_value (line ∷ all) from end run = absurd (not_some end run)
 
 -- ---- the same of any message
 
-pub value_of_run : (all : List Line) (end : Asked) → after_all Message all ≡ Some end → is_whole end ≡ true → (value : TextValue) × (all ≡ value_lines value)
+pub value_of_run : (all : List Line) (end : Expected) → after_all Message all ≡ Some end → is_whole end ≡ true → (value : TextValue) × (all ≡ value_lines value)
 value_of_run [] end run whole = absurd (false≢true (ap is_whole (same_some Message end run) ∙ whole))
 value_of_run (Hello ∷ all) end run whole = let k = option_value all 0 end run in (a_hello k.hello, ap (λ (l : List Line). Hello ∷ l) k.are)
 value_of_run (Head h ∷ all) end run whole =

@@ -11,14 +11,14 @@ use Rattle.pim_text.specs.Families.{value_is_in}
 use Rattle.pim_text.specs.Read.{States, is_hello, IsRead}
 use Rattle.pim_text.specs.Spelled.{StatesMessage, IsMessageFault}
 use Rattle.pim_text.specs.SpelledHello.{StatesHello, IsHelloFault}
-use Rattle.pim_text.specs.Spell.{stated_in, IsTextFault, told}
+use Rattle.pim_text.specs.Spell.{stated_in, IsTextFault, reported}
 use Rattle.pim_text.specs.Laws.{StatesIn, StatedInItsFamily}
 
-pub hello_fault : (family : AddressFamily) (text : List ℕ) (fault : SpellFault) → StatesHello family text → IsHelloFault family text fault → IsTextFault family text (told fault)
+pub hello_fault : (family : AddressFamily) (text : List ℕ) (fault : SpellFault) → StatesHello family text → IsHelloFault family text fault → IsTextFault family text (reported fault)
 hello_fault family text of_body.TooLong (hello, states) is = inl (hello, states, is hello states)
 hello_fault family text of_body.Memory states is = inl states
 
-pub message_fault : (family : AddressFamily) (text : List ℕ) (fault : SpellFault) → StatesMessage family text → IsMessageFault family text fault → IsTextFault family text (told fault)
+pub message_fault : (family : AddressFamily) (text : List ℕ) (fault : SpellFault) → StatesMessage family text → IsMessageFault family text fault → IsTextFault family text (reported fault)
 message_fault family text of_body.TooLong (message, states) is = inr (message, states, is message states)
 message_fault family text of_body.Memory states is = inr states
 

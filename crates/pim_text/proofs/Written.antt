@@ -13,14 +13,14 @@ use Rattle.pim_addr.specs.Canonical.{canonical_group}
 use Rattle.pim_jp.specs.Canonical.{canonical, canonical_head, canonical_set, canonical_entry}
 use Rattle.pim_text.specs.declared.line.Line.{Line}
 use Rattle.pim_text.specs.declared.line.Line.TheVariants.{Set, Join, Prune}
-use Rattle.pim_text.specs.declared.line.Step.{Step}
-use Rattle.pim_text.specs.declared.line.Asked.{Asked}
-use Rattle.pim_text.specs.declared.line.Asked.TheVariants.{Message}
+use Rattle.pim_text.specs.declared.line.LineStep.{LineStep}
+use Rattle.pim_text.specs.declared.line.Expected.{Expected}
+use Rattle.pim_text.specs.declared.line.Expected.TheVariants.{Message}
 use Rattle.pim_text.specs.Value.{entry_in, set_in, message_in, set_lines, value_lines}
 use Rattle.pim_lines.specs.AnyAddress.{address_in, is_in, address_bytes}
 use Rattle.pim_text.specs.Families.{entry_is_in, line_is_in, all_in}
 use Rattle.pim_text.specs.Lines.{IsLine, AreLines, lines}
-use Rattle.pim_text.specs.Asked.{after, after_all, IsStep, OnlyStep}
+use Rattle.pim_text.specs.Expected.{after, after_all, IsStep, OnlyStep}
 use Rattle.pim_text.specs.Read.{States}
 use Rattle.pim_text.specs.Spelled.{entry_bytes, line_bytes}
 use Rattle.pim_text.proofs.FieldEnds.{same_some}
@@ -119,17 +119,17 @@ module _ (family : AddressFamily) where
   -- ---- line after line
 
   -- The bytes so far and those of the lines that are left are those of the message.
-  pub record WritingOf (left : List (List ℕ)) (asked : Asked) (bytes : List ℕ) (m : JpMessage) : Type 0 where
+  pub record WritingOf (left : List (List ℕ)) (expected : Expected) (bytes : List ℕ) (m : JpMessage) : Type 0 where
     pub rest : List Line
     pub are : AreLines rest left
-    pub end : Asked
-    pub run : after_all asked rest ≡ Some end
+    pub end : Expected
+    pub run : after_all expected rest ≡ Some end
     pub within : all_in family rest ≡ true
     pub so_far : bytes ++ spelled rest ≡ canonical family m
 
-  pub record Writing (text : List ℕ) (left : List (List ℕ)) (asked : Asked) (bytes : List ℕ) : Type 0 where
+  pub record Writing (text : List ℕ) (left : List (List ℕ)) (expected : Expected) (bytes : List ℕ) : Type 0 where
     pub short : length bytes ≤ 65532
-    pub each : (m : JpMessage) → States text (message_in family m) → WritingOf left asked bytes m
+    pub each : (m : JpMessage) → States text (message_in family m) → WritingOf left expected bytes m
 
   pub at_start : (text : List ℕ) → Writing text (lines text) Message []
   at_start text = record {
@@ -140,11 +140,11 @@ module _ (family : AddressFamily) where
   }
 
   -- the next line
-  pub record Next (line : List ℕ) (left : List (List ℕ)) (asked : Asked) (bytes : List ℕ) (m : JpMessage) : Type 0 where
+  pub record Next (line : List ℕ) (left : List (List ℕ)) (expected : Expected) (bytes : List ℕ) (m : JpMessage) : Type 0 where
     pub first : Line
-    pub next : Asked
+    pub next : Expected
     pub is : IsLine first line
-    pub asks : after asked first ≡ Some next
+    pub asks : after expected first ≡ Some next
     pub inside : line_is_in family first ≡ true
     pub others : WritingOf left next (bytes ++ line_bytes family first) m
 
@@ -152,13 +152,13 @@ module _ (family : AddressFamily) where
   both true b e = (refl, e)
   both false b e = absurd (false≢true e)
 
-  pub next_of : (line : List ℕ) (left : List (List ℕ)) (asked : Asked) (bytes : List ℕ) (m : JpMessage) → WritingOf (line ∷ left) asked bytes m → Next line left asked bytes m
-  next_of line left asked bytes m w = by w.rest w.are w.run w.within w.so_far
+  pub next_of : (line : List ℕ) (left : List (List ℕ)) (expected : Expected) (bytes : List ℕ) (m : JpMessage) → WritingOf (line ∷ left) expected bytes m → Next line left expected bytes m
+  next_of line left expected bytes m w = by w.rest w.are w.run w.within w.so_far
     where
-      by : (rest : List Line) → AreLines rest (line ∷ left) → after_all asked rest ≡ Some w.end → all_in family rest ≡ true → bytes ++ spelled rest ≡ canonical family m → Next line left asked bytes m
+      by : (rest : List Line) → AreLines rest (line ∷ left) → after_all expected rest ≡ Some w.end → all_in family rest ≡ true → bytes ++ spelled rest ≡ canonical family m → Next line left expected bytes m
       by [] are run within so_far = absurd are
       by (first ∷ rest) are run within so_far =
-          let k = first_step asked first rest w.end run in
+          let k = first_step expected first rest w.end run in
           let split = both (line_is_in family first) (all_in family rest) within in
           record {
             first = first;
@@ -169,37 +169,37 @@ module _ (family : AddressFamily) where
             others = record { rest = rest; are = are.1; end = w.end; run = k.2; within = split.1; so_far = append_assoc bytes (line_bytes family first) (spelled rest) ∙ so_far };
           }
 
-  module _ (text line : List ℕ) (left : List (List ℕ)) (asked : Asked) (bytes : List ℕ) (writing : Writing text (line ∷ left) asked bytes) where
-    pub is_asked : (m : JpMessage) → States text (message_in family m) → OnlyStep asked line None → ⊥
-    is_asked m stated none = let n = next_of line left asked bytes m (writing.each m stated) in none n.first n.next n.asks n.is
+  module _ (text line : List ℕ) (left : List (List ℕ)) (expected : Expected) (bytes : List ℕ) (writing : Writing text (line ∷ left) expected bytes) where
+    pub is_asked : (m : JpMessage) → States text (message_in family m) → OnlyStep expected line None → ⊥
+    is_asked m stated none = let n = next_of line left expected bytes m (writing.each m stated) in none n.first n.next n.asks n.is
 
-    pub is_within : (m : JpMessage) → States text (message_in family m) → (found : Step) → OnlyStep asked line (Some found) → line_is_in family found.line ≡ true
+    pub is_within : (m : JpMessage) → States text (message_in family m) → (found : LineStep) → OnlyStep expected line (Some found) → line_is_in family found.line ≡ true
     is_within m stated found only =
-        let n = next_of line left asked bytes m (writing.each m stated) in
+        let n = next_of line left expected bytes m (writing.each m stated) in
         ap (line_is_in family) (only n.first n.next n.asks n.is) ∙ n.inside
 
-    further : (found : Step) → IsStep asked line found → OnlyStep asked line (Some found) → (m : JpMessage) → States text (message_in family m) → WritingOf left found.next (bytes ++ line_bytes family found.line) m
+    further : (found : LineStep) → IsStep expected line found → OnlyStep expected line (Some found) → (m : JpMessage) → States text (message_in family m) → WritingOf left found.next (bytes ++ line_bytes family found.line) m
     further found is only m stated =
-        let n = next_of line left asked bytes m (writing.each m stated) in
+        let n = next_of line left expected bytes m (writing.each m stated) in
         let same = only n.first n.next n.asks n.is in
-        let next : n.next ≡ found.next = same_some n.next found.next (sym n.asks ∙ (ap (after asked) (sym same) ∙ is.1)) in
-        subst (λ (b : List ℕ). WritingOf left found.next b m) (ap (λ (l : Line). bytes ++ line_bytes family l) (sym same)) (subst (λ (a : Asked). WritingOf left a (bytes ++ line_bytes family n.first) m) next n.others)
+        let next : n.next ≡ found.next = same_some n.next found.next (sym n.asks ∙ (ap (after expected) (sym same) ∙ is.1)) in
+        subst (λ (b : List ℕ). WritingOf left found.next b m) (ap (λ (l : Line). bytes ++ line_bytes family l) (sym same)) (subst (λ (a : Expected). WritingOf left a (bytes ++ line_bytes family n.first) m) next n.others)
 
-    pub one_further : (found : Step) (new : List ℕ) → IsStep asked line found → OnlyStep asked line (Some found) → new ≡ bytes ++ line_bytes family found.line → length new ≤ 65532 → Writing text left found.next new
+    pub one_further : (found : LineStep) (new : List ℕ) → IsStep expected line found → OnlyStep expected line (Some found) → new ≡ bytes ++ line_bytes family found.line → length new ≤ 65532 → Writing text left found.next new
     one_further found new is only added short = record {
       short = short;
       each = λ m stated. subst (λ (b : List ℕ). WritingOf left found.next b m) (sym added) (further found is only m stated);
     }
 
-    pub too_long : (found : Step) (new : List ℕ) → IsStep asked line found → OnlyStep asked line (Some found) → new ≡ bytes ++ line_bytes family found.line → 65532 < length new → (m : JpMessage) → States text (message_in family m) → 65532 < length (canonical family m)
+    pub too_long : (found : LineStep) (new : List ℕ) → IsStep expected line found → OnlyStep expected line (Some found) → new ≡ bytes ++ line_bytes family found.line → 65532 < length new → (m : JpMessage) → States text (message_in family m) → 65532 < length (canonical family m)
     too_long found new is only added long m stated =
         let w = subst (λ (b : List ℕ). WritingOf left found.next b m) (sym added) (further found is only m stated) in
         omega (arith, long, ap length w.so_far, length-append new (spelled w.rest))
 
-  pub at_end : (text : List ℕ) (asked : Asked) (bytes : List ℕ) → Writing text [] asked bytes → (m : JpMessage) → States text (message_in family m) → bytes ≡ canonical family m
-  at_end text asked bytes writing m stated = by w.rest w.are w.so_far
+  pub at_end : (text : List ℕ) (expected : Expected) (bytes : List ℕ) → Writing text [] expected bytes → (m : JpMessage) → States text (message_in family m) → bytes ≡ canonical family m
+  at_end text expected bytes writing m stated = by w.rest w.are w.so_far
     where
-      w : WritingOf [] asked bytes m
+      w : WritingOf [] expected bytes m
       w = writing.each m stated
 
       by : (rest : List Line) → AreLines rest [] → bytes ++ spelled rest ≡ canonical family m → bytes ≡ canonical family m

@@ -7,14 +7,14 @@ use Rattle.pim_hello.specs.Hello.{Delays as DelaysValue, Parameters, Hello as He
 use Rattle.pim_lines.specs.declared.either.AnyAddress.{AnyAddress}
 use Rattle.pim_text.specs.declared.line.Line.{Line}
 use Rattle.pim_text.specs.declared.line.Line.TheVariants.{Holdtime, Delays, Priority, Generation, Secondary}
-use Rattle.pim_text.specs.declared.line.Step.{Step}
-use Rattle.pim_text.specs.declared.line.Asked.{Asked}
-use Rattle.pim_text.specs.declared.line.Asked.TheVariants.{Message}
+use Rattle.pim_text.specs.declared.line.LineStep.{LineStep}
+use Rattle.pim_text.specs.declared.line.Expected.{Expected}
+use Rattle.pim_text.specs.declared.line.Expected.TheVariants.{Message}
 use Rattle.pim_text.specs.Value.{HelloValue, option_lines, hello_in, option_line, delays_line_of, value_lines}
 use Rattle.pim_lines.specs.AnyAddress.{address_in}
 use Rattle.pim_text.specs.Families.{line_is_in, all_in}
 use Rattle.pim_text.specs.Lines.{IsLine, AreLines, lines}
-use Rattle.pim_text.specs.Asked.{after, after_all, IsStep, OnlyStep}
+use Rattle.pim_text.specs.Expected.{after, after_all, IsStep, OnlyStep}
 use Rattle.pim_text.specs.Read.{States}
 use Rattle.pim_text.specs.SpelledHello.{with_line, line_addresses, DelaysFit, HaveLength, hello_of}
 use Rattle.pim_text.proofs.FieldEnds.{same_some}
@@ -131,18 +131,18 @@ module _ (family : AddressFamily) where
   -- ---- line after line
 
   -- What was gathered, with the lines that are left, is the Hello.
-  pub record GatheringOf (left : List (List ℕ)) (asked : Asked) (p : Parameters) (addresses : List (List ℕ)) (hello : HelloMessage) : Type 0 where
+  pub record GatheringOf (left : List (List ℕ)) (expected : Expected) (p : Parameters) (addresses : List (List ℕ)) (hello : HelloMessage) : Type 0 where
     pub rest : List Line
     pub are : AreLines rest left
-    pub end : Asked
-    pub run : after_all asked rest ≡ Some end
+    pub end : Expected
+    pub run : after_all expected rest ≡ Some end
     pub within : all_in family rest ≡ true
     pub options : with_lines rest p ≡ hello.parameters
     pub names : addresses ++ named rest ≡ hello.addresses
 
-  pub record Gathering (text : List ℕ) (left : List (List ℕ)) (asked : Asked) (p : Parameters) (addresses : List (List ℕ)) : Type 0 where
+  pub record Gathering (text : List ℕ) (left : List (List ℕ)) (expected : Expected) (p : Parameters) (addresses : List (List ℕ)) : Type 0 where
     pub lengths : HaveLength family addresses
-    pub each : (hello : HelloMessage) → States text (hello_in family hello) → GatheringOf left asked p addresses hello
+    pub each : (hello : HelloMessage) → States text (hello_in family hello) → GatheringOf left expected p addresses hello
 
   pub at_start : (text : List ℕ) → Gathering text (lines text) Message (record { holdtime = None; lan = None; priority = None; generation = None }) []
   at_start text = record {
@@ -152,22 +152,22 @@ module _ (family : AddressFamily) where
         record { rest = value_lines (hello_in family hello); are = stated; end = run.0; run = run.1; within = hello_is_in hello; options = options_are family hello; names = addresses_are family hello };
   }
 
-  pub record Next (line : List ℕ) (left : List (List ℕ)) (asked : Asked) (p : Parameters) (addresses : List (List ℕ)) (hello : HelloMessage) : Type 0 where
+  pub record Next (line : List ℕ) (left : List (List ℕ)) (expected : Expected) (p : Parameters) (addresses : List (List ℕ)) (hello : HelloMessage) : Type 0 where
     pub first : Line
-    pub next : Asked
+    pub next : Expected
     pub is : IsLine first line
-    pub asks : after asked first ≡ Some next
+    pub asks : after expected first ≡ Some next
     pub inside : line_is_in family first ≡ true
     pub others : GatheringOf left next (with_line first p) (addresses ++ line_addresses first) hello
 
-  pub next_of : (line : List ℕ) (left : List (List ℕ)) (asked : Asked) (p : Parameters) (addresses : List (List ℕ)) (hello : HelloMessage) → GatheringOf (line ∷ left) asked p addresses hello → Next line left asked p addresses hello
+  pub next_of : (line : List ℕ) (left : List (List ℕ)) (expected : Expected) (p : Parameters) (addresses : List (List ℕ)) (hello : HelloMessage) → GatheringOf (line ∷ left) expected p addresses hello → Next line left expected p addresses hello
   unfolding with_lines
-  next_of line left asked p addresses hello w = by w.rest w.are w.run w.within w.options w.names
+  next_of line left expected p addresses hello w = by w.rest w.are w.run w.within w.options w.names
     where
-      by : (rest : List Line) → AreLines rest (line ∷ left) → after_all asked rest ≡ Some w.end → all_in family rest ≡ true → with_lines rest p ≡ hello.parameters → addresses ++ named rest ≡ hello.addresses → Next line left asked p addresses hello
+      by : (rest : List Line) → AreLines rest (line ∷ left) → after_all expected rest ≡ Some w.end → all_in family rest ≡ true → with_lines rest p ≡ hello.parameters → addresses ++ named rest ≡ hello.addresses → Next line left expected p addresses hello
       by [] are run within options names = absurd are
       by (first ∷ rest) are run within options names =
-          let k = first_step asked first rest w.end run in
+          let k = first_step expected first rest w.end run in
           let split = both family (line_is_in family first) (all_in family rest) within in
           record {
             first = first;
@@ -178,24 +178,24 @@ module _ (family : AddressFamily) where
             others = record { rest = rest; are = are.1; end = w.end; run = k.2; within = split.1; options = options; names = append_assoc addresses (line_addresses first) (named rest) ∙ names };
           }
 
-  module _ (text line : List ℕ) (left : List (List ℕ)) (asked : Asked) (p : Parameters) (addresses : List (List ℕ)) (gathering : Gathering text (line ∷ left) asked p addresses) where
-    pub is_asked : (hello : HelloMessage) → States text (hello_in family hello) → OnlyStep asked line None → ⊥
-    is_asked hello stated none = let n = next_of line left asked p addresses hello (gathering.each hello stated) in none n.first n.next n.asks n.is
+  module _ (text line : List ℕ) (left : List (List ℕ)) (expected : Expected) (p : Parameters) (addresses : List (List ℕ)) (gathering : Gathering text (line ∷ left) expected p addresses) where
+    pub is_asked : (hello : HelloMessage) → States text (hello_in family hello) → OnlyStep expected line None → ⊥
+    is_asked hello stated none = let n = next_of line left expected p addresses hello (gathering.each hello stated) in none n.first n.next n.asks n.is
 
-    pub is_within : (hello : HelloMessage) → States text (hello_in family hello) → (found : Step) → OnlyStep asked line (Some found) → line_is_in family found.line ≡ true
+    pub is_within : (hello : HelloMessage) → States text (hello_in family hello) → (found : LineStep) → OnlyStep expected line (Some found) → line_is_in family found.line ≡ true
     is_within hello stated found only =
-        let n = next_of line left asked p addresses hello (gathering.each hello stated) in
+        let n = next_of line left expected p addresses hello (gathering.each hello stated) in
         ap (line_is_in family) (only n.first n.next n.asks n.is) ∙ n.inside
 
-    further : (found : Step) → IsStep asked line found → OnlyStep asked line (Some found) → (hello : HelloMessage) → States text (hello_in family hello) → GatheringOf left found.next (with_line found.line p) (addresses ++ line_addresses found.line) hello
+    further : (found : LineStep) → IsStep expected line found → OnlyStep expected line (Some found) → (hello : HelloMessage) → States text (hello_in family hello) → GatheringOf left found.next (with_line found.line p) (addresses ++ line_addresses found.line) hello
     further found is only hello stated =
-        let n = next_of line left asked p addresses hello (gathering.each hello stated) in
+        let n = next_of line left expected p addresses hello (gathering.each hello stated) in
         let same = only n.first n.next n.asks n.is in
-        let next : n.next ≡ found.next = same_some n.next found.next (sym n.asks ∙ (ap (after asked) (sym same) ∙ is.1)) in
+        let next : n.next ≡ found.next = same_some n.next found.next (sym n.asks ∙ (ap (after expected) (sym same) ∙ is.1)) in
         subst (λ (l : Line). GatheringOf left found.next (with_line l p) (addresses ++ line_addresses l) hello) (sym same)
-        (subst (λ (a : Asked). GatheringOf left a (with_line n.first p) (addresses ++ line_addresses n.first) hello) next n.others)
+        (subst (λ (a : Expected). GatheringOf left a (with_line n.first p) (addresses ++ line_addresses n.first) hello) next n.others)
 
-    pub one_further : (found : Step) (q : Parameters) (new : List (List ℕ)) → IsStep asked line found → OnlyStep asked line (Some found) → q ≡ with_line found.line p → new ≡ addresses ++ line_addresses found.line → HaveLength family new → Gathering text left found.next q new
+    pub one_further : (found : LineStep) (q : Parameters) (new : List (List ℕ)) → IsStep expected line found → OnlyStep expected line (Some found) → q ≡ with_line found.line p → new ≡ addresses ++ line_addresses found.line → HaveLength family new → Gathering text left found.next q new
     one_further found q new is only kept added lengths = record {
       lengths = lengths;
       each = λ hello stated.
@@ -203,11 +203,11 @@ module _ (family : AddressFamily) where
           (subst (λ (o : Parameters). GatheringOf left found.next o (addresses ++ line_addresses found.line) hello) (sym kept) (further found is only hello stated));
     }
 
-  pub at_end : (text : List ℕ) (asked : Asked) (p : Parameters) (addresses : List (List ℕ)) → Gathering text [] asked p addresses → (hello : HelloMessage) → States text (hello_in family hello) → hello_of p addresses ≡ hello
+  pub at_end : (text : List ℕ) (expected : Expected) (p : Parameters) (addresses : List (List ℕ)) → Gathering text [] expected p addresses → (hello : HelloMessage) → States text (hello_in family hello) → hello_of p addresses ≡ hello
   unfolding with_lines
-  at_end text asked p addresses gathering hello stated = by w.rest w.are w.options w.names
+  at_end text expected p addresses gathering hello stated = by w.rest w.are w.options w.names
     where
-      w : GatheringOf [] asked p addresses hello
+      w : GatheringOf [] expected p addresses hello
       w = gathering.each hello stated
 
       by : (rest : List Line) → AreLines rest [] → with_lines rest p ≡ hello.parameters → addresses ++ named rest ≡ hello.addresses → hello_of p addresses ≡ hello

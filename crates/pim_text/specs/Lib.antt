@@ -6,7 +6,7 @@ pub mod Value
 pub mod Lines
 pub mod Read
 pub mod Families
-pub mod Asked
+pub mod Expected
 pub mod Spelled
 pub mod SpelledHello
 pub mod Fields

@@ -16,8 +16,8 @@ lines [] = []
 lines (byte ∷ text) = if byte == 10 then (byte ∷ []) ∷ lines text else onto_first byte (lines text)
 
 -- The text is these words, a text of the address, and the text `behind`.
-abbrev pub IsNamed : List ℕ → AnyAddress → List ℕ → List ℕ → Type 0
-IsNamed words address behind text = (named : List ℕ) × Names named address × (text ≡ words ++ (named ++ behind))
+abbrev pub IsAddressAfter : List ℕ → AnyAddress → List ℕ → List ℕ → Type 0
+IsAddressAfter words address behind text = (named : List ℕ) × Names named address × (text ≡ words ++ (named ++ behind))
 
 -- The words and a number, to the end of a line.
 abbrev pub number_text : List ℕ → ℕ → List ℕ
@@ -29,9 +29,9 @@ numbers_text words number others another = words ++ (decimal number ++ number_te
 
 -- The text is the kind of this entry and its address, to the end of a line.
 abbrev pub IsEntry : Entry AnyAddress → List ℕ → Type 0
-IsEntry (Star rp) text = IsNamed (codes "star ") rp (10 ∷ []) text
-IsEntry (Source source) text = IsNamed (codes "source ") source (10 ∷ []) text
-IsEntry (Rpt source) text = IsNamed (codes "rpt ") source (10 ∷ []) text
+IsEntry (Star rp) text = IsAddressAfter (codes "star ") rp (10 ∷ []) text
+IsEntry (Source source) text = IsAddressAfter (codes "source ") source (10 ∷ []) text
+IsEntry (Rpt source) text = IsAddressAfter (codes "rpt ") source (10 ∷ []) text
 
 -- The text is the line of this entry in the list that the word names.
 abbrev pub IsEntryLine : List ℕ → Entry AnyAddress → List ℕ → Type 0
@@ -50,12 +50,12 @@ IsLine (Delays d) text = (d.propagation ≤ 32767) × (d.override_ms ≤ 65535)
     × (text ≡ codes "lan-prune-delay t " ++ (bit d.t ++ delays_text d))
 IsLine (Priority number) text = (number ≤ 4294967295) × (text ≡ number_text (codes "dr-priority ") number)
 IsLine (Generation number) text = (number ≤ 4294967295) × (text ≡ number_text (codes "generation ") number)
-IsLine (Secondary address) text = IsNamed (codes "address ") address (10 ∷ []) text
+IsLine (Secondary address) text = IsAddressAfter (codes "address ") address (10 ∷ []) text
 IsLine (Head h) text = (h.holdtime ≤ 65535) × (h.sets ≤ 255)
-    × IsNamed (codes "join/prune upstream ") h.upstream
+    × IsAddressAfter (codes "join/prune upstream ") h.upstream
     (numbers_text (codes " holdtime ") h.holdtime (codes " sets ") h.sets) text
 IsLine (Set s) text = (s.joined ≤ 65535) × (s.pruned ≤ 65535)
-    × IsNamed (codes "set ") s.group (numbers_text (codes " joined ") s.joined (codes " pruned ") s.pruned) text
+    × IsAddressAfter (codes "set ") s.group (numbers_text (codes " joined ") s.joined (codes " pruned ") s.pruned) text
 IsLine (Join entry) text = IsEntryLine (codes "join ") entry text
 IsLine (Prune entry) text = IsEntryLine (codes "prune ") entry text
 

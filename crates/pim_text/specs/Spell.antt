@@ -47,6 +47,6 @@ IsTextFault family text TooLong = IsLong family text
 IsTextFault family text Memory = StatesOne family text
 
 -- The fault of writing a body, as one of a text.
-abbrev pub told : SpellFault → TextFault
-told of_body.TooLong = TooLong
-told of_body.Memory = Memory
+abbrev pub reported : SpellFault → TextFault
+reported of_body.TooLong = TooLong
+reported of_body.Memory = Memory

@@ -6,7 +6,7 @@ ghost use Rattle.std.specs.Prelude.{nat_le};
 ghost use Rattle.std.specs.Prelude.{IfSome, MatchOption};
 ghost use Rattle.std.specs.List.{position};
 ghost use Rattle.pim_text.specs.Fields.{IsField, IsLed};
-ghost use Rattle.pim_text.specs.Lines.{IsNamed, number_text, numbers_text};
+ghost use Rattle.pim_text.specs.Lines.{IsAddressAfter, number_text, numbers_text};
 ghost use Rattle.pim_lines.specs.AnyAddress.{Names};
 ghost use Rattle.pim_lines.specs.declared.either.AnyAddress.{AnyAddress};
 
@@ -17,14 +17,14 @@ use std::str;
 
 /// A field, and the text after it.
 #[derive(Clone, Copy)]
-pub(crate) struct Cut<'a> {
+pub(crate) struct FieldCut<'a> {
     pub(crate) field: &'a [u8],
     pub(crate) behind: &'a [u8],
 }
 
 /// An address, and the text after it.
 #[derive(Clone, Copy)]
-pub(crate) struct Named<'a> {
+pub(crate) struct AddressCut<'a> {
     pub(crate) address: AnyAddress,
     pub(crate) behind: &'a [u8],
 }
@@ -44,7 +44,7 @@ fn first_end(text: &[u8]) -> Option<usize>
 }
 
 /// Cuts a text before its first space or control character.
-fn cut_field(text: &[u8]) -> Cut<'_>
+fn cut_field(text: &[u8]) -> FieldCut<'_>
     ensures whole { text.now ≡ result.field.now ++ result.behind.now }
     ensures only { (field behind : List ℕ) → IsField field → IsLed behind → text.now ≡ field
         ++ behind →
@@ -53,9 +53,9 @@ fn cut_field(text: &[u8]) -> Cut<'_>
     match first_end(text) {
         Some(place) => {
             let (field, behind) = text.split_at(place);
-            Cut { field, behind }
+            FieldCut { field, behind }
         }
-        None => Cut {
+        None => FieldCut {
             field: text,
             behind: &[],
         },
@@ -151,16 +151,16 @@ pub(crate) fn numbers_line(
 }
 
 /// Returns the address that follows these words, and the text after it.
-pub(crate) fn read_named<'a>(text: &'a [u8], words: &[u8]) -> Option<Named<'a>>
-    ensures read { IfSome result (λ n. IsNamed words.now n.address n.behind.now text.now) }
+pub(crate) fn read_address_after<'a>(text: &'a [u8], words: &[u8]) -> Option<AddressCut<'a>>
+    ensures read { IfSome result (λ n. IsAddressAfter words.now n.address n.behind.now text.now) }
     ensures only { (a : AnyAddress) (behind : List ℕ) → IsLed behind
-        → IsNamed words.now a behind text.now →
+        → IsAddressAfter words.now a behind text.now →
         MatchOption result ⊥ (λ n. (n.address ≡ a) × (n.behind.now ≡ behind)) }
 {
     let rest = strip(text, words)?;
     let front = cut_field(rest);
     let address = read_address(front.field)?;
-    Some(Named {
+    Some(AddressCut {
         address,
         behind: front.behind,
     })

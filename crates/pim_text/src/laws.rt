@@ -2,6 +2,10 @@
 
 ghost use Rattle.pim_text.specs.Laws.{StatedInItsFamily, MessageTextStates, HelloTextStates};
 
+pub use crate::one_reading::{
+    stated_text_has_no_wrong_line, text_has_one_body, text_has_one_wrong_line,
+    text_is_read_in_one_way, text_names_one_of_either, text_states_one_message,
+};
 use pim_addr::written_text_names;
 
 /// A law: a text whose addresses are all of one family states a Hello or a Join/Prune message of

@@ -74,7 +74,7 @@ pub struct Body {
 
 /// What the lines so far ask for.
 #[derive(Clone, Copy, Debug, PartialEq, Eq)]
-pub enum Asked {
+pub enum Expected {
     /// The first line of a message.
     Message,
     /// Options of a Hello, each optional, from the one with this place on: 0 is the holdtime, 4 an
@@ -86,18 +86,18 @@ pub enum Asked {
 
 /// A line that was read, and what the lines ask for after it.
 #[derive(Clone, Copy, Debug, PartialEq, Eq)]
-pub struct Step {
+pub struct LineStep {
     /// The line.
     pub line: Line,
     /// What is asked for next.
-    pub next: Asked,
+    pub next: Expected,
 }
 
 /// How far a text was read.
 #[derive(Clone, Copy, Debug, PartialEq, Eq)]
-pub struct Progress {
+pub struct TextProgress {
     /// What the lines so far ask for.
-    pub asked: Asked,
+    pub expected: Expected,
     /// Whether each address so far is of IPv4.
     pub all_ipv4: bool,
     /// Whether each address so far is of IPv6.

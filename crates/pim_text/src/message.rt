@@ -3,7 +3,7 @@
 ghost use Rattle.std.specs.Prelude.{◌≡◌, ◌<◌, ◌≤◌, ◌^◌, length, IfOk, IfErr};
 ghost use Rattle.pim_text.specs.Spelled.{StatesMessage};
 ghost use Rattle.pim_text.specs.SpelledHello.{StatesHello};
-ghost use Rattle.pim_text.specs.Spell.{stated_in, IsSpelled, IsTextFault, told};
+ghost use Rattle.pim_text.specs.Spell.{stated_in, IsSpelled, IsTextFault, reported};
 
 use crate::laws::stated_in_its_family;
 use crate::line::Stated;
@@ -52,8 +52,8 @@ pub fn stated_in<F: Family>(stated: Stated) -> bool
 }
 
 /// Returns the fault of writing a body, as one of a text.
-fn told(fault: SpellFault) -> TextFault
-    ensures { result ≡ told fault }
+fn reported(fault: SpellFault) -> TextFault
+    ensures { result ≡ reported fault }
 {
     match fault {
         SpellFault::TooLong => TextFault::TooLong,
@@ -73,7 +73,7 @@ fn hello_body<F: Family>(alloc: Global, text: &[u8]) -> Result<Spelled, TextFaul
             is_hello: true,
             body,
         }),
-        Err(fault) => Err(told(fault)),
+        Err(fault) => Err(reported(fault)),
     }
 }
 
@@ -89,7 +89,7 @@ fn join_prune_body<F: Family>(alloc: Global, text: &[u8]) -> Result<Spelled, Tex
             is_hello: false,
             body,
         }),
-        Err(fault) => Err(told(fault)),
+        Err(fault) => Err(reported(fault)),
     }
 }
 

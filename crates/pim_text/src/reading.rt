@@ -4,10 +4,10 @@ ghost use Rattle.std.specs.Prelude.{◌≡◌, ◌<◌, ◌^◌, ◌&&◌, lengt
 ghost use Rattle.pim_text.specs.Lines.{lines};
 ghost use Rattle.pim_text.specs.Families.{entry_is_in, line_is_in};
 ghost use Rattle.pim_lines.specs.AnyAddress.{is_in};
-ghost use Rattle.pim_text.specs.Asked.{Advanced, IsUnasked, asks_of_hello};
+ghost use Rattle.pim_text.specs.Expected.{Advanced, IsUnexpected, expects_options};
 ghost use Rattle.pim_text.specs.Read.{IsRead, IsWrongLine};
 
-use crate::line::{Asked, Line, Progress, Stated};
+use crate::line::{Expected, Line, Stated, TextProgress};
 use crate::line_walk::LineWalk;
 use crate::steps::{is_whole, step};
 use pim_addr::{AddressFamily, written_text_names};
@@ -50,21 +50,22 @@ fn line_is_in(family: AddressFamily, line: &Line) -> bool
 }
 
 /// Returns whether the lines so far are those of a Hello.
-fn is_hello(asked: Asked) -> bool
-    ensures { result ≡ asks_of_hello asked }
+fn is_hello(expected: Expected) -> bool
+    ensures { result ≡ expects_options expected }
 {
-    matches!(asked, Asked::Options(_))
+    matches!(expected, Expected::Options(_))
 }
 
 /// Reads one line more.
-fn advance(progress: Progress, text: &[u8]) -> Option<Progress>
-    ensures { MatchOption result (IsUnasked progress.asked text.now) (Advanced progress text.now) }
+fn advance(progress: TextProgress, text: &[u8]) -> Option<TextProgress>
+    ensures { MatchOption result (IsUnexpected progress.expected text.now)
+        (Advanced progress text.now) }
 {
-    let found = step(progress.asked, text)?;
+    let found = step(progress.expected, text)?;
     let ipv4 = line_is_in(AddressFamily::Ipv4, &found.line);
     let ipv6 = line_is_in(AddressFamily::Ipv6, &found.line);
-    Some(Progress {
-        asked: found.next,
+    Some(TextProgress {
+        expected: found.next,
         all_ipv4: progress.all_ipv4 & ipv4,
         all_ipv6: progress.all_ipv6 & ipv6,
     })
@@ -83,8 +84,8 @@ pub fn read_message_text(text: &[u8]) -> Result<Stated, usize>
 {
     written_text_names();
     let mut number = 0;
-    let mut progress = Progress {
-        asked: Asked::Message,
+    let mut progress = TextProgress {
+        expected: Expected::Message,
         all_ipv4: true,
         all_ipv6: true,
     };
@@ -95,9 +96,9 @@ pub fn read_message_text(text: &[u8]) -> Result<Stated, usize>
         };
         progress = next;
     }
-    if is_whole(progress.asked) {
+    if is_whole(progress.expected) {
         Ok(Stated {
-            is_hello: is_hello(progress.asked),
+            is_hello: is_hello(progress.expected),
             all_ipv4: progress.all_ipv4,
             all_ipv6: progress.all_ipv6,
         })

@@ -8,19 +8,20 @@ ghost use Rattle.pim_text.specs.declared.line.DelayLine.{DelayLine};
 ghost use Rattle.pim_text.specs.declared.line.Head.{Head};
 ghost use Rattle.pim_text.specs.declared.line.SetLine.{SetLine};
 ghost use Rattle.pim_text.specs.declared.line.Line.{Line};
-ghost use Rattle.pim_text.specs.Lines.{IsNamed, IsEntry, IsEntryLine, IsLine, delays_text};
+ghost use Rattle.pim_text.specs.Lines.{IsAddressAfter, IsEntry, IsEntryLine, IsLine, delays_text};
 
-use crate::fields::{is_end, number_line, numbers_line, read_named, strip};
+use crate::fields::{is_end, number_line, numbers_line, read_address_after, strip};
 use crate::line::{DelayLine, Head, SetLine};
 use pim_jp::Entry;
 use pim_lines::AnyAddress;
 
 /// Returns the address of a text that has these words, an address and a line feed.
 pub(crate) fn address_line(text: &[u8], words: &[u8]) -> Option<AnyAddress>
-    ensures read { IfSome result (λ a. IsNamed words.now a (10 ∷ []) text.now) }
-    ensures only { (a : AnyAddress) → IsNamed words.now a (10 ∷ []) text.now → result ≡ Some a }
+    ensures read { IfSome result (λ a. IsAddressAfter words.now a (10 ∷ []) text.now) }
+    ensures only { (a : AnyAddress) → IsAddressAfter words.now a (10 ∷ []) text.now → result
+        ≡ Some a }
 {
-    let named = read_named(text, words)?;
+    let named = read_address_after(text, words)?;
     if is_end(named.behind) {
         Some(named.address)
     } else {
@@ -88,7 +89,7 @@ pub(crate) fn head_line(text: &[u8]) -> Option<Head>
     ensures read { IfSome result (λ h. IsLine (Line.Head h) text.now) }
     ensures only { (h : Head) → IsLine (Line.Head h) text.now → result ≡ Some h }
 {
-    let named = read_named(text, b"join/prune upstream ")?;
+    let named = read_address_after(text, b"join/prune upstream ")?;
     let two = numbers_line(named.behind, b" holdtime ", 65_535, b" sets ", 255)?;
     Some(Head {
         upstream: named.address,
@@ -102,7 +103,7 @@ pub(crate) fn set_line(text: &[u8]) -> Option<SetLine>
     ensures read { IfSome result (λ s. IsLine (Line.Set s) text.now) }
     ensures only { (s : SetLine) → IsLine (Line.Set s) text.now → result ≡ Some s }
 {
-    let named = read_named(text, b"set ")?;
+    let named = read_address_after(text, b"set ")?;
     let two = numbers_line(named.behind, b" joined ", 65_535, b" pruned ", 65_535)?;
     Some(SetLine {
         group: named.address,

@@ -3,7 +3,7 @@
 ghost use Rattle.std.specs.Prelude.{◌≡◌, ◌≤◌, ℕ, List, length, IfOk, IfErr};
 ghost use Rattle.pim_text.specs.Spelled.{StatesMessage, SpellsMessage, IsMessageFault};
 
-use crate::line::Asked;
+use crate::line::Expected;
 use crate::line_walk::LineWalk;
 use crate::spelling_lines::push_line;
 use crate::steps::step;
@@ -38,9 +38,9 @@ pub fn spell_join_prune<F: Family>(alloc: Global, text: &[u8]) -> Result<Vec<u8>
     ensures fault { IfErr result (IsMessageFault F.family text.now) }
 {
     let mut body = Vec::new(alloc);
-    let mut asked = Asked::Message;
+    let mut expected = Expected::Message;
     for line in LineWalk::new(text) {
-        let Some(found) = step(asked, line) else {
+        let Some(found) = step(expected, line) else {
             unreachable!();
         };
         let Ok(()) = push_line::<F>(&mut body, found.line) else {
@@ -49,7 +49,7 @@ pub fn spell_join_prune<F: Family>(alloc: Global, text: &[u8]) -> Result<Vec<u8>
         if body.len() > LONGEST_BODY {
             return Err(SpellFault::TooLong);
         }
-        asked = found.next;
+        expected = found.next;
     }
     Ok(body)
 }

@@ -10,7 +10,7 @@ ghost use Rattle.pim_text.specs.SpelledHello.{with_line, line_addresses, DelaysF
 ghost use Rattle.pim_text.specs.SpelledHello.{hello_of, StatesHello};
 ghost use Rattle.pim_text.specs.SpelledHello.{SpellsHello, IsHelloFault, IsTooLong};
 
-use crate::line::{Asked, Line};
+use crate::line::{Expected, Line};
 use crate::line_walk::LineWalk;
 use crate::spelling::SpellFault;
 use crate::spelling_lines::address_of;
@@ -79,7 +79,8 @@ fn write_hello<F: Family>(
         (hello_of (parameters_seen parameters) (map F.bytes_of addresses.now))) }
     ensures short { IfOk result (λ body. length body.items ≤ 65532) }
     ensures fault { IfErr result
-        (IsTooLong F.family (hello_of (parameters_seen parameters) (map F.bytes_of addresses.now))) }
+        (IsTooLong F.family
+        (hello_of (parameters_seen parameters) (map F.bytes_of addresses.now))) }
 {
     let Ok(count) = u16::try_from(addresses.len()) else {
         return Err(SpellFault::TooLong);
@@ -123,16 +124,16 @@ pub fn spell_hello<F: Family>(alloc: Global, text: &[u8]) -> Result<Vec<u8>, Spe
         generation: None,
     };
     let mut addresses = Vec::new(alloc);
-    let mut asked = Asked::Message;
+    let mut expected = Expected::Message;
     for line in LineWalk::new(text) {
-        let Some(found) = step(asked, line) else {
+        let Some(found) = step(expected, line) else {
             unreachable!();
         };
         parameters = with_line(parameters, found.line);
         let Ok(()) = push_address::<F>(&mut addresses, found.line) else {
             return Err(SpellFault::Memory);
         };
-        asked = found.next;
+        expected = found.next;
     }
     write_hello::<F>(alloc, parameters, &addresses)
 }

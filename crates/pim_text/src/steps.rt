@@ -3,11 +3,11 @@
 ghost use Rattle.std.specs.Prelude.{◌≡◌, ℕ, ◌∷◌, Option, Some, true, codes, IfSome};
 ghost use Rattle.pim_text.specs.declared.line.Line.{Line};
 ghost use Rattle.pim_text.specs.Lines.{IsLine};
-ghost use Rattle.pim_text.specs.Asked.{is_option, option_after, after_option, is_whole, ends};
-ghost use Rattle.pim_text.specs.Asked.{IsStep, OnlyStep};
+ghost use Rattle.pim_text.specs.Expected.{is_option, option_after, after_option, is_whole, ends};
+ghost use Rattle.pim_text.specs.Expected.{IsStep, OnlyStep};
 
 use crate::fields::number_line;
-use crate::line::{Asked, Body, Line, Step};
+use crate::line::{Body, Expected, Line, LineStep};
 use crate::reading_lines::{address_line, delays_line, entry_line, head_line, set_line};
 
 /// Returns whether a text is the first line of a Hello.
@@ -19,20 +19,20 @@ fn is_hello(text: &[u8]) -> bool
 }
 
 /// Reads the first line of a message.
-fn message_step(text: &[u8]) -> Option<Step>
-    ensures read { IfSome result (IsStep Asked.Message text.now) }
-    ensures only { OnlyStep Asked.Message text.now result }
+fn message_step(text: &[u8]) -> Option<LineStep>
+    ensures read { IfSome result (IsStep Expected.Message text.now) }
+    ensures only { OnlyStep Expected.Message text.now result }
 {
     if is_hello(text) {
-        return Some(Step {
+        return Some(LineStep {
             line: Line::Hello,
-            next: Asked::Options(0),
+            next: Expected::Options(0),
         });
     }
     let head = head_line(text)?;
-    Some(Step {
+    Some(LineStep {
         line: Line::Head(head),
-        next: Asked::Body(Body {
+        next: Expected::Body(Body {
             joined: 0,
             pruned: 0,
             sets: head.sets,
@@ -65,18 +65,18 @@ fn read_option(text: &[u8]) -> Option<Line>
 }
 
 /// What is asked for after an option of this place.
-fn option_after(from: u8, place: u8, next: u8) -> Option<Asked>
+fn option_after(from: u8, place: u8, next: u8) -> Option<Expected>
     ensures { result ≡ option_after from place next }
 {
     if from <= place {
-        Some(Asked::Options(next))
+        Some(Expected::Options(next))
     } else {
         None
     }
 }
 
 /// What is asked for after a line of a Hello.
-fn after_option(from: u8, line: Line) -> Option<Asked>
+fn after_option(from: u8, line: Line) -> Option<Expected>
     ensures { result ≡ after_option from line }
 {
     match line {
@@ -84,31 +84,31 @@ fn after_option(from: u8, line: Line) -> Option<Asked>
         Line::Delays(_) => option_after(from, 1, 2),
         Line::Priority(_) => option_after(from, 2, 3),
         Line::Generation(_) => option_after(from, 3, 4),
-        Line::Secondary(_) => Some(Asked::Options(4)),
+        Line::Secondary(_) => Some(Expected::Options(4)),
         _ => None,
     }
 }
 
 /// Reads an option of a Hello, of the place `from` or a later one.
-fn option_step(from: u8, text: &[u8]) -> Option<Step>
-    ensures read { IfSome result (IsStep (Asked.Options from) text.now) }
-    ensures only { OnlyStep (Asked.Options from) text.now result }
+fn option_step(from: u8, text: &[u8]) -> Option<LineStep>
+    ensures read { IfSome result (IsStep (Expected.Options from) text.now) }
+    ensures only { OnlyStep (Expected.Options from) text.now result }
 {
     let line = read_option(text)?;
     let next = after_option(from, line)?;
-    Some(Step { line, next })
+    Some(LineStep { line, next })
 }
 
 /// Reads a line of a Join/Prune message.
-fn body_step(body: Body, text: &[u8]) -> Option<Step>
-    ensures read { IfSome result (IsStep (Asked.Body body) text.now) }
-    ensures only { OnlyStep (Asked.Body body) text.now result }
+fn body_step(body: Body, text: &[u8]) -> Option<LineStep>
+    ensures read { IfSome result (IsStep (Expected.Body body) text.now) }
+    ensures only { OnlyStep (Expected.Body body) text.now result }
 {
     if body.joined > 0 {
         let entry = entry_line(text, b"join ")?;
-        return Some(Step {
+        return Some(LineStep {
             line: Line::Join(entry),
-            next: Asked::Body(Body {
+            next: Expected::Body(Body {
                 joined: body.joined - 1,
                 pruned: body.pruned,
                 sets: body.sets,
@@ -117,9 +117,9 @@ fn body_step(body: Body, text: &[u8]) -> Option<Step>
     }
     if body.pruned > 0 {
         let entry = entry_line(text, b"prune ")?;
-        return Some(Step {
+        return Some(LineStep {
             line: Line::Prune(entry),
-            next: Asked::Body(Body {
+            next: Expected::Body(Body {
                 joined: 0,
                 pruned: body.pruned - 1,
                 sets: body.sets,
@@ -130,9 +130,9 @@ fn body_step(body: Body, text: &[u8]) -> Option<Step>
         return None;
     }
     let set = set_line(text)?;
-    Some(Step {
+    Some(LineStep {
         line: Line::Set(set),
-        next: Asked::Body(Body {
+        next: Expected::Body(Body {
             joined: set.joined,
             pruned: set.pruned,
             sets: body.sets - 1,
@@ -141,24 +141,24 @@ fn body_step(body: Body, text: &[u8]) -> Option<Step>
 }
 
 /// Reads a line that is asked for.
-pub(crate) fn step(asked: Asked, text: &[u8]) -> Option<Step>
-    ensures read { IfSome result (IsStep asked text.now) }
-    ensures only { OnlyStep asked text.now result }
+pub(crate) fn step(expected: Expected, text: &[u8]) -> Option<LineStep>
+    ensures read { IfSome result (IsStep expected text.now) }
+    ensures only { OnlyStep expected text.now result }
 {
-    match asked {
-        Asked::Message => message_step(text),
-        Asked::Options(from) => option_step(from, text),
-        Asked::Body(body) => body_step(body, text),
+    match expected {
+        Expected::Message => message_step(text),
+        Expected::Options(from) => option_step(from, text),
+        Expected::Body(body) => body_step(body, text),
     }
 }
 
 /// Returns whether nothing more is needed.
-pub(crate) fn is_whole(asked: Asked) -> bool
-    ensures { result ≡ is_whole asked }
+pub(crate) fn is_whole(expected: Expected) -> bool
+    ensures { result ≡ is_whole expected }
 {
-    match asked {
-        Asked::Message => false,
-        Asked::Options(_) => true,
-        Asked::Body(body) => body.joined == 0 && body.pruned == 0 && body.sets == 0,
+    match expected {
+        Expected::Message => false,
+        Expected::Options(_) => true,
+        Expected::Body(body) => body.joined == 0 && body.pruned == 0 && body.sets == 0,
     }
 }

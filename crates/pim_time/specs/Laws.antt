@@ -12,6 +12,7 @@ OneTime = (text : List ℕ) (one other : Time) → IsTime text one → IsTime te
 abbrev pub DateNamesItsTime : Type 0
 DateNamesItsTime = (millis : ℕ) → millis < 253402300800000 → IsTime (date_text millis) (Epoch millis)
 
--- The seconds that are written of a time name that time, where they have at most 10 digits before the point.
+-- The seconds that are written of a time name that time, where they have at most 10 digits before
+-- the point.
 abbrev pub SecondsNameTheirTime : Type 0
 SecondsNameTheirTime = (millis : ℕ) → millis < 10000000000000 → IsTime (seconds_text millis) (Epoch millis)

@@ -70,8 +70,8 @@ pub record IsSeconds (text : List ℕ) (millis : ℕ) : Type 0 where
   pub spelled : text ≡ front ++ behind
   pub value : millis ≡ seconds * 1000 + part
 
--- The text is a UTC date in capitals, `YYYY-MM-DDTHH:MM:SSZ` or `YYYY-MM-DDTHH:MM:SS.fZ` with one to three
--- digits after the point (RFC 3339, 5.6), of a year below 10000.
+-- The text is a UTC date in capitals, `YYYY-MM-DDTHH:MM:SSZ` or `YYYY-MM-DDTHH:MM:SS.fZ` with one
+-- to three digits after the point (RFC 3339, 5.6), of a year below 10000.
 pub record IsDate (text : List ℕ) (millis : ℕ) : Type 0 where
   pub seconds : ℕ
   pub behind : List ℕ

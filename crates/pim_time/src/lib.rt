@@ -5,18 +5,21 @@
 //!   these forms, and a text names at most one time.
 //! - `write_seconds` and `write_date` write milliseconds since 1970 in one spelling, which
 //!   `read_time` reads as the same time.
+//! - `TimeForm` says in which of these forms a user wants moments.
 //!
 //! The definition of the calendar counts day by day; the code goes by years and months. Leap
 //! seconds do not exist here, as in the stamps of captures.
+//! Callers: `pim_merge`, `pim_words`, and the crates of events.
 #![tactic(auto)]
 
 mod calendar;
 mod cuts;
 mod digits;
-mod laws;
+mod form;
+pub mod laws;
 mod reading;
 mod writing;
 
-pub use laws::{date_names_its_time, seconds_name_their_time, text_names_one_time};
+pub use form::TimeForm;
 pub use reading::{Time, read_time};
 pub use writing::{write_date, write_seconds};

@@ -8,19 +8,19 @@ use Rattle.pim_down.specs.declared.machines.machine.Machine.{Machine}
 use Rattle.pim_down.specs.declared.machines.machine.State.{State}
 use Rattle.pim_down.specs.declared.machines.step.Timer.{Timer}
 use Rattle.pim_down.specs.declared.machines.step.Timer.TheVariants.{PrunePending, Expiry}
-use Rattle.pim_down.specs.Laws.{KeysAreToldApart}
+use Rattle.pim_down.specs.Laws.{KeysAreDistinct}
 use Rattle.pim_down.specs.Records.{machine_at, state_of_machine, state_of}
 use Rattle.pim_router.specs.State.{RouterState}
 use Rattle.pim_events.specs.declared.event.Cause.{Cause}
 use Rattle.pim_events.specs.declared.event.Fired.{Fired}
 use Rattle.pim_events.specs.declared.event.Transition.{Transition}
-use Rattle.pim_events.specs.Events.{Happened, Occurrence, hello_taken, packet_judged, machine_changed, join_ignored}
+use Rattle.pim_events.specs.Events.{Happened, Occurrence, hello_heard, packet_judged, machine_changed, join_ignored}
 use Rattle.pim_events.specs.Events.{own_restart, record_skipped, neighbour_gone, timer_fired, run_ended}
 use Rattle.pim_trace.specs.declared.ledger.Causes.{Causes}
 use Rattle.pim_trace.specs.Causing.{end_of, end_after, end_then, end_by, sets, packet_of, set_by, last_of, last_set, key_on}
 use Rattle.pim_trace.specs.Causing.{last_setting, ends_pending, EventsNameTheirPackets}
 use Rattle.pim_trace.specs.Heard.{is_pending}
-use Rattle.pim_trace.specs.Folding.{names, states_by, states_told, state_then, BeginsIn, last_told, IsUnbroken, LeadOn}
+use Rattle.pim_trace.specs.Folding.{names, states_by, states_shown, state_then, BeginsIn, last_shown, IsUnbroken, LeadOn}
 use Rattle.pim_trace.specs.Ledger.{Ledger, no_cause, both_by}
 use Rattle.pim_trace.specs.Passing.{cause_of}
 use Rattle.pim_trace.specs.Trace.{ledger_for}
@@ -32,16 +32,16 @@ use Rattle.pim_trace.proofs.Folding.{LeadsAll}
 
 module _ (key : Key (List ℕ)) where
   -- what an event tells of the states
-  pub record Tells (from : Option Known) (event : Occurrence) (to : Option Known) : Type 0 where
-    pub begins : BeginsIn (state_in from) (states_told key event)
-    pub ends : state_then (state_in from) (states_told key event) ≡ state_in to
+  pub record Writes (from : Option Known) (event : Occurrence) (to : Option Known) : Type 0 where
+    pub begins : BeginsIn (state_in from) (states_shown key event)
+    pub ends : state_then (state_in from) (states_shown key event) ≡ state_in to
 
   tells_states : (from to : Option Known) (event : Occurrence) (before after : Option State) →
-      states_told key event ≡ Some (before, after) → before ≡ state_in from → after ≡ state_in to →
-      Tells from event to
-  tells_states from to event before after told was now = record {
-    begins = rw told was;
-    ends = rw told now;
+      states_shown key event ≡ Some (before, after) → before ≡ state_in from → after ≡ state_in to →
+      Writes from event to
+  tells_states from to event before after reported was now = record {
+    begins = rw reported was;
+    ends = rw reported now;
   }
 
   changed_state : (ms : ℕ) (change : Transition (List ℕ)) (from : Option Known) (machine : Option Machine) →
@@ -54,35 +54,35 @@ module _ (key : Key (List ℕ)) where
   fired_state firing held None = refl
   fired_state firing held (Some state) = refl
 
-  tells : (from to : Option Known) (event : Occurrence) → LeadsBy key from event to → Tells from event to
+  tells : (from to : Option Known) (event : Occurrence) → LeadsBy key from event to → Writes from event to
   tells from to event (tells_nothing none same) = record {
     begins = rw none tt;
     ends = rw none (ap state_in (sym same));
   }
   tells from to event (tells_change c) =
-      let told : states_told key event ≡ Some (c.change.before, state_of_machine c.change.after) =
+      let reported : states_shown key event ≡ Some (c.change.before, state_of_machine c.change.after) =
       ap (states_by key event.port) c.what
-      ∙ ap (λ b. if b then Some (c.change.before, state_of_machine c.change.after) else None) c.named in
-      tells_states from to event c.change.before (state_of_machine c.change.after) told c.was
+      ∙ ap (λ b. if b then Some (c.change.before, state_of_machine c.change.after) else None) c.affected in
+      tells_states from to event c.change.before (state_of_machine c.change.after) reported c.was
       (changed_state event.ms c.change from c.change.after ∙ ap state_in (sym c.now))
   tells from to event (tells_firing f) =
-      let told : states_told key event ≡ Some (Some f.firing.before, f.firing.after) =
+      let reported : states_shown key event ≡ Some (Some f.firing.before, f.firing.after) =
       ap (states_by key event.port) f.what
-      ∙ ap (λ b. if b then Some (Some f.firing.before, f.firing.after) else None) f.named in
-      tells_states from to event (Some f.firing.before) f.firing.after told
+      ∙ ap (λ b. if b then Some (Some f.firing.before, f.firing.after) else None) f.affected in
+      tells_states from to event (Some f.firing.before) f.firing.after reported
       (ap Some f.before ∙ ap state_in (sym f.was))
       (fired_state f.firing f.held f.firing.after ∙ ap state_in (sym f.now))
 
   unbroken : (from to : Option Known) (events : List Occurrence) → Leads key from events to →
-      IsUnbroken key (state_in from) events × (last_told key (state_in from) events ≡ state_in to)
-  unfolding Leads IsUnbroken last_told
+      IsUnbroken key (state_in from) events × (last_shown key (state_in from) events ≡ state_in to)
+  unfolding Leads IsUnbroken last_shown
   unbroken from to [] leads = (tt, ap state_in leads)
   unbroken from to (event ∷ events) (between, one, more) =
       let t = tells from between event one in let rest = unbroken between to events more in
       subst
       (λ (s : Option State).
-      (BeginsIn (state_in from) (states_told key event) × IsUnbroken key s events)
-      × (last_told key s events ≡ state_in to)) (sym t.ends) ((t.begins, rest.0), rest.1)
+      (BeginsIn (state_in from) (states_shown key event) × IsUnbroken key s events)
+      × (last_shown key s events ≡ state_in to)) (sym t.ends) ((t.begins, rest.0), rest.1)
 
 known_state : (ms : ℕ) (causes : Causes (List ℕ)) (machine : Option Machine) →
     state_in (known_of ms causes machine) ≡ state_of_machine machine
@@ -97,7 +97,7 @@ leading ledger ledger' state after events leads key =
     let before = known_state state.machines.moment _ (machine_at key state.machines.records) in
     let then' = known_state after.machines.moment _ (machine_at key after.machines.records) in (
       subst (λ (s : Option State). IsUnbroken key s events) before both.0,
-      subst (λ (s : Option State). last_told key s events ≡ state_of key after.machines.records) before
+      subst (λ (s : Option State). last_shown key s events ≡ state_of key after.machines.records) before
           (both.1 ∙ then'),
     )
 
@@ -166,18 +166,18 @@ module _ (Is : Option (Cause (List ℕ)) → Cause (List ℕ) → Type 0)
       subst (λ (k : Known). Is since (k.by timer)) (same_known _ other e) (set held refl)
 
   -- an event that tells nothing of the machine
-  abbrev Told : Type 0
-  Told = Option (Option State × Option State)
+  abbrev EventSeen : Type 0
+  EventSeen = Option (Option State × Option State)
 
-  abbrev told_if : Bool → Option State × Option State → Told
-  told_if b states = if b then Some states else None
+  abbrev carried_if : Bool → Option State × Option State → EventSeen
+  carried_if b states = if b then Some states else None
 
   nothing_by : (held : Option ℕ) (ms : ℕ) (port : Option ℕ) (what : Happened) → states_by key port what ≡ None →
       (end_by timer key held ms port what ≡ held) × (set_by timer key held ms port what ≡ None)
   nothing_by held ms port (machine_changed change) none =
       unnamed (names key port change.group change.what) none
     where
-      unnamed : (b : Bool) → told_if b (change.before, state_of_machine change.after) ≡ None →
+      unnamed : (b : Bool) → carried_if b (change.before, state_of_machine change.after) ≡ None →
           ((if b then end_of timer ms change.after else held) ≡ held)
           × ((if b && sets timer ms held change then Some (packet_of ms change) else None) ≡ None)
       unnamed true e = absurd cc
@@ -185,11 +185,11 @@ module _ (Is : Option (Cause (List ℕ)) → Cause (List ℕ) → Type 0)
   nothing_by held ms port (timer_fired firing) none =
       unnamed (names key port firing.group firing.what) none
     where
-      unnamed : (b : Bool) → told_if b (Some firing.before, firing.after) ≡ None →
+      unnamed : (b : Bool) → carried_if b (Some firing.before, firing.after) ≡ None →
           ((if b then end_after timer firing held else held) ≡ held) × ◌≡◌ {A = Option (Cause (List ℕ))} None None
       unnamed true e = absurd cc
       unnamed false e = (refl, refl)
-  nothing_by held ms port (hello_taken hello) none = (refl, refl)
+  nothing_by held ms port (hello_heard hello) none = (refl, refl)
   nothing_by held ms port (packet_judged packet) none = (refl, refl)
   nothing_by held ms port (join_ignored entry) none = (refl, refl)
   nothing_by held ms port (own_restart restart) none = (refl, refl)
@@ -211,11 +211,11 @@ module _ (Is : Option (Cause (List ℕ)) → Cause (List ℕ) → Type 0)
       let by : set_by timer key held event.ms event.port event.what
       ≡ (if sets timer event.ms held c.change then Some (packet_of event.ms c.change) else None) =
       ap (set_by timer key held event.ms event.port) c.what
-      ∙ ap (λ b. if b && sets timer event.ms held c.change then Some (packet_of event.ms c.change) else None) c.named in
+      ∙ ap (λ b. if b && sets timer event.ms held c.change then Some (packet_of event.ms c.change) else None) c.affected in
       record {
         ends =
             ap (end_by timer key held event.ms event.port) c.what
-            ∙ ap (λ b. if b then end_of timer event.ms c.change.after else held) c.named
+            ∙ ap (λ b. if b then end_of timer event.ms c.change.after else held) c.affected
             ∙ changed_end event.ms c.change from c.change.after ∙ ap (end_in timer) (sym c.now);
         by =
             subst (λ (o : Option (Cause (List ℕ))). Set to (last_of since o)) (sym by)
@@ -229,7 +229,7 @@ module _ (Is : Option (Cause (List ℕ)) → Cause (List ℕ) → Type 0)
       let held = end_in timer from in record {
         ends =
             ap (end_by timer key held event.ms event.port) f.what
-            ∙ ap (λ b. if b then end_after timer f.firing held else held) f.named
+            ∙ ap (λ b. if b then end_after timer f.firing held else held) f.affected
             ∙ ap (λ (k : Option Known). end_after timer f.firing (end_in timer k)) f.was
             ∙ fired_end f.firing f.held f.firing.after refl ∙ ap (end_in timer) (sym f.now);
         by =
@@ -254,13 +254,13 @@ module _ (Is : Option (Cause (List ℕ)) → Cause (List ℕ) → Type 0)
   fired_now : (from to : Option Known) (event : Occurrence) (since : Option (Cause (List ℕ))) → Set from since →
       LeadsBy key from event to → (firing : Fired (List ℕ)) → event.what ≡ timer_fired firing →
       names key event.port firing.group firing.what ≡ true → firing.timer ≡ timer → Is since firing.cause
-  fired_now from to event since set (tells_nothing none same) firing what named is =
+  fired_now from to event since set (tells_nothing none same) firing what affected is =
       absurd (no_states (Some firing.before, firing.after)
       (sym (ap (states_by key event.port) what
-      ∙ ap (λ b. if b then Some (Some firing.before, firing.after) else None) named) ∙ none))
-  fired_now from to event since set (tells_change c) firing what named is =
+      ∙ ap (λ b. if b then Some (Some firing.before, firing.after) else None) affected) ∙ none))
+  fired_now from to event since set (tells_change c) firing what affected is =
       absurd (not_changed c.change firing (sym c.what ∙ what))
-  fired_now from to event since set (tells_firing f) firing what named is =
+  fired_now from to event since set (tells_firing f) firing what affected is =
       let same : f.firing ≡ firing = same_firing f.firing firing (sym f.what ∙ what) in
       let timers : f.firing.timer ≡ timer = ap (λ (x : Fired (List ℕ)). x.timer) same ∙ is in
       subst (Is since)
@@ -326,15 +326,15 @@ module _ (none : Cause (List ℕ)) (since : Option (Cause (List ℕ))) where
   overridden_now : (key : Key (List ℕ)) (event : Occurrence) (change : Transition (List ℕ)) →
       event.what ≡ machine_changed change → names key event.port change.group change.what ≡ true →
       (from to : Option Known) → SetPending from → LeadsBy key from event to → Overrides change
-  overridden_now key event change what named from to set (tells_nothing nothing same) =
+  overridden_now key event change what affected from to set (tells_nothing nothing same) =
       absurd (told_none (change.before, state_of_machine change.after)
       (sym (ap (states_by key event.port) what
-      ∙ ap (λ b. if b then Some (change.before, state_of_machine change.after) else None) named) ∙ nothing))
-  overridden_now key event change what named from to set (tells_change c) =
+      ∙ ap (λ b. if b then Some (change.before, state_of_machine change.after) else None) affected) ∙ nothing))
+  overridden_now key event change what affected from to set (tells_change c) =
       subst Overrides (same_change c.change change (sym c.what ∙ what))
       (c.overrides
       ∙ overridden_by from c.change.before (not (is_pending (state_of_machine c.change.after))) c.was set)
-  overridden_now key event change what named from to set (tells_firing f) =
+  overridden_now key event change what affected from to set (tells_firing f) =
       absurd (not_fired change f.firing (sym f.what ∙ what))
 
 -- ---- from the start of a run
@@ -358,7 +358,7 @@ no_packet timer group ms (Some machine) held e =
     both Expiry = refl
     both PrunePending = refl
 
-module _ (apart : KeysAreToldApart) (state : RouterState) (ledger : Ledger) (after : RouterState)
+module _ (apart : KeysAreDistinct) (state : RouterState) (ledger : Ledger) (after : RouterState)
     (events : List Occurrence) (leads : LeadsAll (place (ledger_for state) state) events (place ledger after))
     (earlier later : List Occurrence) (event : Occurrence) (port : ℕ) (group : List ℕ) (what : What (List ℕ))
     (e : events ≡ earlier ++ event ∷ later) (on : event.port ≡ Some port) (timer : Timer) where
@@ -368,8 +368,8 @@ module _ (apart : KeysAreToldApart) (state : RouterState) (ledger : Ledger) (aft
   abbrev from : Option Known
   from = known_at key (place (ledger_for state) state)
 
-  is_named : names key event.port group what ≡ true
-  is_named = ap (λ (o : Option ℕ). names key o group what) on ∙ (apart key key).1.1 refl
+  is_affected : names key event.port group what ≡ true
+  is_affected = ap (λ (o : Option ℕ). names key o group what) on ∙ (apart key key).1.1 refl
 
   -- what holds of the event, by the packet that set the timer last
   by_last : (Is : Option (Cause (List ℕ)) → Cause (List ℕ) → Type 0)
@@ -398,7 +398,7 @@ module _ (apart : KeysAreToldApart) (state : RouterState) (ledger : Ledger) (aft
       no_held : (held : Known) → ◌≡◌ {A = Option Known} None (Some held) → ⊥
       no_held held e = cc
 
-pub naming : KeysAreToldApart → (state : RouterState) (ledger : Ledger) (after : RouterState)
+pub naming : KeysAreDistinct → (state : RouterState) (ledger : Ledger) (after : RouterState)
     (events : List Occurrence) → LeadsAll (place (ledger_for state) state) events (place ledger after) →
     EventsNameTheirPackets state events
 naming apart state ledger after events leads = (
@@ -409,7 +409,7 @@ naming apart state ledger after events leads = (
         (λ before then' since set one.
         fired_now (λ o packet. packet ≡ unwrap_or o (no_cause firing.group)) (λ packet. refl)
         (key_on port firing.group firing.what) firing.timer before then' event since set one firing what
-        (is_named apart state ledger after events leads earlier later event port firing.group firing.what e on
+        (is_affected apart state ledger after events leads earlier later event port firing.group firing.what e on
         firing.timer) refl)
         (none_set apart state ledger after events leads earlier later event port firing.group firing.what e on
         firing.timer),
@@ -418,7 +418,7 @@ naming apart state ledger after events leads = (
         (λ before then' since set one.
         fired_now (λ o packet. o ≡ Some packet) (λ packet. refl) (key_on port firing.group firing.what) firing.timer
         before then' event since set one firing what
-        (is_named apart state ledger after events leads earlier later event port firing.group firing.what e on
+        (is_affected apart state ledger after events leads earlier later event port firing.group firing.what e on
         firing.timer) refl)
         (λ held is. absurd
         (unheld apart state ledger after events leads earlier later event port firing.group firing.what e on
@@ -431,7 +431,7 @@ naming apart state ledger after events leads = (
       ≡ (if ends_pending change then Some (unwrap_or o (no_cause change.group)).frame else None))
       (λ before then' since set one.
       overridden_now (no_cause change.group) since (key_on port change.group change.what) event change what
-      (is_named apart state ledger after events leads earlier later event port change.group change.what e on
+      (is_affected apart state ledger after events leads earlier later event port change.group change.what e on
       PrunePending) before then' set one)
       (none_set apart state ledger after events leads earlier later event port change.group change.what e on
       PrunePending),

@@ -14,16 +14,16 @@ use Rattle.pim_run.specs.declared.fault.RunFault.{RunFault}
 use Rattle.pim_run.specs.declared.fault.RunFault.TheVariants.{Capture, Output, Memory}
 use Rattle.pim_trace.specs.Ledger.{Ledger}
 use Rattle.pim_trace.specs.Passing.{PassesTime}
-use Rattle.pim_trace.specs.Telling.{HasTold, HasBegun}
-use Rattle.pim_trace.specs.Trace.{TellsTurns, TellsAll, IsTrace, ending, ledger_for, HasSome, HasTrace, Wrote, WroteFront, Traces}
+use Rattle.pim_trace.specs.WrittenEvents.{HasWritten, HasBegun}
+use Rattle.pim_trace.specs.Trace.{WritesTurns, WritesAll, IsTrace, ending, ledger_for, HasSome, HasTrace, Wrote, WroteFront, Traces}
 use Rattle.pim_trace.specs.Underway.{HasAll, RunsTurns}
 use Rattle.pim_trace.proofs.Underway.{begun_first}
-use Rattle.pim_trace.proofs.Pieces.{none_told, all_told, told_then, told_begun, begun_longer, one_told, one_begun}
+use Rattle.pim_trace.proofs.Pieces.{none_told, all_told, happens_then, told_begun, begun_longer, one_told, one_begun}
 
 module _ (line : Occurrence → List ℕ) (family : AddressFamily) (end : End) (start : MergeState) (state : RouterState) (old : Option (List ℕ)) where
   -- nothing was told, since there was no memory for the ledger
   pub nothing_yet : EveryStateGoesOn → HasSome line family end start state old old
-  unfolding Takes TellsTurns
+  unfolding Takes WritesTurns
   nothing_yet goes_on =
       begun_first goes_on line family end start state old old [] [] (ledger_for state) state
       (λ captures coming. record { clock_then = start.clock; rest = captures; takes_them = (refl, refl); is_rest = tt }) (refl, refl, refl)
@@ -32,7 +32,7 @@ module _ (line : Occurrence → List ℕ) (family : AddressFamily) (end : End) (
   -- the turns ended the trace
   pub turns_end_it : (merge : MergeState) (ledger : Ledger) (now after : RouterState) (new : Option (List ℕ)) (fault : RunFault) → RunsTurns line family end start state old {A = Unit {0}} merge ledger now new (Err fault)
       → IsTallied end start merge → Traces {A = Unit {0}} line family end start merge state after old new (Err fault)
-  turns_end_it merge ledger now after new (Capture told) p tallied = p
+  turns_end_it merge ledger now after new (Capture reported) p tallied = p
   turns_end_it merge ledger now after new Output p tallied = (inl p, tallied)
   turns_end_it merge ledger now after new Memory p tallied = (inl p, tallied)
 
@@ -44,7 +44,7 @@ module _ (line : Occurrence → List ℕ) (family : AddressFamily) (end : End) (
     at_end : moment ≡ end_moment end (clock_of start.clock h.taken) between.machines.moment
     at_end = is_end ∙ ap (λ c. end_moment end c between.machines.moment) h.clock
 
-    all_of : (way : List Occurrence) (ledger : Ledger) (after : RouterState) → PassesTime moment ledger_then between way ledger after → TellsAll family end start state (h.events ++ way) ledger after
+    all_of : (way : List Occurrence) (ledger : Ledger) (after : RouterState) → PassesTime moment ledger_then between way ledger after → WritesAll family end start state (h.events ++ way) ledger after
     all_of way ledger after passes = record {
       taken = h.taken;
       are = h.are;
@@ -61,7 +61,7 @@ module _ (line : Occurrence → List ℕ) (family : AddressFamily) (end : End) (
 
     trace_of : (way : List Occurrence) (ledger : Ledger) (after : RouterState) → PassesTime moment ledger_then between way ledger after
         → IsTrace family end start state ((h.events ++ way) ++ ending ledger after ∷ []) after
-    trace_of way ledger after passes = record { told = h.events ++ way; ledger = ledger; tells = all_of way ledger after passes; events_are = refl }
+    trace_of way ledger after passes = record { reported = h.events ++ way; ledger = ledger; tells = all_of way ledger after passes; events_are = refl }
 
     -- the device failed in the time behind the last turn
     pub stopped_behind : (newer : Option (List ℕ)) → HasBegun line (PassesTime moment ledger_then between) new newer → (last : RouterState) × HasTrace line family end start state last (WroteFront line old newer)
@@ -74,16 +74,16 @@ module _ (line : Occurrence → List ℕ) (family : AddressFamily) (end : End) (
       },
     )
 
-    module _ (ledger : Ledger) (after : RouterState) (newer last : Option (List ℕ)) (way : HasTold line (PassesTime moment ledger_then between) ledger after new newer) where
+    module _ (ledger : Ledger) (after : RouterState) (newer last : Option (List ℕ)) (way : HasWritten line (PassesTime moment ledger_then between) ledger after new newer) where
       told_so_far : Wrote line old newer (h.events ++ way.events)
-      told_so_far = told_then line old new newer h.events way.events h.written way.written
+      told_so_far = happens_then line old new newer h.events way.events h.written way.written
 
       -- the whole trace was told
       pub end_told : Appends newer last (line (ending ledger after)) → HasTrace line family end start state after (Wrote line old last)
       end_told p = record {
         events = (h.events ++ way.events) ++ ending ledger after ∷ [];
         is_trace = trace_of way.events ledger after way.are;
-        written = told_then line old newer last (h.events ++ way.events) (ending ledger after ∷ []) told_so_far (one_told line newer last (ending ledger after) p);
+        written = happens_then line old newer last (h.events ++ way.events) (ending ledger after ∷ []) told_so_far (one_told line newer last (ending ledger after) p);
       }
 
       -- the device failed at the end of the run

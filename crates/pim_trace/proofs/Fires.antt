@@ -20,8 +20,8 @@ use Rattle.pim_router.specs.Time.{rests, moves, has_ended, tick, turn, turn_of_t
 use Rattle.pim_trace.specs.Passing.{gone_by, time_outs}
 use Rattle.pim_trace.proofs.Schedule.{fewer_gone, nobody_later, fires_later, gone_in_next, only_time, nobody_now, moves_no_rest, echo_no_rest, none_from}
 
-abbrev Told : Type 0
-Told = List (ℕ × Happening)
+abbrev EventSeen : Type 0
+EventSeen = List (ℕ × Happening)
 
 -- ---- where no neighbour goes
 
@@ -29,18 +29,18 @@ nobody_between : (moment : ℕ) (state after : RouterState) → after.machines.m
 nobody_between moment state after within none =
     fewer_gone (after.machines.moment - state.machines.moment) (moment - state.machines.moment) state.machines.moment state.tables (omega (arith, within)) none
 
-pub fires_alone : FiringPasses → (moment : ℕ) (state after : RouterState) (told : Firing (List ℕ)) → after.machines.moment ≤ max state.machines.moment moment → gone_by moment state ≡ [] →
-    FiresAfter moment state told after → Passes moment state ((after.machines.moment, timer_fired told) ∷ []) after
-fires_alone law moment state after told within none f =
-    subst (λ (l : Told). Passes moment state (l ++ (after.machines.moment, timer_fired told) ∷ []) after) (nobody_between moment state after within none) (law moment state after told f)
+pub fires_alone : FiringPasses → (moment : ℕ) (state after : RouterState) (reported : Firing (List ℕ)) → after.machines.moment ≤ max state.machines.moment moment → gone_by moment state ≡ [] →
+    FiresAfter moment state reported after → Passes moment state ((after.machines.moment, timer_fired reported) ∷ []) after
+fires_alone law moment state after reported within none f =
+    subst (λ (l : EventSeen). Passes moment state (l ++ (after.machines.moment, timer_fired reported) ∷ []) after) (nobody_between moment state after within none) (law moment state after reported f)
 
-pub nobody_after : (moment : ℕ) (state after : RouterState) (told : Firing (List ℕ)) → gone_by moment state ≡ [] → FiresAfter moment state told after → gone_by moment after ≡ []
-nobody_after moment state after told none f =
+pub nobody_after : (moment : ℕ) (state after : RouterState) (reported : Firing (List ℕ)) → gone_by moment state ≡ [] → FiresAfter moment state reported after → gone_by moment after ≡ []
+nobody_after moment state after reported none f =
     nobody_later moment moment (suc zero) f.before after _ (omega arith) f.fires (nobody_later moment moment f.passes.turns state f.before _ (omega arith) f.passes.passed none)
 
 pub ends_alone : (moment : ℕ) (state after : RouterState) → after.machines.moment ≤ max state.machines.moment moment → gone_by moment state ≡ [] →
     Happens moment state (gone_between state after) after → Happens moment state [] after
-ends_alone moment state after within none happens = subst (λ (l : Told). Happens moment state l after) (nobody_between moment state after within none) happens
+ends_alone moment state after within none happens = subst (λ (l : EventSeen). Happens moment state l after) (nobody_between moment state after within none) happens
 
 -- where nobody's time is over by a moment, nobody goes up to it
 pub nobody_by : NobodyGoesBeforeFirstTimeout → (moment : ℕ) (state : RouterState) → IsRouter state → state.machines.moment ≤ moment → comes_by moment (first_timeout state.tables) ≡ false → gone_by moment state ≡ []
@@ -83,17 +83,17 @@ nobody_before law end state sound first less =
 
 module _ (end : ℕ) (state : RouterState) (next : state.machines.moment + 1 ≡ end) (quiet : turn state.machines.moment state ≡ rests) where
   pub ends_next : (after : RouterState) → after.machines.moment ≡ end → Happens end state (gone_between state after) after → Happens end state (time_outs end state.tables) after
-  ends_next after there happens = subst (λ (l : Told). Happens end state l after) (gone_in_next end state after next quiet there) happens
+  ends_next after there happens = subst (λ (l : EventSeen). Happens end state l after) (gone_in_next end state after next quiet there) happens
 
-  pub there_next : (after : RouterState) (told : Firing (List ℕ)) → after.machines.moment ≤ max state.machines.moment end → FiresAfter end state told after → after.machines.moment ≡ end
-  there_next after told within f = let later = fires_later end state after told next quiet f in omega (arith, later, within, next)
+  pub there_next : (after : RouterState) (reported : Firing (List ℕ)) → after.machines.moment ≤ max state.machines.moment end → FiresAfter end state reported after → after.machines.moment ≡ end
+  there_next after reported within f = let later = fires_later end state after reported next quiet f in omega (arith, later, within, next)
 
-  pub fires_next : FiringPasses → (after : RouterState) (told : Firing (List ℕ)) → after.machines.moment ≤ max state.machines.moment end → FiresAfter end state told after →
-      Passes end state (time_outs end state.tables ++ (end, timer_fired told) ∷ []) after
-  fires_next law after told within f =
-      let there = there_next after told within f in
-      subst (λ (l : Told). Passes end state (l ++ (end, timer_fired told) ∷ []) after) (gone_in_next end state after next quiet there)
-      (subst (λ m. Passes end state (gone_between state after ++ (m, timer_fired told) ∷ []) after) there (law end state after told f))
+  pub fires_next : FiringPasses → (after : RouterState) (reported : Firing (List ℕ)) → after.machines.moment ≤ max state.machines.moment end → FiresAfter end state reported after →
+      Passes end state (time_outs end state.tables ++ (end, timer_fired reported) ∷ []) after
+  fires_next law after reported within f =
+      let there = there_next after reported within f in
+      subst (λ (l : EventSeen). Passes end state (l ++ (end, timer_fired reported) ∷ []) after) (gone_in_next end state after next quiet there)
+      (subst (λ m. Passes end state (gone_between state after ++ (m, timer_fired reported) ∷ []) after) there (law end state after reported f))
 
   -- no timer fires in the present millisecond
   none_fired : (b : Bool) (o : Option (Fires (List ℕ) × List (Record (List ℕ)))) →
@@ -127,7 +127,7 @@ module _ (end : ℕ) (state : RouterState) (next : state.machines.moment + 1 ≡
   unfolding in_turns
   one_turn more none =
       rw (first_turn, nothing_happens more)
-      (ap (λ (l : Told). Some (l, tick state)) (sym (ap (λ m. time_outs m state.tables) (sym next)
+      (ap (λ (l : EventSeen). Some (l, tick state)) (sym (ap (λ m. time_outs m state.tables) (sym next)
       ∙ ap (at_moment (state.machines.moment + 1)) (none_from 0 (map (passed_to (state.machines.moment + 1)) state.tables) none))))
 
   gone_turn : list_any has_ended (map (passed_to (state.machines.moment + 1)) state.tables) ≡ true →
@@ -144,7 +144,7 @@ module _ (end : ℕ) (state : RouterState) (next : state.machines.moment + 1 ≡
   unfolding in_turns
   two_turns more some =
       rw (first_turn, nothing_happens more, gone_turn some, gone_here some)
-      (ap (λ (l : Told). Some (l, with_tables (tick state) (map without_ended (tick state).tables)))
+      (ap (λ (l : EventSeen). Some (l, with_tables (tick state) (map without_ended (tick state).tables)))
       (append-nil (time_outs (state.machines.moment + 1) state.tables) ∙ ap (λ m. time_outs m state.tables) next))
 
   -- the neighbours whose time is over at the end of the millisecond go in some turns

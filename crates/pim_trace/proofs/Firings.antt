@@ -16,7 +16,7 @@ use Rattle.pim_down.specs.declared.machines.step.Timer.{Timer}
 use Rattle.pim_down.specs.declared.machines.step.Timer.TheVariants.{PrunePending, Expiry}
 use Rattle.pim_down.specs.Firing.{ppt_fires, et_fires, et_firing, ppt_firing, firing}
 use Rattle.pim_down.specs.Key.{key_cmp, same_key}
-use Rattle.pim_down.specs.Laws.{KeysAreToldApart}
+use Rattle.pim_down.specs.Laws.{KeysAreDistinct}
 use Rattle.pim_down.specs.Records.{IsBelow, IsAscending, machine_at, recorded, state_of_machine}
 use Rattle.pim_down.specs.Tables.{machine_in}
 use Rattle.pim_down.specs.Time.{expiry_after, pending_after, machine_after, record_after, expiry_due, pending_due}
@@ -109,8 +109,8 @@ known_later key ms causes (held ∷ records) no_ppt no_et =
 abbrev FirstFiring : Type 0
 FirstFiring = Option (Firing (List ℕ) × Records)
 
-no_pair : (told : Firing (List ℕ)) (after : Records) → ◌≡◌ {A = FirstFiring} None (Some (told, after)) → ⊥
-no_pair told after e = cc
+no_pair : (reported : Firing (List ℕ)) (after : Records) → ◌≡◌ {A = FirstFiring} None (Some (reported, after)) → ⊥
+no_pair reported after e = cc
 
 -- no timer fires, so none is due
 no_et_due : (records : Records) (o : Option (Record (List ℕ))) → et_firing records o ≡ None → o ≡ None
@@ -215,7 +215,7 @@ module _ (due : Record (List ℕ) → Bool) where
         ] e
 
     -- at its key
-    module _ (apart : KeysAreToldApart) where
+    module _ (apart : KeysAreDistinct) where
       none_at : (key : Key (List ℕ)) (records : Records) → IsBelow key records → machine_at key records ≡ None
       unfolding IsBelow machine_at
       none_at key [] below = refl
@@ -265,7 +265,7 @@ module _ (due : Record (List ℕ) → Bool) where
 
 -- ---- keys
 
-pub turned : KeysAreToldApart → (a b : Key (List ℕ)) → same_key a b ≡ false → same_key b a ≡ false
+pub turned : KeysAreDistinct → (a b : Key (List ℕ)) → same_key a b ≡ false → same_key b a ≡ false
 turned apart a b other =
     elim (same_key b a) as (λ t. same_key b a ≡ t → t ≡ false) [
       | true ↦ λ e. absurd (false≢true (sym other ∙ (apart a b).1.1 (sym ((apart b a).1.0 e))))
@@ -280,21 +280,21 @@ left_by PrunePending held = on_ppt held.key.what held.machine
 left_by Expiry held = None
 
 -- The records are in key order after the firing, it did this to its machine, and all other machines stay.
-pub record Fires (records : Records) (told : Firing (List ℕ)) (after : Records) : Type 0 where
+pub record Fires (records : Records) (reported : Firing (List ℕ)) (after : Records) : Type 0 where
   pub ascending : IsAscending after
-  pub state : told.after ≡ state_of_machine (left_by told.timer told.before)
-  pub itself : (key : Key (List ℕ)) → same_key key told.before.key ≡ true →
-      (machine_at key records ≡ Some told.before.machine)
-      × (machine_at key after ≡ left_by told.timer told.before)
-  pub others : (key : Key (List ℕ)) → same_key key told.before.key ≡ false →
+  pub state : reported.after ≡ state_of_machine (left_by reported.timer reported.before)
+  pub itself : (key : Key (List ℕ)) → same_key key reported.before.key ≡ true →
+      (machine_at key records ≡ Some reported.before.machine)
+      × (machine_at key after ≡ left_by reported.timer reported.before)
+  pub others : (key : Key (List ℕ)) → same_key key reported.before.key ≡ false →
       machine_at key records ≡ machine_at key after
 
-module _ (apart : KeysAreToldApart) (records : Records) (up : IsAscending records) where
+module _ (apart : KeysAreDistinct) (records : Records) (up : IsAscending records) where
   fires_first : (due : Record (List ℕ) → Bool) (change : Record (List ℕ) → Option Machine) (held : Record (List ℕ)) →
-      first_due due records ≡ Some held → (told : Firing (List ℕ)) → told.before ≡ held →
-      left_by told.timer told.before ≡ change held → told.after ≡ state_of_machine (left_by told.timer told.before) →
-      Fires records told (with_first due (λ held. recorded held.key (change held)) records)
-  fires_first due change held first told before left state = record {
+      first_due due records ≡ Some held → (reported : Firing (List ℕ)) → reported.before ≡ held →
+      left_by reported.timer reported.before ≡ change held → reported.after ≡ state_of_machine (left_by reported.timer reported.before) →
+      Fires records reported (with_first due (λ held. recorded held.key (change held)) records)
+  fires_first due change held first reported before left state = record {
     ascending = ascending_first due change records up;
     state = state;
     itself = λ key same.
@@ -308,59 +308,59 @@ module _ (apart : KeysAreToldApart) (records : Records) (up : IsAscending record
         sym (first_other due change key records held first at);
   }
 
-  pair_of : (told said : Firing (List ℕ)) (left after : Records) →
-      ◌≡◌ {A = FirstFiring} (Some (said, left)) (Some (told, after)) →
-      ◌≡◌ {A = Firing (List ℕ) × Records} (said, left) (told, after)
-  pair_of told said left after e = cc
+  pair_of : (reported said : Firing (List ℕ)) (left after : Records) →
+      ◌≡◌ {A = FirstFiring} (Some (said, left)) (Some (reported, after)) →
+      ◌≡◌ {A = Firing (List ℕ) × Records} (said, left) (reported, after)
+  pair_of reported said left after e = cc
 
-  et_leaves : (told : Firing (List ℕ)) (after : Records) (o : Option (Record (List ℕ))) →
-      first_due et_due records ≡ o → et_firing records o ≡ Some (told, after) → Fires records told after
-  et_leaves told after None first e = absurd (no_pair told after e)
-  et_leaves told after (Some held) first e =
-      subst (λ (x : Firing (List ℕ) × Records). Fires records x.0 x.1) (pair_of told (et_fires held) _ after e)
+  et_leaves : (reported : Firing (List ℕ)) (after : Records) (o : Option (Record (List ℕ))) →
+      first_due et_due records ≡ o → et_firing records o ≡ Some (reported, after) → Fires records reported after
+  et_leaves reported after None first e = absurd (no_pair reported after e)
+  et_leaves reported after (Some held) first e =
+      subst (λ (x : Firing (List ℕ) × Records). Fires records x.0 x.1) (pair_of reported (et_fires held) _ after e)
       (fires_first et_due (λ held. None) held first (et_fires held) refl refl refl)
 
-  ppt_leaves : (told : Firing (List ℕ)) (after : Records) (o : Option (Record (List ℕ))) →
-      first_due ppt_due records ≡ o → ppt_firing records o ≡ Some (told, after) → Fires records told after
-  ppt_leaves told after None first e = et_leaves told after (first_due et_due records) refl e
-  ppt_leaves told after (Some held) first e =
-      subst (λ (x : Firing (List ℕ) × Records). Fires records x.0 x.1) (pair_of told (ppt_fires held) _ after e)
+  ppt_leaves : (reported : Firing (List ℕ)) (after : Records) (o : Option (Record (List ℕ))) →
+      first_due ppt_due records ≡ o → ppt_firing records o ≡ Some (reported, after) → Fires records reported after
+  ppt_leaves reported after None first e = et_leaves reported after (first_due et_due records) refl e
+  ppt_leaves reported after (Some held) first e =
+      subst (λ (x : Firing (List ℕ) × Records). Fires records x.0 x.1) (pair_of reported (ppt_fires held) _ after e)
       (fires_first ppt_due (λ held. on_ppt held.key.what held.machine) held first (ppt_fires held) refl refl refl)
 
-  pub firing_leaves : (told : Firing (List ℕ)) (after : Records) → firing records ≡ Some (told, after) →
-      Fires records told after
+  pub firing_leaves : (reported : Firing (List ℕ)) (after : Records) → firing records ≡ Some (reported, after) →
+      Fires records reported after
   unfolding firing
-  firing_leaves told after e = ppt_leaves told after (first_due ppt_due records) refl e
+  firing_leaves reported after e = ppt_leaves reported after (first_due ppt_due records) refl e
 
 -- ---- what is known after a firing
 
-module _ (ms : ℕ) (causes : Causes (List ℕ)) (told : Fired (List ℕ)) (machine : Machine) where
+module _ (ms : ℕ) (causes : Causes (List ℕ)) (reported : Fired (List ℕ)) (machine : Machine) where
   abbrev known : Known
   known = knowing ms causes machine
 
-  gone : told.after ≡ None → None ≡ fired_known told known told.after
-  gone after = sym (ap (fired_known told known) after)
+  gone : reported.after ≡ None → None ≡ fired_known reported known reported.after
+  gone after = sym (ap (fired_known reported known) after)
 
-  pruned : told.timer ≡ PrunePending → told.after ≡ Some Prune →
-      known_of ms causes (machine_in Prune machine.expires_in None) ≡ fired_known told known told.after
+  pruned : reported.timer ≡ PrunePending → reported.after ≡ Some Prune →
+      known_of ms causes (machine_in Prune machine.expires_in None) ≡ fired_known reported known reported.after
   pruned timer after = (λ i. Some (record { state = Prune; ends = λ t. ends t i; by = λ t. cause_of t causes }))
-      ∙ sym (ap (fired_known told known) after)
+      ∙ sym (ap (fired_known reported known) after)
     where
       ends : (t : Timer) → end_of t ms (machine_in Prune machine.expires_in None)
-          ≡ end_after t told (end_of t ms (Some machine))
+          ≡ end_after t reported (end_of t ms (Some machine))
       ends Expiry = rw (after, timer) refl
       ends PrunePending = rw (after, timer) refl
 
-  ppt_left : (what : What (List ℕ)) → told.timer ≡ PrunePending →
-      told.after ≡ state_of_machine (on_ppt what machine) →
-      known_of ms causes (on_ppt what machine) ≡ fired_known told known told.after
+  ppt_left : (what : What (List ℕ)) → reported.timer ≡ PrunePending →
+      reported.after ≡ state_of_machine (on_ppt what machine) →
+      known_of ms causes (on_ppt what machine) ≡ fired_known reported known reported.after
   ppt_left Star timer after = gone after
   ppt_left (Source source) timer after = gone after
   ppt_left (Rpt source) timer after = pruned timer after
 
-pub known_left : (ms : ℕ) (causes : Causes (List ℕ)) (told : Fired (List ℕ)) (held : Record (List ℕ)) (timer : Timer) →
-    told.timer ≡ timer → told.after ≡ state_of_machine (left_by timer held) →
-    known_of ms causes (left_by timer held) ≡ fired_known told (knowing ms causes held.machine) told.after
-known_left ms causes told held Expiry is after = gone ms causes told held.machine after
-known_left ms causes told held PrunePending is after =
-    ppt_left ms causes told held.machine held.key.what is after
+pub known_left : (ms : ℕ) (causes : Causes (List ℕ)) (reported : Fired (List ℕ)) (held : Record (List ℕ)) (timer : Timer) →
+    reported.timer ≡ timer → reported.after ≡ state_of_machine (left_by timer held) →
+    known_of ms causes (left_by timer held) ≡ fired_known reported (knowing ms causes held.machine) reported.after
+known_left ms causes reported held Expiry is after = gone ms causes reported held.machine after
+known_left ms causes reported held PrunePending is after =
+    ppt_left ms causes reported held.machine held.key.what is after

@@ -22,17 +22,17 @@ use Rattle.pim_down.specs.declared.machines.step.Timer.{Timer}
 use Rattle.pim_down.specs.declared.machines.step.Timer.TheVariants.{PrunePending, Expiry}
 use Rattle.pim_down.specs.Hearing.{Event, is_known, hearing}
 use Rattle.pim_down.specs.Key.{key_cmp, same_key}
-use Rattle.pim_down.specs.Laws.{KeysAreToldApart, HearingKeepsTheOrder, HearingLeavesOtherPorts}
+use Rattle.pim_down.specs.Laws.{KeysAreDistinct, HearingKeepsTheOrder, HearingLeavesOtherPorts}
 use Rattle.pim_down.specs.Records.{IsAscending, machine_at, state_of_machine}
 use Rattle.pim_down.specs.Tables.{Start}
 use Rattle.pim_events.specs.declared.event.Cause.{Cause}
 use Rattle.pim_events.specs.declared.event.Transition.{Transition as Changed}
 use Rattle.pim_events.specs.Events.{Occurrence, join_ignored, own_restart}
 use Rattle.pim_transitions.specs.declared.transition.Transition.{Transition}
-use Rattle.pim_transitions.specs.Transitions.{IsTransition, is_told, keys_told, AreTransitions}
+use Rattle.pim_transitions.specs.Transitions.{IsTransition, has_transition, keys_of_transitions, AreTransitions}
 use Rattle.pim_trace.specs.declared.ledger.Causes.{Causes}
 use Rattle.pim_trace.specs.Causing.{end_of, sets, packet_of, ends_pending}
-use Rattle.pim_trace.specs.Folding.{names, states_told}
+use Rattle.pim_trace.specs.Folding.{names, states_shown}
 use Rattle.pim_trace.specs.Heard.{event_on, ignored_entry, ignored_in, all_ignored, change_by, change_of, changes_of}
 use Rattle.pim_trace.specs.Heard.{restarts, is_pending}
 use Rattle.pim_trace.specs.Ledger.{Ledger, no_cause, both_by, same_expiry, pending_left, same_pending, moved_by, caused}
@@ -196,7 +196,7 @@ module _ (ms : ℕ) (change : Changed (List ℕ)) where
 abbrev Items : Type 0
 Items = List (Transition (List ℕ))
 
-module _ (apart : KeysAreToldApart) (port frame : ℕ) (from : List ℕ) (ms neighbours : ℕ) where
+module _ (apart : KeysAreDistinct) (port frame : ℕ) (from : List ℕ) (ms neighbours : ℕ) where
   abbrev by : Cause (List ℕ)
   by = record { frame = frame; from = from; ms = ms }
 
@@ -215,7 +215,7 @@ module _ (apart : KeysAreToldApart) (port frame : ℕ) (from : List ℕ) (ms nei
       ap (λ (p : ℕ). same_key key (record { port = p; group = item.key.group; what = item.key.what })) (sym on)
 
   item_quiet : (key : Key (List ℕ)) (at ledger : Ledger) (item : Transition (List ℕ)) → item.key.port ≡ port →
-      same_key item.key key ≡ false → states_told key (first_for at ledger item) ≡ None
+      same_key item.key key ≡ false → states_shown key (first_for at ledger item) ≡ None
   item_quiet key at ledger item on other =
       ap (λ b. if b then Some (state_of_machine item.before, state_of_machine item.after) else None)
       (item_named key item on ∙ turned apart item.key key other)
@@ -226,27 +226,27 @@ module _ (apart : KeysAreToldApart) (port frame : ℕ) (from : List ℕ) (ms nei
 
   -- items of other machines tell nothing, and touch nothing
   others_lead : (key : Key (List ℕ)) (held : Option Known) (at ledger : Ledger) (items : Items) →
-      AllByRecursion (λ (item : Transition (List ℕ)). item.key.port ≡ port) items → is_told key items ≡ false →
+      AllByRecursion (λ (item : Transition (List ℕ)). item.key.port ≡ port) items → has_transition key items ≡ false →
       Leads key held (events_for at ledger items) held
   unfolding changes_of
   others_lead key held at ledger [] on none = leads_nowhere key held
   others_lead key held at ledger (item ∷ items) on none =
-      let parts = neither (same_key item.key key) (is_told key items) none in
+      let parts = neither (same_key item.key key) (has_transition key items) none in
       leads_past key held held (first_for at ledger item) (events_for at (with_change by item ledger) items)
       (item_quiet key at ledger item on.0 parts.0)
       (others_lead key held at (with_change by item ledger) items on.1 parts.1)
 
-  others_cause : (key : Key (List ℕ)) (ledger : Ledger) (items : Items) → is_told key items ≡ false →
+  others_cause : (key : Key (List ℕ)) (ledger : Ledger) (items : Items) → has_transition key items ≡ false →
       (with_changes by items ledger).causes key ≡ ledger.causes key
   unfolding with_changes
   others_cause key ledger [] none = refl
   others_cause key ledger (item ∷ items) none =
-      let parts = neither (same_key item.key key) (is_told key items) none in
+      let parts = neither (same_key item.key key) (has_transition key items) none in
       others_cause key (with_change by item ledger) items parts.1 ∙ rw parts.0 refl
 
   none_above : (key : Key (List ℕ)) (items : Items) →
-      AllByRecursion (λ (other : Key (List ℕ)). key_cmp key other ≡ Less) (keys_told items) →
-      is_told key items ≡ false
+      AllByRecursion (λ (other : Key (List ℕ)). key_cmp key other ≡ Less) (keys_of_transitions items) →
+      has_transition key items ≡ false
   none_above key [] above = refl
   none_above key (item ∷ items) above =
       rw (turned apart key item.key (ap is_eq above.0)) (none_above key items above.1)
@@ -257,7 +257,7 @@ module _ (apart : KeysAreToldApart) (port frame : ℕ) (from : List ℕ) (ms nei
 
     -- an item leads its machine on
     item_leads : (at ledger : Ledger) (item : Transition (List ℕ)) (items : Items) → item.key.port ≡ port → Is item →
-        is_told item.key items ≡ false →
+        has_transition item.key items ≡ false →
         LeadsBy item.key (known_with item.key ledger before) (first_for at ledger item)
         (known_with item.key (with_changes by (item ∷ items) ledger) after)
     unfolding with_changes
@@ -273,7 +273,7 @@ module _ (apart : KeysAreToldApart) (port frame : ℕ) (from : List ℕ) (ms nei
         tells_change (record {
           change = change;
           what = refl;
-          named = item_named item.key item on ∙ same;
+          affected = item_named item.key item on ∙ same;
           was = state_known ms (causes_of item.key ledger) item.before
               ∙ ap (λ (m : Option Machine). state_in (known_of ms (causes_of item.key ledger) m)) is.was;
           overrides =
@@ -288,9 +288,9 @@ module _ (apart : KeysAreToldApart) (port frame : ℕ) (from : List ℕ) (ms nei
 
     items_lead : (key : Key (List ℕ)) (at ledger : Ledger) (items : Items) →
         AllByRecursion (λ (item : Transition (List ℕ)). item.key.port ≡ port) items → AllByRecursion Is items →
-        IsStrictlySortedBy key_cmp (keys_told items) →
+        IsStrictlySortedBy key_cmp (keys_of_transitions items) →
         Leads key (known_with key ledger before) (events_for at ledger items)
-        (known_with key (with_changes by items ledger) (if is_told key items then after else before))
+        (known_with key (with_changes by items ledger) (if has_transition key items then after else before))
     unfolding changes_of with_changes IsStrictlySortedBy
     items_lead key at ledger [] on each up = leads_nowhere key (known_with key ledger before)
     items_lead key at ledger (item ∷ items) on each up =
@@ -298,7 +298,7 @@ module _ (apart : KeysAreToldApart) (port frame : ℕ) (from : List ℕ) (ms nei
         elim (same_key item.key key)
         as (λ b. same_key item.key key ≡ b →
         Leads key (known_with key ledger before) (events_for at ledger (item ∷ items))
-        (known_with key last (if b || is_told key items then after else before))) [
+        (known_with key last (if b || has_transition key items then after else before))) [
           | true ↦ λ is.
               let none = none_above item.key items up.0 in
               subst
@@ -311,20 +311,20 @@ module _ (apart : KeysAreToldApart) (port frame : ℕ) (from : List ℕ) (ms nei
               (others_lead item.key (known_with item.key last after) at next items on.1 none))
           | false ↦ λ is.
               leads_past key (known_with key ledger before)
-              (known_with key last (if is_told key items then after else before)) (first_for at ledger item)
+              (known_with key last (if has_transition key items then after else before)) (first_for at ledger item)
               (events_for at next items) (item_quiet key at ledger item on.0 is)
               (subst
               (λ (o : Option (Causes (List ℕ))).
               Leads key (known_of ms (unwrap_or o (both_by (no_cause key.group))) (machine_at key before))
               (events_for at next items)
-              (known_with key last (if is_told key items then after else before)))
+              (known_with key last (if has_transition key items then after else before)))
               (ap (λ b. if b then caused by (causes_of item.key ledger) item.before item.after
               else ledger.causes key) is) (items_lead key at next items on.1 each.1 up.1))
         ] refl
 
     -- a machine that isn't told stays
     untold_stays : (key : Key (List ℕ)) (items : Items) → AreTransitions port start events before after items →
-        is_told key items ≡ false → machine_at key before ≡ machine_at key after
+        has_transition key items ≡ false → machine_at key before ≡ machine_at key after
     untold_stays key items are none =
         options machines (machine_at key before) (machine_at key after)
         (λ differ. false≢true (sym none ∙ are.all key differ))
@@ -335,8 +335,8 @@ module _ (apart : KeysAreToldApart) (port frame : ℕ) (from : List ℕ) (ms nei
         (known_with key (with_changes by items ledger) after)
     all_lead items on are at ledger key =
         let last = with_changes by items ledger in
-        elim (is_told key items)
-        as (λ b. is_told key items ≡ b →
+        elim (has_transition key items)
+        as (λ b. has_transition key items ≡ b →
         Leads key (known_with key ledger before) (events_for at ledger items)
         (known_with key last (if b then after else before)) →
         Leads key (known_with key ledger before) (events_for at ledger items) (known_with key last after)) [

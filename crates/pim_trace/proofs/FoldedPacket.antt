@@ -13,12 +13,12 @@ use Rattle.pim_jp.specs.Message.{Message, message_of}
 use Rattle.pim_down.specs.declared.machines.machine.Record.{Record}
 use Rattle.pim_down.specs.Hearing.{events_of, start_of}
 use Rattle.pim_addr.specs.Routes.{rp_of}
-use Rattle.pim_down.specs.Laws.{KeysAreToldApart, HearingKeepsTheOrder, HearingLeavesOtherPorts}
+use Rattle.pim_down.specs.Laws.{KeysAreDistinct, HearingKeepsTheOrder, HearingLeavesOtherPorts}
 use Rattle.pim_down.specs.Records.{IsAscending}
 use Rattle.pim_router.specs.declared.verdict.Verdict.{Verdict}
 use Rattle.pim_router.specs.declared.verdict.Verdict.TheVariants as verdict
 use Rattle.pim_router.specs.declared.verdict.Malformed.TheVariants as malformed
-use Rattle.pim_router.specs.Packets.{Packet, received, body_causes, message_causes, body_taken, neighbours_on}
+use Rattle.pim_router.specs.Packets.{Packet, received, body_causes, message_causes, body_heard, neighbours_on}
 use Rattle.pim_router.specs.Packets.{timing_on}
 use Rattle.pim_router.specs.State.{RouterState}
 use Rattle.pim_events.specs.Events.{Happened, Occurrence}
@@ -73,9 +73,9 @@ module _ (family : AddressFamily) (packet : Packet) (state : RouterState) where
     where
       by : {faults : List FrameFault} → faults ≡ [] → (body : Content) →
           body_causes family packet.port packet.source state body ≡ [] →
-          ((body_taken family packet.port packet.source state body).0 ≡ verdict.Applied →
+          ((body_heard family packet.port packet.source state body).0 ≡ verdict.Applied →
           message_in (read_by family (judged faults body)) ≡ None) →
-          (body_taken family packet.port packet.source state body).1.machines.records ≡ state.machines.records
+          (body_heard family packet.port packet.source state body).1.machines.records ≡ state.machines.records
       by none (other type) bodies never = refl
       by none (hello body) bodies never = refl
       by none (join_prune body) bodies never =
@@ -83,7 +83,7 @@ module _ (family : AddressFamily) (packet : Packet) (state : RouterState) where
 
 -- ---- the events of a packet
 
-module _ (apart : KeysAreToldApart) (keeps : HearingKeepsTheOrder) (leaves : HearingLeavesOtherPorts)
+module _ (apart : KeysAreDistinct) (keeps : HearingKeepsTheOrder) (leaves : HearingLeavesOtherPorts)
     (family : AddressFamily) (frame : ℕ) (packet : Packet) (ledger : Ledger) (state : RouterState)
     (up : IsAscending state.machines.records) where
   abbrev end : Verdict × RouterState

@@ -12,18 +12,18 @@ use Rattle.pim_down.specs.declared.machines.step.Step.{Step as Fires}
 use Rattle.pim_down.specs.declared.machines.step.Step.TheVariants as fires
 use Rattle.pim_down.specs.Firing.{firing, step_of}
 use Rattle.pim_down.specs.Key.{same_key}
-use Rattle.pim_down.specs.Laws.{KeysAreToldApart, FiringSaysMore, said_of}
+use Rattle.pim_down.specs.Laws.{KeysAreDistinct, FiringSaysMore, said_of}
 use Rattle.pim_down.specs.Records.{IsAscending, state_of_machine}
 use Rattle.pim_down.specs.Time.{fired, with_records}
 use Rattle.pim_router.specs.Happening.{Happening, timed_out, timer_fired, gone_of, gone_from, fired_of, happens_in}
-use Rattle.pim_router.specs.Happening.{next_of, at_moment, told_then, in_turns}
+use Rattle.pim_router.specs.Happening.{next_of, at_moment, happens_then, in_turns}
 use Rattle.pim_router.specs.declared.step.Step.TheVariants.{Refresh}
 use Rattle.pim_router.specs.State.{RouterState, with_machines, with_tables, with_refresh, refresh_period}
-use Rattle.pim_router.specs.Time.{rests, moves, tells, has_ended, tick, told, turn, turn_of_timers, turn_of_time}
+use Rattle.pim_router.specs.Time.{rests, moves, tells, has_ended, tick, reported, turn, turn_of_timers, turn_of_time}
 use Rattle.pim_events.specs.Events.{Occurrence}
 use Rattle.pim_trace.specs.declared.ledger.Causes.{Causes}
 use Rattle.pim_trace.specs.Ledger.{Ledger, no_cause, both_by, causes_of, forgetting}
-use Rattle.pim_trace.specs.Folding.{states_told}
+use Rattle.pim_trace.specs.Folding.{states_shown}
 use Rattle.pim_trace.specs.Passing.{event_of, after_happening, events_in, after_all, PassesTime, fired_by}
 use Rattle.pim_trace.proofs.Firings.{left_by, Fires as Leaves, turned, firing_leaves, known_left, ascending_later}
 use Rattle.pim_trace.proofs.Firings.{millisecond_leaves}
@@ -31,8 +31,8 @@ use Rattle.pim_trace.proofs.Folding.{Known, knowing, known_of, tells_firing, Lea
 use Rattle.pim_trace.proofs.Folding.{leads_first, Place, place, known_at, LeadsAll, all_nowhere, all_on}
 use Rattle.pim_trace.proofs.OnTheWay.{events_joined, ledger_joined}
 
-abbrev Told : Type 0
-Told = List (ℕ × Happening)
+abbrev EventSeen : Type 0
+EventSeen = List (ℕ × Happening)
 
 -- ---- neighbours that go tell nothing of machines
 
@@ -40,7 +40,7 @@ Told = List (ℕ × Happening)
 abbrev Mute : Happening → Type 0
 Mute happening =
     (ledger : Ledger) →
-    ((ms : ℕ) (key : Key (List ℕ)) → states_told key (event_of ledger ms happening) ≡ None)
+    ((ms : ℕ) (key : Key (List ℕ)) → states_shown key (event_of ledger ms happening) ≡ None)
     × ((after_happening happening ledger).causes ≡ ledger.causes)
 
 mute_append : (xs ys : List Happening) → AllByRecursion Mute xs → AllByRecursion Mute ys →
@@ -85,7 +85,7 @@ abbrev ledger_after : Ledger → Firing (List ℕ) → Ledger
 ledger_after ledger fire = after_happening (timer_fired fire) ledger
 
 fired_told : (ledger : Ledger) (ms : ℕ) (key : Key (List ℕ)) (fire : Firing (List ℕ)) →
-    same_key key fire.before.key ≡ false → states_told key (fired_event ledger ms fire) ≡ None
+    same_key key fire.before.key ≡ false → states_shown key (fired_event ledger ms fire) ≡ None
 fired_told ledger ms key fire other =
     ap (λ b. if b then Some (Some fire.before.machine.state, fire.after) else None) other
 
@@ -97,7 +97,7 @@ still_known : (ledger : Ledger) (ms : ℕ) (fire : Firing (List ℕ)) (machine :
 still_known ledger ms fire None after = refl
 still_known ledger ms fire (Some machine) after = rw after refl
 
-module _ (apart : KeysAreToldApart) (ms : ℕ) (ledger : Ledger) (records after : List (Record (List ℕ)))
+module _ (apart : KeysAreDistinct) (ms : ℕ) (ledger : Ledger) (records after : List (Record (List ℕ)))
     (fire : Firing (List ℕ)) (leaves : Leaves records fire after) where
   abbrev before' : Place
   before' = record { ms = ms; records = records; causes = ledger.causes }
@@ -117,7 +117,7 @@ module _ (apart : KeysAreToldApart) (ms : ℕ) (ledger : Ledger) (records after 
       (tells_firing (record {
         firing = fired_by ledger fire;
         what = refl;
-        named = same;
+        affected = same;
         held = knowing ms causes fire.before.machine;
         was = ap (known_of ms causes) both.0;
         before = refl;
@@ -164,16 +164,16 @@ none_next next e = cc
 same_next : (next other : RouterState) → ◌≡◌ {A = Option RouterState} (Some other) (Some next) → other ≡ next
 same_next next other e = cc
 
-next_told : (answer : Fires (List ℕ)) (state : RouterState) → next_of (told answer state) ≡ Some state
+next_told : (answer : Fires (List ℕ)) (state : RouterState) → next_of (reported answer state) ≡ Some state
 next_told fires.Reached state = refl
 next_told (fires.Echo port group what) state = refl
 
-module _ (apart : KeysAreToldApart) (says_more : FiringSaysMore) (moment : ℕ) (state : RouterState)
+module _ (apart : KeysAreDistinct) (says_more : FiringSaysMore) (moment : ℕ) (state : RouterState)
     (up : IsAscending state.machines.records) (next : RouterState) (ledger : Ledger) where
   abbrev Leads'' : List Happening → RouterState → Type 0
   Leads'' happenings other =
-      let told : Told = at_moment state.machines.moment happenings in
-      LeadsAll (place ledger state) (events_in ledger told) (place (after_all ledger told) other)
+      let reported : EventSeen = at_moment state.machines.moment happenings in
+      LeadsAll (place ledger state) (events_in ledger reported) (place (after_all ledger reported) other)
 
   nothing : Leads'' [] state
   unfolding events_in after_all
@@ -239,30 +239,30 @@ module _ (apart : KeysAreToldApart) (says_more : FiringSaysMore) (moment : ℕ) 
 -- ---- turn by turn
 
 abbrev End : Type 0
-End = Option (Told × RouterState)
+End = Option (EventSeen × RouterState)
 
-pair_of : (some said : Told) (end after : RouterState) → ◌≡◌ {A = End} (Some (some, end)) (Some (said, after)) →
-    ◌≡◌ {A = Told × RouterState} (some, end) (said, after)
+pair_of : (some said : EventSeen) (end after : RouterState) → ◌≡◌ {A = End} (Some (some, end)) (Some (said, after)) →
+    ◌≡◌ {A = EventSeen × RouterState} (some, end) (said, after)
 pair_of some said end after e = cc
 
-no_end : (said : Told) (after : RouterState) → ◌≡◌ {A = End} None (Some (said, after)) → ⊥
+no_end : (said : EventSeen) (after : RouterState) → ◌≡◌ {A = End} None (Some (said, after)) → ⊥
 no_end said after e = cc
 
-joined : (first said : Told) (after : RouterState) (o : End) → told_then first o ≡ Some (said, after) →
-    (more : Told) × (o ≡ Some (more, after)) × (first ++ more ≡ said)
+joined : (first said : EventSeen) (after : RouterState) (o : End) → happens_then first o ≡ Some (said, after) →
+    (more : EventSeen) × (o ≡ Some (more, after)) × (first ++ more ≡ said)
 joined first said after None e = absurd (no_end said after e)
 joined first said after (Some (more, end)) e =
     let pairs = pair_of (first ++ more) said end after e in
-    (more, ap (λ (x : Told × RouterState). Some (more, x.1)) pairs, ap (λ (x : Told × RouterState). x.0) pairs)
+    (more, ap (λ (x : EventSeen × RouterState). Some (more, x.1)) pairs, ap (λ (x : EventSeen × RouterState). x.0) pairs)
 
-module _ (apart : KeysAreToldApart) (says_more : FiringSaysMore) (moment : ℕ) where
-  turns_lead : (turns : ℕ) (state after : RouterState) (said : Told) → IsAscending state.machines.records →
+module _ (apart : KeysAreDistinct) (says_more : FiringSaysMore) (moment : ℕ) where
+  turns_lead : (turns : ℕ) (state after : RouterState) (said : EventSeen) → IsAscending state.machines.records →
       in_turns turns moment state ≡ Some (said, after) → (ledger : Ledger) →
       LeadsAll (place ledger state) (events_in ledger said) (place (after_all ledger said) after)
   unfolding in_turns events_in after_all
   turns_lead zero state after said up e ledger =
       subst
-      (λ (x : Told × RouterState).
+      (λ (x : EventSeen × RouterState).
       LeadsAll (place ledger state) (events_in ledger x.0) (place (after_all ledger x.0) x.1))
       (pair_of [] said state after e) (all_nowhere (place ledger state) up)
   turns_lead (suc turns) state after said up e ledger =
@@ -276,8 +276,8 @@ module _ (apart : KeysAreToldApart) (says_more : FiringSaysMore) (moment : ℕ) 
             let one = turn_leads apart says_more moment state up next ledger n in
             let more = turns_lead turns next after j.0 one.ascending j.1 between in
             subst
-            (λ (told : Told).
-            LeadsAll (place ledger state) (events_in ledger told) (place (after_all ledger told) after)) j.2
+            (λ (reported : EventSeen).
+            LeadsAll (place ledger state) (events_in ledger reported) (place (after_all ledger reported) after)) j.2
             (subst
             (λ (es : List Occurrence).
             LeadsAll (place ledger state) es (place (after_all ledger (first ++ j.0)) after))

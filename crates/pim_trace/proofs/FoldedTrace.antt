@@ -6,18 +6,18 @@ use Rattle.pim_merge.specs.Ends.{end_moment, clock_of}
 use Rattle.pim_merge.specs.Content.{Content, holds, of_other_family, without_packet, no_record, content_in}
 use Rattle.pim_merge.specs.Merge.{Taken}
 use Rattle.pim_merge.specs.Next.{MergeState}
-use Rattle.pim_down.specs.Laws.{KeysAreToldApart, FiringSaysMore, HearingKeepsTheOrder, HearingLeavesOtherPorts}
+use Rattle.pim_down.specs.Laws.{KeysAreDistinct, FiringSaysMore, HearingKeepsTheOrder, HearingLeavesOtherPorts}
 use Rattle.pim_down.specs.Records.{IsAscending}
 use Rattle.pim_router.specs.State.{RouterState}
 use Rattle.pim_events.specs.declared.event.Skip.TheVariants.{NoPacket, OtherFamily}
 use Rattle.pim_events.specs.declared.event.Skipping.{Skipping}
 use Rattle.pim_events.specs.Events.{Occurrence, record_skipped}
 use Rattle.pim_trace.specs.Causing.{TraceNamesCauses, TurnsNameCauses, RunsNameCauses}
-use Rattle.pim_trace.specs.Folding.{EventsTellTheState, TurnsTellTheState, RunsLeadOn}
+use Rattle.pim_trace.specs.Folding.{EventsShowTheState, TurnsShowTheState, RunsLeadOn}
 use Rattle.pim_trace.specs.Ledger.{Ledger, frame_of, with_skip}
 use Rattle.pim_trace.specs.Passing.{PassesTime}
-use Rattle.pim_trace.specs.Trace.{TellsTurns, RunsUntil, IsTrace, ending, ledger_for}
-use Rattle.pim_trace.specs.Turn.{packet_on, Skips, TakesContent, counting, TellsTurn}
+use Rattle.pim_trace.specs.Trace.{WritesTurns, RunsUntil, IsTrace, ending, ledger_for}
+use Rattle.pim_trace.specs.Turn.{packet_on, Skips, TakesContent, counting, WritesTurn}
 use Rattle.pim_trace.proofs.Caused.{leading, naming}
 use Rattle.pim_trace.proofs.Folding.{leads_nowhere, leads_past, Place, place, known_at, LeadsAll, all_nowhere, all_on}
 use Rattle.pim_trace.proofs.Folding.{all_quiet}
@@ -26,7 +26,7 @@ use Rattle.pim_trace.proofs.FoldedTime.{passing_leads}
 
 -- The laws of the crates below.
 pub record Given : Type 0 where
-  pub apart : KeysAreToldApart
+  pub apart : KeysAreDistinct
   pub says_more : FiringSaysMore
   pub keeps : HearingKeepsTheOrder
   pub leaves : HearingLeavesOtherPorts
@@ -76,12 +76,12 @@ module _ (given : Given) (family : AddressFamily) where
       passing_leads given.apart given.says_more moment ledger ledger' state after events up passes
 
   one_leads : (turn : Taken) (ledger ledger' : Ledger) (state after : RouterState) (events : List Occurrence) →
-      IsAscending state.machines.records → TellsTurn family turn ledger state events ledger' after →
+      IsAscending state.machines.records → WritesTurn family turn ledger state events ledger' after →
       LeadOn' ledger state events ledger' after
   one_leads turn ledger ledger' state after events up t =
       let way = time_leads turn.moment (counting turn ledger) t.ledger_then state t.between t.way up t.passes in
       let of_record =
-      content_leads turn.capture (frame_of turn.capture t.ledger_then) (content_in family turn.told) t.ledger_then
+      content_leads turn.capture (frame_of turn.capture t.ledger_then) (content_in family turn.reported) t.ledger_then
       ledger' t.between after t.of_record way.ascending t.takes in
       subst (λ (es : List Occurrence). LeadOn' ledger state es ledger' after) (sym t.events_are)
       (all_on (place ledger state) (place t.ledger_then t.between) (place ledger' after) t.way t.of_record way of_record)
@@ -90,8 +90,8 @@ module _ (given : Given) (family : AddressFamily) where
 
   pub turns_lead : (turns : List Taken) (ledger ledger' : Ledger) (state after : RouterState)
       (events : List Occurrence) → IsAscending state.machines.records →
-      TellsTurns family turns ledger state events ledger' after → LeadOn' ledger state events ledger' after
-  unfolding TellsTurns
+      WritesTurns family turns ledger state events ledger' after → LeadOn' ledger state events ledger' after
+  unfolding WritesTurns
   turns_lead [] ledger ledger' state after events up t =
       same_place ledger ledger' state after events t.1 t.2
       (subst (λ (es : List Occurrence). LeadOn' ledger state es ledger state) (sym t.0)
@@ -133,16 +133,16 @@ module _ (given : Given) (family : AddressFamily) where
         (t : IsTrace family end merge state events after) → LeadOn' first state events t.ledger after
     trace_leads events after t =
         let until = end_moment end (clock_of merge.clock t.tells.taken) in
-        let told = run_leads t.tells.taken until state after t.told t.ledger up t.tells.runs in
+        let reported = run_leads t.tells.taken until state after t.reported t.ledger up t.tells.runs in
         subst (λ (es : List Occurrence). LeadOn' first state es t.ledger after) (sym t.events_are)
-        (all_on (place first state) (place t.ledger after) (place t.ledger after) t.told
-        (ending t.ledger after ∷ []) told (ending_leads t.ledger after told.ascending))
+        (all_on (place first state) (place t.ledger after) (place t.ledger after) t.reported
+        (ending t.ledger after ∷ []) reported (ending_leads t.ledger after reported.ascending))
 
-pub events_tell : Given → EventsTellTheState
+pub events_tell : Given → EventsShowTheState
 events_tell given family end merge state events after up is =
     leading (ledger_for state) is.ledger state after events (trace_leads given family end merge state up events after is)
 
-pub turns_tell : Given → TurnsTellTheState
+pub turns_tell : Given → TurnsShowTheState
 turns_tell given family turns ledger state events ledger' after up tells =
     leading ledger ledger' state after events (turns_lead given family turns ledger ledger' state after events up tells)
 

@@ -18,7 +18,7 @@ use Rattle.pim_trace.specs.declared.ledger.Causes.{Causes}
 use Rattle.pim_trace.specs.Ledger.{Ledger, no_cause, both_by}
 use Rattle.pim_trace.specs.Heard.{event_on}
 use Rattle.pim_trace.specs.Passing.{cause_of}
-use Rattle.pim_trace.specs.Folding.{names, states_by, states_told}
+use Rattle.pim_trace.specs.Folding.{names, states_by, states_shown}
 use Rattle.pim_trace.specs.Causing.{end_of, end_after, sets, packet_of, ends_pending}
 
 -- ---- what is known of a machine
@@ -79,7 +79,7 @@ fired_known firing known (Some state) = Some (record {
 pub record Changes (key : Key (List ℕ)) (from : Option Known) (event : Occurrence) (to : Option Known) : Type 0 where
   pub change : Transition (List ℕ)
   pub what : event.what ≡ machine_changed change
-  pub named : names key event.port change.group change.what ≡ true
+  pub affected : names key event.port change.group change.what ≡ true
   pub was : change.before ≡ state_in from
   pub overrides : change.overrides ≡ (if ends_pending change then pending_frame from else None)
   pub now : to ≡ changed_known event.ms change from change.after
@@ -88,7 +88,7 @@ pub record Changes (key : Key (List ℕ)) (from : Option Known) (event : Occurre
 pub record Fires (key : Key (List ℕ)) (from : Option Known) (event : Occurrence) (to : Option Known) : Type 0 where
   pub firing : Fired (List ℕ)
   pub what : event.what ≡ timer_fired firing
-  pub named : names key event.port firing.group firing.what ≡ true
+  pub affected : names key event.port firing.group firing.what ≡ true
   pub held : Known
   pub was : from ≡ Some held
   pub before : firing.before ≡ held.state
@@ -97,7 +97,7 @@ pub record Fires (key : Key (List ℕ)) (from : Option Known) (event : Occurrenc
 
 -- An event leads from what is known to what is known then. It may also tell nothing of the machine.
 pub data LeadsBy (key : Key (List ℕ)) (from : Option Known) (event : Occurrence) (to : Option Known) : Type 0 where
-  tells_nothing : states_told key event ≡ None → to ≡ from → LeadsBy key from event to
+  tells_nothing : states_shown key event ≡ None → to ≡ from → LeadsBy key from event to
   tells_change : Changes key from event to → LeadsBy key from event to
   tells_firing : Fires key from event to → LeadsBy key from event to
 
@@ -125,7 +125,7 @@ module _ (key : Key (List ℕ)) where
   unfolding Leads
   leads_first from between to x xs one more = (between, one, more)
 
-  pub leads_past : (from to : Option Known) (x : Occurrence) (xs : List Occurrence) → states_told key x ≡ None →
+  pub leads_past : (from to : Option Known) (x : Occurrence) (xs : List Occurrence) → states_shown key x ≡ None →
       Leads from xs to → Leads from (x ∷ xs) to
   leads_past from to x xs none more = leads_first from from to x xs (tells_nothing none refl) more
 

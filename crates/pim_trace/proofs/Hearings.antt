@@ -13,9 +13,9 @@ use Rattle.pim_down.specs.Hearing.{events_of, start_of}
 use Rattle.pim_addr.specs.Routes.{rp_of}
 use Rattle.pim_router.specs.declared.verdict.Verdict.{Verdict}
 use Rattle.pim_router.specs.declared.verdict.Verdict.TheVariants as verdict
-use Rattle.pim_router.specs.Packets.{Packet, received, message_taken, neighbours_on, timing_on, own_address}
+use Rattle.pim_router.specs.Packets.{Packet, received, message_heard, neighbours_on, timing_on, own_address}
 use Rattle.pim_router.specs.State.{RouterState}
-use Rattle.pim_events.specs.Events.{Happened, Occurrence, hello_taken}
+use Rattle.pim_events.specs.Events.{Happened, Occurrence, hello_heard}
 use Rattle.pim_transitions.specs.declared.transition.Transition.{Transition}
 use Rattle.pim_down.specs.declared.machines.machine.Record.{Record}
 use Rattle.pim_transitions.specs.Laws.{TransitionsAreThere}
@@ -25,7 +25,7 @@ use Rattle.pim_trace.specs.Heard.{event_on, generation_of, generation_in, greeti
 use Rattle.pim_router.specs.Reading.{read_hello, read_message, packet_read}
 use Rattle.pim_trace.specs.Read.{IsNoHello, IsForOther, is_applied}
 use Rattle.pim_trace.specs.Reading.{hello_in, message_in, hello_read, message_read}
-use Rattle.pim_trace.specs.Telling.{HasBegun, Tells, text_on}
+use Rattle.pim_trace.specs.WrittenEvents.{HasBegun, Writes, text_on}
 use Rattle.pim_trace.proofs.Verdicts.{taken_reads, reads_as, applied_leaves, other_is_refused}
 use Rattle.pim_trace.proofs.Written.{front-longer}
 use Rattle.pim_trace.proofs.Writing.{all-more, none-is-front, text-append}
@@ -95,17 +95,17 @@ module _ (family : AddressFamily) (frame : ℕ) (packet : Packet) (ledger : Ledg
   Changed v changes = AreChangesOf family packet state state_is v (message_read family packet) changes
 
   -- the packet says this, and the trace remembers that
-  pub record Says (told : List Happened) (ledger' : Ledger) : Type 0 where
+  pub record Says (reported : List Happened) (ledger' : Ledger) : Type 0 where
     pub changes : List (Transition (List ℕ))
     pub are : Changed verdict_is changes
-    pub said : says family frame packet state ledger verdict_is changes ≡ told
+    pub said : says family frame packet state ledger verdict_is changes ≡ reported
     pub kept : remembers family frame packet state ledger verdict_is changes ≡ ledger'
 
   abbrev Hears : List Occurrence → Ledger → RouterState → Type 0
   Hears events ledger' after = HearsPacket family frame packet ledger state events ledger' after
 
-  hears : (told : List Happened) (ledger' : Ledger) → Says told ledger' → Hears (map (event_on ledger state.machines.moment packet.port) told) ledger' state_is
-  hears told ledger' s = record {
+  hears : (reported : List Happened) (ledger' : Ledger) → Says reported ledger' → Hears (map (event_on ledger state.machines.moment packet.port) reported) ledger' state_is
+  hears reported ledger' s = record {
     changes = s.changes;
     are = s.are;
     after_is = refl;
@@ -115,22 +115,22 @@ module _ (family : AddressFamily) (frame : ℕ) (packet : Packet) (ledger : Ledg
 
   module _ (line : Occurrence → List ℕ) where
     abbrev text : List Happened → List ℕ
-    text told = text_on line ledger state.machines.moment packet.port told
+    text reported = text_on line ledger state.machines.moment packet.port reported
 
     -- all of what the packet says was told, or a front of it
-    pub tells : (told : List Happened) (remembered : Ledger) → Says told remembered → (r : Result (Unit {0}) TurnFault) (ledger' : Ledger) (after : RouterState) (old new : Option (List ℕ))
-        → OnOk r (ledger' ≡ remembered) → OnOk r (after ≡ state_is) → AppendsAll old new r (text told) → Tells line Hears ledger' after old new r
-    tells told remembered s (Ok done) ledger' after old new kept left written = record {
-      events = map (event_on ledger state.machines.moment packet.port) told;
-      are = subst (λ (a : RouterState). Hears (map (event_on ledger state.machines.moment packet.port) told) ledger' a) (sym left)
-          (subst (λ (l : Ledger). Hears (map (event_on ledger state.machines.moment packet.port) told) l state_is) (sym kept) (hears told remembered s));
+    pub tells : (reported : List Happened) (remembered : Ledger) → Says reported remembered → (r : Result (Unit {0}) TurnFault) (ledger' : Ledger) (after : RouterState) (old new : Option (List ℕ))
+        → OnOk r (ledger' ≡ remembered) → OnOk r (after ≡ state_is) → AppendsAll old new r (text reported) → Writes line Hears ledger' after old new r
+    tells reported remembered s (Ok done) ledger' after old new kept left written = record {
+      events = map (event_on ledger state.machines.moment packet.port) reported;
+      are = subst (λ (a : RouterState). Hears (map (event_on ledger state.machines.moment packet.port) reported) ledger' a) (sym left)
+          (subst (λ (l : Ledger). Hears (map (event_on ledger state.machines.moment packet.port) reported) l state_is) (sym kept) (hears reported remembered s));
       written = written;
     }
-    tells told remembered s (Err fault) ledger' after old new kept left written = record {
-      events = map (event_on ledger state.machines.moment packet.port) told;
+    tells reported remembered s (Err fault) ledger' after old new kept left written = record {
+      events = map (event_on ledger state.machines.moment packet.port) reported;
       ledger = remembered;
       after = state_is;
-      are = hears told remembered s;
+      are = hears reported remembered s;
       written = written;
     }
 
@@ -145,13 +145,13 @@ module _ (family : AddressFamily) (frame : ℕ) (packet : Packet) (ledger : Ledg
     }
 
     -- nothing was told yet
-    pub nothing_told : (told : List Happened) (remembered : Ledger) → Says told remembered → (old : Option (List ℕ)) → HasBegun line Hears old old
-    nothing_told told remembered s old = record {
-      events = map (event_on ledger state.machines.moment packet.port) told;
+    pub nothing_told : (reported : List Happened) (remembered : Ledger) → Says reported remembered → (old : Option (List ℕ)) → HasBegun line Hears old old
+    nothing_told reported remembered s old = record {
+      events = map (event_on ledger state.machines.moment packet.port) reported;
       ledger = remembered;
       after = state_is;
-      are = hears told remembered s;
-      written = none-is-front old (text told);
+      are = hears reported remembered s;
+      written = none-is-front old (text reported);
     }
 
   -- ---- a Hello
@@ -172,7 +172,7 @@ module _ (family : AddressFamily) (frame : ℕ) (packet : Packet) (ledger : Ledg
 
     -- a Hello that was taken
     pub greets : (heard : Heard) (was : Option ℕ) → verdict_is ≡ verdict.HelloTaken heard → was ≡ generation_of (neighbour_at packet.source (neighbours_on packet.port state))
-        → Says (hello_taken (record { frame = frame; from = packet.source; verdict = heard; was = was; generation = generation }) ∷ [])
+        → Says (hello_heard (record { frame = frame; from = packet.source; verdict = heard; was = was; generation = generation }) ∷ [])
         (with_hello packet.port packet.source (sent_by frame state.machines.moment heard) ledger)
     greets heard was v_is was_is = record {
       changes = [];
@@ -181,10 +181,10 @@ module _ (family : AddressFamily) (frame : ℕ) (packet : Packet) (ledger : Ledg
       kept = ap (λ (v : Verdict). remembers family frame packet state ledger v []) v_is;
     }
       where
-        same : greeting family frame packet state heard ≡ hello_taken (record { frame = frame; from = packet.source; verdict = heard; was = was; generation = generation })
+        same : greeting family frame packet state heard ≡ hello_heard (record { frame = frame; from = packet.source; verdict = heard; was = was; generation = generation })
         same =
-            ap (λ (w : Option ℕ). hello_taken (record { frame = frame; from = packet.source; verdict = heard; was = w; generation = generation_in (hello_read family packet) })) (sym was_is)
-            ∙ ap (λ (g : Option ℕ). hello_taken (record { frame = frame; from = packet.source; verdict = heard; was = was; generation = g })) (ap generation_in hello.hello ∙ hello.is)
+            ap (λ (w : Option ℕ). hello_heard (record { frame = frame; from = packet.source; verdict = heard; was = w; generation = generation_in (hello_read family packet) })) (sym was_is)
+            ∙ ap (λ (g : Option ℕ). hello_heard (record { frame = frame; from = packet.source; verdict = heard; was = was; generation = g })) (ap generation_in hello.hello ∙ hello.is)
 
     -- the port's own Hello
     pub restarts_by : verdict_is ≡ verdict.Mine
@@ -192,12 +192,12 @@ module _ (family : AddressFamily) (frame : ℕ) (packet : Packet) (ledger : Ledg
     restarts_by v_is = record {
       changes = [];
       are = unchanged verdict_is;
-      said = ap (λ (v : Verdict). says family frame packet state ledger v []) v_is ∙ ap (λ (hs : List Happened). judgment family frame packet verdict.Mine ∷ hs) told;
+      said = ap (λ (v : Verdict). says family frame packet state ledger v []) v_is ∙ ap (λ (hs : List Happened). judgment family frame packet verdict.Mine ∷ hs) reported;
       kept = ap (λ (v : Verdict). remembers family frame packet state ledger v []) v_is ∙ after;
     }
       where
-        told : restarts frame (slice_index_or ledger.own packet.port None) (hello_read family packet) ≡ restart_of frame (slice_index_or ledger.own packet.port None) generation
-        told = ap (restarts frame (slice_index_or ledger.own packet.port None)) hello.hello ∙ ap (restart_of frame (slice_index_or ledger.own packet.port None)) hello.is
+        reported : restarts frame (slice_index_or ledger.own packet.port None) (hello_read family packet) ≡ restart_of frame (slice_index_or ledger.own packet.port None) generation
+        reported = ap (restarts frame (slice_index_or ledger.own packet.port None)) hello.hello ∙ ap (restart_of frame (slice_index_or ledger.own packet.port None)) hello.is
 
         after : after_own packet.port (hello_read family packet) ledger ≡ with_own packet.port generation ledger
         after = ap (λ (h : Option Parameters). after_own packet.port h ledger) hello.hello ∙ ap (λ (g : Option ℕ). with_own packet.port g ledger) hello.is
@@ -318,7 +318,7 @@ module _ (family : AddressFamily) (frame : ℕ) (packet : Packet) (ledger : Ledg
         → AreTransitionsOf family packet.port state m changes
         → Changed verdict_is changes
     changed_by m e v_is changes are =
-        let left : state_is ≡ (message_taken family packet.port state m).1 = applied_leaves family packet state m (reads_as (packet_read family packet) m (read.1 ∙ e)) v_is in
+        let left : state_is ≡ (message_heard family packet.port state m).1 = applied_leaves family packet state m (reads_as (packet_read family packet) m (read.1 ∙ e)) v_is in
         subst (λ (v : Verdict). AreChangesOf family packet state state_is v (message_read family packet) changes) (sym v_is)
         (subst (λ (o : Option Message). AreChangesOf family packet state state_is verdict.Applied o changes) (sym (same_message ∙ e))
         (subst (λ (after : RouterState). AreChangesOf family packet state after verdict.Applied (Some m) changes) (sym left) are))
@@ -378,9 +378,9 @@ module _ (family : AddressFamily) (frame : ℕ) (packet : Packet) (ledger : Ledg
         → Appends a b (text_on line ledger state.machines.moment packet.port (judgment family frame packet verdict_is ∷ []))
         → AppendsAll b c r (text_on line ledger after.machines.moment packet.port (message_says family frame packet after ledger sets (found after.machines.records)))
         → OnOk r (ledger' ≡ with_changes (as_cause frame packet after) (found after.machines.records) ledger)
-        → Tells line Hears ledger' after a c r
+        → Writes line Hears ledger' after a c r
     applied_told m e v_is found are sets sets_is line after after_is r ledger' a b c first written kept =
-        let left : after ≡ (message_taken family packet.port state m).1 = after_is ∙ applied_leaves family packet state m (reads_as (packet_read family packet) m (read.1 ∙ e)) v_is in
+        let left : after ≡ (message_heard family packet.port state m).1 = after_is ∙ applied_leaves family packet state m (reads_as (packet_read family packet) m (read.1 ∙ e)) v_is in
         let changes = found (records_after family packet.port state m) in
         let says_all : Says (judgment family frame packet verdict_is ∷ message_says family frame packet state ledger m.sets changes) (with_changes (as_cause frame packet state) changes ledger) = record {
           changes = changes;
@@ -421,20 +421,20 @@ module _ (family : AddressFamily) (frame : ℕ) (packet : Packet) (ledger : Ledg
     module _ (v : Verdict) (after : RouterState) (pair : ◌≡◌ {A = Verdict × RouterState} (v, after) (received family packet state)) (ms : ℕ) (now : ms ≡ state.machines.moment)
         (r : Result (Unit {0}) TurnFault) (ledger' : Ledger) (old new : Option (List ℕ)) where
       pub hello_told : (heard : Heard) (was : Option ℕ) → v ≡ verdict.HelloTaken heard → was ≡ generation_of (neighbour_at packet.source (neighbours_on packet.port state))
-          → AppendsAll old new r (text_on line ledger ms packet.port (hello_taken (record { frame = frame; from = packet.source; verdict = heard; was = was; generation = generation }) ∷ []))
-          → OnOk r (ledger' ≡ with_hello packet.port packet.source (sent_by frame ms heard) ledger) → Tells line HearsIt ledger' after old new r
+          → AppendsAll old new r (text_on line ledger ms packet.port (hello_heard (record { frame = frame; from = packet.source; verdict = heard; was = was; generation = generation }) ∷ []))
+          → OnOk r (ledger' ≡ with_hello packet.port packet.source (sent_by frame ms heard) ledger) → Writes line HearsIt ledger' after old new r
       hello_told heard was is was_is written kept =
-          tells family frame packet ledger state line (hello_taken (record { frame = frame; from = packet.source; verdict = heard; was = was; generation = generation }) ∷ [])
+          tells family frame packet ledger state line (hello_heard (record { frame = frame; from = packet.source; verdict = heard; was = was; generation = generation }) ∷ [])
           (with_hello packet.port packet.source (sent_by frame state.machines.moment heard) ledger)
           (greets family frame packet ledger state generation (says_hello family packet said reads) heard was (pair_is v (verdict.HelloTaken heard) after pair is) was_is)
           r ledger' after old new
           (subst (λ m. OnOk r (ledger' ≡ with_hello packet.port packet.source (sent_by frame m heard) ledger)) now kept)
           (on_ok r (pair_left v after pair))
-          (subst (λ m. AppendsAll old new r (text_on line ledger m packet.port (hello_taken (record { frame = frame; from = packet.source; verdict = heard; was = was; generation = generation }) ∷ []))) now written)
+          (subst (λ m. AppendsAll old new r (text_on line ledger m packet.port (hello_heard (record { frame = frame; from = packet.source; verdict = heard; was = was; generation = generation }) ∷ []))) now written)
 
       pub own_told : v ≡ verdict.Mine
           → AppendsAll old new r (text_on line ledger ms packet.port (judgment family frame packet verdict.Mine ∷ restart_of frame (slice_index_or ledger.own packet.port None) generation))
-          → OnOk r (ledger' ≡ with_own packet.port generation ledger) → Tells line HearsIt ledger' after old new r
+          → OnOk r (ledger' ≡ with_own packet.port generation ledger) → Writes line HearsIt ledger' after old new r
       own_told is written kept =
           tells family frame packet ledger state line (judgment family frame packet verdict.Mine ∷ restart_of frame (slice_index_or ledger.own packet.port None) generation) (with_own packet.port generation ledger)
           (restarts_by family frame packet ledger state generation (says_hello family packet said reads) (pair_is v verdict.Mine after pair is))
@@ -442,7 +442,7 @@ module _ (family : AddressFamily) (frame : ℕ) (packet : Packet) (ledger : Ledg
           (subst (λ m. AppendsAll old new r (text_on line ledger m packet.port (judgment family frame packet verdict.Mine ∷ restart_of frame (slice_index_or ledger.own packet.port None) generation))) now written)
 
       pub verdict_told : ((heard : Heard) → v ≡ verdict.HelloTaken heard → ⊥) → (v ≡ verdict.Mine → ⊥) → ledger' ≡ ledger
-          → AppendsAll old new r (text_on line ledger ms packet.port (judgment family frame packet v ∷ [])) → Tells line HearsIt ledger' after old new r
+          → AppendsAll old new r (text_on line ledger ms packet.port (judgment family frame packet v ∷ [])) → Writes line HearsIt ledger' after old new r
       verdict_told no_hello not_mine same written =
           tells family frame packet ledger state line (judgment family frame packet v ∷ []) ledger
           (judges family frame packet ledger state generation (says_hello family packet said reads) v (pair_is v v after pair refl) no_hello not_mine)
@@ -455,7 +455,7 @@ module _ (family : AddressFamily) (frame : ℕ) (packet : Packet) (ledger : Ledg
 
     -- a packet that isn't applied
     pub other_told : ((received family packet state).0 ≡ verdict.Applied → message ≡ None) → (r : Result (Unit {0}) TurnFault) (after : RouterState) (old new : Option (List ℕ))
-        → OnOk r (after ≡ (received family packet state).1) → AppendsAll old new r told_first → Tells line HearsIt ledger after old new r
+        → OnOk r (after ≡ (received family packet state).1) → AppendsAll old new r told_first → Writes line HearsIt ledger after old new r
     other_told none r after old new left written =
         tells family frame packet ledger state line (judgment family frame packet (received family packet state).0 ∷ []) ledger (unapplied family frame packet ledger state message read none)
         r ledger after old new (on_ok r refl) left written
@@ -478,6 +478,6 @@ if_ok P Q (Err e) makes p = tt
 
 -- an error that goes on
 pub begun_err : {E : Type 0} (line : Occurrence → List ℕ) (Are : List Occurrence → Ledger → RouterState → Type 0) (r : Result (Unit {0}) E) (ledger' : Ledger) (after : RouterState) (old new : Option (List ℕ))
-    → IsErr r → HasBegun line Are old new → Tells line Are ledger' after old new r
+    → IsErr r → HasBegun line Are old new → Writes line Are ledger' after old new r
 begun_err line Are (Ok done) ledger' after old new e p = absurd cc
 begun_err line Are (Err fault) ledger' after old new e p = p

@@ -15,19 +15,19 @@ use Rattle.pim_router.specs.State.{RouterState}
 use Rattle.pim_events.specs.Events.{Occurrence, Happened}
 use Rattle.pim_trace.specs.Ledger.{Ledger, forgetting}
 use Rattle.pim_trace.specs.Heard.{event_on}
-use Rattle.pim_trace.specs.Passing.{event_of, after_happening, events_in, after_all, TellsAll, time_outs, time_outs_on}
-use Rattle.pim_trace.specs.Telling.{HasBegun, Tells}
+use Rattle.pim_trace.specs.Passing.{event_of, after_happening, events_in, after_all, WritesAll, time_outs, time_outs_on}
+use Rattle.pim_trace.specs.WrittenEvents.{HasBegun, Writes}
 use Rattle.pim_trace.proofs.Written.{front-longer, front-more}
 use Rattle.pim_trace.proofs.OnTheWay.{said, said_joined, ledger_joined}
 
-abbrev Told : Type 0
-Told = List (ℕ × Happening)
+abbrev EventSeen : Type 0
+EventSeen = List (ℕ × Happening)
 
 module _ (line : Occurrence → List ℕ) where
-  module _ (first : Ledger) (all : Told) (old : Option (List ℕ)) where
+  module _ (first : Ledger) (all : EventSeen) (old : Option (List ℕ)) where
     -- The items before `left` were told.
-    pub record IsTelling (ledger : Ledger) (left : Told) (new : Option (List ℕ)) : Type 0 where
-      pub done : Told
+    pub record IsTelling (ledger : Ledger) (left : EventSeen) (new : Option (List ℕ)) : Type 0 where
+      pub done : EventSeen
       pub all_is : all ≡ done ++ left
       pub ledger_is : ledger ≡ after_all first done
       pub written : Appends old new (said line first done)
@@ -36,9 +36,9 @@ module _ (line : Occurrence → List ℕ) where
     unfolding events_in after_all
     begin = record { done = []; all_is = refl; ledger_is = refl; written = Appends-nil old }
 
-    module _ (ledger : Ledger) (left : Told) (new : Option (List ℕ)) (w : IsTelling ledger left new) where
+    module _ (ledger : Ledger) (left : EventSeen) (new : Option (List ℕ)) (w : IsTelling ledger left new) where
       -- what is left, written otherwise
-      pub same_left : (other : Told) → left ≡ other → IsTelling ledger other new
+      pub same_left : (other : EventSeen) → left ≡ other → IsTelling ledger other new
       same_left other e = record { done = w.done; all_is = w.all_is ∙ ap (λ l. w.done ++ l) e; ledger_is = w.ledger_is; written = w.written }
 
       pub all_told : left ≡ [] → (ledger ≡ after_all first all) × Appends old new (said line first all)
@@ -46,7 +46,7 @@ module _ (line : Occurrence → List ℕ) where
           let is : all ≡ w.done = w.all_is ∙ ap (λ l. w.done ++ l) e ∙ append-nil w.done in
           (w.ledger_is ∙ ap (after_all first) (sym is), subst (λ t. Appends old new (said line first t)) (sym is) w.written)
 
-      module _ (part more : Told) (e : left ≡ part ++ more) where
+      module _ (part more : EventSeen) (e : left ≡ part ++ more) where
         pub part_told : (ledger' : Ledger) (newer : Option (List ℕ)) → (ledger' ≡ after_all ledger part) × Appends new newer (said line ledger part) → IsTelling ledger' more newer
         part_told ledger' newer t =
             let here = w.ledger_is in
@@ -78,7 +78,7 @@ module _ (port end passed : ℕ) where
   wait entry = (entry.0, waited passed entry.1)
 
   -- those of these neighbours whose time is over then
-  pub over_in : List (List ℕ × Neighbour) → Told
+  pub over_in : List (List ℕ × Neighbour) → EventSeen
   over_in entries = at_moment end (map (λ (entry : List ℕ × Neighbour). timed_out port entry.0)
       (filter (λ (entry : List ℕ × Neighbour). is_over entry.1.left) (map wait entries)))
 
@@ -110,7 +110,7 @@ all_current moment (table ∷ tables) zero d all less = all.0.moment_now
 all_current moment (table ∷ tables) (suc i) d all less = all_current moment tables i d all.1 (omega (arith, less))
 
 -- those of the ports from this one on
-pub over_from : ℕ → List Table → ℕ → Told
+pub over_from : ℕ → List Table → ℕ → EventSeen
 over_from end tables port = at_moment end (gone_from port (map (passed_to end) (drop port tables)))
 
 pub from_first : (end : ℕ) (tables : List Table) → time_outs end tables ≡ over_from end tables 0
@@ -137,7 +137,7 @@ module _ (line : Occurrence → List ℕ) (ledger ledger' : Ledger) (ms : ℕ) (
   one_said = append-nil (line (event_of ledger ms happening))
 
   pub tells_one : {A E : Type 0} (r : Result A E) → ledger' ≡ after_happening happening ledger → AppendsAll old new r (line (event_of ledger ms happening)) →
-      TellsAll line ((ms, happening) ∷ []) ledger ledger' old new r
+      WritesAll line ((ms, happening) ∷ []) ledger ledger' old new r
   unfolding after_all
   tells_one (Ok done) is written = (is, subst (λ bs. Appends old new bs) (sym one_said) written)
   tells_one (Err fault) is written = subst (λ bs. AppendsFront old new bs) (sym one_said) written
@@ -167,12 +167,12 @@ is_stays happening ledger ledger' e = subst (λ l. Stays ledger l) (sym e) (afte
 
 -- ---- a failed call
 
-pub all_err : {A E : Type 0} (line : Occurrence → List ℕ) (happened : Told) (ledger ledger' : Ledger) (old new : Option (List ℕ)) (r : Result A E) → IsErr r →
-    AppendsFront old new (said line ledger happened) → TellsAll line happened ledger ledger' old new r
+pub all_err : {A E : Type 0} (line : Occurrence → List ℕ) (happened : EventSeen) (ledger ledger' : Ledger) (old new : Option (List ℕ)) (r : Result A E) → IsErr r →
+    AppendsFront old new (said line ledger happened) → WritesAll line happened ledger ledger' old new r
 all_err line happened ledger ledger' old new (Ok done) e front = absurd (false≢true e)
 all_err line happened ledger ledger' old new (Err fault) e front = front
 
 pub tells_err : {A E : Type 0} (line : Occurrence → List ℕ) (Are : List Occurrence → Ledger → RouterState → Type 0) (ledger : Ledger) (after : RouterState) (old new : Option (List ℕ)) (r : Result A E) → IsErr r →
-    HasBegun line Are old new → Tells line Are ledger after old new r
+    HasBegun line Are old new → Writes line Are ledger after old new r
 tells_err line Are ledger after old new (Ok done) e begun = absurd (false≢true e)
 tells_err line Are ledger after old new (Err fault) e begun = begun

@@ -7,7 +7,7 @@ use Rattle.pim_events.specs.declared.event.Cause.{Cause}
 use Rattle.pim_transitions.specs.declared.transition.Transition.{Transition}
 use Rattle.pim_trace.specs.Heard.{change_of, changes_of}
 use Rattle.pim_trace.specs.Ledger.{Ledger, with_change, with_changes}
-use Rattle.pim_trace.specs.Telling.{text_on}
+use Rattle.pim_trace.specs.WrittenEvents.{text_on}
 use Rattle.pim_trace.proofs.Writing.{IsWriting, write_more, written_all, written_front, text-append, text-same}
 
 -- ---- what each item of a list says

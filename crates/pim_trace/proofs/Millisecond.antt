@@ -11,7 +11,7 @@ use Rattle.pim_router.specs.Time.{rests, turn}
 use Rattle.pim_events.specs.Events.{Occurrence}
 use Rattle.pim_trace.specs.Ledger.{Ledger}
 use Rattle.pim_trace.specs.Passing.{events_in, after_all, PassesTime, time_outs}
-use Rattle.pim_trace.specs.Telling.{HasTold, HasBegun}
+use Rattle.pim_trace.specs.WrittenEvents.{HasWritten, HasBegun}
 use Rattle.pim_trace.proofs.Fires.{ends_next, fires_next, they_go}
 use Rattle.pim_trace.proofs.Listed as listed
 use Rattle.pim_trace.proofs.OnTheWay.{said, IsOnTheWay, begin, further, stopped}
@@ -29,20 +29,20 @@ module _ (line : Occurrence → List ℕ) (go : HappeningGoesOn) (every : EveryS
 
   -- they were told, and no timer fires
   pub gone_only : (ledger' : Ledger) (after : RouterState) (newer : Option (List ℕ)) → after.machines.moment ≡ end → Happens end state (gone_between state after) after →
-      (ledger' ≡ after_all first gone) × Appends old newer (said line first gone) → HasTold line (PassesTime end first state) ledger' after old newer
+      (ledger' ≡ after_all first gone) × Appends old newer (said line first gone) → HasWritten line (PassesTime end first state) ledger' after old newer
   gone_only ledger' after newer there happens t = record {
     events = events_in first gone;
     are = record { happened = gone; happens = ends_next end state next quiet after there happens; events_are = refl; ledger_is = t.0 };
     written = t.1;
   }
 
-  module _ (law : FiringPasses) (after : RouterState) (told : Firing (List ℕ)) (within : after.machines.moment ≤ max state.machines.moment end) (f : FiresAfter end state told after)
+  module _ (law : FiringPasses) (after : RouterState) (reported : Firing (List ℕ)) (within : after.machines.moment ≤ max state.machines.moment end) (f : FiresAfter end state reported after)
       (ledger1 : Ledger) (new1 : Option (List ℕ)) (t1 : (ledger1 ≡ after_all first gone) × Appends old new1 (said line first gone)) where
     abbrev one : List (ℕ × Happening)
-    one = (end, timer_fired told) ∷ []
+    one = (end, timer_fired reported) ∷ []
 
     passes : Passes end state (gone ++ one) after
-    passes = fires_next end state next quiet law after told within f
+    passes = fires_next end state next quiet law after reported within f
 
     so_far : listed.IsTelling line first (gone ++ one) old ledger1 one new1
     so_far = listed.part_told line first (gone ++ one) old first (gone ++ one) old (listed.begin line first (gone ++ one) old) gone one refl ledger1 new1 t1

@@ -27,8 +27,8 @@ module _ (line : Occurrence → List ℕ) where
   all_told old new events p = all-is-front old new (flat_map line events) p
 
   -- some events, and then others
-  pub told_then : (old mid new : Option (List ℕ)) (one more : List Occurrence) → Wrote line old mid one → Wrote line mid new more → Wrote line old new (one ++ more)
-  told_then old mid new one more p q =
+  pub happens_then : (old mid new : Option (List ℕ)) (one more : List Occurrence) → Wrote line old mid one → Wrote line mid new more → Wrote line old new (one ++ more)
+  happens_then old mid new one more p q =
       subst (λ (text : List ℕ). Appends old new text) (sym (flat_map-append line one more)) (Appends-trans old mid new (flat_map line one) (flat_map line more) p q)
 
   pub told_begun : (old mid new : Option (List ℕ)) (one more : List Occurrence) → Wrote line old mid one → WroteFront line mid new more → WroteFront line old new (one ++ more)

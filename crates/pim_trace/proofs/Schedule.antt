@@ -10,23 +10,23 @@ use Rattle.pim_down.specs.declared.machines.step.Firing.{Firing}
 use Rattle.pim_down.specs.declared.machines.step.Step.{Step as Fires}
 use Rattle.pim_down.specs.declared.machines.step.Step.TheVariants as fires
 use Rattle.pim_down.specs.Time.{fired, with_records}
-use Rattle.pim_router.specs.Happening.{Happening, timed_out, timer_fired, gone_of, gone_from, gone_within, happens_in, next_of, at_moment, told_then, in_turns, FiresAfter}
+use Rattle.pim_router.specs.Happening.{Happening, timed_out, timer_fired, gone_of, gone_from, gone_within, happens_in, next_of, at_moment, happens_then, in_turns, FiresAfter}
 use Rattle.pim_router.specs.declared.step.Step.TheVariants.{Echo, Refresh}
 use Rattle.pim_router.specs.State.{RouterState, with_machines, with_tables, with_refresh, refresh_period}
 use Rattle.pim_router.specs.Time.{Outcome, rests, moves, tells, has_ended, tick, turn, turn_of_time, turn_of_timers}
 use Rattle.pim_trace.specs.Passing.{gone_by, time_outs}
 
-abbrev Told : Type 0
-Told = List (ℕ × Happening)
+abbrev EventSeen : Type 0
+EventSeen = List (ℕ × Happening)
 
 abbrev End : Type 0
-End = Option (Told × RouterState)
+End = Option (EventSeen × RouterState)
 
-pair_of : (told said : Told) (end after : RouterState) → ◌≡◌ {A = End} (Some (told, end)) (Some (said, after)) → ◌≡◌ {A = Told × RouterState} (told, end) (said, after)
-pair_of told said end after e = cc
+pair_of : (reported said : EventSeen) (end after : RouterState) → ◌≡◌ {A = End} (Some (reported, end)) (Some (said, after)) → ◌≡◌ {A = EventSeen × RouterState} (reported, end) (said, after)
+pair_of reported said end after e = cc
 
-no_end : (told : Told) (after : RouterState) → ◌≡◌ {A = End} None (Some (told, after)) → ⊥
-no_end told after e = cc
+no_end : (reported : EventSeen) (after : RouterState) → ◌≡◌ {A = End} None (Some (reported, after)) → ⊥
+no_end reported after e = cc
 
 none_some : (next : RouterState) → ◌≡◌ {A = Option RouterState} None (Some next) → ⊥
 none_some next e = cc
@@ -188,23 +188,23 @@ went moment state next h = by_ended moment state next (list_any has_ended state.
 
 -- ---- turns
 
-joined : (first told : Told) (after : RouterState) (o : End) → told_then first o ≡ Some (told, after) → (more : Told) × (o ≡ Some (more, after)) × (first ++ more ≡ told)
-joined first told after None e = absurd (no_end told after e)
-joined first told after (Some (more, end)) e =
-    let pairs = pair_of (first ++ more) told end after e in
-    (more, ap (λ (x : Told × RouterState). Some (more, x.1)) pairs, ap (λ (x : Told × RouterState). x.0) pairs)
+joined : (first reported : EventSeen) (after : RouterState) (o : End) → happens_then first o ≡ Some (reported, after) → (more : EventSeen) × (o ≡ Some (more, after)) × (first ++ more ≡ reported)
+joined first reported after None e = absurd (no_end reported after e)
+joined first reported after (Some (more, end)) e =
+    let pairs = pair_of (first ++ more) reported end after e in
+    (more, ap (λ (x : EventSeen × RouterState). Some (more, x.1)) pairs, ap (λ (x : EventSeen × RouterState). x.0) pairs)
 
 -- a predicate on states that holds after turns if each turn keeps it
 module _ (moment : ℕ) (P : RouterState → RouterState → Type 0) (none : (state : RouterState) → P state state)
     (more : (state next after : RouterState) → next_of (turn moment state) ≡ Some next → P next after → P state after) where
-  by_turns : (turns : ℕ) (state after : RouterState) (told : Told) → in_turns turns moment state ≡ Some (told, after) → P state after
+  by_turns : (turns : ℕ) (state after : RouterState) (reported : EventSeen) → in_turns turns moment state ≡ Some (reported, after) → P state after
   unfolding in_turns
-  by_turns zero state after told e = subst (λ (x : Told × RouterState). P state x.1) (pair_of [] told state after e) (none state)
-  by_turns (suc turns) state after told e =
+  by_turns zero state after reported e = subst (λ (x : EventSeen × RouterState). P state x.1) (pair_of [] reported state after e) (none state)
+  by_turns (suc turns) state after reported e =
       elim (next_of (turn moment state)) as (λ o. next_of (turn moment state) ≡ o → P state after) [
-        | None ↦ λ n. absurd (no_end told after (rw n at e))
+        | None ↦ λ n. absurd (no_end reported after (rw n at e))
         | Some next ↦ λ n.
-            let j = joined (at_moment state.machines.moment (happens_in state)) told after (in_turns turns moment next) (rw n at e) in
+            let j = joined (at_moment state.machines.moment (happens_in state)) reported after (in_turns turns moment next) (rw n at e) in
             more state next after n (by_turns turns next after j.0 j.1)
       ] refl
 
@@ -221,7 +221,7 @@ not_earlier moment state next after (waited none is less) h le =
     let later : next.machines.moment ≡ state.machines.moment + 1 = ap (λ (x : RouterState). x.machines.moment) is in
     omega (arith, later, le)
 
-pub moment_rises : (moment turns : ℕ) (state after : RouterState) (told : Told) → in_turns turns moment state ≡ Some (told, after) → state.machines.moment ≤ after.machines.moment
+pub moment_rises : (moment turns : ℕ) (state after : RouterState) (reported : EventSeen) → in_turns turns moment state ≡ Some (reported, after) → state.machines.moment ≤ after.machines.moment
 moment_rises moment =
     by_turns moment (λ state after. state.machines.moment ≤ after.machines.moment) (λ state. omega arith)
     (λ state next after h le. not_earlier moment state next after (went moment state next h) h le)
@@ -242,9 +242,9 @@ keeps_nobody moment later state next after le (waited none is less) keeps e =
     (ap (λ k. gone_within k state.machines.moment state.tables) (sym more) ∙ e) in
     keeps (ap (gone_by later) is ∙ there)
 
-pub nobody_later : (moment later turns : ℕ) (state after : RouterState) (told : Told) → moment ≤ later → in_turns turns moment state ≡ Some (told, after) → KeepsNobody later state after
-nobody_later moment later turns state after told le =
-    by_turns moment (KeepsNobody later) (λ state e. e) (λ state next after h keeps. keeps_nobody moment later state next after le (went moment state next h) keeps) turns state after told
+pub nobody_later : (moment later turns : ℕ) (state after : RouterState) (reported : EventSeen) → moment ≤ later → in_turns turns moment state ≡ Some (reported, after) → KeepsNobody later state after
+nobody_later moment later turns state after reported le =
+    by_turns moment (KeepsNobody later) (λ state e. e) (λ state next after h keeps. keeps_nobody moment later state next after le (went moment state next h) keeps) turns state after reported
 
 -- ---- where nothing is left to do in the present millisecond
 
@@ -283,55 +283,55 @@ nobody_now state h =
 -- the moment of what happens in one turn
 head_moment : (moment later : ℕ) (happens : List Happening) (one : Happening) → at_moment moment happens ++ [] ≡ (later, one) ∷ [] → moment ≡ later
 head_moment moment later [] one e = absurd (let n : 0 ≡ suc zero = ap length e in omega (arith, n))
-head_moment moment later (happening ∷ happens) one e = ap (λ (l : Told). first_moment l) e
+head_moment moment later (happening ∷ happens) one e = ap (λ (l : EventSeen). first_moment l) e
   where
-    first_moment : Told → ℕ
+    first_moment : EventSeen → ℕ
     first_moment [] = moment
     first_moment (x ∷ l) = x.0
 
 -- a timer that fires in one turn fires at the moment before it
-fires_now : (moment : ℕ) (before after : RouterState) (told : Happening) → in_turns (suc zero) moment before ≡ Some ((after.machines.moment, told) ∷ [], after) →
+fires_now : (moment : ℕ) (before after : RouterState) (reported : Happening) → in_turns (suc zero) moment before ≡ Some ((after.machines.moment, reported) ∷ [], after) →
     before.machines.moment ≡ after.machines.moment
 unfolding in_turns
-fires_now moment before after told e =
+fires_now moment before after reported e =
     elim (next_of (turn moment before)) as (λ o. next_of (turn moment before) ≡ o → before.machines.moment ≡ after.machines.moment) [
-      | None ↦ λ n. absurd (no_end ((after.machines.moment, told) ∷ []) after (rw n at e))
+      | None ↦ λ n. absurd (no_end ((after.machines.moment, reported) ∷ []) after (rw n at e))
       | Some next ↦ λ n.
-          let pairs = pair_of (at_moment before.machines.moment (happens_in before) ++ []) ((after.machines.moment, told) ∷ []) next after (rw n at e) in
-          head_moment before.machines.moment after.machines.moment (happens_in before) told (ap (λ (x : Told × RouterState). x.0) pairs)
+          let pairs = pair_of (at_moment before.machines.moment (happens_in before) ++ []) ((after.machines.moment, reported) ∷ []) next after (rw n at e) in
+          head_moment before.machines.moment after.machines.moment (happens_in before) reported (ap (λ (x : EventSeen × RouterState). x.0) pairs)
     ] refl
 
 -- a timer that fires in the next millisecond fires at its end
 -- the turns before it, after the first
-turns_before : (end turns : ℕ) (state before : RouterState) (told : Told) → state.machines.moment + 1 ≡ end → turn end state ≡ moves (tick state) →
-    in_turns (suc turns) end state ≡ Some (told, before) → end ≤ before.machines.moment
+turns_before : (end turns : ℕ) (state before : RouterState) (reported : EventSeen) → state.machines.moment + 1 ≡ end → turn end state ≡ moves (tick state) →
+    in_turns (suc turns) end state ≡ Some (reported, before) → end ≤ before.machines.moment
 unfolding in_turns
-turns_before end turns state before told next first e =
-    let j = joined (at_moment state.machines.moment (happens_in state)) told before (in_turns turns end (tick state)) (rw first at e) in
+turns_before end turns state before reported next first e =
+    let j = joined (at_moment state.machines.moment (happens_in state)) reported before (in_turns turns end (tick state)) (rw first at e) in
     let rises = moment_rises end turns (tick state) before j.0 j.1 in
     let later : (tick state).machines.moment ≡ state.machines.moment + 1 = refl in
     omega (arith, rises, later, next)
 
 -- no turn before it
-no_turn_before : (end : ℕ) (state before after : RouterState) (said : Told) (told : Happening) → state.machines.moment + 1 ≡ end → turn end state ≡ moves (tick state) →
-    in_turns zero end state ≡ Some (said, before) → in_turns (suc zero) end before ≡ Some ((after.machines.moment, told) ∷ [], after) → end ≤ after.machines.moment
+no_turn_before : (end : ℕ) (state before after : RouterState) (said : EventSeen) (reported : Happening) → state.machines.moment + 1 ≡ end → turn end state ≡ moves (tick state) →
+    in_turns zero end state ≡ Some (said, before) → in_turns (suc zero) end before ≡ Some ((after.machines.moment, reported) ∷ [], after) → end ≤ after.machines.moment
 unfolding in_turns
-no_turn_before end state before after said told next first e fires =
-    let same : state ≡ before = ap (λ (x : Told × RouterState). x.1) (pair_of [] said state before e) in
-    turns_before end zero state after ((after.machines.moment, told) ∷ []) next first (ap (in_turns (suc zero) end) same ∙ fires)
+no_turn_before end state before after said reported next first e fires =
+    let same : state ≡ before = ap (λ (x : EventSeen × RouterState). x.1) (pair_of [] said state before e) in
+    turns_before end zero state after ((after.machines.moment, reported) ∷ []) next first (ap (in_turns (suc zero) end) same ∙ fires)
 
-by_number : (end turns : ℕ) (state before after : RouterState) (said : Told) (told : Happening) → state.machines.moment + 1 ≡ end → turn end state ≡ moves (tick state) →
-    in_turns turns end state ≡ Some (said, before) → in_turns (suc zero) end before ≡ Some ((after.machines.moment, told) ∷ [], after) → end ≤ after.machines.moment
-by_number end zero state before after said told next first e fires = no_turn_before end state before after said told next first e fires
-by_number end (suc turns) state before after said told next first e fires =
-    let same = fires_now end before after told fires in
+by_number : (end turns : ℕ) (state before after : RouterState) (said : EventSeen) (reported : Happening) → state.machines.moment + 1 ≡ end → turn end state ≡ moves (tick state) →
+    in_turns turns end state ≡ Some (said, before) → in_turns (suc zero) end before ≡ Some ((after.machines.moment, reported) ∷ [], after) → end ≤ after.machines.moment
+by_number end zero state before after said reported next first e fires = no_turn_before end state before after said reported next first e fires
+by_number end (suc turns) state before after said reported next first e fires =
+    let same = fires_now end before after reported fires in
     let later = turns_before end turns state before said next first e in
     omega (arith, same, later)
 
-pub fires_later : (end : ℕ) (state after : RouterState) (told : Firing (List ℕ)) → state.machines.moment + 1 ≡ end → turn state.machines.moment state ≡ rests →
-    FiresAfter end state told after → end ≤ after.machines.moment
-fires_later end state after told next quiet f =
-    by_number end f.passes.turns state f.before after _ (timer_fired told) next (only_time state end (omega (arith, next)) quiet) f.passes.passed f.fires
+pub fires_later : (end : ℕ) (state after : RouterState) (reported : Firing (List ℕ)) → state.machines.moment + 1 ≡ end → turn state.machines.moment state ≡ rests →
+    FiresAfter end state reported after → end ≤ after.machines.moment
+fires_later end state after reported next quiet f =
+    by_number end f.passes.turns state f.before after _ (timer_fired reported) next (only_time state end (omega (arith, next)) quiet) f.passes.passed f.fires
 
 -- those who go up to the end of the next millisecond
 pub gone_in_next : (end : ℕ) (state after : RouterState) → state.machines.moment + 1 ≡ end → turn state.machines.moment state ≡ rests → after.machines.moment ≡ end →

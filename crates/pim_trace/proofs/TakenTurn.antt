@@ -3,7 +3,7 @@ use Rattle.std.proofs.Common.{◌≡◌, ℕ, List, [], ◌∷◌, ◌++◌, Opt
 use Rattle.std.specs.Io.KnownBytes.{Appends}
 use Rattle.pim_device.specs.Device.{AppendsFront}
 use Rattle.pim_addr.specs.declared.family.AddressFamily.{AddressFamily}
-use Rattle.pim_capture.specs.Capture.{Told}
+use Rattle.pim_capture.specs.Capture.{EventSeen}
 use Rattle.pim_merge.specs.Content.{Content, holds, of_other_family, without_packet, no_record, content_in}
 use Rattle.pim_merge.specs.Merge.{Taken}
 use Rattle.pim_jp.specs.Message.{Message}
@@ -24,9 +24,9 @@ use Rattle.pim_trace.specs.Passing.{PassesTime}
 use Rattle.pim_trace.specs.Reading.{message_read}
 use Rattle.pim_run.specs.declared.fault.TurnFault.{TurnFault}
 use Rattle.pim_run.specs.Run.{OnTurn}
-use Rattle.pim_trace.specs.Telling.{HasTold, HasBegun, Tells}
-use Rattle.pim_trace.specs.Turn.{packet_on, Skips, TakesContent, TakesRecord, counting, TellsTurn}
-use Rattle.pim_trace.proofs.Pieces.{none_told, one_told, one_begun, told_then, told_begun, begun_longer}
+use Rattle.pim_trace.specs.WrittenEvents.{HasWritten, HasBegun, Writes}
+use Rattle.pim_trace.specs.Turn.{packet_on, Skips, TakesContent, TakesRecord, counting, WritesTurn}
+use Rattle.pim_trace.proofs.Pieces.{none_told, one_told, one_begun, happens_then, told_begun, begun_longer}
 
 -- ---- each record has its events
 
@@ -38,11 +38,11 @@ pub record HasEvents (family : AddressFamily) (port frame : ℕ) (content : Cont
   pub takes : TakesContent family port frame content ledger state events ledger' after
 
 module _ (law : TransitionsAreThere) (family : AddressFamily) where
-  record HasChanges (packet : Packet) (state after : RouterState) (told : Verdict) (message : Option Message) : Type 0 where
+  record HasChanges (packet : Packet) (state after : RouterState) (reported : Verdict) (message : Option Message) : Type 0 where
     pub changes : List (Transition (List ℕ))
-    pub are : AreChangesOf family packet state after told message changes
+    pub are : AreChangesOf family packet state after reported message changes
 
-  some_changes : (packet : Packet) (state after : RouterState) (told : Verdict) (message : Option Message) → HasChanges packet state after told message
+  some_changes : (packet : Packet) (state after : RouterState) (reported : Verdict) (message : Option Message) → HasChanges packet state after reported message
   some_changes packet state after verdict.Applied (Some message) =
       let list = law packet.port (start_of message.holdtime (timing_on packet.port state)) (events_of (rp_of family state.routes) message) state.machines.records after.machines.records in
       record { changes = list.0; are = list.1 }
@@ -58,12 +58,12 @@ module _ (law : TransitionsAreThere) (family : AddressFamily) where
   pub some_events : (port frame : ℕ) (content : Content) (ledger : Ledger) (state : RouterState) → HasEvents family port frame content ledger state
   some_events port frame (holds source destination payload) ledger state =
       let packet = packet_on port source destination payload in
-      let told = received family packet state in
-      let some = some_changes packet state told.1 told.0 (message_read family packet) in
+      let reported = received family packet state in
+      let some = some_changes packet state reported.1 reported.0 (message_read family packet) in
       record {
-        events = map (event_on ledger state.machines.moment packet.port) (says family frame packet state ledger told.0 some.changes);
-        ledger' = remembers family frame packet state ledger told.0 some.changes;
-        after = told.1;
+        events = map (event_on ledger state.machines.moment packet.port) (says family frame packet state ledger reported.0 some.changes);
+        ledger' = remembers family frame packet state ledger reported.0 some.changes;
+        after = reported.1;
         takes = record { changes = some.changes; are = some.are; after_is = refl; events_are = refl; ledger_is = refl };
       }
   some_events port frame of_other_family ledger state = record {
@@ -96,7 +96,7 @@ module _ (line : Occurrence → List ℕ) (port : ℕ) (skipping : Skipping) (le
   }
 
   pub skip_told : (ledger' : Ledger) → ledger' ≡ with_skip skipping.why ledger → (old new : Option (List ℕ)) → Appends old new (line (event_at ms))
-      → HasTold line (Skips port skipping ledger state) ledger' state old new
+      → HasWritten line (Skips port skipping ledger state) ledger' state old new
   skip_told ledger' counts old new p = record {
     events = event_at state.machines.moment ∷ [];
     are = (refl, counts, refl);
@@ -107,17 +107,17 @@ module _ (line : Occurrence → List ℕ) (port : ℕ) (skipping : Skipping) (le
 
 module _ (line : Occurrence → List ℕ) (family : AddressFamily) (port : ℕ) where
   -- what was told of its content was told of the record
-  pub content_tells : {E : Type 0} (frame : ℕ) (content : Content) (ledger : Ledger) (state : RouterState) → frame ≡ frame_of port ledger → (told : Told) → content ≡ content_in family told
-      → (ledger' : Ledger) (after : RouterState) (old new : Option (List ℕ)) (result : Result (Unit {0}) E) → Tells line (TakesContent family port frame content ledger state) ledger' after old new result
-      → Tells line (TakesRecord family port told ledger state) ledger' after old new result
-  content_tells frame content ledger state numbered told is ledger' after old new result tells =
-      subst (λ (c : Content). Tells line (TakesContent family port (frame_of port ledger) c ledger state) ledger' after old new result) is
-      (subst (λ (n : ℕ). Tells line (TakesContent family port n content ledger state) ledger' after old new result) numbered tells)
+  pub content_tells : {E : Type 0} (frame : ℕ) (content : Content) (ledger : Ledger) (state : RouterState) → frame ≡ frame_of port ledger → (reported : EventSeen) → content ≡ content_in family reported
+      → (ledger' : Ledger) (after : RouterState) (old new : Option (List ℕ)) (result : Result (Unit {0}) E) → Writes line (TakesContent family port frame content ledger state) ledger' after old new result
+      → Writes line (TakesRecord family port reported ledger state) ledger' after old new result
+  content_tells frame content ledger state numbered reported is ledger' after old new result tells =
+      subst (λ (c : Content). Writes line (TakesContent family port (frame_of port ledger) c ledger state) ledger' after old new result) is
+      (subst (λ (n : ℕ). Writes line (TakesContent family port n content ledger state) ledger' after old new result) numbered tells)
 
   -- nothing was told of what is no record
-  pub rest_tells : (ledger : Ledger) (state : RouterState) (told : Told) → no_record ≡ content_in family told → (old : Option (List ℕ)) → HasTold line (TakesRecord family port told ledger state) ledger state old old
-  rest_tells ledger state told is old =
-      subst (λ (c : Content). HasTold line (TakesContent family port (frame_of port ledger) c ledger state) ledger state old old) is
+  pub rest_tells : (ledger : Ledger) (state : RouterState) (reported : EventSeen) → no_record ≡ content_in family reported → (old : Option (List ℕ)) → HasWritten line (TakesRecord family port reported ledger state) ledger state old old
+  rest_tells ledger state reported is old =
+      subst (λ (c : Content). HasWritten line (TakesContent family port (frame_of port ledger) c ledger state) ledger state old old) is
       (record { events = []; are = (refl, refl, refl); written = none_told line old })
 
 -- ---- the turn
@@ -128,7 +128,7 @@ module _ (line : Occurrence → List ℕ) (family : AddressFamily) (turn : Taken
   Way = PassesTime turn.moment counted state
 
   abbrev Tell : List Occurrence → Ledger → RouterState → Type 0
-  Tell = TellsTurn family turn ledger state
+  Tell = WritesTurn family turn ledger state
 
   passes_so : (events : List Occurrence) (ledger_then : Ledger) (between : RouterState) → Way events ledger_then between → PassesTime turn.moment (counting turn ledger) state events ledger_then between
   passes_so events ledger_then between passes = subst (λ (l : Ledger). PassesTime turn.moment l state events ledger_then between) counts passes
@@ -136,7 +136,7 @@ module _ (line : Occurrence → List ℕ) (family : AddressFamily) (turn : Taken
   -- the device failed on the way
   pub stopped_on_the_way : TransitionsAreThere → (old new : Option (List ℕ)) → HasBegun line Way old new → HasBegun line Tell old new
   stopped_on_the_way law old new way =
-      let rest = some_events law family turn.capture (frame_of turn.capture way.ledger) (content_in family turn.told) way.ledger way.after in
+      let rest = some_events law family turn.capture (frame_of turn.capture way.ledger) (content_in family turn.reported) way.ledger way.after in
       record {
         events = way.events ++ rest.events;
         ledger = rest.ledger';
@@ -153,9 +153,9 @@ module _ (line : Occurrence → List ℕ) (family : AddressFamily) (turn : Taken
         written = begun_longer line old new way.events rest.events way.written;
       }
 
-  module _ (ledger_then : Ledger) (between : RouterState) (old mid : Option (List ℕ)) (way : HasTold line Way ledger_then between old mid) where
+  module _ (ledger_then : Ledger) (between : RouterState) (old mid : Option (List ℕ)) (way : HasWritten line Way ledger_then between old mid) where
     abbrev Takes : List Occurrence → Ledger → RouterState → Type 0
-    Takes = TakesRecord family turn.capture turn.told ledger_then between
+    Takes = TakesRecord family turn.capture turn.reported ledger_then between
 
     turn_is : (events : List Occurrence) (ledger' : Ledger) (after : RouterState) → Takes events ledger' after
         → Tell (way.events ++ events) ledger' after
@@ -170,12 +170,12 @@ module _ (line : Occurrence → List ℕ) (family : AddressFamily) (turn : Taken
     }
 
     -- the whole turn was told
-    pub turn_told : (ledger' : Ledger) (after : RouterState) (new : Option (List ℕ)) → HasTold line Takes ledger' after mid new
-        → HasTold line Tell ledger' after old new
+    pub turn_told : (ledger' : Ledger) (after : RouterState) (new : Option (List ℕ)) → HasWritten line Takes ledger' after mid new
+        → HasWritten line Tell ledger' after old new
     turn_told ledger' after new one = record {
       events = way.events ++ one.events;
       are = turn_is one.events ledger' after one.are;
-      written = told_then line old mid new way.events one.events way.written one.written;
+      written = happens_then line old mid new way.events one.events way.written one.written;
     }
 
     -- a front of what its record tells was told
@@ -188,7 +188,7 @@ module _ (line : Occurrence → List ℕ) (family : AddressFamily) (turn : Taken
       written = told_begun line old mid new way.events one.events way.written one.written;
     }
 
-    pub turn_over : (ledger' : Ledger) (after : RouterState) (new : Option (List ℕ)) (result : Result (Unit {0}) TurnFault) → Tells line Takes ledger' after mid new result
-        → OnTurn (HasTold line Tell ledger' after old new) (HasBegun line Tell old new) result
+    pub turn_over : (ledger' : Ledger) (after : RouterState) (new : Option (List ℕ)) (result : Result (Unit {0}) TurnFault) → Writes line Takes ledger' after mid new result
+        → OnTurn (HasWritten line Tell ledger' after old new) (HasBegun line Tell old new) result
     turn_over ledger' after new (Ok done) p = turn_told ledger' after new p
     turn_over ledger' after new (Err fault) p = turn_begun new p

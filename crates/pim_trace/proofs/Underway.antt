@@ -17,22 +17,22 @@ use Rattle.pim_run.specs.Run.{AreTaken, RunsThrough, StopsAt as StopsRun, Breaks
 use Rattle.pim_events.specs.Events.{Occurrence}
 use Rattle.pim_trace.specs.Ledger.{Ledger}
 use Rattle.pim_trace.specs.Passing.{PassesTime, events_in, after_all}
-use Rattle.pim_trace.specs.Telling.{HasTold, HasBegun}
-use Rattle.pim_trace.specs.Trace.{TellsTurns, ledger_for, RunsOut, Wrote, WroteFront, HasSome, StopsAt}
-use Rattle.pim_trace.specs.Turn.{TellsTurn}
+use Rattle.pim_trace.specs.WrittenEvents.{HasWritten, HasBegun}
+use Rattle.pim_trace.specs.Trace.{WritesTurns, ledger_for, RunsOut, Wrote, WroteFront, HasSome, StopsAt}
+use Rattle.pim_trace.specs.Turn.{WritesTurn}
 use Rattle.pim_trace.specs.Underway.{HasAll}
-use Rattle.pim_trace.proofs.Pieces.{none_told, all_told, told_then, told_begun, begun_longer}
+use Rattle.pim_trace.proofs.Pieces.{none_told, all_told, happens_then, told_begun, begun_longer}
 
 -- the events of one turn more
-tells_more : (family : AddressFamily) (taken : List Taken) (next : Taken) (events one : List Occurrence) (ledger ledger_then ledger' : Ledger) (state between after : RouterState) → TellsTurns family taken ledger state events ledger_then between
-    → TellsTurn family next ledger_then between one ledger' after → TellsTurns family (taken ++ next ∷ []) ledger state (events ++ one) ledger' after
-unfolding TellsTurns
+tells_more : (family : AddressFamily) (taken : List Taken) (next : Taken) (events one : List Occurrence) (ledger ledger_then ledger' : Ledger) (state between after : RouterState) → WritesTurns family taken ledger state events ledger_then between
+    → WritesTurn family next ledger_then between one ledger' after → WritesTurns family (taken ++ next ∷ []) ledger state (events ++ one) ledger' after
+unfolding WritesTurns
 tells_more family [] next events one ledger ledger_then ledger' state between after (none, kept, same) tells = (
   one,
   [],
   ledger',
   after,
-  subst (λ s. TellsTurn family next ledger s one ledger' after) same (subst (λ l. TellsTurn family next l between one ledger' after) kept tells),
+  subst (λ s. WritesTurn family next ledger s one ledger' after) same (subst (λ l. WritesTurn family next l between one ledger' after) kept tells),
   (refl, refl, refl),
   ap (λ (xs : List Occurrence). xs ++ one) none ∙ sym (append-nil one),
 )
@@ -50,7 +50,7 @@ untaken end start = record {
 
 -- turns, and then what is still due
 runs_out : (family : AddressFamily) (state : RouterState) (taken : List Taken) (turns way : List Occurrence) (ledger ledger' : Ledger) (between after : RouterState) (moment : ℕ)
-    → TellsTurns family taken (ledger_for state) state turns ledger between → moment ≡ between.machines.moment → PassesTime moment ledger between way ledger' after
+    → WritesTurns family taken (ledger_for state) state turns ledger between → moment ≡ between.machines.moment → PassesTime moment ledger between way ledger' after
     → RunsOut family state taken (turns ++ way) ledger' after
 runs_out family state taken turns way ledger ledger' between after moment tells here passes = record {
   turns = turns;
@@ -64,21 +64,21 @@ runs_out family state taken turns way ledger ledger' between after moment tells 
 
 -- some first turns, of whose events a front was written
 pub begun_first : EveryStateGoesOn → (line : Occurrence → List ℕ) (family : AddressFamily) (end : End) (start : MergeState) (state : RouterState) (old new : Option (List ℕ)) (taken : List Taken) (turns : List Occurrence) (ledger : Ledger) (after : RouterState)
-    → AreFirst end start taken → TellsTurns family taken (ledger_for state) state turns ledger after → WroteFront line old new turns
+    → AreFirst end start taken → WritesTurns family taken (ledger_for state) state turns ledger after → WroteFront line old new turns
     → HasSome line family end start state old new
 begun_first goes_on line family end start state old new taken turns ledger after first tells written =
     let due = goes_on after.machines.moment after in
-    let way = events_in ledger due.told in
+    let way = events_in ledger due.reported in
     record {
       events = turns ++ way;
       tells = record {
         taken = taken;
         are = first;
-        ledger = after_all ledger due.told;
+        ledger = after_all ledger due.reported;
         after = due.after;
         runs =
-            runs_out family state taken turns way ledger (after_all ledger due.told) after due.after after.machines.moment tells refl
-            (record { happened = due.told; happens = due.happens; events_are = refl; ledger_is = refl });
+            runs_out family state taken turns way ledger (after_all ledger due.reported) after due.after after.machines.moment tells refl
+            (record { happened = due.reported; happens = due.happens; events_are = refl; ledger_is = refl });
       };
       written = begun_longer line old new turns way written;
     }
@@ -94,19 +94,19 @@ new_own ledger state new = ap (λ (l : Ledger). length l.own) new ∙ length-rep
 
 module _ {K : Type 0} (seen : K → Ledger) (line : Occurrence → List ℕ) (family : AddressFamily) where
   abbrev By : Taken → K → RouterState → Option (List ℕ) → K → RouterState → Option (List ℕ) → Type 0
-  By turn kept state old kept' after new = HasTold line (TellsTurn family turn (seen kept) state) (seen kept') after old new
+  By turn kept state old kept' after new = HasWritten line (WritesTurn family turn (seen kept) state) (seen kept') after old new
 
   abbrev Only : Taken → K → RouterState → Option (List ℕ) → Option (List ℕ) → Type 0
-  Only turn kept state old new = HasBegun line (TellsTurn family turn (seen kept) state) old new
+  Only turn kept state old new = HasBegun line (WritesTurn family turn (seen kept) state) old new
 
-  record Told (taken : List Taken) (ledger : Ledger) (state : RouterState) (old : Option (List ℕ)) (ledger' : Ledger) (after : RouterState) (new : Option (List ℕ)) : Type 0 where
+  record EventSeen (taken : List Taken) (ledger : Ledger) (state : RouterState) (old : Option (List ℕ)) (ledger' : Ledger) (after : RouterState) (new : Option (List ℕ)) : Type 0 where
     events : List Occurrence
-    tells : TellsTurns family taken ledger state events ledger' after
+    tells : WritesTurns family taken ledger state events ledger' after
     written : Wrote line old new events
 
   turns_told : (taken : List Taken) (kept kept' : K) (state after : RouterState) (old new : Option (List ℕ)) → AreTaken By Only taken kept state old kept' after new
-      → Told taken (seen kept) state old (seen kept') after new
-  unfolding AreTaken TellsTurns
+      → EventSeen taken (seen kept) state old (seen kept') after new
+  unfolding AreTaken WritesTurns
   turns_told [] kept kept' state after old new (same, stays, device) = record {
     events = [];
     tells = (refl, ap seen same, stays);
@@ -117,14 +117,14 @@ module _ {K : Type 0} (seen : K → Ledger) (line : Occurrence → List ℕ) (fa
       record {
         events = one.events ++ others.events;
         tells = (one.events, others.events, seen next, between, one.are, others.tells, refl);
-        written = told_then line old mid new one.events others.events one.written others.written;
+        written = happens_then line old mid new one.events others.events one.written others.written;
       }
 
   module _ (end : End) (start : MergeState) (kept : K) (state : RouterState) (old : Option (List ℕ)) (fresh : seen kept ≡ ledger_for state) where
     from_new : (taken : List Taken) (kept' : K) (after : RouterState) (new : Option (List ℕ)) → AreTaken By Only taken kept state old kept' after new
-        → Told taken (ledger_for state) state old (seen kept') after new
+        → EventSeen taken (ledger_for state) state old (seen kept') after new
     from_new taken kept' after new turns =
-        subst (λ l. Told taken l state old (seen kept') after new) fresh (turns_told taken kept kept' state after old new turns)
+        subst (λ l. EventSeen taken l state old (seen kept') after new) fresh (turns_told taken kept kept' state after old new turns)
 
     -- the run went through
     pub has_all : (merge : MergeState) (kept' : K) (now : RouterState) (new : Option (List ℕ)) → RunsThrough By Only end start merge kept state old kept' now new
@@ -135,7 +135,7 @@ module _ {K : Type 0} (seen : K → Ledger) (line : Occurrence → List ℕ) (fa
 
     -- memory was refused, or the device failed
     module _ (goes_on : EveryStateGoesOn) (merge : MergeState) (new : Option (List ℕ)) (b : BreaksOff By Only end start merge kept state old new) where
-      so_far : Told b.taken (ledger_for state) state old (seen b.kept') b.between b.mid
+      so_far : EventSeen b.taken (ledger_for state) state old (seen b.kept') b.between b.mid
       so_far = from_new b.taken b.kept' b.between b.mid b.turns
 
       pub broken : HasSome line family end start state old new
@@ -159,14 +159,14 @@ module _ {K : Type 0} (seen : K → Ledger) (line : Occurrence → List ℕ) (fa
     broken_off goes_on merge kept' after new fault (inr is) runs =
         broken goes_on merge new (subst (λ (f : RunFault). Runs By Only end start merge kept state old {A = Unit {0}} kept' after new (Err f)) is runs)
 
-    pub stops_at : (merge : MergeState) (kept' : K) (after : RouterState) (new : Option (List ℕ)) (fault : RunFault) (told : MergeFault) → fault ≡ Capture told
-        → Runs By Only end start merge kept state old {A = Unit {0}} kept' after new (Err fault) → StopsRun By Only end start merge kept state old told kept' after new
-    stops_at merge kept' after new fault told is runs = subst (λ (f : RunFault). Runs By Only end start merge kept state old {A = Unit {0}} kept' after new (Err f)) is runs
+    pub stops_at : (merge : MergeState) (kept' : K) (after : RouterState) (new : Option (List ℕ)) (fault : RunFault) (reported : MergeFault) → fault ≡ Capture reported
+        → Runs By Only end start merge kept state old {A = Unit {0}} kept' after new (Err fault) → StopsRun By Only end start merge kept state old reported kept' after new
+    stops_at merge kept' after new fault reported is runs = subst (λ (f : RunFault). Runs By Only end start merge kept state old {A = Unit {0}} kept' after new (Err f)) is runs
 
     -- a capture has a fault, and what is still due happens before it
-    module _ (merge : MergeState) (told : MergeFault) (kept' : K) (now : RouterState) (new newer : Option (List ℕ)) (s : StopsRun By Only end start merge kept state old told kept' now new)
+    module _ (merge : MergeState) (reported : MergeFault) (kept' : K) (now : RouterState) (new newer : Option (List ℕ)) (s : StopsRun By Only end start merge kept state old reported kept' now new)
         (moment : ℕ) (here : moment ≡ now.machines.moment) where
-      before : Told s.taken (ledger_for state) state old (seen kept') now new
+      before : EventSeen s.taken (ledger_for state) state old (seen kept') now new
       before = from_new s.taken kept' now new s.turns
 
       -- the device failed at it
@@ -183,7 +183,7 @@ module _ {K : Type 0} (seen : K → Ledger) (line : Occurrence → List ℕ) (fa
         written = told_begun line old new newer before.events way.events before.written way.written;
       }
 
-      pub stopped : (ledger : Ledger) (after : RouterState) → HasTold line (PassesTime moment (seen kept') now) ledger after new newer → StopsAt line family end start state merge told old newer
+      pub stopped : (ledger : Ledger) (after : RouterState) → HasWritten line (PassesTime moment (seen kept') now) ledger after new newer → StopsAt line family end start state merge reported old newer
       stopped ledger after way = record {
         taken = s.taken;
         are = s.are;
@@ -191,7 +191,7 @@ module _ {K : Type 0} (seen : K → Ledger) (line : Occurrence → List ℕ) (fa
         ledger = ledger;
         after = after;
         runs = runs_out family state s.taken before.events way.events (seen kept') ledger now after moment before.tells here way.are;
-        written = told_then line old new newer before.events way.events before.written way.written;
+        written = happens_then line old new newer before.events way.events before.written way.written;
         no_memory = s.no_memory;
         cause = s.cause;
         tallies = s.tallies;

@@ -19,7 +19,7 @@ use Rattle.pim_router.specs.declared.verdict.Verdict.{Verdict}
 use Rattle.pim_router.specs.declared.verdict.Verdict.TheVariants as verdict
 use Rattle.pim_router.specs.declared.verdict.Malformed.TheVariants as malformed
 use Rattle.pim_router.specs.declared.verdict.Store.TheVariants as store
-use Rattle.pim_router.specs.Packets.{Packet, Receives, received, unless, causes, body_causes, message_causes, hello_causes, room_causes, body_taken, message_taken, knows, own_address, needed_by}
+use Rattle.pim_router.specs.Packets.{Packet, Receives, received, unless, causes, body_causes, message_causes, hello_causes, room_causes, body_heard, message_heard, knows, own_address, needed_by}
 use Rattle.pim_router.specs.State.{RouterState}
 use Rattle.pim_router.specs.Reading.{Reading, read_hello, read_message, read_other, read_fault, hello_by, message_by, read_by, packet_read, read_causes, read_received, IsTakenAsRead}
 use Rattle.pim_trace.specs.Reading.{message_in}
@@ -46,7 +46,7 @@ refuses (verdict.Full full) = true
 refuses verdict.Applied = false
 
 abbrev Refuse : List Verdict → Type 0
-Refuse told = AllByRecursion (λ v. refuses v ≡ true) told
+Refuse reported = AllByRecursion (λ v. refuses v ≡ true) reported
 
 refuse_append : (xs ys : List Verdict) → Refuse xs → Refuse ys → Refuse (xs ++ ys)
 refuse_append [] ys a b = b
@@ -93,19 +93,19 @@ module _ (family : AddressFamily) (state : RouterState) where
       (body_refuse packet.port packet.source (content packet.bytes))
 
   -- a packet is refused by a cause, or it has none and is taken
-  by_unless : (P : Verdict × RouterState → Type 0) (told : List Verdict) (taken : Verdict × RouterState) → Refuse told → ((v : Verdict) → refuses v ≡ true → P (v, state)) → (told ≡ [] → P taken)
-      → P (unless told state taken)
+  by_unless : (P : Verdict × RouterState → Type 0) (reported : List Verdict) (taken : Verdict × RouterState) → Refuse reported → ((v : Verdict) → refuses v ≡ true → P (v, state)) → (reported ≡ [] → P taken)
+      → P (unless reported state taken)
   by_unless P [] taken all refused takes = takes refl
   by_unless P (v ∷ others) taken all refused takes = refused v all.0
 
   pub by_causes : (packet : Packet) (P : Verdict × RouterState → Type 0) → ((v : Verdict) → refuses v ≡ true → P (v, state))
       → (frame_faults family packet.source packet.destination packet.bytes ≡ [] → body_causes family packet.port packet.source state (content packet.bytes) ≡ []
-      → P (body_taken family packet.port packet.source state (content packet.bytes)))
+      → P (body_heard family packet.port packet.source state (content packet.bytes)))
       → P (received family packet state)
   by_causes packet P refused takes =
-      by_unless P (causes family packet state) (body_taken family packet.port packet.source state (content packet.bytes)) (all_refuse packet) refused none
+      by_unless P (causes family packet state) (body_heard family packet.port packet.source state (content packet.bytes)) (all_refuse packet) refused none
     where
-      none : causes family packet state ≡ [] → P (body_taken family packet.port packet.source state (content packet.bytes))
+      none : causes family packet state ≡ [] → P (body_heard family packet.port packet.source state (content packet.bytes))
       none e =
           let parts = nil_parts (own_cause packet ++ frame_causes packet) (body_causes family packet.port packet.source state (content packet.bytes)) e in
           let first = nil_parts (own_cause packet) (frame_causes packet) parts.0 in
@@ -131,7 +131,7 @@ taken_reads family packet state heard =
     by_causes family state packet (λ (end : Verdict × RouterState). end.0 ≡ verdict.HelloTaken heard → ReadsHello family packet)
     (λ v e is. absurd (taken_refuses v heard e is)) (λ frames bodies is. record { said = (reads frames (content packet.bytes) bodies is).0; is = (reads frames (content packet.bytes) bodies is).1 })
   where
-    reads : {faults : List FrameFault} → faults ≡ [] → (body : Content) → body_causes family packet.port packet.source state body ≡ [] → (body_taken family packet.port packet.source state body).0 ≡ verdict.HelloTaken heard
+    reads : {faults : List FrameFault} → faults ≡ [] → (body : Content) → body_causes family packet.port packet.source state body ≡ [] → (body_heard family packet.port packet.source state body).0 ≡ verdict.HelloTaken heard
         → (said : Hello) × (read_by family (judged faults body) ≡ read_hello said)
     reads {faults = faults} none (other type) bodies is = absurd cc
     reads {faults = faults} none (hello body) bodies is =
@@ -177,12 +177,12 @@ module _ (family : AddressFamily) (packet : Packet) (state : RouterState) (messa
   body_of = message_is family (frame_faults family packet.source packet.destination packet.bytes) (content packet.bytes) message read
 
   -- a message that was applied leaves the router that the message makes
-  pub applied_leaves : (received family packet state).0 ≡ verdict.Applied → (received family packet state).1 ≡ (message_taken family packet.port state message).1
+  pub applied_leaves : (received family packet state).0 ≡ verdict.Applied → (received family packet state).1 ≡ (message_heard family packet.port state message).1
   applied_leaves =
-      by_causes family state packet (λ (end : Verdict × RouterState). end.0 ≡ verdict.Applied → end.1 ≡ (message_taken family packet.port state message).1)
+      by_causes family state packet (λ (end : Verdict × RouterState). end.0 ≡ verdict.Applied → end.1 ≡ (message_heard family packet.port state message).1)
       (λ v e is. absurd (applied_refuses v e is))
       (λ frames bodies is.
-      ap (λ (body : Content). (body_taken family packet.port packet.source state body).1) body_of.body_is ∙ ap (λ (m : Message). (message_taken family packet.port state m).1) body_of.is)
+      ap (λ (body : Content). (body_heard family packet.port packet.source state body).1) body_of.body_is ∙ ap (λ (m : Message). (message_heard family packet.port state m).1) body_of.is)
 
   -- a message to another router isn't applied
   pub other_is_refused : pointwise nat_eq message.upstream (own_address packet.port state) ≡ false → (received family packet state).0 ≡ verdict.Applied → ⊥
@@ -206,11 +206,11 @@ module _ (family : AddressFamily) (packet : Packet) (state : RouterState) (messa
 
 -- ---- what stays
 
-unless_moment : (told : List Verdict) (state : RouterState) (taken : Verdict × RouterState) → taken.1.machines.moment ≡ state.machines.moment → (unless told state taken).1.machines.moment ≡ state.machines.moment
+unless_moment : (reported : List Verdict) (state : RouterState) (taken : Verdict × RouterState) → taken.1.machines.moment ≡ state.machines.moment → (unless reported state taken).1.machines.moment ≡ state.machines.moment
 unless_moment [] state taken e = e
 unless_moment (cause ∷ others) state taken e = refl
 
-body_moment : (family : AddressFamily) (port : ℕ) (source : List ℕ) (state : RouterState) (body : Content) → (body_taken family port source state body).1.machines.moment ≡ state.machines.moment
+body_moment : (family : AddressFamily) (port : ℕ) (source : List ℕ) (state : RouterState) (body : Content) → (body_heard family port source state body).1.machines.moment ≡ state.machines.moment
 body_moment family port source state (other type) = refl
 body_moment family port source state (hello body) = refl
 body_moment family port source state (join_prune body) = refl
@@ -218,7 +218,7 @@ body_moment family port source state (join_prune body) = refl
 -- a packet takes no time
 pub packet_moment : (family : AddressFamily) (packet : Packet) (state : RouterState) → (received family packet state).1.machines.moment ≡ state.machines.moment
 packet_moment family packet state =
-    unless_moment (causes family packet state) state (body_taken family packet.port packet.source state (content packet.bytes)) (body_moment family packet.port packet.source state (content packet.bytes))
+    unless_moment (causes family packet state) state (body_heard family packet.port packet.source state (content packet.bytes)) (body_moment family packet.port packet.source state (content packet.bytes))
 
 -- ---- the call that receives a packet
 
@@ -230,7 +230,7 @@ pub received_ok : {E : Type 0} (family : AddressFamily) (packet : Packet) (state
 received_ok family packet state law reading is (Ok v) new takes = takes ∙ (ap (read_received family packet.port packet.source state) (sym is) ∙ law.received_is)
 received_ok family packet state law reading is (Err e) new takes = tt
 
-pub received_moment : {E : Type 0} (family : AddressFamily) (packet : Packet) (told : List Verdict) (end : Verdict × RouterState) (old new : RouterState) (r : Result Verdict E) → Receives told end old r new
+pub received_moment : {E : Type 0} (family : AddressFamily) (packet : Packet) (reported : List Verdict) (end : Verdict × RouterState) (old new : RouterState) (r : Result Verdict E) → Receives reported end old r new
     → IfOk r (λ v. (v, new) ≡ received family packet old) → new.machines.moment ≡ old.machines.moment
-received_moment family packet told end old new (Ok v) p is = ap (λ (end : Verdict × RouterState). end.1.machines.moment) is ∙ packet_moment family packet old
-received_moment family packet told end old new (Err e) p is = ap (λ (s : RouterState). s.machines.moment) p.1
+received_moment family packet reported end old new (Ok v) p is = ap (λ (end : Verdict × RouterState). end.1.machines.moment) is ∙ packet_moment family packet old
+received_moment family packet reported end old new (Err e) p is = ap (λ (s : RouterState). s.machines.moment) p.1

@@ -7,7 +7,7 @@ use Rattle.pim_device.specs.Device.{AppendsFront, AppendsAll, top_count}
 use Rattle.pim_events.specs.Events.{Happened, Occurrence}
 use Rattle.pim_trace.specs.Heard.{event_on}
 use Rattle.pim_trace.specs.Ledger.{Ledger, epoch_of}
-use Rattle.pim_trace.specs.Telling.{text_on}
+use Rattle.pim_trace.specs.WrittenEvents.{text_on}
 use Rattle.pim_trace.proofs.Written.{front-longer, front-more}
 
 -- ---- fronts
@@ -81,8 +81,8 @@ module _ (line : Occurrence → List ℕ) (ledger : Ledger) (ms port : ℕ) wher
   text-one x = append-nil (line (event_on ledger ms port x))
 
   -- a call that tells one event
-  pub one-told : {A E : Type 0} (r : Result A E) (old new : Option (List ℕ)) (x : Happened) → AppendsAll old new r (line (event_on ledger ms port x)) → AppendsAll old new r (text_on line ledger ms port (x ∷ []))
-  one-told r old new x p = subst (λ l. AppendsAll old new r l) (sym (text-one x)) p
+  pub one-reported : {A E : Type 0} (r : Result A E) (old new : Option (List ℕ)) (x : Happened) → AppendsAll old new r (line (event_on ledger ms port x)) → AppendsAll old new r (text_on line ledger ms port (x ∷ []))
+  one-reported r old new x p = subst (λ l. AppendsAll old new r l) (sym (text-one x)) p
 
   -- the text depends on the begin of the ledger alone
   pub text-same : (other : Ledger) → other.begin ≡ ledger.begin → (xs : List Happened) → text_on line other ms port xs ≡ text_on line ledger ms port xs
@@ -93,8 +93,8 @@ module _ (line : Occurrence → List ℕ) (ledger : Ledger) (ms port : ℕ) wher
       ap (λ l. l ++ text_on line other ms port xs) first ∙ ap (λ l. line (event_on ledger ms port x) ++ l) (text-same other same xs)
 
   -- a call that tells one event, which is this
-  pub event-told : {A E : Type 0} (r : Result A E) (old new : Option (List ℕ)) (x y : Happened) → x ≡ y → AppendsAll old new r (line (event_on ledger ms port x)) → AppendsAll old new r (text_on line ledger ms port (y ∷ []))
-  event-told r old new x y same p = subst (λ h. AppendsAll old new r (text_on line ledger ms port (h ∷ []))) same (one-told r old new x p)
+  pub event-reported : {A E : Type 0} (r : Result A E) (old new : Option (List ℕ)) (x y : Happened) → x ≡ y → AppendsAll old new r (line (event_on ledger ms port x)) → AppendsAll old new r (text_on line ledger ms port (y ∷ []))
+  event-reported r old new x y same p = subst (λ h. AppendsAll old new r (text_on line ledger ms port (h ∷ []))) same (one-reported r old new x p)
 
   pub event-begun : (old new : Option (List ℕ)) (x y : Happened) → x ≡ y → AppendsFront old new (line (event_on ledger ms port x)) → AppendsFront old new (text_on line ledger ms port (y ∷ []))
   event-begun old new x y same p = subst (λ h. AppendsFront old new (text_on line ledger ms port (h ∷ []))) same (subst (λ l. AppendsFront old new l) (sym (text-one x)) p)

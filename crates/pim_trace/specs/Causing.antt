@@ -1,5 +1,6 @@
--- The packets that events name, as the events before them show them: the cause of a timer that fires is the packet of
--- the last transition that set it. Nothing is remembered for it; what ends when is read from the events.
+-- The packets that events name, as the events before them show them: the cause of a timer that
+-- fires is the packet of the last transition that set it. Nothing is remembered for it; what ends
+-- when is read from the events.
 use Rattle.std.specs.Prelude.{◌≡◌, ℕ, ◌+◌, nat_eq, Bool, true, false, not, ◌&&◌, ◌||◌, if◌then◌else◌, List, [], ◌∷◌}
 use Rattle.std.specs.Prelude.{◌++◌, Option, None, Some, is_some, option_map, unwrap_or}
 use Rattle.std.specs.Option.{option_eq}
@@ -21,7 +22,7 @@ use Rattle.pim_events.specs.Events.{Happened, Occurrence, machine_changed, timer
 use Rattle.pim_trace.specs.Ledger.{Ledger, no_cause, pending_left}
 use Rattle.pim_trace.specs.Folding.{names}
 use Rattle.pim_trace.specs.Heard.{is_pending}
-use Rattle.pim_trace.specs.Trace.{TellsTurns, RunsUntil, IsTrace, ledger_for}
+use Rattle.pim_trace.specs.Trace.{WritesTurns, RunsUntil, IsTrace, ledger_for}
 
 -- ---- when a timer ends
 
@@ -41,8 +42,8 @@ same_timer Expiry Expiry = true
 same_timer PrunePending PrunePending = true
 same_timer timer other = false
 
--- The end of a timer after one of the machine's timers fired, where it was `held`. The timer that fired runs no more,
--- and a machine that ended has no timer.
+-- The end of a timer after one of the machine's timers fired, where it was `held`. The timer that
+-- fired runs no more, and a machine that ended has no timer.
 abbrev pub end_after : Timer → Fired (List ℕ) → Option ℕ → Option ℕ
 end_after timer firing held = if is_some firing.after && not (same_timer timer firing.timer) then held else None
 
@@ -79,7 +80,8 @@ abbrev pub last_of : Option (Cause (List ℕ)) → Option (Cause (List ℕ)) →
 last_of earlier None = earlier
 last_of earlier (Some later) = Some later
 
--- The packet of the last event that set the timer, which ended at `held` before all of them. `None`: none set it.
+-- The packet of the last event that set the timer, which ended at `held` before all of them.
+-- `None`: none set it.
 unfoldable pub last_set : Timer → Key (List ℕ) → Option ℕ → List Occurrence → Option (Cause (List ℕ))
 last_set timer key held [] = None
 last_set timer key held (event ∷ events) =
@@ -92,13 +94,14 @@ last_set timer key held (event ∷ events) =
 abbrev pub key_on : ℕ → List ℕ → What (List ℕ) → Key (List ℕ)
 key_on port group what = record { port = port; group = group; what = what }
 
--- The packet of the last of these events that set a timer. The router was in this state before them.
+-- The packet of the last of these events that set a timer. The router was in this state before
+-- them.
 abbrev pub last_setting : RouterState → Timer → Key (List ℕ) → List Occurrence → Option (Cause (List ℕ))
 last_setting state timer key events =
     last_set timer key (end_of timer state.machines.moment (machine_at key state.machines.records)) events
 
--- The cause of each firing is the packet of the last event before it that set the timer. Where the machine was held
--- at the start, and no event set its timer since, the cause is no packet.
+-- The cause of each firing is the packet of the last event before it that set the timer. Where the
+-- machine was held at the start, and no event set its timer since, the cause is no packet.
 abbrev pub FiringsNameTheirCauses : RouterState → List Occurrence → Type 0
 FiringsNameTheirCauses state events =
     (earlier later : List Occurrence) (event : Occurrence) (port : ℕ) (firing : Fired (List ℕ)) →
@@ -112,8 +115,8 @@ FiringsNameTheirCauses state events =
 abbrev pub ends_pending : Transition (List ℕ) → Bool
 ends_pending change = is_pending change.before && not (is_pending (state_of_machine change.after))
 
--- A transition overrides the packet of the last event before it that set the Prune-Pending Timer, if it leads the
--- machine out of Prune-Pending. Otherwise it overrides none.
+-- A transition overrides the packet of the last event before it that set the Prune-Pending Timer,
+-- if it leads the machine out of Prune-Pending. Otherwise it overrides none.
 abbrev pub TransitionsNameTheirPrunes : RouterState → List Occurrence → Type 0
 TransitionsNameTheirPrunes state events =
     (earlier later : List Occurrence) (event : Occurrence) (port : ℕ) (change : Transition (List ℕ)) →
@@ -138,7 +141,7 @@ abbrev pub TurnsNameCauses : Type 0
 TurnsNameCauses =
     (family : AddressFamily) (turns : List Taken) (state : RouterState) (events : List Occurrence) (ledger : Ledger)
     (after : RouterState) → IsAscending state.machines.records →
-    TellsTurns family turns (ledger_for state) state events ledger after → EventsNameTheirPackets state events
+    WritesTurns family turns (ledger_for state) state events ledger after → EventsNameTheirPackets state events
 
 -- So it is in some first turns and the time after them, such as before a fault of a capture.
 abbrev pub RunsNameCauses : Type 0

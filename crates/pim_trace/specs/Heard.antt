@@ -23,7 +23,7 @@ use Rattle.pim_router.specs.Packets.{Packet, received, neighbours_on, timing_on}
 use Rattle.pim_router.specs.State.{RouterState}
 use Rattle.pim_events.specs.declared.event.Cause.{Cause}
 use Rattle.pim_events.specs.declared.event.Transition.{Transition as Change}
-use Rattle.pim_events.specs.Events.{Happened, Occurrence, hello_taken, packet_judged, machine_changed, join_ignored}
+use Rattle.pim_events.specs.Events.{Happened, Occurrence, hello_heard, packet_judged, machine_changed, join_ignored}
 use Rattle.pim_events.specs.Events.{own_restart}
 use Rattle.pim_transitions.specs.declared.transition.Transition.{Transition}
 use Rattle.pim_transitions.specs.Transitions.{AreTransitions}
@@ -54,7 +54,7 @@ generation_in (Some said) = said.generation
 
 -- A Hello was taken, which means this for its sender.
 abbrev pub greeting : AddressFamily → ℕ → Packet → RouterState → Heard → Happened
-greeting family frame packet state heard = hello_taken (record {
+greeting family frame packet state heard = hello_heard (record {
   frame = frame;
   from = packet.source;
   verdict = heard;
@@ -64,10 +64,10 @@ greeting family frame packet state heard = hello_taken (record {
 
 -- Another packet got this verdict.
 abbrev pub judgment : AddressFamily → ℕ → Packet → Verdict → Happened
-judgment family frame packet told = packet_judged (record {
+judgment family frame packet reported = packet_judged (record {
   frame = frame;
   from = packet.source;
-  verdict = told;
+  verdict = reported;
   message = message_read family packet;
 })
 
@@ -151,13 +151,14 @@ changes_of ledger packet neighbours (change ∷ changes) = change_of ledger pack
 abbrev pub as_cause : ℕ → Packet → RouterState → Cause (List ℕ)
 as_cause frame packet state = record { frame = frame; from = packet.source; ms = state.machines.moment }
 
--- What is remembered of the sender of a Hello that was taken at this moment: nothing after a goodbye.
+-- What is remembered of the sender of a Hello that was taken at this moment: nothing after a
+-- goodbye.
 abbrev pub sent_by : ℕ → ℕ → Heard → Option Sent
 sent_by frame ms Gone = None
 sent_by frame ms heard = Some (record { frame = frame; ms = ms })
 
--- What a message with these group sets says that was applied: the Joins that count for nothing, then
--- the machines that changed.
+-- What a message with these group sets says that was applied: the Joins that count for nothing,
+-- then the machines that changed.
 abbrev pub message_says : AddressFamily → ℕ → Packet → RouterState → Ledger → List GroupSet →
     List (Transition (List ℕ)) → List Happened
 message_says family frame packet state ledger sets changes =
@@ -208,7 +209,7 @@ abbrev pub AreChangesOf : AddressFamily → Packet → RouterState → RouterSta
 AreChangesOf family packet state after verdict.Applied (Some message) changes =
     AreTransitions packet.port (start_of message.holdtime (timing_on packet.port state))
     (events_of (rp_of family state.routes) message) state.machines.records after.machines.records changes
-AreChangesOf family packet state after told message changes = changes ≡ []
+AreChangesOf family packet state after reported message changes = changes ≡ []
 
 -- A port receives a packet: these are its events, and `ledger'` is what the trace remembers.
 pub record HearsPacket (family : AddressFamily) (frame : ℕ) (packet : Packet) (ledger : Ledger) (state : RouterState)

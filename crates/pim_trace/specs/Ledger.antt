@@ -112,16 +112,16 @@ one_more count = min (count + 1) top_count
 abbrev pub frame_of : ℕ → Ledger → ℕ
 frame_of capture ledger = slice_index_or ledger.frames capture 0
 
--- The number of the last record that was taken of a file, after what is skipped for this reason. The
--- beginning of the next file is no record.
+-- The number of the last record that was taken of a file, after what is skipped for this reason.
+-- The beginning of the next file is no record.
 abbrev pub frame_by : Why → ℕ → ℕ
 frame_by NextFile frame = 0
 frame_by why frame = one_more frame
 
 -- The number of the last record that was taken of a file, after this result of its capture.
-abbrev pub frame_after : record_of.Told → ℕ → ℕ
+abbrev pub frame_after : record_of.EventSeen → ℕ → ℕ
 frame_after (record_of.skipped millis why) frame = frame_by why frame
-frame_after told frame = one_more frame
+frame_after reported frame = one_more frame
 
 -- The time of the first record that has one, where the record that is taken now has this time, in
 -- milliseconds since 1970.

@@ -70,15 +70,15 @@ pub record PassesTime (moment : ℕ) (ledger : Ledger) (state : RouterState) (ev
   pub events_are : events ≡ events_in ledger happened
   pub ledger_is : ledger' ≡ after_all ledger happened
 
--- ---- what private calls tell
+-- ---- what private calls write
 
--- What happened was told, where `line` is what is written of an event: at Ok all of it, and `ledger'`
--- is what the trace remembers then. At Err a front of what is written of it.
-abbrev pub TellsAll : {A E : Type 0} → (Occurrence → List ℕ) → List (ℕ × Happening) → Ledger → Ledger →
+-- What happened was written, where `line` is what is written of an event: at Ok all of it, and
+-- `ledger'` is what the trace remembers then. At Err a front of what is written of it.
+abbrev pub WritesAll : {A E : Type 0} → (Occurrence → List ℕ) → List (ℕ × Happening) → Ledger → Ledger →
     Option (List ℕ) → Option (List ℕ) → Result A E → Type 0
-TellsAll line happened ledger ledger' old new (Ok done) =
+WritesAll line happened ledger ledger' old new (Ok done) =
     (ledger' ≡ after_all ledger happened) × Appends old new (flat_map line (events_in ledger happened))
-TellsAll line happened ledger ledger' old new (Err fault) =
+WritesAll line happened ledger ledger' old new (Err fault) =
     AppendsFront old new (flat_map line (events_in ledger happened))
 
 -- The neighbours of a port whose time is over at this moment.

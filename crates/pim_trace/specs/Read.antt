@@ -9,7 +9,7 @@ use Rattle.pim_router.specs.Reading.{Reading}
 use Rattle.pim_router.specs.Seen.{packet_seen}
 use Rattle.pim_events.specs.declared.event.Ignored.{Ignored}
 use Rattle.pim_events.specs.Events.{Happened, join_ignored, ignored_seen}
-use Rattle.pim_trace.specs.declared.hearing.Packet.{Packet}
+use Rattle.pim_trace.specs.declared.hearing.HeardPacket.{HeardPacket}
 use Rattle.pim_trace.specs.Reading.{hello_in, message_in}
 
 -- The packet is no Hello, and this is its Join/Prune message, if it is one.
@@ -27,7 +27,7 @@ is_applied Applied = true
 is_applied other = false
 
 -- A packet of the code as the router's, with its addresses as lists of bytes.
-abbrev pub packet_in : {A : Type 0} → (A → List ℕ) → Packet A → router.Packet
+abbrev pub packet_in : {A : Type 0} → (A → List ℕ) → HeardPacket A → router.Packet
 packet_in bytes_of packet = packet_seen bytes_of packet.port packet.source packet.destination packet.bytes.now
 
 -- A Join(*,G) that counts for nothing as a list of what happened; none without one.

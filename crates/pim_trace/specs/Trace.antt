@@ -24,19 +24,19 @@ use Rattle.pim_run.specs.declared.fault.RunFault.{RunFault}
 use Rattle.pim_run.specs.declared.fault.RunFault.TheVariants.{Capture, Output, Memory}
 use Rattle.pim_trace.specs.Ledger.{Ledger, new_ledger, epoch_of}
 use Rattle.pim_trace.specs.Passing.{PassesTime}
-use Rattle.pim_trace.specs.Turn.{TellsTurn}
+use Rattle.pim_trace.specs.Turn.{WritesTurn}
 
 -- ---- the events of a trace
 
 -- The turns follow one another. They lead the router from `state` to `after`, and these are their
 -- events.
-unfoldable pub TellsTurns : AddressFamily → List Taken → Ledger → RouterState → List Occurrence → Ledger →
+unfoldable pub WritesTurns : AddressFamily → List Taken → Ledger → RouterState → List Occurrence → Ledger →
     RouterState → Type 0
-TellsTurns family [] ledger state events ledger' after = (events ≡ []) × (ledger' ≡ ledger) × (after ≡ state)
-TellsTurns family (first ∷ others) ledger state events ledger' after =
+WritesTurns family [] ledger state events ledger' after = (events ≡ []) × (ledger' ≡ ledger) × (after ≡ state)
+WritesTurns family (first ∷ others) ledger state events ledger' after =
     (one : List Occurrence) × (more : List Occurrence) × (ledger_then : Ledger) × (between : RouterState)
-    × TellsTurn family first ledger state one ledger_then between
-    × TellsTurns family others ledger_then between more ledger' after × (events ≡ one ++ more)
+    × WritesTurn family first ledger state one ledger_then between
+    × WritesTurns family others ledger_then between more ledger' after × (events ≡ one ++ more)
 
 -- The number of neighbours of all ports.
 unfoldable pub neighbours_in : List Table → ℕ
@@ -67,7 +67,7 @@ pub record RunsUntil (until : ℕ → ℕ) (family : AddressFamily) (state : Rou
   pub turns : List Occurrence
   pub ledger_then : Ledger
   pub between : RouterState
-  pub tells : TellsTurns family taken (ledger_for state) state turns ledger_then between
+  pub tells : WritesTurns family taken (ledger_for state) state turns ledger_then between
   pub way : List Occurrence
   pub passes : PassesTime (until between.machines.moment) ledger_then between way ledger after
   pub events_are : events ≡ turns ++ way
@@ -78,26 +78,26 @@ RunsOut = RunsUntil (λ moment. moment)
 
 module _ (family : AddressFamily) (end : End) (merge : MergeState) (state : RouterState) where
   -- Some first turns of the merge, and what is still due then, have these events.
-  pub record TellsFirst (events : List Occurrence) : Type 0 where
+  pub record WritesFirst (events : List Occurrence) : Type 0 where
     pub taken : List Taken
     pub are : AreFirst end merge taken
     pub ledger : Ledger
     pub after : RouterState
     pub runs : RunsOut family state taken events ledger after
 
-  -- All turns of the merge up to the end of the run, and the time up to that end, have these events.
-  -- The merge ends without a fault, and `after` is the router at the end.
-  pub record TellsAll (events : List Occurrence) (ledger : Ledger) (after : RouterState) : Type 0 where
+  -- All turns of the merge up to the end of the run, and the time up to that end, have these
+  -- events. The merge ends without a fault, and `after` is the router at the end.
+  pub record WritesAll (events : List Occurrence) (ledger : Ledger) (after : RouterState) : Type 0 where
     pub taken : List Taken
     pub are : AreAll end merge None taken
     pub runs : RunsUntil (end_moment end (clock_of merge.clock taken)) family state taken events ledger after
 
   -- The events of a whole trace.
   pub record IsTrace (events : List Occurrence) (after : RouterState) : Type 0 where
-    pub told : List Occurrence
+    pub reported : List Occurrence
     pub ledger : Ledger
-    pub tells : TellsAll told ledger after
-    pub events_are : events ≡ told ++ ending ledger after ∷ []
+    pub tells : WritesAll reported ledger after
+    pub events_are : events ≡ reported ++ ending ledger after ∷ []
 
 -- ---- what a trace returns and writes, where `line` is what is written of an event
 
@@ -111,29 +111,29 @@ WroteFront line old new events = AppendsFront old new (flat_map line events)
 
 module _ (line : Occurrence → List ℕ) (family : AddressFamily) (end : End) (merge : MergeState)
     (state : RouterState) where
-  -- A fault of a capture ended the trace, and exactly the events of the turns before it, and of what
-  -- was still due then, were written. The fault is the next answer of its capture, or a read of that
-  -- capture failed in the call. It is never a lack of memory. The tallies of `merge'` count these
-  -- turns, and the fault has the number of the record after those of its capture.
-  pub record StopsAt (merge' : MergeState) (told : MergeFault) (old new : Option (List ℕ)) : Type 0 where
+  -- A fault of a capture ended the trace, and exactly the events of the turns before it, and of
+  -- what was still due then, were written. The fault is the next answer of its capture, or a read
+  -- of that capture failed in the call. It is never a lack of memory. The tallies of `merge'` count
+  -- these turns, and the fault has the number of the record after those of its capture.
+  pub record StopsAt (merge' : MergeState) (reported : MergeFault) (old new : Option (List ℕ)) : Type 0 where
     pub taken : List Taken
-    pub are : AreBefore end merge told taken
+    pub are : AreBefore end merge reported taken
     pub events : List Occurrence
     pub ledger : Ledger
     pub after : RouterState
     pub runs : RunsOut family state taken events ledger after
     pub written : Wrote line old new events
-    pub no_memory : told.fault ≢ fault.Memory
-    pub cause : IsRefusal {A = ⊤} (lane_at told.capture merge.lanes).failures
-        (lane_at told.capture merge'.lanes).failures (Err told.fault)
-        ⊎ AreAll end merge (Some (told.capture, told.fault)) taken
+    pub no_memory : reported.fault ≢ fault.Memory
+    pub cause : IsRefusal {A = ⊤} (lane_at reported.capture merge.lanes).failures
+        (lane_at reported.capture merge'.lanes).failures (Err reported.fault)
+        ⊎ AreAll end merge (Some (reported.capture, reported.fault)) taken
     pub tallies : tallies_of merge'.lanes ≡ tallies_after (tallies_of merge.lanes) taken
-    pub numbered : IsNumbered (tallies_of merge'.lanes) told
+    pub numbered : IsNumbered (tallies_of merge'.lanes) reported
 
   -- A front of the events of some first turns, and of what was still due then, was written.
   pub record HasSome (old new : Option (List ℕ)) : Type 0 where
     pub events : List Occurrence
-    pub tells : TellsFirst family end merge state events
+    pub tells : WritesFirst family end merge state events
     pub written : WroteFront line old new events
 
   -- All events of a trace that leads to this router were written, or as far as `IsWritten` says.
@@ -155,8 +155,8 @@ abbrev pub Traces : {A : Type 0} → (Occurrence → List ℕ) → AddressFamily
     RouterState → RouterState → Option (List ℕ) → Option (List ℕ) → Result A RunFault → Type 0
 Traces line family end merge merge' state after old new (Ok done) =
     HasTrace line family end merge state after (Wrote line old new) × CountsAll end merge merge'
-Traces line family end merge merge' state after old new (Err (Capture told)) =
-    StopsAt line family end merge state merge' told old new
+Traces line family end merge merge' state after old new (Err (Capture reported)) =
+    StopsAt line family end merge state merge' reported old new
 Traces line family end merge merge' state after old new (Err Output) =
     BeginsTrace line family end merge state old new × IsTallied end merge merge'
 Traces line family end merge merge' state after old new (Err Memory) =

@@ -1,10 +1,10 @@
--- A turn of a trace: time passes up to the moment of a record, then the port of its capture takes the
--- record.
+-- A turn of a trace: time passes up to the moment of a record, then the port of its capture takes
+-- the record.
 use Rattle.std.specs.Prelude.{◌≡◌, ℕ, List, [], ◌∷◌, ◌++◌}
 use Rattle.pim_addr.specs.declared.family.AddressFamily.{AddressFamily}
-use Rattle.pim_capture.specs.Capture.{Told}
+use Rattle.pim_capture.specs.Capture.{EventSeen}
 use Rattle.pim_merge.specs.Content.{Content, holds, of_other_family, without_packet, no_record, content_in}
-use Rattle.pim_merge.specs.Merge.{Taken, time_told}
+use Rattle.pim_merge.specs.Merge.{Taken, event_time}
 use Rattle.pim_router.specs.Packets.{Packet}
 use Rattle.pim_router.specs.State.{RouterState}
 use Rattle.pim_events.specs.declared.event.Skip.TheVariants.{NoPacket, OtherFamily}
@@ -31,8 +31,8 @@ abbrev pub packet_on : ℕ → List ℕ → List ℕ → List ℕ → Packet
 packet_on port source destination payload =
     record { port = port; source = source; destination = destination; bytes = payload }
 
--- What the record of this number in its capture holds is received, or the record is skipped. A packet
--- of the other family counts as none.
+-- What the record of this number in its capture holds is received, or the record is skipped. A
+-- packet of the other family counts as none.
 abbrev pub TakesContent : AddressFamily → ℕ → ℕ → Content → Ledger → RouterState → List Occurrence → Ledger →
     RouterState → Type 0
 TakesContent family port frame (holds source destination payload) =
@@ -42,24 +42,24 @@ TakesContent family port frame (without_packet why) = Skips port (record { frame
 TakesContent family port frame no_record = Rests
 
 -- The record that was counted last of the port's capture is taken.
-abbrev pub TakesRecord : AddressFamily → ℕ → Told → Ledger → RouterState → List Occurrence → Ledger →
+abbrev pub TakesRecord : AddressFamily → ℕ → EventSeen → Ledger → RouterState → List Occurrence → Ledger →
     RouterState → Type 0
-TakesRecord family port told ledger = TakesContent family port (frame_of port ledger) (content_in family told) ledger
+TakesRecord family port reported ledger = TakesContent family port (frame_of port ledger) (content_in family reported) ledger
 
 -- ---- the turn
 
 -- The ledger when the record of a turn is counted.
 abbrev pub counting : Taken → Ledger → Ledger
 counting turn ledger =
-    opened turn.capture (frame_after turn.told (frame_of turn.capture ledger)) (time_told turn.told) ledger
+    opened turn.capture (frame_after turn.reported (frame_of turn.capture ledger)) (event_time turn.reported) ledger
 
 -- The events of a turn: first those of the time up to its moment, then those of its record.
-pub record TellsTurn (family : AddressFamily) (turn : Taken) (ledger : Ledger) (state : RouterState)
+pub record WritesTurn (family : AddressFamily) (turn : Taken) (ledger : Ledger) (state : RouterState)
     (events : List Occurrence) (ledger' : Ledger) (after : RouterState) : Type 0 where
   pub way : List Occurrence
   pub between : RouterState
   pub ledger_then : Ledger
   pub passes : PassesTime turn.moment (counting turn ledger) state way ledger_then between
   pub of_record : List Occurrence
-  pub takes : TakesRecord family turn.capture turn.told ledger_then between of_record ledger' after
+  pub takes : TakesRecord family turn.capture turn.reported ledger_then between of_record ledger' after
   pub events_are : events ≡ way ++ of_record

@@ -12,7 +12,7 @@ use Rattle.pim_run.specs.declared.fault.RunFault.{RunFault}
 use Rattle.pim_run.specs.declared.fault.RunFault.TheVariants.{Capture, Output, Memory}
 use Rattle.pim_events.specs.Events.{Occurrence}
 use Rattle.pim_trace.specs.Ledger.{Ledger}
-use Rattle.pim_trace.specs.Trace.{TellsTurns, ledger_for, Wrote, HasSome, StopsAt}
+use Rattle.pim_trace.specs.Trace.{WritesTurns, ledger_for, Wrote, HasSome, StopsAt}
 
 module _ (line : Occurrence → List ℕ) (family : AddressFamily) (end : End) (merge : MergeState) (state : RouterState)
     (old : Option (List ℕ)) where
@@ -25,13 +25,13 @@ module _ (line : Occurrence → List ℕ) (family : AddressFamily) (end : End) (
     pub are : AreAll end merge None taken
     pub clock : merge'.clock ≡ clock_of merge.clock taken
     pub tallies : tallies_of merge'.lanes ≡ tallies_after (tallies_of merge.lanes) taken
-    pub tells : TellsTurns family taken (ledger_for state) state events ledger now
+    pub tells : WritesTurns family taken (ledger_for state) state events ledger now
     pub written : Wrote line old new events
 
   -- What the run over all turns returns and leaves.
   abbrev pub RunsTurns : {A : Type 0} → MergeState → Ledger → RouterState → Option (List ℕ) → Result A RunFault →
       Type 0
   RunsTurns merge' ledger now new (Ok done) = HasAll merge' ledger now new
-  RunsTurns merge' ledger now new (Err (Capture told)) = StopsAt line family end merge state merge' told old new
+  RunsTurns merge' ledger now new (Err (Capture reported)) = StopsAt line family end merge state merge' reported old new
   RunsTurns merge' ledger now new (Err Output) = HasSome line family end merge state old new
   RunsTurns merge' ledger now new (Err Memory) = HasSome line family end merge state old new

@@ -38,11 +38,11 @@ fn compare_keys<F: Family>(a: &Key<F::Addr>, b: &Key<F::Addr>) -> Ordering
 
 /// A key that is sought.
 #[derive(Drop)]
-struct Sought<F: Family> {
+struct AtKey<F: Family> {
     key: Key<F::Addr>,
 }
 
-impl<F: Family, V: Copy> Probe<(Key<F::Addr>, V)> for Sought<F> {
+impl<F: Family, V: Copy> Probe<(Key<F::Addr>, V)> for AtKey<F> {
     ghost use Rattle.pim_trace.specs.Machines.{order_of_keys};
 
     ghost can_compare = { λ _ _. Unit {0} };
@@ -151,7 +151,7 @@ impl<F: Family, V: Copy> ByMachine<F, V> {
     pub(crate) fn find(&self, key: &Key<F::Addr>) -> Result<Place, Place>
         ensures { IsPlaceFor F.bytes_of key.now self.now result }
     {
-        self.list.find_near(self.near, &Sought::<F> { key: *key })
+        self.list.find_near(self.near, &AtKey::<F> { key: *key })
     }
 
     /// The value of a machine that was sought, if there is one.

@@ -5,24 +5,24 @@ ghost use Rattle.pim_device.specs.Device.{AppendsAll};
 ghost use Rattle.pim_down.specs.Records.{state_of_machine};
 ghost use Rattle.pim_router.specs.Packets.{neighbours_on};
 ghost use Rattle.pim_events.specs.Events.{machine_changed, cause_seen, transition_seen};
-ghost use Rattle.pim_transitions.specs.Named.{transitions_to};
-ghost use Rattle.pim_transitions.specs.Named.{transition_seen as change_seen};
+ghost use Rattle.pim_transitions.specs.Affected.{transitions_to};
+ghost use Rattle.pim_transitions.specs.Affected.{transition_seen as change_seen};
 ghost use Rattle.pim_trace.specs.Heard.{as_cause, change_of, changes_of};
 ghost use Rattle.pim_trace.specs.Ledger.{with_change, with_changes};
 ghost use Rattle.pim_trace.specs.Kept.{ledger_seen};
 ghost use Rattle.pim_trace.specs.Read.{packet_in};
 ghost use Rattle.pim_run.specs.Faults.{failures_by};
-ghost use Rattle.pim_trace.specs.Telling.{text_on};
+ghost use Rattle.pim_trace.specs.WrittenEvents.{text_on};
 
-use crate::hearing::Packet;
+use crate::hearing::HeardPacket;
 use crate::ledger::Ledger;
-use crate::telling::tell_on;
+use crate::writing_events::write_on;
 use pim_addr::Family;
 use pim_down::{Machine, State};
-use pim_events::{Cause, Happening, Teller, Transition};
+use pim_events::{Cause, EventWriter, Happening, Transition};
 use pim_router::Router;
 use pim_run::TurnFault;
-use pim_transitions::{Named, Transition as Change};
+use pim_transitions::{Affected, Transition as Change};
 
 /// A message that changed machines.
 #[derive(Clone, Copy)]
@@ -66,16 +66,16 @@ fn change_of<F: Family>(
     }
 }
 
-/// Tells a machine that a message changed, and remembers the packet that set its timers.
-fn tell_change<F: Family, W, T: Teller<F, W>>(
-    teller: &T,
+/// Writes a machine that a message changed, and remembers the packet that set its timers.
+fn write_change<F: Family, W, T: EventWriter<F, W>>(
+    event_writer: &T,
     device: &mut W,
     ledger: &mut Ledger<F>,
     by: &Changer<F::Addr>,
     change: &Change<F::Addr>,
 ) -> Result<(), TurnFault>
     ensures bytes { AppendsAll (T.contents device.old) (T.contents device.new) result
-        (text_on (T.line teller.now) (ledger_seen F.bytes_of ledger.old) by.now.packet.ms
+        (text_on (T.line event_writer.now) (ledger_seen F.bytes_of ledger.old) by.now.packet.ms
         by.now.port (change_of (ledger_seen F.bytes_of ledger.old)
         (cause_seen F.bytes_of by.now.packet) by.now.neighbours
         (change_seen F.bytes_of change.now) ∷ [])) }
@@ -87,7 +87,7 @@ fn tell_change<F: Family, W, T: Teller<F, W>>(
     ensures count { T.failures device.new ≡ failures_by (T.failures device.old) result }
 {
     let event = Happening::Transition(change_of(ledger, by, change));
-    let Ok(()) = tell_on(teller, device, ledger, by.packet.ms, by.port, event) else {
+    let Ok(()) = write_on(event_writer, device, ledger, by.packet.ms, by.port, event) else {
         return Err(TurnFault::Output);
     };
     let Ok(()) = ledger.change(by.packet, change) else {
@@ -106,7 +106,10 @@ fn neighbour_count<F: Family>(router: &Router<'_, F>, port: usize) -> usize
 }
 
 /// What a packet is to the machines that it changed.
-fn changer_of<F: Family>(router: &Router<'_, F>, packet: &Packet<'_, F::Addr>) -> Changer<F::Addr>
+fn changer_of<F: Family>(
+    router: &Router<'_, F>,
+    packet: &HeardPacket<'_, F::Addr>,
+) -> Changer<F::Addr>
     requires { packet.now.port < length router.now.ports }
     ensures packet { cause_seen F.bytes_of result.packet
         ≡ as_cause packet.now.frame (packet_in F.bytes_of packet.now) router.now }
@@ -125,37 +128,38 @@ fn changer_of<F: Family>(router: &Router<'_, F>, packet: &Packet<'_, F::Addr>) -
     }
 }
 
-/// Tells the machines that a message changed, in key order, and remembers the packets that set
-/// their timers. They are told after the router took the message.
+/// Writes the machines that a message changed, in key order, and remembers the packets that set
+/// their timers. They are written after the router took the message.
 ///
 /// # Errors
 /// The device failed, or memory was refused: a front of what is written of them was written.
-pub(crate) fn tell_changes<F: Family, W, T: Teller<F, W>>(
-    teller: &T,
+pub(crate) fn write_changes<F: Family, W, T: EventWriter<F, W>>(
+    event_writer: &T,
     device: &mut W,
     router: &Router<'_, F>,
     ledger: &mut Ledger<F>,
-    packet: &Packet<'_, F::Addr>,
-    named: &Named<F>,
+    packet: &HeardPacket<'_, F::Addr>,
+    affected: &Affected<F>,
 ) -> Result<(), TurnFault>
     requires { packet.now.port < length router.now.ports }
     ensures bytes { AppendsAll (T.contents device.old) (T.contents device.new) result
-        (text_on (T.line teller.now) (ledger_seen F.bytes_of ledger.old) router.now.machines.moment
+        (text_on (T.line event_writer.now)
+        (ledger_seen F.bytes_of ledger.old) router.now.machines.moment
         packet.now.port (changes_of (ledger_seen F.bytes_of ledger.old)
         (as_cause packet.now.frame (packet_in F.bytes_of packet.now) router.now)
         (length (neighbours_on packet.now.port router.now).entries)
-        (transitions_to router.now.machines.records named.now))) }
+        (transitions_to router.now.machines.records affected.now))) }
     ensures ledger { OnOk result (ledger_seen F.bytes_of ledger.new
         ≡ with_changes (as_cause packet.now.frame (packet_in F.bytes_of packet.now) router.now)
-        (transitions_to router.now.machines.records named.now)
+        (transitions_to router.now.machines.records affected.now)
         (ledger_seen F.bytes_of ledger.old)) }
     ensures frames { ledger.new.frames.items ≡ ledger.old.frames.items }
     ensures own { ledger.new.own.items ≡ ledger.old.own.items }
     ensures count { T.failures device.new ≡ failures_by (T.failures device.old) result }
 {
     let by = changer_of(router, packet);
-    for change in named.changes(router.ports()) {
-        tell_change(teller, device, ledger, &by, &change)?;
+    for change in affected.changes(router.ports()) {
+        write_change(event_writer, device, ledger, &by, &change)?;
     }
     Ok(())
 }

@@ -10,8 +10,8 @@ ghost use Rattle.pim_device.specs.Device.{AppendsAll};
 ghost use Rattle.pim_hello.specs.Neighbours.{neighbour_at};
 ghost use Rattle.pim_router.specs.Packets.{received, own_address, neighbours_on};
 ghost use Rattle.pim_router.specs.State.{setup_of};
-ghost use Rattle.pim_events.specs.Events.{hello_taken, greeting_seen};
-ghost use Rattle.pim_transitions.specs.Named.{transitions_to};
+ghost use Rattle.pim_events.specs.Events.{hello_heard, greeting_seen};
+ghost use Rattle.pim_transitions.specs.Affected.{transitions_to};
 ghost use Rattle.pim_trace.specs.Heard.{HearsPacket, generation_of, judgment, restart_of};
 ghost use Rattle.pim_trace.specs.Heard.{as_cause, sent_by, message_says, records_after};
 ghost use Rattle.pim_trace.specs.Heard.{AreTransitionsOf};
@@ -22,24 +22,26 @@ ghost use Rattle.pim_router.specs.Reading.{reading_seen, read_hello, read_messag
 ghost use Rattle.pim_trace.specs.Read.{packet_in, IsForOther, is_applied};
 ghost use Rattle.pim_trace.specs.Reading.{hello_in, message_in, message_read};
 ghost use Rattle.pim_run.specs.Faults.{failures_by};
-ghost use Rattle.pim_trace.specs.Telling.{Tells, text_on};
+ghost use Rattle.pim_trace.specs.WrittenEvents.{Writes, text_on};
 
-use crate::changing::tell_changes;
-use crate::ignoring::tell_ignored;
+use crate::changing::write_changes;
+use crate::ignoring::write_ignored;
 use crate::ledger::{Ledger, Sent};
-use crate::telling::tell_on;
+use crate::writing_events::write_on;
 use pim_addr::Family;
-use pim_events::{Greeting, Happening, Judgment, OwnRestart, Teller};
+use pim_events::{EventWriter, Greeting, Happening, Judgment, OwnRestart};
 use pim_hello::{Heard, Hello};
 use pim_jp::{JpView, Sets};
-use pim_router::{PimMessage, Router, Verdict, packet_is_taken_as_read, read_message};
+use pim_router::laws::packet_is_taken_as_read;
+use pim_router::{PimMessage, Router, Verdict, read_message};
 use pim_run::TurnFault;
-use pim_transitions::{Named, candidates_tell_transitions, transitions_are_there};
+use pim_transitions::Affected;
+use pim_transitions::laws::{candidates_show_transitions, transitions_are_there};
 use std::alloc::{AllocError, Global};
 
 /// A packet of the router's family, as a capture has it.
 #[derive(Clone, Copy)]
-pub(crate) struct Packet<'a, A> {
+pub(crate) struct HeardPacket<'a, A> {
     /// The port that receives it.
     pub(crate) port: usize,
     /// The number of its record in its capture, from 1.
@@ -50,23 +52,24 @@ pub(crate) struct Packet<'a, A> {
     pub(crate) bytes: &'a [u8],
 }
 
-/// What is told of a message that is applied: its group sets, and the machines that it may change.
+/// What is written of a message that is applied: its group sets, and the machines that it may
+/// change.
 #[derive(Drop)]
 struct Effects<'m, F: Family> {
     sets: Sets<'m, F>,
-    named: Named<F>,
+    affected: Affected<F>,
 }
 
 /// Lets the router take a packet whose message was read.
 fn take<F: Family>(
     router: &mut Router<'_, F>,
-    packet: &Packet<'_, F::Addr>,
+    packet: &HeardPacket<'_, F::Addr>,
     message: &PimMessage<'_, F>,
 ) -> Result<Verdict, AllocError>
     requires port { packet.now.port < length router.old.ports }
     requires read { packet_read F.family (packet_in F.bytes_of packet.now)
         ≡ reading_seen F.family message.now }
-    ensures told { IfOk result (λ verdict.
+    ensures reported { IfOk result (λ verdict.
         (verdict, router.new) ≡ received F.family (packet_in F.bytes_of packet.now) router.old) }
     ensures setup { setup_of router.new ≡ setup_of router.old }
     ensures moment { router.new.machines.moment ≡ router.old.machines.moment }
@@ -76,7 +79,10 @@ fn take<F: Family>(
 }
 
 /// The Generation ID that is kept of the packet's sender.
-fn generation_kept<F: Family>(router: &Router<'_, F>, packet: &Packet<'_, F::Addr>) -> Option<u32>
+fn generation_kept<F: Family>(
+    router: &Router<'_, F>,
+    packet: &HeardPacket<'_, F::Addr>,
+) -> Option<u32>
     requires { packet.now.port < length router.now.ports }
     ensures { result ≡ generation_of
         (neighbour_at (F.bytes_of packet.now.source) (neighbours_on packet.now.port router.now)) }
@@ -124,9 +130,9 @@ fn remember_hello<F: Family>(
     }
 }
 
-/// Tells a Hello that was taken, and remembers it.
-fn greet<F: Family, W, T: Teller<F, W>>(
-    teller: &T,
+/// Writes a Hello that was taken, and remembers it.
+fn greet<F: Family, W, T: EventWriter<F, W>>(
+    event_writer: &T,
     device: &mut W,
     ledger: &mut Ledger<F>,
     ms: u64,
@@ -134,8 +140,8 @@ fn greet<F: Family, W, T: Teller<F, W>>(
     greeting: Greeting<F::Addr>,
 ) -> Result<(), TurnFault>
     ensures bytes { AppendsAll (T.contents device.old) (T.contents device.new) result
-        (text_on (T.line teller.now) (ledger_seen F.bytes_of ledger.old) ms port
-        (hello_taken (greeting_seen F.bytes_of greeting) ∷ [])) }
+        (text_on (T.line event_writer.now) (ledger_seen F.bytes_of ledger.old) ms port
+        (hello_heard (greeting_seen F.bytes_of greeting) ∷ [])) }
     ensures ledger { OnOk result (ledger_seen F.bytes_of ledger.new
         ≡ with_hello port (F.bytes_of greeting.from) (sent_by greeting.frame ms greeting.verdict)
         (ledger_seen F.bytes_of ledger.old)) }
@@ -144,7 +150,7 @@ fn greet<F: Family, W, T: Teller<F, W>>(
     ensures count { T.failures device.new ≡ failures_by (T.failures device.old) result }
 {
     let event = Happening::Hello(greeting);
-    let Ok(()) = tell_on(teller, device, ledger, ms, port, event) else {
+    let Ok(()) = write_on(event_writer, device, ledger, ms, port, event) else {
         return Err(TurnFault::Output);
     };
     let Ok(()) = remember_hello(ledger, ms, port, &greeting) else {
@@ -153,18 +159,18 @@ fn greet<F: Family, W, T: Teller<F, W>>(
     Ok(())
 }
 
-/// Tells the verdict on a packet that is no Join/Prune message.
-fn tell_verdict<F: Family, W, T: Teller<F, W>>(
-    teller: &T,
+/// Writes the verdict on a packet that is no Join/Prune message.
+fn write_verdict<F: Family, W, T: EventWriter<F, W>>(
+    event_writer: &T,
     device: &mut W,
     ledger: &Ledger<F>,
     ms: u64,
-    packet: &Packet<'_, F::Addr>,
+    packet: &HeardPacket<'_, F::Addr>,
     verdict: Verdict,
 ) -> Result<(), TurnFault>
     requires { message_read F.family (packet_in F.bytes_of packet.now) ≡ None }
     ensures bytes { AppendsAll (T.contents device.old) (T.contents device.new) result
-        (text_on (T.line teller.now) (ledger_seen F.bytes_of ledger.now) ms packet.now.port
+        (text_on (T.line event_writer.now) (ledger_seen F.bytes_of ledger.now) ms packet.now.port
         (judgment F.family packet.now.frame (packet_in F.bytes_of packet.now) verdict ∷ [])) }
     ensures count { T.failures device.new ≡ failures_by (T.failures device.old) result }
 {
@@ -174,25 +180,25 @@ fn tell_verdict<F: Family, W, T: Teller<F, W>>(
         verdict,
         message: None,
     });
-    let Ok(()) = tell_on(teller, device, ledger, ms, packet.port, event) else {
+    let Ok(()) = write_on(event_writer, device, ledger, ms, packet.port, event) else {
         return Err(TurnFault::Output);
     };
     Ok(())
 }
 
-/// Remembers a Hello of the port's own address. Tells whether its Generation ID is another than
+/// Remembers a Hello of the port's own address. Returns whether its Generation ID is another than
 /// that of the Hello before it.
-fn tell_restart<F: Family, W, T: Teller<F, W>>(
-    teller: &T,
+fn write_restart<F: Family, W, T: EventWriter<F, W>>(
+    event_writer: &T,
     device: &mut W,
     ledger: &mut Ledger<F>,
     ms: u64,
-    packet: &Packet<'_, F::Addr>,
+    packet: &HeardPacket<'_, F::Addr>,
     generation: Option<u32>,
 ) -> Result<(), TurnFault>
     requires { packet.now.port < length ledger.old.own.items }
     ensures bytes { AppendsAll (T.contents device.old) (T.contents device.new) result
-        (text_on (T.line teller.now) (ledger_seen F.bytes_of ledger.old) ms packet.now.port
+        (text_on (T.line event_writer.now) (ledger_seen F.bytes_of ledger.old) ms packet.now.port
         (restart_of packet.now.frame (slice_index_or ledger.old.own.items packet.now.port None)
         generation)) }
     ensures ledger { ledger_seen F.bytes_of ledger.new
@@ -210,25 +216,25 @@ fn tell_restart<F: Family, W, T: Teller<F, W>>(
         was,
         generation,
     });
-    let Ok(()) = tell_on(teller, device, ledger, ms, packet.port, restart) else {
+    let Ok(()) = write_on(event_writer, device, ledger, ms, packet.port, restart) else {
         return Err(TurnFault::Output);
     };
     Ok(())
 }
 
 /// The port's own address sent a Hello with this Generation ID.
-fn hear_own<F: Family, W, T: Teller<F, W>>(
-    teller: &T,
+fn hear_own<F: Family, W, T: EventWriter<F, W>>(
+    event_writer: &T,
     device: &mut W,
     ledger: &mut Ledger<F>,
     ms: u64,
-    packet: &Packet<'_, F::Addr>,
+    packet: &HeardPacket<'_, F::Addr>,
     generation: Option<u32>,
 ) -> Result<(), TurnFault>
     requires own { packet.now.port < length ledger.old.own.items }
     requires message { message_read F.family (packet_in F.bytes_of packet.now) ≡ None }
     ensures bytes { AppendsAll (T.contents device.old) (T.contents device.new) result
-        (text_on (T.line teller.now) (ledger_seen F.bytes_of ledger.old) ms packet.now.port
+        (text_on (T.line event_writer.now) (ledger_seen F.bytes_of ledger.old) ms packet.now.port
         (judgment F.family packet.now.frame (packet_in F.bytes_of packet.now) Verdict.Mine
         ∷ restart_of packet.now.frame (slice_index_or ledger.old.own.items packet.now.port None)
         generation)) }
@@ -238,24 +244,24 @@ fn hear_own<F: Family, W, T: Teller<F, W>>(
     ensures own { length ledger.new.own.items ≡ length ledger.old.own.items }
     ensures count { T.failures device.new ≡ failures_by (T.failures device.old) result }
 {
-    tell_verdict(teller, device, ledger, ms, packet, Verdict::Mine)?;
-    tell_restart(teller, device, ledger, ms, packet, generation)
+    write_verdict(event_writer, device, ledger, ms, packet, Verdict::Mine)?;
+    write_restart(event_writer, device, ledger, ms, packet, generation)
 }
 
 /// A port receives a Hello.
-fn hear_hello<F: Family, W, T: Teller<F, W>>(
-    teller: &T,
+fn hear_hello<F: Family, W, T: EventWriter<F, W>>(
+    event_writer: &T,
     device: &mut W,
     router: &mut Router<'_, F>,
     ledger: &mut Ledger<F>,
-    packet: &Packet<'_, F::Addr>,
+    packet: &HeardPacket<'_, F::Addr>,
     hello: Hello<'_, F>,
 ) -> Result<(), TurnFault>
     requires port { packet.now.port < length router.old.ports }
     requires own { packet.now.port < length ledger.old.own.items }
     requires read { packet_read F.family (packet_in F.bytes_of packet.now)
         ≡ read_hello (hello_seen F.family hello) }
-    ensures told { Tells (T.line teller.now)
+    ensures reported { Writes (T.line event_writer.now)
         (HearsPacket F.family packet.now.frame (packet_in F.bytes_of packet.now)
         (ledger_seen F.bytes_of ledger.old) router.old)
         (ledger_seen F.bytes_of ledger.new) router.new (T.contents device.old)
@@ -281,10 +287,10 @@ fn hear_hello<F: Family, W, T: Teller<F, W>>(
                 was,
                 generation,
             };
-            greet(teller, device, ledger, ms, packet.port, greeting)
+            greet(event_writer, device, ledger, ms, packet.port, greeting)
         }
-        Verdict::Mine => hear_own(teller, device, ledger, ms, packet, generation),
-        _ => tell_verdict(teller, device, ledger, ms, packet, verdict),
+        Verdict::Mine => hear_own(event_writer, device, ledger, ms, packet, generation),
+        _ => write_verdict(event_writer, device, ledger, ms, packet, verdict),
     }
 }
 
@@ -307,21 +313,22 @@ fn join_prune_in<'m, F: Family>(message: PimMessage<'m, F>) -> Option<JpView<'m,
     }
 }
 
-/// Lets the router take a packet that is no Hello, and tells the verdict. Returns whether it was
+/// Lets the router take a packet that is no Hello, and writes the verdict. Returns whether it was
 /// applied.
-fn judge<F: Family, W, T: Teller<F, W>>(
-    teller: &T,
+fn judge<F: Family, W, T: EventWriter<F, W>>(
+    event_writer: &T,
     device: &mut W,
     router: &mut Router<'_, F>,
     ledger: &Ledger<F>,
-    packet: &Packet<'_, F::Addr>,
+    packet: &HeardPacket<'_, F::Addr>,
     message: PimMessage<'_, F>,
 ) -> Result<bool, TurnFault>
     requires port { packet.now.port < length router.old.ports }
     requires read { packet_read F.family (packet_in F.bytes_of packet.now)
         ≡ reading_seen F.family message }
     ensures bytes { AppendsAll (T.contents device.old) (T.contents device.new) result
-        (text_on (T.line teller.now) (ledger_seen F.bytes_of ledger.now) router.old.machines.moment
+        (text_on (T.line event_writer.now)
+        (ledger_seen F.bytes_of ledger.now) router.old.machines.moment
         packet.now.port (judgment F.family packet.now.frame (packet_in F.bytes_of packet.now)
         (received F.family (packet_in F.bytes_of packet.now) router.old).0 ∷ [])) }
     ensures router { OnOk result (router.new ≡
@@ -342,7 +349,7 @@ fn judge<F: Family, W, T: Teller<F, W>>(
         verdict,
         message: join_prune_in(message),
     });
-    let Ok(()) = tell_on(teller, device, ledger, ms, packet.port, event) else {
+    let Ok(()) = write_on(event_writer, device, ledger, ms, packet.port, event) else {
         return Err(TurnFault::Output);
     };
     Ok(is_applied(verdict))
@@ -350,63 +357,64 @@ fn judge<F: Family, W, T: Teller<F, W>>(
 
 /// The machines that a message may change which the router takes next. Those of them that differ
 /// afterwards are its transitions.
-fn named_by<F: Family>(
+fn affected_by<F: Family>(
     alloc: Global,
     router: &Router<'_, F>,
     port: usize,
     message: &JpView<'_, F>,
-) -> Result<Named<F>, AllocError>
-    ensures { IfOk result (λ named. AreTransitionsOf F.family port router.now message.now
-        (transitions_to (records_after F.family port router.now message.now) named)) }
+) -> Result<Affected<F>, AllocError>
+    ensures { IfOk result (λ affected. AreTransitionsOf F.family port router.now message.now
+        (transitions_to (records_after F.family port router.now message.now) affected)) }
 {
-    candidates_tell_transitions();
+    candidates_show_transitions();
     let ports = router.ports();
     ports.is_sound();
-    Named::of(alloc, ports, port, message, router.routes())
+    Affected::of(alloc, ports, port, message, router.routes())
 }
 
-/// Tells what a message did that was applied.
-fn tell_effects<F: Family, W, T: Teller<F, W>>(
-    teller: &T,
+/// Writes what a message did that was applied.
+fn write_effects<F: Family, W, T: EventWriter<F, W>>(
+    event_writer: &T,
     device: &mut W,
     router: &Router<'_, F>,
     ledger: &mut Ledger<F>,
-    packet: &Packet<'_, F::Addr>,
+    packet: &HeardPacket<'_, F::Addr>,
     effects: Effects<'_, F>,
 ) -> Result<(), TurnFault>
     requires { packet.now.port < length router.now.ports }
     ensures bytes { AppendsAll (T.contents device.old) (T.contents device.new) result
-        (text_on (T.line teller.now) (ledger_seen F.bytes_of ledger.old) router.now.machines.moment
+        (text_on (T.line event_writer.now)
+        (ledger_seen F.bytes_of ledger.old) router.now.machines.moment
         packet.now.port (message_says F.family packet.now.frame (packet_in F.bytes_of packet.now)
         router.now (ledger_seen F.bytes_of ledger.old) effects.entry.sets
-        (transitions_to router.now.machines.records effects.entry.named))) }
+        (transitions_to router.now.machines.records effects.entry.affected))) }
     ensures ledger { OnOk result (ledger_seen F.bytes_of ledger.new
         ≡ with_changes (as_cause packet.now.frame (packet_in F.bytes_of packet.now) router.now)
-        (transitions_to router.now.machines.records effects.entry.named)
+        (transitions_to router.now.machines.records effects.entry.affected)
         (ledger_seen F.bytes_of ledger.old)) }
     ensures frames { ledger.new.frames.items ≡ ledger.old.frames.items }
     ensures own { ledger.new.own.items ≡ ledger.old.own.items }
     ensures count { T.failures device.new ≡ failures_by (T.failures device.old) result }
 {
-    let Effects { sets, named } = effects;
-    let Ok(()) = tell_ignored(teller, device, router, ledger, packet, sets) else {
+    let Effects { sets, affected } = effects;
+    let Ok(()) = write_ignored(event_writer, device, router, ledger, packet, sets) else {
         return Err(TurnFault::Output);
     };
-    tell_changes(teller, device, router, ledger, packet, &named)
+    write_changes(event_writer, device, router, ledger, packet, &affected)
 }
 
 /// A port receives a Join/Prune message.
-fn hear_message<F: Family, W, T: Teller<F, W>>(
-    teller: &T,
+fn hear_message<F: Family, W, T: EventWriter<F, W>>(
+    event_writer: &T,
     device: &mut W,
     router: &mut Router<'_, F>,
     ledger: &mut Ledger<F>,
-    packet: &Packet<'_, F::Addr>,
+    packet: &HeardPacket<'_, F::Addr>,
     message: JpView<'_, F>,
 ) -> Result<(), TurnFault>
     requires port { packet.now.port < length router.old.ports }
     requires read { packet_read F.family (packet_in F.bytes_of packet.now) ≡ read_message message }
-    ensures told { Tells (T.line teller.now)
+    ensures reported { Writes (T.line event_writer.now)
         (HearsPacket F.family packet.now.frame (packet_in F.bytes_of packet.now)
         (ledger_seen F.bytes_of ledger.old) router.old)
         (ledger_seen F.bytes_of ledger.new) router.new (T.contents device.old)
@@ -419,25 +427,25 @@ fn hear_message<F: Family, W, T: Teller<F, W>>(
 {
     transitions_are_there();
     let sets = message.sets();
-    let Ok(named) = named_by(ledger.alloc(), router, packet.port, &message) else {
+    let Ok(affected) = affected_by(ledger.alloc(), router, packet.port, &message) else {
         return Err(TurnFault::Memory);
     };
-    let effects = Effects { sets, named };
+    let effects = Effects { sets, affected };
     let message = PimMessage::JoinPrune(message);
-    let applied = judge(teller, device, router, ledger, packet, message)?;
+    let applied = judge(event_writer, device, router, ledger, packet, message)?;
     if !applied {
         return Ok(());
     }
-    tell_effects(teller, device, router, ledger, packet, effects)
+    write_effects(event_writer, device, router, ledger, packet, effects)
 }
 
 /// A port receives a packet that is neither a Hello nor a message for it.
-fn hear_other<F: Family, W, T: Teller<F, W>>(
-    teller: &T,
+fn hear_other<F: Family, W, T: EventWriter<F, W>>(
+    event_writer: &T,
     device: &mut W,
     router: &mut Router<'_, F>,
     ledger: &Ledger<F>,
-    packet: &Packet<'_, F::Addr>,
+    packet: &HeardPacket<'_, F::Addr>,
     message: PimMessage<'_, F>,
 ) -> Result<(), TurnFault>
     requires port { packet.now.port < length router.old.ports }
@@ -446,7 +454,7 @@ fn hear_other<F: Family, W, T: Teller<F, W>>(
     requires none { hello_in (reading_seen F.family message) ≡ None }
     requires other { IsForOther (own_address packet.now.port router.old)
         (message_in (reading_seen F.family message)) }
-    ensures told { Tells (T.line teller.now)
+    ensures reported { Writes (T.line event_writer.now)
         (HearsPacket F.family packet.now.frame (packet_in F.bytes_of packet.now)
         (ledger_seen F.bytes_of ledger.now) router.old)
         (ledger_seen F.bytes_of ledger.now) router.new (T.contents device.old)
@@ -455,7 +463,7 @@ fn hear_other<F: Family, W, T: Teller<F, W>>(
     ensures setup { setup_of router.new ≡ setup_of router.old }
     ensures moment { router.new.machines.moment ≡ router.old.machines.moment }
 {
-    match judge(teller, device, router, ledger, packet, message) {
+    match judge(event_writer, device, router, ledger, packet, message) {
         Ok(_) => Ok(()),
         Err(fault) => Err(fault),
     }
@@ -464,18 +472,18 @@ fn hear_other<F: Family, W, T: Teller<F, W>>(
 /// A port receives a packet: the router takes it, and the teller gets its events.
 ///
 /// # Errors
-/// The device failed, or memory was refused: some of the events were told.
-pub(crate) fn hear_packet<F: Family, W, T: Teller<F, W>>(
-    teller: &T,
+/// The device failed, or memory was refused: some of the events were written.
+pub(crate) fn hear_packet<F: Family, W, T: EventWriter<F, W>>(
+    event_writer: &T,
     device: &mut W,
     router: &mut Router<'_, F>,
     ledger: &mut Ledger<F>,
-    packet: &Packet<'_, F::Addr>,
+    packet: &HeardPacket<'_, F::Addr>,
 ) -> Result<(), TurnFault>
     requires port { packet.now.port < length router.old.ports }
     requires own { packet.now.port < length ledger.old.own.items }
     requires bytes { length packet.now.bytes.now < 2 ^ 32 }
-    ensures told { Tells (T.line teller.now)
+    ensures reported { Writes (T.line event_writer.now)
         (HearsPacket F.family packet.now.frame (packet_in F.bytes_of packet.now)
         (ledger_seen F.bytes_of ledger.old) router.old)
         (ledger_seen F.bytes_of ledger.new) router.new (T.contents device.old)
@@ -487,14 +495,14 @@ pub(crate) fn hear_packet<F: Family, W, T: Teller<F, W>>(
     ensures own { length ledger.new.own.items ≡ length ledger.old.own.items }
 {
     match read_message::<F>(packet.source, packet.destination, packet.bytes) {
-        PimMessage::Hello(hello) => hear_hello(teller, device, router, ledger, packet, hello),
+        PimMessage::Hello(hello) => hear_hello(event_writer, device, router, ledger, packet, hello),
         PimMessage::JoinPrune(message) => {
             if is_for_port(router, packet.port, &message) {
-                return hear_message(teller, device, router, ledger, packet, message);
+                return hear_message(event_writer, device, router, ledger, packet, message);
             }
             let message = PimMessage::JoinPrune(message);
-            hear_other(teller, device, router, ledger, packet, message)
+            hear_other(event_writer, device, router, ledger, packet, message)
         }
-        other => hear_other(teller, device, router, ledger, packet, other),
+        other => hear_other(event_writer, device, router, ledger, packet, other),
     }
 }

@@ -9,13 +9,13 @@ ghost use Rattle.pim_jp.specs.Seen.{entry_seen};
 ghost use Rattle.pim_trace.specs.Heard.{ignored_entry, ignored_in, all_ignored};
 ghost use Rattle.pim_trace.specs.Kept.{ledger_seen};
 ghost use Rattle.pim_trace.specs.Read.{ignored_list};
-ghost use Rattle.pim_trace.specs.Telling.{text_on};
+ghost use Rattle.pim_trace.specs.WrittenEvents.{text_on};
 
-use crate::hearing::Packet;
+use crate::hearing::HeardPacket;
 use crate::ledger::Ledger;
-use crate::telling::tell_on;
+use crate::writing_events::write_on;
 use pim_addr::{Failed, Family};
-use pim_events::{Happening, Ignored, Teller};
+use pim_events::{EventWriter, Happening, Ignored};
 use pim_jp::{Entry, SetView, Sets};
 use pim_router::Router;
 
@@ -29,10 +29,10 @@ fn is_rp<F: Family>(rp: Option<F::Addr>, address: F::Addr) -> bool
     }
 }
 
-/// What is told of a joined entry of this group, if it counts for nothing.
+/// What is written of a joined entry of this group, if it counts for nothing.
 fn ignored_by<F: Family>(
     router: &Router<'_, F>,
-    packet: &Packet<'_, F::Addr>,
+    packet: &HeardPacket<'_, F::Addr>,
     group: F::Addr,
     entry: Entry<F::Addr>,
 ) -> Option<Ignored<F::Addr>>
@@ -56,9 +56,9 @@ fn ignored_by<F: Family>(
     })
 }
 
-/// Tells an entry that counts for nothing, if it is one.
-fn tell_if_ignored<F: Family, W, T: Teller<F, W>>(
-    teller: &T,
+/// Writes an entry that counts for nothing, if it is one.
+fn write_if_ignored<F: Family, W, T: EventWriter<F, W>>(
+    event_writer: &T,
     device: &mut W,
     ledger: &Ledger<F>,
     ms: u64,
@@ -66,15 +66,15 @@ fn tell_if_ignored<F: Family, W, T: Teller<F, W>>(
     ignored: Option<Ignored<F::Addr>>,
 ) -> Result<(), Failed>
     ensures bytes { AppendsAll (T.contents device.old) (T.contents device.new) result
-        (text_on (T.line teller.now) (ledger_seen F.bytes_of ledger.now) ms port
+        (text_on (T.line event_writer.now) (ledger_seen F.bytes_of ledger.now) ms port
         (ignored_list F.bytes_of ignored)) }
     ensures count { T.failures device.new ≡ failures_after (T.failures device.old) result }
 {
     let Some(ignored) = ignored else {
         return Ok(());
     };
-    tell_on(
-        teller,
+    write_on(
+        event_writer,
         device,
         ledger,
         ms,
@@ -83,17 +83,18 @@ fn tell_if_ignored<F: Family, W, T: Teller<F, W>>(
     )
 }
 
-/// Tells those of a group set.
-fn tell_ignored_in<F: Family, W, T: Teller<F, W>>(
-    teller: &T,
+/// Writes those of a group set.
+fn write_ignored_in<F: Family, W, T: EventWriter<F, W>>(
+    event_writer: &T,
     device: &mut W,
     router: &Router<'_, F>,
     ledger: &Ledger<F>,
-    packet: &Packet<'_, F::Addr>,
+    packet: &HeardPacket<'_, F::Addr>,
     set: &SetView<'_, F>,
 ) -> Result<(), Failed>
     ensures bytes { AppendsAll (T.contents device.old) (T.contents device.new) result
-        (text_on (T.line teller.now) (ledger_seen F.bytes_of ledger.now) router.now.machines.moment
+        (text_on (T.line event_writer.now)
+        (ledger_seen F.bytes_of ledger.now) router.now.machines.moment
         packet.now.port (ignored_in packet.now.frame (F.bytes_of packet.now.source)
         (rp_of F.family router.now.routes) set.now)) }
     ensures count { T.failures device.new ≡ failures_after (T.failures device.old) result }
@@ -102,31 +103,32 @@ fn tell_ignored_in<F: Family, W, T: Teller<F, W>>(
     let group = set.group();
     for entry in set.joined() {
         let ignored = ignored_by::<F>(router, packet, group, entry);
-        tell_if_ignored(teller, device, ledger, ms, packet.port, ignored)?;
+        write_if_ignored(event_writer, device, ledger, ms, packet.port, ignored)?;
     }
     Ok(())
 }
 
-/// Tells those of the group sets of a message, in their order.
+/// Writes those of the group sets of a message, in their order.
 ///
 /// # Errors
 /// The device failed: a front of what is written of them was written.
-pub(crate) fn tell_ignored<F: Family, W, T: Teller<F, W>>(
-    teller: &T,
+pub(crate) fn write_ignored<F: Family, W, T: EventWriter<F, W>>(
+    event_writer: &T,
     device: &mut W,
     router: &Router<'_, F>,
     ledger: &Ledger<F>,
-    packet: &Packet<'_, F::Addr>,
+    packet: &HeardPacket<'_, F::Addr>,
     sets: Sets<'_, F>,
 ) -> Result<(), Failed>
     ensures bytes { AppendsAll (T.contents device.old) (T.contents device.new) result
-        (text_on (T.line teller.now) (ledger_seen F.bytes_of ledger.now) router.now.machines.moment
+        (text_on (T.line event_writer.now)
+        (ledger_seen F.bytes_of ledger.now) router.now.machines.moment
         packet.now.port (all_ignored packet.now.frame (F.bytes_of packet.now.source)
         (rp_of F.family router.now.routes) sets.entry)) }
     ensures count { T.failures device.new ≡ failures_after (T.failures device.old) result }
 {
     for set in sets {
-        tell_ignored_in(teller, device, router, ledger, packet, &set)?;
+        write_ignored_in(event_writer, device, router, ledger, packet, &set)?;
     }
     Ok(())
 }

@@ -1,27 +1,27 @@
 //! Laws of the definitions. These functions do nothing; their clauses are the laws.
 
 ghost use Rattle.pim_trace.specs.Causing.{TraceNamesCauses, TurnsNameCauses, RunsNameCauses};
-ghost use Rattle.pim_trace.specs.Folding.{EventsTellTheState, TurnsTellTheState, RunsLeadOn};
+ghost use Rattle.pim_trace.specs.Folding.{EventsShowTheState, TurnsShowTheState, RunsLeadOn};
 
-/// The events of a trace tell the state of each machine: from that at the start, each event leads
+/// The events of a trace show the state of each machine: from that at the start, each event leads
 /// on to the next, and the last one leads to that at the end.
-pub fn events_tell_the_state()
-    ensures { EventsTellTheState }
+pub fn events_show_the_state()
+    ensures { EventsShowTheState }
 {
-    pim_down::keys_are_told_apart();
-    pim_down::firing_says_more();
-    pim_down::hearing_keeps_the_order();
-    pim_down::hearing_leaves_other_ports();
+    pim_down::laws::keys_are_distinct();
+    pim_down::laws::firing_says_more();
+    pim_down::laws::hearing_keeps_the_order();
+    pim_down::laws::hearing_leaves_other_ports();
 }
 
-/// The events of some first turns of a trace tell the state of each machine, too.
-pub fn turns_tell_the_state()
-    ensures { TurnsTellTheState }
+/// The events of some first turns of a trace show the state of each machine, too.
+pub fn turns_show_the_state()
+    ensures { TurnsShowTheState }
 {
-    pim_down::keys_are_told_apart();
-    pim_down::firing_says_more();
-    pim_down::hearing_keeps_the_order();
-    pim_down::hearing_leaves_other_ports();
+    pim_down::laws::keys_are_distinct();
+    pim_down::laws::firing_says_more();
+    pim_down::laws::hearing_keeps_the_order();
+    pim_down::laws::hearing_leaves_other_ports();
 }
 
 /// So do those of some first turns and of the time after them, such as the events before a fault of
@@ -29,10 +29,10 @@ pub fn turns_tell_the_state()
 pub fn runs_lead_on()
     ensures { RunsLeadOn }
 {
-    pim_down::keys_are_told_apart();
-    pim_down::firing_says_more();
-    pim_down::hearing_keeps_the_order();
-    pim_down::hearing_leaves_other_ports();
+    pim_down::laws::keys_are_distinct();
+    pim_down::laws::firing_says_more();
+    pim_down::laws::hearing_keeps_the_order();
+    pim_down::laws::hearing_leaves_other_ports();
 }
 
 /// The cause of each timer that fires in a trace is the packet of the last event before it that
@@ -41,28 +41,28 @@ pub fn runs_lead_on()
 pub fn trace_names_causes()
     ensures { TraceNamesCauses }
 {
-    pim_down::keys_are_told_apart();
-    pim_down::firing_says_more();
-    pim_down::hearing_keeps_the_order();
-    pim_down::hearing_leaves_other_ports();
+    pim_down::laws::keys_are_distinct();
+    pim_down::laws::firing_says_more();
+    pim_down::laws::hearing_keeps_the_order();
+    pim_down::laws::hearing_leaves_other_ports();
 }
 
 /// So it is in some first turns of a trace.
 pub fn turns_name_causes()
     ensures { TurnsNameCauses }
 {
-    pim_down::keys_are_told_apart();
-    pim_down::firing_says_more();
-    pim_down::hearing_keeps_the_order();
-    pim_down::hearing_leaves_other_ports();
+    pim_down::laws::keys_are_distinct();
+    pim_down::laws::firing_says_more();
+    pim_down::laws::hearing_keeps_the_order();
+    pim_down::laws::hearing_leaves_other_ports();
 }
 
 /// So it is in some first turns and the time after them.
 pub fn runs_name_causes()
     ensures { RunsNameCauses }
 {
-    pim_down::keys_are_told_apart();
-    pim_down::firing_says_more();
-    pim_down::hearing_keeps_the_order();
-    pim_down::hearing_leaves_other_ports();
+    pim_down::laws::keys_are_distinct();
+    pim_down::laws::firing_says_more();
+    pim_down::laws::hearing_keeps_the_order();
+    pim_down::laws::hearing_leaves_other_ports();
 }

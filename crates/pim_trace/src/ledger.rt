@@ -10,7 +10,7 @@ ghost use Rattle.pim_capture.specs.Next.{event_seen};
 ghost use Rattle.pim_down.specs.Records.{state_of_machine};
 ghost use Rattle.pim_down.specs.Seen.{key_seen};
 ghost use Rattle.pim_events.specs.Events.{cause_seen};
-ghost use Rattle.pim_transitions.specs.Named.{transition_seen};
+ghost use Rattle.pim_transitions.specs.Affected.{transition_seen};
 ghost use Rattle.pim_trace.specs.Heard.{is_pending, overridden};
 ghost use Rattle.pim_trace.specs.Kept.{causes_seen, ledger_seen};
 ghost use Rattle.pim_trace.specs.Ledger.{no_cause, both_by, pending_left, moved_by, causes_of};

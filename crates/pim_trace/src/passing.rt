@@ -11,19 +11,21 @@ ghost use Rattle.pim_router.specs.Happening.{first_timeout, timed_out, timer_fir
 ghost use Rattle.pim_router.specs.State.{setup_of, table_at};
 ghost use Rattle.pim_router.specs.Time.{rests, turn};
 ghost use Rattle.pim_trace.specs.Kept.{ledger_seen};
-ghost use Rattle.pim_trace.specs.Passing.{PassesTime, TellsAll, after_happening, time_outs};
+ghost use Rattle.pim_trace.specs.Passing.{PassesTime, WritesAll, after_happening, time_outs};
 ghost use Rattle.pim_trace.specs.Passing.{time_outs_on, gone_by};
-ghost use Rattle.pim_trace.specs.Telling.{Tells};
+ghost use Rattle.pim_trace.specs.WrittenEvents.{Writes};
 
 use crate::ledger::Ledger;
-use crate::telling::tell_on;
+use crate::writing_events::write_on;
 use pim_addr::{Failed, Family};
-use pim_down::{Firing, firing_says_more};
-use pim_events::{Fired, Happening, Teller, TimeOut};
+use pim_down::Firing;
+use pim_down::laws::firing_says_more;
+use pim_events::{EventWriter, Fired, Happening, TimeOut};
 use pim_hello::KnownNeighbour;
-use pim_router::{
-    Router, every_state_goes_on, firing_passes, happening_goes_on,
-    nobody_goes_before_first_timeout, the_ended_go_at_first_timeout,
+use pim_router::Router;
+use pim_router::laws::{
+    every_state_goes_on, firing_passes, happening_goes_on, nobody_goes_before_first_timeout,
+    the_ended_go_at_first_timeout,
 };
 
 /// Forgets a machine whose timer fired, if it ended.
@@ -36,15 +38,15 @@ fn forget_ended<F: Family>(ledger: &mut Ledger<F>, firing: &Firing<F::Addr>)
     }
 }
 
-/// Tells a timer that fired at this moment, with the packet that set it.
-fn tell_firing<F: Family, W, T: Teller<F, W>>(
-    teller: &T,
+/// Writes a timer that fired at this moment, with the packet that set it.
+fn write_firing<F: Family, W, T: EventWriter<F, W>>(
+    event_writer: &T,
     device: &mut W,
     ledger: &mut Ledger<F>,
     ms: u64,
     firing: &Firing<F::Addr>,
 ) -> Result<(), Failed>
-    ensures told { TellsAll (T.line teller.now)
+    ensures reported { WritesAll (T.line event_writer.now)
         ((ms, timer_fired (firing_seen F.bytes_of firing.now)) ∷ [])
         (ledger_seen F.bytes_of ledger.old) (ledger_seen F.bytes_of ledger.new)
         (T.contents device.old) (T.contents device.new) result }
@@ -63,8 +65,8 @@ fn tell_firing<F: Family, W, T: Teller<F, W>>(
         cause: ledger.cause_of(firing.timer, &key),
     };
     forget_ended(ledger, firing);
-    tell_on(
-        teller,
+    write_on(
+        event_writer,
         device,
         ledger,
         ms,
@@ -73,10 +75,10 @@ fn tell_firing<F: Family, W, T: Teller<F, W>>(
     )
 }
 
-/// Lets time pass up to this moment, in milliseconds, where no neighbour goes until then. Tells
+/// Lets time pass up to this moment, in milliseconds, where no neighbour goes until then. Writes
 /// each timer that fires.
-fn fire_all<F: Family, W, T: Teller<F, W>>(
-    teller: &T,
+fn fire_all<F: Family, W, T: EventWriter<F, W>>(
+    event_writer: &T,
     device: &mut W,
     router: &mut Router<'_, F>,
     ledger: &mut Ledger<F>,
@@ -84,7 +86,7 @@ fn fire_all<F: Family, W, T: Teller<F, W>>(
 ) -> Result<(), Failed>
     requires moment { moment ≤ 10 ^ 15 }
     requires nobody { gone_by moment router.old ≡ [] }
-    ensures told { Tells (T.line teller.now)
+    ensures reported { Writes (T.line event_writer.now)
         (PassesTime moment (ledger_seen F.bytes_of ledger.old) router.old)
         (ledger_seen F.bytes_of ledger.new) router.new
         (T.contents device.old) (T.contents device.new) result }
@@ -99,7 +101,7 @@ fn fire_all<F: Family, W, T: Teller<F, W>>(
     happening_goes_on();
     every_state_goes_on();
     while let Some(firing) = router.fire_to(moment) {
-        tell_firing(teller, device, ledger, router.now(), &firing)?;
+        write_firing(event_writer, device, ledger, router.now(), &firing)?;
     }
     Ok(())
 }
@@ -115,16 +117,17 @@ fn is_over_after<A: Copy>(known: &KnownNeighbour<A>, passed: u64) -> bool
     }
 }
 
-/// Tells that the time of a neighbour is over at this moment.
-fn tell_time_out<F: Family, W, T: Teller<F, W>>(
-    teller: &T,
+/// Writes that the time of a neighbour is over at this moment.
+fn write_time_out<F: Family, W, T: EventWriter<F, W>>(
+    event_writer: &T,
     device: &mut W,
     ledger: &mut Ledger<F>,
     end: u64,
     port: usize,
     address: F::Addr,
 ) -> Result<(), Failed>
-    ensures told { TellsAll (T.line teller.now) ((end, timed_out port (F.bytes_of address)) ∷ [])
+    ensures reported { WritesAll (T.line event_writer.now)
+        ((end, timed_out port (F.bytes_of address)) ∷ [])
         (ledger_seen F.bytes_of ledger.old) (ledger_seen F.bytes_of ledger.new)
         (T.contents device.old) (T.contents device.new) result }
     ensures count { T.failures device.new ≡ failures_after (T.failures device.old) result }
@@ -137,13 +140,20 @@ fn tell_time_out<F: Family, W, T: Teller<F, W>>(
         frame: sent.frame,
         ms: sent.ms,
     };
-    tell_on(teller, device, ledger, end, port, Happening::TimedOut(over))
+    write_on(
+        event_writer,
+        device,
+        ledger,
+        end,
+        port,
+        Happening::TimedOut(over),
+    )
 }
 
-/// Tells the neighbours of a port whose time is over at this moment, to which the router has not
+/// Writes the neighbours of a port whose time is over at this moment, to which the router has not
 /// run yet.
-fn tell_time_outs_on<F: Family, W, T: Teller<F, W>>(
-    teller: &T,
+fn write_time_outs_on<F: Family, W, T: EventWriter<F, W>>(
+    event_writer: &T,
     device: &mut W,
     router: &Router<'_, F>,
     ledger: &mut Ledger<F>,
@@ -152,7 +162,8 @@ fn tell_time_outs_on<F: Family, W, T: Teller<F, W>>(
 ) -> Result<(), Failed>
     requires port { port < length router.now.ports }
     requires later { router.now.machines.moment ≤ end }
-    ensures told { TellsAll (T.line teller.now) (time_outs_on port end (table_at port router.now))
+    ensures reported { WritesAll (T.line event_writer.now)
+        (time_outs_on port end (table_at port router.now))
         (ledger_seen F.bytes_of ledger.old) (ledger_seen F.bytes_of ledger.new)
         (T.contents device.old) (T.contents device.new) result }
     ensures count { T.failures device.new ≡ failures_after (T.failures device.old) result }
@@ -163,22 +174,22 @@ fn tell_time_outs_on<F: Family, W, T: Teller<F, W>>(
     let passed = end - router.now();
     for known in router.neighbours(port) {
         if is_over_after(&known, passed) {
-            tell_time_out(teller, device, ledger, end, port, known.address)?;
+            write_time_out(event_writer, device, ledger, end, port, known.address)?;
         }
     }
     Ok(())
 }
 
-/// Tells the neighbours of all ports whose time is over at this moment.
-fn tell_time_outs<F: Family, W, T: Teller<F, W>>(
-    teller: &T,
+/// Writes the neighbours of all ports whose time is over at this moment.
+fn write_time_outs<F: Family, W, T: EventWriter<F, W>>(
+    event_writer: &T,
     device: &mut W,
     router: &Router<'_, F>,
     ledger: &mut Ledger<F>,
     end: u64,
 ) -> Result<(), Failed>
     requires { router.now.machines.moment ≤ end }
-    ensures told { TellsAll (T.line teller.now) (time_outs end router.now.tables)
+    ensures reported { WritesAll (T.line event_writer.now) (time_outs end router.now.tables)
         (ledger_seen F.bytes_of ledger.old) (ledger_seen F.bytes_of ledger.new)
         (T.contents device.old) (T.contents device.new) result }
     ensures count { T.failures device.new ≡ failures_after (T.failures device.old) result }
@@ -187,15 +198,15 @@ fn tell_time_outs<F: Family, W, T: Teller<F, W>>(
 {
     router.is_router();
     for port in 0..router.port_count() {
-        tell_time_outs_on(teller, device, router, ledger, port, end)?;
+        write_time_outs_on(event_writer, device, router, ledger, port, end)?;
     }
     Ok(())
 }
 
-/// Lets the next millisecond come, where nothing is left to do in the present one. Tells what
+/// Lets the next millisecond come, where nothing is left to do in the present one. Writes what
 /// happens then: first the neighbours whose time is over, then the timers that fire.
-fn pass_one<F: Family, W, T: Teller<F, W>>(
-    teller: &T,
+fn pass_one<F: Family, W, T: EventWriter<F, W>>(
+    event_writer: &T,
     device: &mut W,
     router: &mut Router<'_, F>,
     ledger: &mut Ledger<F>,
@@ -204,7 +215,7 @@ fn pass_one<F: Family, W, T: Teller<F, W>>(
     requires moment { end ≤ 10 ^ 15 }
     requires next { router.old.machines.moment + 1 ≡ end }
     requires rests { turn router.old.machines.moment router.old ≡ rests }
-    ensures told { Tells (T.line teller.now)
+    ensures reported { Writes (T.line event_writer.now)
         (PassesTime end (ledger_seen F.bytes_of ledger.old) router.old)
         (ledger_seen F.bytes_of ledger.new) router.new
         (T.contents device.old) (T.contents device.new) result }
@@ -218,19 +229,19 @@ fn pass_one<F: Family, W, T: Teller<F, W>>(
     firing_passes();
     happening_goes_on();
     every_state_goes_on();
-    tell_time_outs(teller, device, router, ledger, end)?;
+    write_time_outs(event_writer, device, router, ledger, end)?;
     let Some(firing) = router.fire_to(end) else {
         return Ok(());
     };
     router.is_router();
-    tell_firing(teller, device, ledger, end, &firing)?;
-    fire_all(teller, device, router, ledger, end)
+    write_firing(event_writer, device, ledger, end, &firing)?;
+    fire_all(event_writer, device, router, ledger, end)
 }
 
 /// Lets time pass up to the first moment at which the time of a neighbour is over, in milliseconds,
-/// and tells what happens on the way.
-fn pass_to_time_out<F: Family, W, T: Teller<F, W>>(
-    teller: &T,
+/// and writes what happens on the way.
+fn pass_to_time_out<F: Family, W, T: EventWriter<F, W>>(
+    event_writer: &T,
     device: &mut W,
     router: &mut Router<'_, F>,
     ledger: &mut Ledger<F>,
@@ -238,7 +249,7 @@ fn pass_to_time_out<F: Family, W, T: Teller<F, W>>(
 ) -> Result<(), Failed>
     requires moment { end ≤ 10 ^ 15 }
     requires first { first_timeout router.old.tables ≡ Some end }
-    ensures told { Tells (T.line teller.now)
+    ensures reported { Writes (T.line event_writer.now)
         (PassesTime end (ledger_seen F.bytes_of ledger.old) router.old)
         (ledger_seen F.bytes_of ledger.new) router.new
         (T.contents device.old) (T.contents device.new) result }
@@ -254,8 +265,8 @@ fn pass_to_time_out<F: Family, W, T: Teller<F, W>>(
     nobody_goes_before_first_timeout();
     the_ended_go_at_first_timeout();
     router.is_router();
-    fire_all(teller, device, router, ledger, end - 1)?;
-    pass_one(teller, device, router, ledger, end)
+    fire_all(event_writer, device, router, ledger, end - 1)?;
+    pass_one(event_writer, device, router, ledger, end)
 }
 
 /// The first moment at which the time of a neighbour is over, if it comes by this moment.
@@ -267,20 +278,20 @@ fn timeout_by<F: Family>(router: &Router<'_, F>, moment: u64) -> Option<u64>
     if end <= moment { Some(end) } else { None }
 }
 
-/// Lets time pass up to this moment, in milliseconds, and tells what happens on the way: neighbours
-/// that time out, and timers that fire. An earlier moment counts as the present one.
+/// Lets time pass up to this moment, in milliseconds, and writes what happens on the way:
+/// neighbours that time out, and timers that fire. An earlier moment counts as the present one.
 ///
 /// # Errors
-/// The device failed: a front of the events was told.
-pub(crate) fn pass_time<F: Family, W, T: Teller<F, W>>(
-    teller: &T,
+/// The device failed: a front of the events was written.
+pub(crate) fn pass_time<F: Family, W, T: EventWriter<F, W>>(
+    event_writer: &T,
     device: &mut W,
     router: &mut Router<'_, F>,
     ledger: &mut Ledger<F>,
     moment: u64,
 ) -> Result<(), Failed>
     requires { moment ≤ 10 ^ 15 }
-    ensures told { Tells (T.line teller.now)
+    ensures reported { Writes (T.line event_writer.now)
         (PassesTime moment (ledger_seen F.bytes_of ledger.old) router.old)
         (ledger_seen F.bytes_of ledger.new) router.new
         (T.contents device.old) (T.contents device.new) result }
@@ -295,8 +306,8 @@ pub(crate) fn pass_time<F: Family, W, T: Teller<F, W>>(
     every_state_goes_on();
     nobody_goes_before_first_timeout();
     while let Some(end) = timeout_by(router, moment) {
-        pass_to_time_out(teller, device, router, ledger, end)?;
+        pass_to_time_out(event_writer, device, router, ledger, end)?;
     }
     router.is_router();
-    fire_all(teller, device, router, ledger, moment)
+    fire_all(event_writer, device, router, ledger, moment)
 }

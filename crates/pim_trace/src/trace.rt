@@ -1,5 +1,5 @@
-//! A trace goes over the records of a router's captures and tells each change of each machine, with
-//! its cause.
+//! A trace goes over the records of a router's captures and writes each change of each machine,
+//! with its cause.
 
 ghost use Rattle.std.specs.Prelude.{◌≡◌, ◌≤◌, length, OnOk};
 ghost use Rattle.pim_capture.specs.Next.{latest_moment};
@@ -15,16 +15,17 @@ use crate::ledger::Ledger;
 use crate::passing::pass_time;
 use crate::turns::Tracer;
 use pim_addr::{Failed, Family, Feed};
-use pim_events::{Ending, Event, Happening, Teller};
+use pim_events::{EndOfTrace, EventWriter, Happening, TraceEvent};
 use pim_merge::{End, Merge};
-use pim_router::{Router, every_state_goes_on};
+use pim_router::Router;
+use pim_router::laws::every_state_goes_on;
 use pim_run::{RunFault, run};
 use std::alloc::Global;
 
-/// Takes all turns before the end of the run, where nothing was told before. Where the merge has a
-/// fault, what is still due at the present moment happens before it.
-fn run_turns<F: Family, R: Feed + Drop, W, T: Teller<F, W>>(
-    teller: &T,
+/// Takes all turns before the end of the run, where nothing was written before. Where the merge has
+/// a fault, what is still due at the present moment happens before it.
+fn run_turns<F: Family, R: Feed + Drop, W, T: EventWriter<F, W>>(
+    event_writer: &T,
     device: &mut W,
     merge: &mut Merge<R>,
     router: &mut Router<'_, F>,
@@ -34,7 +35,7 @@ fn run_turns<F: Family, R: Feed + Drop, W, T: Teller<F, W>>(
     requires new { ledger_seen F.bytes_of ledger.old ≡ ledger_for router.old }
     requires ports { length merge.old.lanes ≡ length router.old.ports }
     requires moment { router.old.machines.moment ≤ latest_moment }
-    ensures told { RunsTurns (T.line teller.now) F.family end
+    ensures reported { RunsTurns (T.line event_writer.now) F.family end
         merge.old router.old (T.contents device.old)
         merge.new (ledger_seen F.bytes_of ledger.new) router.new (T.contents device.new) result }
     ensures count { T.failures device.new ≡ failures_of_device (T.failures device.old) result }
@@ -42,11 +43,11 @@ fn run_turns<F: Family, R: Feed + Drop, W, T: Teller<F, W>>(
     ensures tallied { IsTallied end merge.old merge.new }
 {
     every_state_goes_on();
-    match run(&Tracer { teller }, device, merge, router, ledger, end) {
+    match run(&Tracer { event_writer }, device, merge, router, ledger, end) {
         Ok(()) => Ok(()),
         Err(RunFault::Capture(fault)) => {
             let now = router.now();
-            let Ok(()) = pass_time(teller, device, router, ledger, now) else {
+            let Ok(()) = pass_time(event_writer, device, router, ledger, now) else {
                 return Err(RunFault::Output);
             };
             Err(RunFault::Capture(fault))
@@ -82,33 +83,33 @@ fn record_count<F: Family>(router: &Router<'_, F>) -> usize
     count
 }
 
-/// Tells the end of the run.
-fn tell_end<F: Family, W, T: Teller<F, W>>(
-    teller: &T,
+/// Writes the end of the run.
+fn write_end<F: Family, W, T: EventWriter<F, W>>(
+    event_writer: &T,
     device: &mut W,
     router: &Router<'_, F>,
     ledger: &Ledger<F>,
 ) -> Result<(), Failed>
     ensures bytes { AppendsAll (T.contents device.old) (T.contents device.new) result
-        (T.line teller.now (ending (ledger_seen F.bytes_of ledger.now) router.now)) }
+        (T.line event_writer.now (ending (ledger_seen F.bytes_of ledger.now) router.now)) }
     ensures count { T.failures device.new ≡ failures_after (T.failures device.old) result }
 {
-    let event = Event {
+    let event = TraceEvent {
         ms: router.now(),
         epoch: ledger.epoch(router.now()),
         port: None,
-        what: Happening::Ended(Ending {
+        what: Happening::Ended(EndOfTrace {
             records: record_count(router),
             neighbours: neighbour_count(router),
             skipped: ledger.skipped(),
         }),
     };
-    teller.tell(device, &event)
+    event_writer.write_event(device, &event)
 }
 
 /// Traces a whole run with this ledger, which is new.
-fn trace_with<F: Family, R: Feed + Drop, W, T: Teller<F, W>>(
-    teller: &T,
+fn trace_with<F: Family, R: Feed + Drop, W, T: EventWriter<F, W>>(
+    event_writer: &T,
     device: &mut W,
     merge: &mut Merge<R>,
     router: &mut Router<'_, F>,
@@ -119,38 +120,38 @@ fn trace_with<F: Family, R: Feed + Drop, W, T: Teller<F, W>>(
     requires ports { length merge.old.lanes ≡ length router.old.ports }
     requires moment { router.old.machines.moment ≤ latest_moment }
     requires end { IsBoundedEnd end }
-    ensures events { Traces (T.line teller.now) F.family end
+    ensures events { Traces (T.line event_writer.now) F.family end
         merge.old merge.new router.old router.new
         (T.contents device.old) (T.contents device.new) result }
     ensures count { T.failures device.new ≡ failures_of_device (T.failures device.old) result }
     ensures tallied { IsTallied end merge.old merge.new }
 {
-    run_turns(teller, device, merge, router, ledger, end)?;
+    run_turns(event_writer, device, merge, router, ledger, end)?;
     let moment = merge.end_moment(end, router.now());
-    let Ok(()) = pass_time(teller, device, router, ledger, moment) else {
+    let Ok(()) = pass_time(event_writer, device, router, ledger, moment) else {
         return Err(RunFault::Output);
     };
-    let Ok(()) = tell_end(teller, device, router, ledger) else {
+    let Ok(()) = write_end(event_writer, device, router, ledger) else {
         return Err(RunFault::Output);
     };
     Ok(())
 }
 
-/// Goes over the captures of a router's ports, one for each port and in their order, and tells what
-/// happens. The events of the records up to the end of the run come in order of time. Those of the
-/// time up to that end follow, then the end itself.
+/// Goes over the captures of a router's ports, one for each port and in their order, and writes
+/// what happens. The events of the records up to the end of the run come in order of time. Those of
+/// the time up to that end follow, then the end itself.
 ///
 /// Besides the router, it needs memory for one buffer for each capture, for what the trace
 /// remembers, and for the machines that a message may change.
 ///
 /// # Errors
 /// - `Capture`: a capture has a fault, and exactly the events of the turns before it, and of what
-///   was still due at the moment of the last one, were told.
+///   was still due at the moment of the last one, were written.
 /// - `Output` if the device fails, `Memory` if memory is refused: a front of what is written of the
 ///   events was written.
-pub fn trace_into<F: Family, R: Feed + Drop, W, T: Teller<F, W>>(
+pub fn trace_into<F: Family, R: Feed + Drop, W, T: EventWriter<F, W>>(
     alloc: Global,
-    teller: &T,
+    event_writer: &T,
     device: &mut W,
     merge: &mut Merge<R>,
     router: &mut Router<'_, F>,
@@ -159,7 +160,7 @@ pub fn trace_into<F: Family, R: Feed + Drop, W, T: Teller<F, W>>(
     requires ports { length merge.old.lanes ≡ length router.old.ports }
     requires moment { router.old.machines.moment ≤ latest_moment }
     requires end { IsBoundedEnd end }
-    ensures events { Traces (T.line teller.now) F.family end
+    ensures events { Traces (T.line event_writer.now) F.family end
         merge.old merge.new router.old router.new
         (T.contents device.old) (T.contents device.new) result }
     ensures count { T.failures device.new ≡ failures_of_device (T.failures device.old) result }
@@ -170,5 +171,5 @@ pub fn trace_into<F: Family, R: Feed + Drop, W, T: Teller<F, W>>(
     let Ok(mut ledger) = Ledger::<F>::new(alloc, router.port_count()) else {
         return Err(RunFault::Memory);
     };
-    trace_with(teller, device, merge, router, &mut ledger, end)
+    trace_with(event_writer, device, merge, router, &mut ledger, end)
 }

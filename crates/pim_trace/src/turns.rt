@@ -7,30 +7,30 @@ ghost use Rattle.pim_capture.specs.Next.{PayloadLiesIn, event_seen};
 ghost use Rattle.pim_router.specs.State.{setup_of};
 ghost use Rattle.pim_trace.specs.Kept.{ledger_seen};
 ghost use Rattle.pim_run.specs.Faults.{failures_by};
-ghost use Rattle.pim_trace.specs.Telling.{Tells};
+ghost use Rattle.pim_trace.specs.WrittenEvents.{Writes};
 ghost use Rattle.pim_trace.specs.Turn.{Skips, TakesRecord};
 
-use crate::hearing::{Packet, hear_packet};
+use crate::hearing::{HeardPacket, hear_packet};
 use crate::ledger::{Ledger, frame_after};
 use crate::passing::pass_time;
-use crate::telling::tell_on;
+use crate::writing_events::write_on;
 use pim_addr::Family;
-use pim_events::{Happening, Skip, Skipping, Teller};
+use pim_events::{EventWriter, Happening, Skip, Skipping};
 use pim_merge::{Content, Turn};
 use pim_router::Router;
 use pim_run::{Hooks, TurnFault};
-use pim_transitions::transitions_are_there;
+use pim_transitions::laws::transitions_are_there;
 
-/// Tells a record that is skipped, and counts it.
-fn skip<F: Family, W, T: Teller<F, W>>(
-    teller: &T,
+/// Writes a record that is skipped, and counts it.
+fn skip<F: Family, W, T: EventWriter<F, W>>(
+    event_writer: &T,
     device: &mut W,
     router: &Router<'_, F>,
     ledger: &mut Ledger<F>,
     port: usize,
     skipped: Skipping,
 ) -> Result<(), TurnFault>
-    ensures told { Tells (T.line teller.now)
+    ensures reported { Writes (T.line event_writer.now)
         (Skips port skipped (ledger_seen F.bytes_of ledger.old) router.now)
         (ledger_seen F.bytes_of ledger.new) router.now
         (T.contents device.old) (T.contents device.new) result }
@@ -39,7 +39,7 @@ fn skip<F: Family, W, T: Teller<F, W>>(
     ensures own { ledger.new.own.items ≡ ledger.old.own.items }
 {
     let what = Happening::Skipped(skipped);
-    let Ok(()) = tell_on(teller, device, ledger, router.now(), port, what) else {
+    let Ok(()) = write_on(event_writer, device, ledger, router.now(), port, what) else {
         return Err(TurnFault::Output);
     };
     ledger.skip(skipped.why);
@@ -47,8 +47,8 @@ fn skip<F: Family, W, T: Teller<F, W>>(
 }
 
 /// Lets a port take the record of a turn, which was counted last of its capture.
-fn take_record<F: Family, W, T: Teller<F, W>>(
-    teller: &T,
+fn take_record<F: Family, W, T: EventWriter<F, W>>(
+    event_writer: &T,
     device: &mut W,
     router: &mut Router<'_, F>,
     ledger: &mut Ledger<F>,
@@ -60,7 +60,7 @@ fn take_record<F: Family, W, T: Teller<F, W>>(
     requires own { turn.now.capture < length ledger.old.own.items }
     requires payload { PayloadLiesIn bytes.now turn.now.event }
     requires bytes { length bytes.now ≤ most_captured }
-    ensures told { Tells (T.line teller.now)
+    ensures reported { Writes (T.line event_writer.now)
         (TakesRecord F.family turn.now.capture (event_seen bytes.now turn.now.event)
         (ledger_seen F.bytes_of ledger.old) router.old)
         (ledger_seen F.bytes_of ledger.new) router.new
@@ -75,24 +75,24 @@ fn take_record<F: Family, W, T: Teller<F, W>>(
     let frame = ledger.frame(port);
     match turn.content::<F>(bytes) {
         Content::Datagram(datagram) => {
-            let packet = Packet {
+            let packet = HeardPacket {
                 port,
                 frame,
                 source: datagram.source,
                 destination: datagram.destination,
                 bytes: datagram.payload,
             };
-            hear_packet(teller, device, router, ledger, &packet)
+            hear_packet(event_writer, device, router, ledger, &packet)
         }
         Content::OtherFamily => {
             let why = Skip::OtherFamily;
             let skipped = Skipping { frame, why };
-            skip(teller, device, router, ledger, port, skipped)
+            skip(event_writer, device, router, ledger, port, skipped)
         }
         Content::Skipped(why) => {
             let why = Skip::NoPacket(why);
             let skipped = Skipping { frame, why };
-            skip(teller, device, router, ledger, port, skipped)
+            skip(event_writer, device, router, ledger, port, skipped)
         }
         Content::End => Ok(()),
     }
@@ -101,23 +101,23 @@ fn take_record<F: Family, W, T: Teller<F, W>>(
 /// A trace whose teller gets each event.
 #[derive(Drop)]
 pub(crate) struct Tracer<'t, T> {
-    pub(crate) teller: &'t T,
+    pub(crate) event_writer: &'t T,
 }
 
-impl<'t, F: Family, W, T: Teller<F, W>> Hooks<F, W, Ledger<F>> for Tracer<'t, T> {
+impl<'t, F: Family, W, T: EventWriter<F, W>> Hooks<F, W, Ledger<F>> for Tracer<'t, T> {
     ghost use Rattle.std.specs.Prelude.{◌≡◌, length};
     ghost use Rattle.pim_trace.specs.Kept.{ledger_seen};
-    ghost use Rattle.pim_trace.specs.Telling.{HasTold, HasBegun};
-    ghost use Rattle.pim_trace.specs.Turn.{TellsTurn};
+    ghost use Rattle.pim_trace.specs.WrittenEvents.{HasWritten, HasBegun};
+    ghost use Rattle.pim_trace.specs.Turn.{WritesTurn};
 
     ghost takes = { λ tracer turn ledger state old ledger' after new.
-        HasTold (T.line tracer.teller.now)
-        (TellsTurn F.family turn (ledger_seen F.bytes_of ledger) state)
+        HasWritten (T.line tracer.event_writer.now)
+        (WritesTurn F.family turn (ledger_seen F.bytes_of ledger) state)
         (ledger_seen F.bytes_of ledger') after old new };
 
     ghost begins = { λ tracer turn ledger state old new.
-        HasBegun (T.line tracer.teller.now)
-        (TellsTurn F.family turn (ledger_seen F.bytes_of ledger) state) old new };
+        HasBegun (T.line tracer.event_writer.now)
+        (WritesTurn F.family turn (ledger_seen F.bytes_of ledger) state) old new };
 
     ghost is_ready = { λ ledger state. (length ledger.frames.items ≡ length state.ports)
         × (length ledger.own.items ≡ length state.ports) };
@@ -137,9 +137,9 @@ impl<'t, F: Family, W, T: Teller<F, W>> Hooks<F, W, Ledger<F>> for Tracer<'t, T>
         transitions_are_there();
         let frame = frame_after(&turn.event, ledger.frame(turn.capture));
         ledger.open(turn.capture, frame, turn.time());
-        let Ok(()) = pass_time(self.teller, device, router, ledger, turn.moment) else {
+        let Ok(()) = pass_time(self.event_writer, device, router, ledger, turn.moment) else {
             return Err(TurnFault::Output);
         };
-        take_record(self.teller, device, router, ledger, turn, bytes)
+        take_record(self.event_writer, device, router, ledger, turn, bytes)
     }
 }

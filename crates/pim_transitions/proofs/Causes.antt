@@ -9,11 +9,11 @@ use Rattle.pim_down.specs.declared.machines.machine.State.TheVariants as state
 use Rattle.pim_down.specs.declared.machines.machine.Machine.{Machine}
 use Rattle.pim_down.specs.Tables.{Start, on_join, join_in, on_prune, prune_in, on_star_join, star_join_in, on_rpt_prune, rpt_prune_in, on_end, end_in}
 use Rattle.pim_down.specs.Hearing.{Event, on_own, is_rpt, is_rpt_on, effect, effects, at_end, heard_at}
-use Rattle.pim_down.specs.Laws.{KeysAreToldApart}
+use Rattle.pim_down.specs.Laws.{KeysAreDistinct}
 use Rattle.pim_transitions.specs.declared.transition.By.{By}
 use Rattle.pim_transitions.specs.declared.transition.By.TheVariants as kind
 use Rattle.pim_transitions.specs.Transitions.{number_of, state_number, same_state, kind_of, changed_by, last_of, changed_last, by_state, caused_by}
-use Rattle.pim_transitions.specs.Named.{joins_after, kind_by}
+use Rattle.pim_transitions.specs.Affected.{joins_after, kind_by}
 use Rattle.pim_transitions.proofs.Effects.{by_effect, own_plain, own_rpt, no_star, plain_some, gone_joined}
 
 none_some : (m : Machine) → ◌≡◌ {A = Option Machine} None (Some m) → ⊥
@@ -89,7 +89,7 @@ module _ (start : Start) where
 
 -- ---- a machine that is no (S,G,rpt) machine of the port
 
-module _ (keys : KeysAreToldApart) (port : ℕ) (start : Start) (key : Key (List ℕ)) (plain : is_rpt_on port key ≡ false) where
+module _ (keys : KeysAreDistinct) (port : ℕ) (start : Start) (key : Key (List ℕ)) (plain : is_rpt_on port key ≡ false) where
   abbrev any_state : ℕ → Bool
   any_state n = true
 
@@ -140,7 +140,7 @@ module _ (keys : KeysAreToldApart) (port : ℕ) (start : Start) (key : Key (List
 
 -- ---- an (S,G,rpt) machine of the port
 
-module _ (keys : KeysAreToldApart) (port : ℕ) (start : Start) (key : Key (List ℕ)) (rpt : is_rpt_on port key ≡ true) where
+module _ (keys : KeysAreDistinct) (port : ℕ) (start : Start) (key : Key (List ℕ)) (rpt : is_rpt_on port key ≡ true) where
   -- no state of a message alone
   abbrev lasting : ℕ → Bool
   lasting n = not (n == 4) && not (n == 5)

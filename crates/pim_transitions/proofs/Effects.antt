@@ -14,8 +14,8 @@ use Rattle.pim_down.specs.Records.{machine_at}
 use Rattle.pim_down.specs.Tables.{Start, on_join, join_in, on_prune, prune_in, on_star_join, star_join_in, on_rpt_prune, rpt_prune_in, on_end, end_in}
 use Rattle.pim_down.specs.Hearing.{Event, key_of, on_own, is_rpt, is_star_join, is_rpt_on, is_rpt_of, effect, effects, at_end}
 use Rattle.pim_down.specs.Sound.{IsSettled, is_temporary}
-use Rattle.pim_down.specs.Laws.{KeysAreToldApart}
-use Rattle.pim_transitions.specs.Named.{reaches, joins_after}
+use Rattle.pim_down.specs.Laws.{KeysAreDistinct}
+use Rattle.pim_transitions.specs.Affected.{reaches, joins_after}
 
 pub or_false : (a b : Bool) → (a || b) ≡ false → (a ≡ false) × (b ≡ false)
 or_false true b e = absurd (false≢true (sym e))
@@ -34,7 +34,7 @@ pub by_test : {P : Type 0} (b : Bool) → (b ≡ true → P) → (b ≡ false �
 by_test true here other = here refl
 by_test false here other = other refl
 
-module _ (keys : KeysAreToldApart) (port : ℕ) (start : Start) where
+module _ (keys : KeysAreDistinct) (port : ℕ) (start : Start) where
   pub same_keys : (a b : Key (List ℕ)) → same_key a b ≡ true → a ≡ b
   same_keys a b e = (keys a b).1.0 e
 

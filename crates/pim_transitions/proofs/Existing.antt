@@ -13,8 +13,8 @@ use Rattle.pim_down.specs.Records.{machine_at}
 use Rattle.pim_down.specs.Tables.{Start}
 use Rattle.pim_down.specs.Hearing.{Event}
 use Rattle.pim_transitions.specs.declared.transition.Transition.{Transition}
-use Rattle.pim_transitions.specs.Named.{same_machine}
-use Rattle.pim_transitions.specs.Transitions.{caused_by, IsTransition, is_told, keys_told, AreTransitions}
+use Rattle.pim_transitions.specs.Affected.{same_machine}
+use Rattle.pim_transitions.specs.Transitions.{caused_by, IsTransition, has_transition, keys_of_transitions, AreTransitions}
 use Rattle.pim_transitions.specs.Laws.{TransitionsAreThere}
 use Rattle.pim_transitions.proofs.Effects.{or_false, or_true, by_test}
 use Rattle.pim_transitions.proofs.Keys.{key_total, equal_keys, same_keys, same_back}
@@ -56,14 +56,14 @@ module _ (port : ℕ) (start : Start) (events : List Event) (before after : List
   -- a list of items with one more item
   record Joined (item : Transition (List ℕ)) (items : Items) : Type 0 where
     pub joined : Items
-    pub ascending : IsStrictlySortedBy key_cmp (keys_told joined)
+    pub ascending : IsStrictlySortedBy key_cmp (keys_of_transitions joined)
     pub each : AllByRecursion Is joined
-    pub has : (key : Key (List ℕ)) → (same_key item.key key || is_told key items) ≡ true → is_told key joined ≡ true
+    pub has : (key : Key (List ℕ)) → (same_key item.key key || has_transition key items) ≡ true → has_transition key joined ≡ true
     pub above : (key : Key (List ℕ)) → key_cmp key item.key ≡ Less → AreAbove key items → AreAbove key joined
 
-  join : (item : Transition (List ℕ)) → Is item → (items : Items) → IsStrictlySortedBy key_cmp (keys_told items) → AllByRecursion Is items → Joined item items
+  join : (item : Transition (List ℕ)) → Is item → (items : Items) → IsStrictlySortedBy key_cmp (keys_of_transitions items) → AllByRecursion Is items → Joined item items
   unfolding IsStrictlySortedBy
-  join item is [] up each = record { joined = item ∷ []; ascending = (tt, tt); each = (is, tt); has = λ key told. told; above = λ key less over. (less, tt) }
+  join item is [] up each = record { joined = item ∷ []; ascending = (tt, tt); each = (is, tt); has = λ key reported. reported; above = λ key less over. (less, tt) }
   join item is (next ∷ items) up each = by (key_cmp item.key next.key) refl (join item is items up.1 each.1)
     where
       by : (r : Ordering) → key_cmp item.key next.key ≡ r → Joined item items → Joined item (next ∷ items)
@@ -71,24 +71,24 @@ module _ (port : ℕ) (start : Start) (events : List Event) (before after : List
         joined = item ∷ next ∷ items;
         ascending = ((e, all_above item.key next.key items e up.0), up);
         each = (is, each);
-        has = λ key told. told;
+        has = λ key reported. reported;
         above = λ key less over. (less, over);
       }
       by Equal e rest = record {
         joined = next ∷ items;
         ascending = up;
         each = each;
-        has = λ key told. twice (same_key next.key key) (is_told key items)
-            (subst (λ k. (same_key k key || (same_key next.key key || is_told key items)) ≡ true) (equal_keys item.key next.key e) told);
+        has = λ key reported. twice (same_key next.key key) (has_transition key items)
+            (subst (λ k. (same_key k key || (same_key next.key key || has_transition key items)) ≡ true) (equal_keys item.key next.key e) reported);
         above = λ key less over. over;
       }
       by Greater e rest = record {
         joined = next ∷ rest.joined;
         ascending = (rest.above next.key (key_total.antisymm next.key item.key ∙ ap ordering_reverse e) up.0, rest.ascending);
         each = (each.0, rest.each);
-        has = λ key told. by_test (same_key next.key key)
-            (λ s. left_true (same_key next.key key) (is_told key rest.joined) s)
-            (λ s. right_true (same_key next.key key) (is_told key rest.joined) (rest.has key (without_second (same_key item.key key) (same_key next.key key) (is_told key items) s told)));
+        has = λ key reported. by_test (same_key next.key key)
+            (λ s. left_true (same_key next.key key) (has_transition key rest.joined) s)
+            (λ s. right_true (same_key next.key key) (has_transition key rest.joined) (rest.has key (without_second (same_key item.key key) (same_key next.key key) (has_transition key items) s reported)));
         above = λ key less over. (over.0, rest.above key less over.1);
       }
 
@@ -98,13 +98,13 @@ module _ (port : ℕ) (start : Start) (events : List Event) (before after : List
   -- the items of these records that differ, with others
   record Told (records : List (Record (List ℕ))) (others : Items) : Type 0 where
     pub items : Items
-    pub ascending : IsStrictlySortedBy key_cmp (keys_told items)
+    pub ascending : IsStrictlySortedBy key_cmp (keys_of_transitions items)
     pub each : AllByRecursion Is items
-    pub has : (key : Key (List ℕ)) → has_key key records ≡ true → (machine_at key before ≡ machine_at key after → ⊥) → is_told key items ≡ true
-    pub keeps : (key : Key (List ℕ)) → is_told key others ≡ true → is_told key items ≡ true
+    pub has : (key : Key (List ℕ)) → has_key key records ≡ true → (machine_at key before ≡ machine_at key after → ⊥) → has_transition key items ≡ true
+    pub keeps : (key : Key (List ℕ)) → has_transition key others ≡ true → has_transition key items ≡ true
 
-  tell : (records : List (Record (List ℕ))) (others : Items) → IsStrictlySortedBy key_cmp (keys_told others) → AllByRecursion Is others → Told records others
-  tell [] others up each = record { items = others; ascending = up; each = each; has = λ key there differ. absurd (false≢true there); keeps = λ key told. told }
+  tell : (records : List (Record (List ℕ))) (others : Items) → IsStrictlySortedBy key_cmp (keys_of_transitions others) → AllByRecursion Is others → Told records others
+  tell [] others up each = record { items = others; ascending = up; each = each; has = λ key there differ. absurd (false≢true there); keeps = λ key reported. reported }
   tell (held ∷ records) others up each = by (tell records others up each) (same_machine (machine_at held.key before) (machine_at held.key after)) refl
     where
       by : Told records others → (b : Bool) → same_machine (machine_at held.key before) (machine_at held.key after) ≡ b → Told (held ∷ records) others
@@ -130,9 +130,9 @@ module _ (port : ℕ) (start : Start) (events : List Event) (before after : List
             ascending = more.ascending;
             each = more.each;
             has = λ key there differ. by_test (same_key held.key key)
-                (λ s. more.has key (left_true (same_key held.key key) (is_told key rest.items) s))
-                (λ s. more.has key (right_true (same_key held.key key) (is_told key rest.items) (rest.has key (without_first (same_key held.key key) (has_key key records) s there) differ)));
-            keeps = λ key told. more.has key (right_true (same_key held.key key) (is_told key rest.items) (rest.keeps key told));
+                (λ s. more.has key (left_true (same_key held.key key) (has_transition key rest.items) s))
+                (λ s. more.has key (right_true (same_key held.key key) (has_transition key rest.items) (rest.has key (without_first (same_key held.key key) (has_key key records) s there) differ)));
+            keeps = λ key reported. more.has key (right_true (same_key held.key key) (has_transition key rest.items) (rest.keeps key reported));
           }
 
   there : (items : Items) × AreTransitions port start events before after items

@@ -7,7 +7,7 @@ use Rattle.std.proofs.lemmas.Bool.{false≢true}
 use Rattle.pim_down.specs.declared.machines.key.Key.{Key}
 use Rattle.pim_down.specs.Key.{key_cmp, same_key}
 use Rattle.pim_down.specs.Hearing.{Event, key_of}
-use Rattle.pim_transitions.specs.Named.{joins_after}
+use Rattle.pim_transitions.specs.Affected.{joins_after}
 use Rattle.pim_transitions.specs.Marks.{Rise, is_repeated, if_last, lasts, is_marked}
 use Rattle.pim_transitions.proofs.Keys.{same_keys, same_itself, behind, further, less_apart, on_port, same_on_port}
 

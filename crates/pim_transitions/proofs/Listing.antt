@@ -7,7 +7,7 @@ use Rattle.pim_down.specs.declared.machines.key.Key.{Key}
 use Rattle.pim_down.specs.declared.machines.machine.Record.{Record}
 use Rattle.pim_down.specs.Key.{key_cmp, same_key}
 use Rattle.pim_down.specs.Hearing.{Event, key_of, is_star_join}
-use Rattle.pim_transitions.specs.Named.{joins_after, is_reached, is_named, keys_named, IsCandidate, IsNamed}
+use Rattle.pim_transitions.specs.Affected.{joins_after, is_reached, is_affected, keys_affected, IsCandidate, IsAffected}
 use Rattle.pim_transitions.specs.Marks.{Rise, same_mark, KeepTheirOrder, lasts, candidate_of, is_marked, is_held_rpt, IsStarMark, star_reaches, AreStarMarks}
 use Rattle.pim_transitions.proofs.Effects.{or_true, by_test}
 use Rattle.pim_transitions.proofs.Keys.{same_keys, same_itself, same_back, same_on_port}
@@ -139,16 +139,16 @@ reached_how port records key (event ∷ events) reached =
 
 -- ---- the candidates
 
-candidate_keys : (port : ℕ) (records : List (Record (List ℕ))) (marks : List Event) → keys_named (map (candidate_of port records) marks) ≡ map (key_of port) marks
+candidate_keys : (port : ℕ) (records : List (Record (List ℕ))) (marks : List Event) → keys_affected (map (candidate_of port records) marks) ≡ map (key_of port) marks
 candidate_keys port records [] = refl
 candidate_keys port records (mark ∷ marks) = ap (λ (ks : List (Key (List ℕ))). key_of port mark ∷ ks) (candidate_keys port records marks)
 
-candidate_named : (port : ℕ) (records : List (Record (List ℕ))) (key : Key (List ℕ)) (marks : List Event) → is_named key (map (candidate_of port records) marks) ≡ is_marked port key marks
+candidate_named : (port : ℕ) (records : List (Record (List ℕ))) (key : Key (List ℕ)) (marks : List Event) → is_affected key (map (candidate_of port records) marks) ≡ is_marked port key marks
 candidate_named port records key [] = refl
 candidate_named port records key (mark ∷ marks) = ap (λ b. same_key (key_of port mark) key || b) (candidate_named port records key marks)
 
 pub marks_named : (port : ℕ) (events : List Event) (records : List (Record (List ℕ))) (front marks sorted : List Event) → AreStarMarks port events records front → marks ≡ front ++ events → KeepTheirOrder marks sorted → Rise sorted
-    → IsNamed port events records (map (candidate_of port records) (lasts sorted))
+    → IsAffected port events records (map (candidate_of port records) (lasts sorted))
 marks_named port events records front marks sorted stars is keep up = record {
   ascending = subst (IsStrictlySortedBy key_cmp) (sym (candidate_keys port records (lasts sorted))) (lasts_ascend port sorted up);
   each = each (lasts sorted) (lasts_are_last port sorted up) (lasts_all (λ mark. is_marked port (key_of port mark) sorted ≡ true) sorted (each_marked port sorted sorted (λ key marked. marked)));

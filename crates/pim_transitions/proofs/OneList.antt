@@ -13,7 +13,7 @@ use Rattle.pim_down.specs.Records.{machine_at}
 use Rattle.pim_down.specs.Tables.{Start}
 use Rattle.pim_down.specs.Hearing.{Event}
 use Rattle.pim_transitions.specs.declared.transition.Transition.{Transition}
-use Rattle.pim_transitions.specs.Transitions.{caused_by, IsTransition, is_told, keys_told}
+use Rattle.pim_transitions.specs.Transitions.{caused_by, IsTransition, has_transition, keys_of_transitions}
 use Rattle.pim_transitions.specs.Laws.{TransitionsAreOneList}
 use Rattle.pim_transitions.proofs.Effects.{or_true, by_test}
 use Rattle.pim_transitions.proofs.Keys.{key_total, equal_keys, same_keys, same_itself, less_apart}
@@ -22,23 +22,23 @@ abbrev pub Items : Type 0
 Items = List (Transition (List ℕ))
 
 abbrev pub AreAbove : Key (List ℕ) → Items → Type 0
-AreAbove key items = AllByRecursion (λ other. key_cmp key other ≡ Less) (keys_told items)
+AreAbove key items = AllByRecursion (λ other. key_cmp key other ≡ Less) (keys_of_transitions items)
 
-not_told : (key : Key (List ℕ)) (items : Items) → AreAbove key items → is_told key items ≡ false
+not_told : (key : Key (List ℕ)) (items : Items) → AreAbove key items → has_transition key items ≡ false
 not_told key [] above = refl
-not_told key (item ∷ items) above = ap (λ b. b || is_told key items) (less_apart key item.key above.0) ∙ not_told key items above.1
+not_told key (item ∷ items) above = ap (λ b. b || has_transition key items) (less_apart key item.key above.0) ∙ not_told key items above.1
 
 pub all_above : (key next : Key (List ℕ)) (items : Items) → key_cmp key next ≡ Less → AreAbove next items → AreAbove key items
 all_above key next [] less above = tt
 all_above key next (item ∷ items) less above = (key_total.trans key next item.key less above.0, all_above key next items less above.1)
 
 -- what is told of a list of items apart from the first is told of the others
-told_rest : (first : Transition (List ℕ)) (these those : Items) (other : Transition (List ℕ)) → other.key ≡ first.key → AreAbove first.key these → ((key : Key (List ℕ)) → is_told key (first ∷ these) ≡ true → is_told key (other ∷ those) ≡ true)
-    → (key : Key (List ℕ)) → is_told key these ≡ true → is_told key those ≡ true
-told_rest first these those other same above within key told =
+told_rest : (first : Transition (List ℕ)) (these those : Items) (other : Transition (List ℕ)) → other.key ≡ first.key → AreAbove first.key these → ((key : Key (List ℕ)) → has_transition key (first ∷ these) ≡ true → has_transition key (other ∷ those) ≡ true)
+    → (key : Key (List ℕ)) → has_transition key these ≡ true → has_transition key those ≡ true
+told_rest first these those other same above within key reported =
     by_test (same_key other.key key)
-    (λ s. absurd (false≢true (sym (not_told first.key these above) ∙ subst (λ k. is_told k these ≡ true) (sym (same_keys other.key key s) ∙ same) told)))
-    (λ s. ap (λ b. b || is_told key those) (sym s) ∙ within key (ap (λ b. same_key first.key key || b) told ∙ or_true (same_key first.key key)))
+    (λ s. absurd (false≢true (sym (not_told first.key these above) ∙ subst (λ k. has_transition k these ≡ true) (sym (same_keys other.key key s) ∙ same) reported)))
+    (λ s. ap (λ b. b || has_transition key those) (sym s) ∙ within key (ap (λ b. same_key first.key key || b) reported ∙ or_true (same_key first.key key)))
 
 module _ (port : ℕ) (start : Start) (events : List Event) (before after : List (Record (List ℕ))) where
   abbrev Is : Transition (List ℕ) → Type 0
@@ -51,27 +51,27 @@ module _ (port : ℕ) (start : Start) (events : List Event) (before after : List
       let kinds : a.by ≡ b.by = x.cause ∙ (λ i. caused_by port start events (same i) (was i)) ∙ sym y.cause in
       λ i. record { key = same i; before = was i; after = now i; by = kinds i }
 
-  told_differs : (key : Key (List ℕ)) (items : Items) → AllByRecursion Is items → is_told key items ≡ true → machine_at key before ≡ machine_at key after → ⊥
-  told_differs key [] all told same = false≢true told
-  told_differs key (item ∷ items) all told same =
+  told_differs : (key : Key (List ℕ)) (items : Items) → AllByRecursion Is items → has_transition key items ≡ true → machine_at key before ≡ machine_at key after → ⊥
+  told_differs key [] all reported same = false≢true reported
+  told_differs key (item ∷ items) all reported same =
       by_test (same_key item.key key)
       (λ s.
       let at = same_keys item.key key s in
       all.0.differ (all.0.was ∙ ap (λ (k : Key (List ℕ)). machine_at k before) at ∙ same ∙ ap (λ (k : Key (List ℕ)). machine_at k after) (sym at) ∙ sym all.0.is))
-      (λ s. told_differs key items all.1 (ap (λ b. b || is_told key items) (sym s) ∙ told) same)
+      (λ s. told_differs key items all.1 (ap (λ b. b || has_transition key items) (sym s) ∙ reported) same)
 
-  first_told : (item : Transition (List ℕ)) (items : Items) → is_told item.key (item ∷ items) ≡ true
-  first_told item items = ap (λ b. b || is_told item.key items) (same_itself item.key)
+  first_told : (item : Transition (List ℕ)) (items : Items) → has_transition item.key (item ∷ items) ≡ true
+  first_told item items = ap (λ b. b || has_transition item.key items) (same_itself item.key)
 
-  one_list : (these those : Items) → IsStrictlySortedBy key_cmp (keys_told these) → IsStrictlySortedBy key_cmp (keys_told those) → AllByRecursion Is these → AllByRecursion Is those
-      → ((key : Key (List ℕ)) → is_told key these ≡ true → is_told key those ≡ true) → ((key : Key (List ℕ)) → is_told key those ≡ true → is_told key these ≡ true) → these ≡ those
+  one_list : (these those : Items) → IsStrictlySortedBy key_cmp (keys_of_transitions these) → IsStrictlySortedBy key_cmp (keys_of_transitions those) → AllByRecursion Is these → AllByRecursion Is those
+      → ((key : Key (List ℕ)) → has_transition key these ≡ true → has_transition key those ≡ true) → ((key : Key (List ℕ)) → has_transition key those ≡ true → has_transition key these ≡ true) → these ≡ those
   unfolding IsStrictlySortedBy
   one_list [] [] up up' all all' within back = refl
   one_list [] (other ∷ those) up up' all all' within back = absurd (false≢true (back other.key (first_told other those)))
   one_list (item ∷ these) [] up up' all all' within back = absurd (false≢true (within item.key (first_told item these)))
   one_list (item ∷ these) (other ∷ those) up up' all all' within back = by (λ a b. one_list these those up.1 up'.1 all.1 all'.1 a b) (key_cmp item.key other.key) refl
     where
-      by : (((key : Key (List ℕ)) → is_told key these ≡ true → is_told key those ≡ true) → ((key : Key (List ℕ)) → is_told key those ≡ true → is_told key these ≡ true) → these ≡ those)
+      by : (((key : Key (List ℕ)) → has_transition key these ≡ true → has_transition key those ≡ true) → ((key : Key (List ℕ)) → has_transition key those ≡ true → has_transition key these ≡ true) → these ≡ those)
           → (r : Ordering) → key_cmp item.key other.key ≡ r → item ∷ these ≡ other ∷ those
       by rest Less e = absurd (false≢true (sym (not_told item.key (other ∷ those) (e, all_above item.key other.key those e up'.0)) ∙ within item.key (first_told item these)))
       by rest Equal e =
@@ -86,5 +86,5 @@ module _ (port : ℕ) (start : Start) (events : List Event) (before after : List
 pub one_list_of : TransitionsAreOneList
 one_list_of port start events before after one other x y =
     one_list port start events before after one other x.ascending y.ascending x.each y.each
-    (λ key told. y.all key (told_differs port start events before after key one x.each told))
-    (λ key told. x.all key (told_differs port start events before after key other y.each told))
+    (λ key reported. y.all key (told_differs port start events before after key one x.each reported))
+    (λ key reported. x.all key (told_differs port start events before after key other y.each reported))

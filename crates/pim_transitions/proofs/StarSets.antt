@@ -12,7 +12,7 @@ use Rattle.pim_down.specs.declared.machines.key.Key.{Key}
 use Rattle.pim_down.specs.declared.machines.machine.Record.{Record}
 use Rattle.pim_down.specs.Key.{same_key}
 use Rattle.pim_down.specs.Hearing.{Event, key_of, is_known, entry_events, list_events, set_events, is_star_join, is_rpt_on, is_rpt_of}
-use Rattle.pim_transitions.specs.Named.{is_reached}
+use Rattle.pim_transitions.specs.Affected.{is_reached}
 use Rattle.pim_transitions.specs.Marks.{rpt_marks, is_marked, is_held_rpt, HaveRptsOf, is_star_join_of, IsStarMark, AddRptsOf, AddStarsOf, star_reaches, AreStarMarks}
 use Rattle.pim_transitions.proofs.Effects.{and_true, or_true, by_test}
 use Rattle.pim_transitions.proofs.Listing.{any_append}

@@ -15,12 +15,12 @@ use Rattle.pim_down.specs.Key.{key_cmp, same_key}
 use Rattle.pim_down.specs.Records.{machine_at}
 use Rattle.pim_down.specs.Tables.{Start}
 use Rattle.pim_down.specs.Hearing.{is_rpt_on, hearing, heard_at, at_end}
-use Rattle.pim_down.specs.Laws.{KeysAreToldApart, HearingActsAtEachKey}
+use Rattle.pim_down.specs.Laws.{KeysAreDistinct, HearingActsAtEachKey}
 use Rattle.pim_transitions.specs.declared.transition.Transition.{Transition}
 use Rattle.pim_transitions.specs.declared.candidate.Candidate.{Candidate}
-use Rattle.pim_transitions.specs.Transitions.{number_of, caused_by, IsTransition, is_told, keys_told}
-use Rattle.pim_transitions.specs.Named.{joins_after, is_reached, is_named, keys_named, IsCandidate, same_bool, same_pending, same_held, same_machine, kind_by, transition_to, transitions_to}
-use Rattle.pim_transitions.specs.Laws.{CandidatesTellTransitions}
+use Rattle.pim_transitions.specs.Transitions.{number_of, caused_by, IsTransition, has_transition, keys_of_transitions}
+use Rattle.pim_transitions.specs.Affected.{joins_after, is_reached, is_affected, keys_affected, IsCandidate, same_bool, same_pending, same_held, same_machine, kind_by, transition_to, transitions_to}
+use Rattle.pim_transitions.specs.Laws.{CandidatesShowTransitions}
 use Rattle.pim_transitions.proofs.Effects.{by_test, and_true, same_keys, quiet, end_quiet}
 use Rattle.pim_transitions.proofs.Causes.{plain_kind, rpt_kind_is}
 
@@ -116,21 +116,21 @@ module _ (after : List (Record (List ℕ))) where
   left_of candidate items =
       cond (same_machine candidate.before (machine_at candidate.key after)) items (transition_to candidate (machine_at candidate.key after) ∷ items)
 
-  kept_above : (key : Key (List ℕ)) (candidates : List (Candidate (List ℕ))) → AllByRecursion (λ other. key_cmp key other ≡ Less) (keys_named candidates) → AllByRecursion (λ other. key_cmp key other ≡ Less) (keys_told (transitions_to after candidates))
+  kept_above : (key : Key (List ℕ)) (candidates : List (Candidate (List ℕ))) → AllByRecursion (λ other. key_cmp key other ≡ Less) (keys_affected candidates) → AllByRecursion (λ other. key_cmp key other ≡ Less) (keys_of_transitions (transitions_to after candidates))
   unfolding transitions_to
   kept_above key [] above = tt
   kept_above key (candidate ∷ candidates) above = by (same_machine candidate.before (machine_at candidate.key after)) (kept_above key candidates above.1)
     where
-      by : (b : Bool) → AllByRecursion (λ other. key_cmp key other ≡ Less) (keys_told (transitions_to after candidates)) → AllByRecursion (λ other. key_cmp key other ≡ Less) (keys_told (cond b (transitions_to after candidates) (transition_to candidate (machine_at candidate.key after) ∷ transitions_to after candidates)))
+      by : (b : Bool) → AllByRecursion (λ other. key_cmp key other ≡ Less) (keys_of_transitions (transitions_to after candidates)) → AllByRecursion (λ other. key_cmp key other ≡ Less) (keys_of_transitions (cond b (transitions_to after candidates) (transition_to candidate (machine_at candidate.key after) ∷ transitions_to after candidates)))
       by true rest = rest
       by false rest = (above.0, rest)
 
-  pub still_ascending : (candidates : List (Candidate (List ℕ))) → IsStrictlySortedBy key_cmp (keys_named candidates) → IsStrictlySortedBy key_cmp (keys_told (transitions_to after candidates))
+  pub still_ascending : (candidates : List (Candidate (List ℕ))) → IsStrictlySortedBy key_cmp (keys_affected candidates) → IsStrictlySortedBy key_cmp (keys_of_transitions (transitions_to after candidates))
   unfolding transitions_to IsStrictlySortedBy
   still_ascending [] up = tt
   still_ascending (candidate ∷ candidates) up = by (same_machine candidate.before (machine_at candidate.key after)) (still_ascending candidates up.1)
     where
-      by : (b : Bool) → IsStrictlySortedBy key_cmp (keys_told (transitions_to after candidates)) → IsStrictlySortedBy key_cmp (keys_told (cond b (transitions_to after candidates) (transition_to candidate (machine_at candidate.key after) ∷ transitions_to after candidates)))
+      by : (b : Bool) → IsStrictlySortedBy key_cmp (keys_of_transitions (transitions_to after candidates)) → IsStrictlySortedBy key_cmp (keys_of_transitions (cond b (transitions_to after candidates) (transition_to candidate (machine_at candidate.key after) ∷ transitions_to after candidates)))
       by true rest = rest
       by false rest = (kept_above candidate.key candidates up.0, rest)
 
@@ -146,15 +146,15 @@ module _ (after : List (Record (List ℕ))) where
       by false e rest = (makes candidate all.0 e, rest)
 
   -- a candidate that differs is told
-  pub differing_told : (keys : KeysAreToldApart) (port : ℕ) (start : Start) (before : List (Record (List ℕ))) (key : Key (List ℕ)) → (machine_at key before ≡ machine_at key after → ⊥)
-      → (candidates : List (Candidate (List ℕ))) → AllByRecursion (λ candidate. candidate.before ≡ machine_at candidate.key before) candidates → is_named key candidates ≡ true → is_told key (transitions_to after candidates) ≡ true
+  pub differing_told : (keys : KeysAreDistinct) (port : ℕ) (start : Start) (before : List (Record (List ℕ))) (key : Key (List ℕ)) → (machine_at key before ≡ machine_at key after → ⊥)
+      → (candidates : List (Candidate (List ℕ))) → AllByRecursion (λ candidate. candidate.before ≡ machine_at candidate.key before) candidates → is_affected key candidates ≡ true → has_transition key (transitions_to after candidates) ≡ true
   unfolding transitions_to
-  differing_told keys port start before key differ [] all named = absurd (false≢true named)
-  differing_told keys port start before key differ (candidate ∷ candidates) all named =
-      by (λ n. differing_told keys port start before key differ candidates all.1 n) (same_machine candidate.before (machine_at candidate.key after)) refl (same_key candidate.key key) refl named
+  differing_told keys port start before key differ [] all affected = absurd (false≢true affected)
+  differing_told keys port start before key differ (candidate ∷ candidates) all affected =
+      by (λ n. differing_told keys port start before key differ candidates all.1 n) (same_machine candidate.before (machine_at candidate.key after)) refl (same_key candidate.key key) refl affected
     where
-      by : (is_named key candidates ≡ true → is_told key (transitions_to after candidates) ≡ true) → (b : Bool) → same_machine candidate.before (machine_at candidate.key after) ≡ b → (s : Bool) → same_key candidate.key key ≡ s → (s || is_named key candidates) ≡ true
-          → is_told key (cond b (transitions_to after candidates) (transition_to candidate (machine_at candidate.key after) ∷ transitions_to after candidates)) ≡ true
+      by : (is_affected key candidates ≡ true → has_transition key (transitions_to after candidates) ≡ true) → (b : Bool) → same_machine candidate.before (machine_at candidate.key after) ≡ b → (s : Bool) → same_key candidate.key key ≡ s → (s || is_affected key candidates) ≡ true
+          → has_transition key (cond b (transitions_to after candidates) (transition_to candidate (machine_at candidate.key after) ∷ transitions_to after candidates)) ≡ true
       by rest true e true s n =
           let same : candidate.key ≡ key = same_keys keys port start candidate.key key s in
           absurd (differ (ap (λ (k : Key (List ℕ)). machine_at k before) (sym same) ∙ sym all.0 ∙ same_machine_is candidate.before (machine_at candidate.key after) e ∙ ap (λ (k : Key (List ℕ)). machine_at k after) same))
@@ -168,13 +168,13 @@ all_and P Q implies (x ∷ xs) all = (implies x all.0, all_and P Q implies xs al
 
 -- ---- the law
 
-pub candidates_tell : KeysAreToldApart → HearingActsAtEachKey → CandidatesTellTransitions
-candidates_tell keys hears port start events records candidates ascending settled named =
+pub candidates_tell : KeysAreDistinct → HearingActsAtEachKey → CandidatesShowTransitions
+candidates_tell keys hears port start events records candidates ascending settled affected =
     let after = hearing port start events records in
     record {
-      ascending = still_ascending after candidates named.ascending;
-      each = each_kept after (IsCandidate port events records) (IsTransition port start events records after) makes candidates named.each;
-      all = λ key differ. differing_told after keys port start records key differ candidates (all_and (IsCandidate port events records) (λ (c : Candidate (List ℕ)). c.before ≡ machine_at c.key records) (λ c is. is.was) candidates named.each) (named.all key (reached key differ));
+      ascending = still_ascending after candidates affected.ascending;
+      each = each_kept after (IsCandidate port events records) (IsTransition port start events records after) makes candidates affected.each;
+      all = λ key differ. differing_told after keys port start records key differ candidates (all_and (IsCandidate port events records) (λ (c : Candidate (List ℕ)). c.before ≡ machine_at c.key records) (λ c is. is.was) candidates affected.each) (affected.all key (reached key differ));
     }
   where
     heard_is : (key : Key (List ℕ)) → machine_at key (hearing port start events records) ≡ heard_at port start events key (machine_at key records)

@@ -235,13 +235,13 @@ pub rpts_more : (left next : MachinesLeft) (found : Record (List ℕ)) (old new 
     → next_in_group left.behind.port left.behind.group left.behind.what left.records ≡ Some found
     → next ≡ left_behind left (next_in_group left.behind.port left.behind.group left.behind.what left.records)
     → new ≡ old ++ rpt_mark found → old ++ flat_map rpt_mark (walk_left left) ≡ all → new ++ flat_map rpt_mark (walk_left next) ≡ all
-rpts_more left next found old new all up first is pushed told =
+rpts_more left next found old new all up first is pushed reported =
     let here : next ≡ left_behind left (Some found) = is ∙ ap (left_behind left) first in
     ap (λ (ms : List Event). ms ++ flat_map rpt_mark (walk_left next)) pushed
     ∙ append_assoc old (rpt_mark found) (flat_map rpt_mark (walk_left next))
     ∙ ap (λ (l : MachinesLeft). old ++ (rpt_mark found ++ flat_map rpt_mark (walk_left l))) here
     ∙ ap (λ (rs : List (Record (List ℕ))). old ++ flat_map rpt_mark rs) (sym (walk_more left found up first))
-    ∙ told
+    ∙ reported
 
 pub walk_smaller : (left next : MachinesLeft) (found : Record (List ℕ)) → IsAscending left.records
     → next_in_group left.behind.port left.behind.group left.behind.what left.records ≡ Some found
@@ -259,8 +259,8 @@ still_up left next found up first is = subst (λ (l : MachinesLeft). IsAscending
 
 pub rpts_over : (left : MachinesLeft) (old all : List Event) → next_in_group left.behind.port left.behind.group left.behind.what left.records ≡ None
     → old ++ flat_map rpt_mark (walk_left left) ≡ all → old ≡ all
-rpts_over left old all none told =
-    sym (append-nil old) ∙ ap (λ (rs : List (Record (List ℕ))). old ++ flat_map rpt_mark rs) (sym (walk_over left none)) ∙ told
+rpts_over left old all none reported =
+    sym (append-nil old) ∙ ap (λ (rs : List (Record (List ℕ))). old ++ flat_map rpt_mark rs) (sym (walk_over left none)) ∙ reported
 
 -- ---- each mark of the walk is of a machine that a Join(*,G) reaches
 

@@ -9,15 +9,15 @@ use Rattle.pim_down.specs.Sound.{IsSettled}
 use Rattle.pim_transitions.specs.declared.transition.Transition.{Transition}
 use Rattle.pim_transitions.specs.declared.candidate.Candidate.{Candidate}
 use Rattle.pim_transitions.specs.Transitions.{AreTransitions}
-use Rattle.pim_transitions.specs.Named.{IsNamed, transitions_to}
+use Rattle.pim_transitions.specs.Affected.{IsAffected, transitions_to}
 
 -- The candidates that differ after a message are its transitions, where records are in key order
 -- and no machine is in a Tmp state.
-abbrev pub CandidatesTellTransitions : Type 0
-CandidatesTellTransitions =
+abbrev pub CandidatesShowTransitions : Type 0
+CandidatesShowTransitions =
     (port : ℕ) (start : Start) (events : List Event) (records : List (Record (List ℕ)))
     (candidates : List (Candidate (List ℕ))) →
-    IsAscending records → IsSettled records → IsNamed port events records candidates →
+    IsAscending records → IsSettled records → IsAffected port events records candidates →
     AreTransitions port start events records (hearing port start events records)
     (transitions_to (hearing port start events records) candidates)
 

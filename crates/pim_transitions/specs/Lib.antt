@@ -1,7 +1,7 @@
 -- The definitions that contracts of `pim_transitions` cite. `Transitions` gives the meaning of the
--- result, `Named` that of the list which is made before the message. `Laws` says how they belong
+-- result, `Affected` that of the list which is made before the message. `Laws` says how they belong
 -- together, and `Marks` serves private steps.
 pub mod Transitions
-pub mod Named
+pub mod Affected
 pub mod Marks
 pub mod Laws

@@ -13,7 +13,7 @@ use Rattle.pim_down.specs.Records.{machine_at}
 use Rattle.pim_down.specs.After.{is_machine_after}
 use Rattle.pim_down.specs.Hearing.{Event, key_of, is_star_join, is_rpt, is_rpt_of}
 use Rattle.pim_transitions.specs.declared.candidate.Candidate.{Candidate}
-use Rattle.pim_transitions.specs.Named.{is_reached}
+use Rattle.pim_transitions.specs.Affected.{is_reached}
 
 -- ---- order
 

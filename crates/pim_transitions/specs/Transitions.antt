@@ -87,18 +87,18 @@ pub record IsTransition (port : ℕ) (start : Start) (events : List Event)
   pub cause : item.by ≡ caused_by port start events item.key item.before
 
 -- The key is that of an item.
-abbrev pub is_told : Key (List ℕ) → List (Transition (List ℕ)) → Bool
-is_told key items = list_any (λ item. same_key item.key key) items
+abbrev pub has_transition : Key (List ℕ) → List (Transition (List ℕ)) → Bool
+has_transition key items = list_any (λ item. same_key item.key key) items
 
 -- The keys of the items, in their order.
-abbrev pub keys_told : List (Transition (List ℕ)) → List (Key (List ℕ))
-keys_told items = map (λ item. item.key) items
+abbrev pub keys_of_transitions : List (Transition (List ℕ)) → List (Key (List ℕ))
+keys_of_transitions items = map (λ item. item.key) items
 
 -- The items are the machines that differ after a message with these events on the port, in key
 -- order and each once. What came and went within the message is none.
 pub record AreTransitions (port : ℕ) (start : Start) (events : List Event)
     (before after : List (Record (List ℕ))) (items : List (Transition (List ℕ))) : Type 0 where
-  pub ascending : IsStrictlySortedBy key_cmp (keys_told items)
+  pub ascending : IsStrictlySortedBy key_cmp (keys_of_transitions items)
   pub each : AllByRecursion (IsTransition port start events before after) items
   pub all : (key : Key (List ℕ)) → machine_at key before ≢ machine_at key after →
-      is_told key items ≡ true
+      has_transition key items ≡ true

@@ -2,8 +2,8 @@
 
 ghost use Rattle.std.specs.Prelude.{◌≡◌, [], ◌∷◌, map, MatchOption};
 ghost use Rattle.std.specs.Iterator.{YieldsFirstBy, item_count};
-ghost use Rattle.pim_transitions.specs.Named.{kind_by, transitions_to};
-ghost use Rattle.pim_transitions.specs.Named.{candidate_seen, transition_seen};
+ghost use Rattle.pim_transitions.specs.Affected.{kind_by, transitions_to};
+ghost use Rattle.pim_transitions.specs.Affected.{candidate_seen, transition_seen};
 
 use crate::candidate::Candidate;
 use crate::same::{is_joined, same_machine};
@@ -29,7 +29,7 @@ fn kind_by(joins: bool, after: Option<Machine>) -> By
 }
 
 /// A transition that was found, and what is left to look at.
-struct Found<'a, F: Family> {
+struct FoundChange<'a, F: Family> {
     transition: Transition<F::Addr>,
     left: &'a [Candidate<F::Addr>],
     near: Near,
@@ -41,7 +41,7 @@ fn first_change<'a, F: Family>(
     candidates: &'a [Candidate<F::Addr>],
     ports: &Ports<F>,
     near: Near,
-) -> Option<Found<'a, F>>
+) -> Option<FoundChange<'a, F>>
     ensures { MatchOption result
         (transitions_to ports.now.records (map (candidate_seen F.bytes_of) candidates.now) ≡ [])
         (λ found. transitions_to ports.now.records (map (candidate_seen F.bytes_of) candidates.now)
@@ -63,7 +63,7 @@ fn first_change<'a, F: Family>(
                 after,
                 by,
             };
-            return Some(Found {
+            return Some(FoundChange {
                 transition,
                 left,
                 near,
@@ -84,7 +84,7 @@ pub struct Changes<'a, F: Family> {
 impl<'a, F: Family> Model for Changes<'a, F> {
     ghost use Rattle.std.specs.Prelude.{ℕ, List, map};
     ghost use Rattle.pim_transitions.specs.declared.transition.Transition.{Transition};
-    ghost use Rattle.pim_transitions.specs.Named.{transitions_to, candidate_seen};
+    ghost use Rattle.pim_transitions.specs.Affected.{transitions_to, candidate_seen};
 
     ghost Value = { List (Transition (List ℕ)) };
 
@@ -121,7 +121,7 @@ impl<'a, F: Family> Iterator for Changes<'a, F> {
                 None
             }
             Some(found) => {
-                let Found {
+                let FoundChange {
                     transition,
                     left,
                     near,

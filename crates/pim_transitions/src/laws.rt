@@ -1,16 +1,16 @@
 //! Laws of the definitions. These functions do nothing; their clauses are the laws.
 
-ghost use Rattle.pim_transitions.specs.Laws.{CandidatesTellTransitions};
+ghost use Rattle.pim_transitions.specs.Laws.{CandidatesShowTransitions};
 ghost use Rattle.pim_transitions.specs.Laws.{TransitionsAreOneList, TransitionsAreThere};
 ghost use Rattle.pim_transitions.specs.Laws.{TransitionsArePaths};
 
 /// The candidates of a message that differ after it are the machines that it changed, each with the
 /// kind of event that changed its state last.
-pub fn candidates_tell_transitions()
-    ensures { CandidatesTellTransitions }
+pub fn candidates_show_transitions()
+    ensures { CandidatesShowTransitions }
 {
-    pim_down::keys_are_told_apart();
-    pim_down::hearing_acts_at_each_key();
+    pim_down::laws::keys_are_distinct();
+    pim_down::laws::hearing_acts_at_each_key();
 }
 
 /// A message has one list of transitions.
@@ -28,5 +28,5 @@ pub fn transitions_are_there()
 pub fn transitions_are_paths()
     ensures { TransitionsArePaths }
 {
-    pim_down::hearing_acts_at_each_key();
+    pim_down::laws::hearing_acts_at_each_key();
 }

@@ -5,7 +5,7 @@ ghost use Rattle.pim_down.specs.Hearing.{events_of, list_events};
 ghost use Rattle.pim_addr.specs.Routes.{rp_of};
 ghost use Rattle.pim_down.specs.Seen.{event_seen};
 ghost use Rattle.pim_transitions.specs.Marks.{candidate_of, if_last, lasts};
-ghost use Rattle.pim_transitions.specs.Named.{candidate_seen};
+ghost use Rattle.pim_transitions.specs.Affected.{candidate_seen};
 
 use crate::candidate::Candidate;
 use crate::order::is_repeated;

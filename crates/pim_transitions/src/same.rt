@@ -1,7 +1,7 @@
 //! Whether a machine is as it was.
 
 ghost use Rattle.std.specs.Prelude.{◌≡◌};
-ghost use Rattle.pim_transitions.specs.Named.{same_held, same_machine, same_pending};
+ghost use Rattle.pim_transitions.specs.Affected.{same_held, same_machine, same_pending};
 ghost use Rattle.pim_transitions.specs.Transitions.{is_joined, number_of};
 
 use pim_down::{Machine, Pending, State};

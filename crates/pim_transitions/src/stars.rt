@@ -5,7 +5,7 @@ ghost use Rattle.std.specs.List.{AllByRecursion, list_any};
 ghost use Rattle.std.specs.Cmp.Lexicographic.{pointwise};
 ghost use Rattle.pim_down.specs.Hearing.{events_of, set_events};
 ghost use Rattle.pim_addr.specs.Routes.{rp_of};
-ghost use Rattle.pim_down.specs.Seen.{event_seen, told_seen, what_seen};
+ghost use Rattle.pim_down.specs.Seen.{event_seen, record_of_seen, what_seen};
 ghost use Rattle.pim_transitions.specs.Marks.{rpt_mark, rpt_marks, HaveRptsOf};
 ghost use Rattle.pim_transitions.specs.Marks.{AddRptsOf, AddStarsOf, AreStarMarks};
 
@@ -21,7 +21,7 @@ fn push_rpt<F: Family>(
 ) -> Result<(), AllocError>
     ensures { OnOk result (map (event_seen F.bytes_of) marks.new.items
         ≡ map (event_seen F.bytes_of) marks.old.items
-        ++ rpt_mark (told_seen F.bytes_of held)) }
+        ++ rpt_mark (record_of_seen F.bytes_of held)) }
 {
     match held.key.what {
         What::Rpt(source) => {

@@ -5,8 +5,8 @@ use Rattle.std.specs.List.{AllZip}
 use Rattle.std.proofs.lemmas.List.{drop_all, drop_more, length-append}
 use Rattle.clap.specs.Words.{Text}
 use Rattle.pim_lines.specs.declared.either.AnyAddress.{AnyAddress}
-use Rattle.pim_words.specs.declared.fault.Fault.{Fault}
-use Rattle.pim_words.specs.declared.fault.Fault.TheVariants as cause
+use Rattle.pim_words.specs.declared.fault.CommandFault.{CommandFault}
+use Rattle.pim_words.specs.declared.fault.CommandFault.TheVariants as cause
 use Rattle.pim_lines.specs.AnyAddress.{Names}
 use Rattle.pim_words.specs.Seen.{OrMemory}
 use Rattle.pim_words.specs.Shown.{AreShownAddresses, IsUnreadText, IsWrongChoice}
@@ -17,14 +17,14 @@ use Rattle.pim_words.proofs.Orders.{or_memory}
 pub record IsLeft (all left : List Text) (addresses : List AnyAddress) : Type 0 where
   pub few : length addresses ≤ 64
   pub goes_on : (more : List AnyAddress) → AllZip Names left more → AllZip Names all (addresses ++ more)
-  pub told : (room : ℕ) (fault : Fault) → length addresses + room ≡ 64 → IsWrongChoice room left fault → IsWrongChoice 64 all fault
+  pub reported : (room : ℕ) (fault : CommandFault) → length addresses + room ≡ 64 → IsWrongChoice room left fault → IsWrongChoice 64 all fault
 
 step : (all left : List Text) (addresses : List AnyAddress) (text : Text) (address : AnyAddress) → IsLeft all (text ∷ left) addresses → Names text address → length addresses + 1 ≤ 64
     → IsLeft all left (addresses ++ address ∷ [])
 step all left addresses text address is named room = record {
   few = omega (arith, room, length-append addresses (address ∷ []));
   goes_on = λ more zip. subst (λ l. AllZip Names all l) (sym (append_assoc addresses (address ∷ []) more)) (is.goes_on (address ∷ more) (named, zip));
-  told = λ n fault count wrong. is.told (suc n) fault (omega (arith, count, length-append addresses (address ∷ []))) (inr ((address, named), wrong));
+  reported = λ n fault count wrong. is.reported (suc n) fault (omega (arith, count, length-append addresses (address ∷ []))) (inr ((address, named), wrong));
 }
 
 end : (all : List Text) (addresses : List AnyAddress) → IsLeft all [] addresses → AreShownAddresses all addresses
@@ -37,18 +37,18 @@ module _ (values : List (Bor Text)) (i : ℕ) (past : Bor Text) (inside : i < le
   next : texts (drop i values) ≡ text ∷ texts (drop (i + 1) values)
   next = ap texts (drop_more values i past inside)
 
-  pub one_too_many : (addresses : List AnyAddress) (told : Bor Text) → IsLeft (texts values) (texts (drop i values)) addresses → length addresses ≡ 64 → told.now ≡ text
-      → IsWrongChoice 64 (texts values) (cause.Word told)
-  one_too_many addresses told is full same =
-      is.told 0 (cause.Word told) (omega (arith, full)) (subst (λ l. IsWrongChoice 0 l (cause.Word told)) (sym next) same)
+  pub one_too_many : (addresses : List AnyAddress) (reported : Bor Text) → IsLeft (texts values) (texts (drop i values)) addresses → length addresses ≡ 64 → reported.now ≡ text
+      → IsWrongChoice 64 (texts values) (cause.Word reported)
+  one_too_many addresses reported is full same =
+      is.reported 0 (cause.Word reported) (omega (arith, full)) (subst (λ l. IsWrongChoice 0 l (cause.Word reported)) (sym next) same)
 
-  pub unread : (addresses : List AnyAddress) (fault : Fault) → IsLeft (texts values) (texts (drop i values)) addresses → length addresses + 1 ≤ 64 → IsUnreadText text fault
+  pub unread : (addresses : List AnyAddress) (fault : CommandFault) → IsLeft (texts values) (texts (drop i values)) addresses → length addresses + 1 ≤ 64 → IsUnreadText text fault
       → OrMemory (IsWrongChoice 64 (texts values)) fault
   unread addresses fault is room wrong =
       let n : ℕ = 63 - length addresses in
       let count : length addresses + suc n ≡ 64 = omega (arith, room) in
       or_memory (IsWrongChoice 64 (texts values)) fault
-      (is.told (suc n) fault count (subst (λ l. IsWrongChoice (suc n) l fault) (sym next) (inl wrong)))
+      (is.reported (suc n) fault count (subst (λ l. IsWrongChoice (suc n) l fault) (sym next) (inl wrong)))
 
   pub one_more : (addresses more : List AnyAddress) (address : AnyAddress) → IsLeft (texts values) (texts (drop i values)) addresses → length addresses + 1 ≤ 64 → Names text address → more ≡ addresses ++ address ∷ []
       → IsLeft (texts values) (texts (drop (i + 1) values)) more

@@ -5,8 +5,8 @@ use Rattle.std.specs.Borrow.{Bor}
 use Rattle.std.proofs.lemmas.List.{drop_all, drop_more, length-append}
 use Rattle.clap.specs.Words.{Text}
 use Rattle.pim_lines.specs.declared.either.AnyAddress.{AnyAddress}
-use Rattle.pim_words.specs.declared.fault.Fault.{Fault}
-use Rattle.pim_words.specs.declared.task.Kind.{Kind}
+use Rattle.pim_words.specs.declared.fault.CommandFault.{CommandFault}
+use Rattle.pim_words.specs.declared.task.CommandKind.{CommandKind}
 use Rattle.pim_words.specs.declared.task.More.{More}
 use Rattle.pim_words.specs.declared.task.Port.{Port}
 use Rattle.pim_words.specs.Labels.{AreLabelled, AreLabelledAfter, IsFirstWrong, IsLabelled, IsWrongLabelled}
@@ -18,20 +18,20 @@ use Rattle.pim_words.proofs.Orders.{or_memory}
 abbrev NameList : Type 0
 NameList = List (Option (Bor Text))
 
-module _ (command : Kind) (is_any : Bool) where
+module _ (command : CommandKind) (is_any : Bool) where
   -- These ports with these names, and these further files, are those of the words before the ones that are left.
   pub record IsLeft (all left : List Text) (ports : List (Port AnyAddress)) (names : List (Option (Bor Text))) (more : List More) : Type 0 where
     pub goes_on : (later : List (Port AnyAddress)) (others : List (Option (Bor Text))) → AreLabelledAfter command names (port_words is_any left) later others
         → AreLabelled command (port_words is_any all) (ports ++ later) (names ++ others)
     pub further : AreSoFar is_any (length names) all left more
-    pub told : (fault : Fault) → IsFirstWrong command is_any names (length more) left fault → IsFirstWrong command is_any [] 0 all fault
+    pub reported : (fault : CommandFault) → IsFirstWrong command is_any names (length more) left fault → IsFirstWrong command is_any [] 0 all fault
 
   module _ (all left : List Text) (ports : List (Port AnyAddress)) (names : NameList) (more : List More) (word : Text) (is : IsLeft all (word ∷ left) ports names more) where
-    abbrev MoreFirst : Fault → Type 0
+    abbrev MoreFirst : CommandFault → Type 0
     MoreFirst fault = IsWrongMore (length names) (length more) word fault
         ⊎ (IsRightMore (length names) (length more) word × IsFirstWrong command is_any names (length more + 1) left fault)
 
-    abbrev PortFirst : Fault → Type 0
+    abbrev PortFirst : CommandFault → Type 0
     PortFirst fault = IsWrongLabelled command names word fault
         ⊎ ((port : Port AnyAddress) × (name : Option (Bor Text)) × IsLabelled command names word port name × IsFirstWrong command is_any (names ++ name ∷ []) (length more) left fault)
 
@@ -43,7 +43,7 @@ module _ (command : Kind) (is_any : Bool) where
           (is.goes_on (port ∷ later) (name ∷ others)
           (ports_with (λ l. AreLabelledAfter command names l (port ∷ later) (name ∷ others)) (is_more is_any word) word (port_words is_any left) kind (named, are))));
       further = subst (λ (n : ℕ). AreSoFar is_any n all left more) (sym (length-append names (name ∷ []))) (past_port is_any (length names) all left more word is.further kind);
-      told = λ fault wrong. is.told fault (of_port (is_more is_any word) (MoreFirst fault) (PortFirst fault) kind (inr (port, name, named, wrong)));
+      reported = λ fault wrong. is.reported fault (of_port (is_more is_any word) (MoreFirst fault) (PortFirst fault) kind (inr (port, name, named, wrong)));
     }
 
     step_more : (one : More) → is_more is_any word ≡ true → IsMore (length names) word one → length more < 4096 → IsLeft all left ports names (more ++ one ∷ [])
@@ -51,16 +51,16 @@ module _ (command : Kind) (is_any : Bool) where
       goes_on = λ later others are.
           is.goes_on later others (ports_without (λ l. AreLabelledAfter command names l later others) (is_more is_any word) word (port_words is_any left) kind are);
       further = past_more is_any (length names) all left more word one is.further kind named room;
-      told = λ fault wrong.
-          is.told fault (of_more (is_more is_any word) (MoreFirst fault) (PortFirst fault) kind
+      reported = λ fault wrong.
+          is.reported fault (of_more (is_more is_any word) (MoreFirst fault) (PortFirst fault) kind
           (inr (((one, named), room), subst (λ (n : ℕ). IsFirstWrong command is_any names n left fault) (length-append more (one ∷ [])) wrong)));
     }
 
-    wrong_port : (fault : Fault) → is_more is_any word ≡ false → IsWrongLabelled command names word fault → IsFirstWrong command is_any [] 0 all fault
-    wrong_port fault kind wrong = is.told fault (of_port (is_more is_any word) (MoreFirst fault) (PortFirst fault) kind (inl wrong))
+    wrong_port : (fault : CommandFault) → is_more is_any word ≡ false → IsWrongLabelled command names word fault → IsFirstWrong command is_any [] 0 all fault
+    wrong_port fault kind wrong = is.reported fault (of_port (is_more is_any word) (MoreFirst fault) (PortFirst fault) kind (inl wrong))
 
-    wrong_more : (fault : Fault) → is_more is_any word ≡ true → IsWrongMore (length names) (length more) word fault → IsFirstWrong command is_any [] 0 all fault
-    wrong_more fault kind wrong = is.told fault (of_more (is_more is_any word) (MoreFirst fault) (PortFirst fault) kind (inl wrong))
+    wrong_more : (fault : CommandFault) → is_more is_any word ≡ true → IsWrongMore (length names) (length more) word fault → IsFirstWrong command is_any [] 0 all fault
+    wrong_more fault kind wrong = is.reported fault (of_more (is_more is_any word) (MoreFirst fault) (PortFirst fault) kind (inl wrong))
 
   end : (all : List Text) (ports : List (Port AnyAddress)) (names : NameList) (more : List More) → IsLeft all [] ports names more → AreLabelled command (port_words is_any all) ports names × AreMore is_any all more
   end all ports names more is = (
@@ -92,11 +92,11 @@ module _ (command : Kind) (is_any : Bool) where
         subst (λ l. IsLeft (texts words) left ports names l) (sym pushed)
         (step_more (texts words) left ports names more word here one kind (subst (λ (n : ℕ). IsMore n word one) all_names named) (subst (λ (n : ℕ). n < 4096) all_more room))
 
-    pub no_port : (seen : NameList) (fault : Fault) → seen ≡ names → is_more is_any word ≡ false → IsWrongLabelled command seen word fault → OrMemory (IsFirstWrong command is_any [] 0 (texts words)) fault
+    pub no_port : (seen : NameList) (fault : CommandFault) → seen ≡ names → is_more is_any word ≡ false → IsWrongLabelled command seen word fault → OrMemory (IsFirstWrong command is_any [] 0 (texts words)) fault
     no_port seen fault same kind wrong = or_memory (IsFirstWrong command is_any [] 0 (texts words)) fault
         (wrong_port (texts words) left ports names more word here fault kind (subst (λ (l : NameList). IsWrongLabelled command l word fault) same wrong))
 
-    pub no_further : (fault : Fault) (named_ports count : ℕ) → named_ports ≡ length names → count ≡ length more → is_more is_any word ≡ true → IsWrongMore named_ports count word fault
+    pub no_further : (fault : CommandFault) (named_ports count : ℕ) → named_ports ≡ length names → count ≡ length more → is_more is_any word ≡ true → IsWrongMore named_ports count word fault
         → OrMemory (IsFirstWrong command is_any [] 0 (texts words)) fault
     no_further fault named_ports count all_names all_more kind wrong =
         or_memory (IsFirstWrong command is_any [] 0 (texts words)) fault

@@ -4,7 +4,7 @@ use Rattle.std.specs.Borrow.{Bor}
 use Rattle.clap.specs.Words.{Row, Text}
 use Rattle.pim_lines.specs.declared.either.AnyAddress.{AnyAddress}
 use Rattle.pim_words.specs.declared.links.Links.{Links}
-use Rattle.pim_words.specs.declared.task.Kind.{Kind}
+use Rattle.pim_words.specs.declared.task.CommandKind.{CommandKind}
 use Rattle.pim_words.specs.declared.task.More.{More}
 use Rattle.pim_words.specs.declared.task.Port.{Port}
 use Rattle.pim_words.specs.Given.{words_of}
@@ -18,7 +18,7 @@ linked_from : (links : Links) (number : ℕ) (ports : List (Port AnyAddress)) �
 linked_from links number [] = tt
 linked_from links number (port ∷ ports) = (refl, linked_from links (number + 1) ports)
 
-module _ (command : Kind) where
+module _ (command : CommandKind) where
   labelled_with : (earlier : List (Option (Bor Text))) (links : Links) (number : ℕ) (words : List Text) (ports : List (Port AnyAddress)) (names : List (Option (Bor Text)))
       → AreLabelledAfter command earlier words ports names → AreLabelledAfter command earlier words (with_links links number ports) names
   labelled_with earlier links number [] [] [] are = are

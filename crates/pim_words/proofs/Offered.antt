@@ -12,15 +12,15 @@ use Rattle.clap.proofs.WalkLemmas.{both}
 use Rattle.pim_addr.specs.declared.family.AddressFamily.{AddressFamily}
 use Rattle.pim_addr.specs.declared.family.AddressFamily.TheVariants.{Ipv4, Ipv6}
 use Rattle.pim_lines.specs.declared.either.AnyAddress.{AnyAddress}
-use Rattle.pim_words.specs.declared.fault.Fault.{Fault}
+use Rattle.pim_words.specs.declared.fault.CommandFault.{CommandFault}
 use Rattle.pim_words.specs.declared.task.Captures.{Captures}
 use Rattle.pim_words.specs.declared.task.More.{More}
-use Rattle.pim_words.specs.declared.task.Kind.{Kind}
-use Rattle.pim_words.specs.declared.task.Kind.TheVariants.{Check, Build, Replay, Trace, Same, Mirror, Emit, Change}
+use Rattle.pim_words.specs.declared.task.CommandKind.{CommandKind}
+use Rattle.pim_words.specs.declared.task.CommandKind.TheVariants.{Check, Build, Replay, Trace, Same, Mirror, Emit, Change}
 use Rattle.pim_words.specs.declared.task.Tracing.{Tracing}
 use Rattle.pim_words.specs.declared.task.Port.{Port}
-use Rattle.pim_words.specs.declared.task.Plan.{Plan}
-use Rattle.pim_words.specs.declared.task.Plan.TheVariants.{V4, V6, Session}
+use Rattle.pim_words.specs.declared.task.CommandPlan.{CommandPlan}
+use Rattle.pim_words.specs.declared.task.CommandPlan.TheVariants.{V4, V6, Session}
 use Rattle.pim_words.specs.declared.task.Task.{Task}
 use Rattle.pim_words.specs.declared.task.Task.TheVariants as task
 use Rattle.pim_words.specs.declared.task.Writing.{Writing}
@@ -84,7 +84,7 @@ may_have : (earlier : List (Option (Bor Text))) (name : Option (Bor Text)) → i
 may_have earlier None fresh = tt
 may_have earlier (Some text) fresh = (both (is_port_name text.now) (not (has_name earlier text.now)) fresh).0
 
-names_after : (command : Kind) (earlier : List (Option (Bor Text))) (words : List Text) (ports : List (Port AnyAddress)) (names : List (Option (Bor Text))) → AreLabelledAfter command earlier words ports names
+names_after : (command : CommandKind) (earlier : List (Option (Bor Text))) (words : List Text) (ports : List (Port AnyAddress)) (names : List (Option (Bor Text))) → AreLabelledAfter command earlier words ports names
     → (length ports ≡ length words) × (length names ≡ length ports) × AllByRecursion (λ name. IfSome name (λ text. is_port_name text.now ≡ true)) names
 names_after command earlier [] [] [] are = (refl, refl, tt)
 names_after command earlier (word ∷ words) (port ∷ ports) (name ∷ names) are =
@@ -92,17 +92,17 @@ names_after command earlier (word ∷ words) (port ∷ ports) (name ∷ names) a
     (ap suc others.0, ap suc others.1, (may_have earlier name are.0.fresh, others.2))
 names_after command earlier words ports names are = absurd are
 
-further_of : (command : Kind) (rows : List Row) (captures : Captures AnyAddress) (names : List (Option (Bor Text))) → ArePorts command rows captures.ports.items captures.more.items names → AreFurther captures
+further_of : (command : CommandKind) (rows : List Row) (captures : Captures AnyAddress) (names : List (Option (Bor Text))) → ArePorts command rows captures.ports.items captures.more.items names → AreFurther captures
 further_of command rows captures names are =
     below_ports are.links.is_any (words_of rows) (length captures.ports.items) captures.more.items are.further
     (names_after command [] (port_words are.links.is_any (words_of rows)) captures.ports.items names are.labelled).0
 
-written_in_range : (command : Kind) (rows : List Row) (captures : Captures AnyAddress) (writing : Writing AnyAddress) → AreCaptures command rows captures × IsWriting rows writing
+written_in_range : (command : CommandKind) (rows : List Row) (captures : Captures AnyAddress) (writing : Writing AnyAddress) → AreCaptures command rows captures × IsWriting rows writing
     → IsBounded captures × IsLimited captures × IsWritable writing × AreFurther captures
 written_in_range command rows captures writing (are, is) =
     ((are.run.after.most, are.run.early), (are.run.limit.least, are.run.limit.most), (is.holdtime.least, is.budget.least, is.budget.most), further_of command rows captures are.names are.ports)
 
-task_in_range : (kind : Kind) (rows : List Row) (asked : Task AnyAddress) → IsTask kind rows asked → IsInRange asked
+task_in_range : (kind : CommandKind) (rows : List Row) (asked : Task AnyAddress) → IsTask kind rows asked → IsInRange asked
 task_in_range Check rows (task.Check source destination) is = tt
 task_in_range Build rows (task.Build source destination) is = tt
 task_in_range Replay rows (task.Replay captures) is =
@@ -164,20 +164,20 @@ module _ {A : Type 0} (family : AddressFamily) (bytes_of : A → List ℕ) where
       (same_bounded typed captures is.0 same.0, same_limited typed captures is.1 same.0, same_writable how writing is.2 same.1, same_further typed captures is.3 same.0)
   same_in_range typed asked is same = absurd same
 
-plan_in_range : (plan : Plan) (asked : Task AnyAddress) → IsInRange asked → IsPlanFor plan asked → IsPlanInRange plan
+plan_in_range : (plan : CommandPlan) (asked : Task AnyAddress) → IsInRange asked → IsPlanFor plan asked → IsPlanInRange plan
 plan_in_range (V4 typed) asked is same = same_in_range Ipv4 (λ address. address) typed asked is same
 plan_in_range (V6 typed) asked is same = same_in_range Ipv6 (λ address. address) typed asked is same
 plan_in_range Session asked is same = tt
 
-of_task_in_range : (met : Text × List Row) (plan : Plan) → (asked : Task AnyAddress) × IsTaskOf met asked × IsPlanOfTask asked plan → IsPlanInRange plan
+of_task_in_range : (met : Text × List Row) (plan : CommandPlan) → (asked : Task AnyAddress) × IsTaskOf met asked × IsPlanOfTask asked plan → IsPlanInRange plan
 of_task_in_range met plan (asked, (kind, name, read), made) = plan_in_range plan asked (task_in_range kind met.1 asked read) made.1.1
 
-met_in_range : (met : Option (Text × List Row)) (plan : Plan) → IsSomeAnd met (λ m. IsPlanOf m plan) → IsPlanInRange plan
+met_in_range : (met : Option (Text × List Row)) (plan : CommandPlan) → IsSomeAnd met (λ m. IsPlanOf m plan) → IsPlanInRange plan
 met_in_range None plan is = absurd is
 met_in_range (Some m) Session is = tt
 met_in_range (Some m) (V4 typed) is = of_task_in_range m (V4 typed) is
 met_in_range (Some m) (V6 typed) is = of_task_in_range m (V6 typed) is
 
-pub planned_in_range : (app : App) (words : List Text) (r : Result Plan Fault) → MatchResult r (Plans app words) (HasCause app words) → IfOk r IsPlanInRange
+pub planned_in_range : (app : App) (words : List Text) (r : Result CommandPlan CommandFault) → MatchResult r (Plans app words) (HasCause app words) → IfOk r IsPlanInRange
 planned_in_range app words (Ok plan) is = met_in_range (subcommand_of app words) plan is.1
 planned_in_range app words (Err fault) is = tt

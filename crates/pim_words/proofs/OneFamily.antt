@@ -7,14 +7,14 @@ use Rattle.pim_addr.specs.declared.family.AddressFamily.{AddressFamily}
 use Rattle.pim_words.specs.declared.task.Captures.{Captures}
 use Rattle.pim_words.specs.declared.task.Port.{Port}
 use Rattle.pim_lines.specs.declared.either.AnyAddress.{AnyAddress}
-use Rattle.pim_words.specs.declared.fault.Fault.{Fault}
-use Rattle.pim_words.specs.declared.fault.Fault.TheVariants.{Family, Memory}
+use Rattle.pim_words.specs.declared.fault.CommandFault.{CommandFault}
+use Rattle.pim_words.specs.declared.fault.CommandFault.TheVariants.{Family, Memory}
 use Rattle.pim_words.specs.Faults.{are_captures_in}
 use Rattle.pim_lines.specs.AnyAddress.{is_in}
 use Rattle.pim_words.specs.Seen.{IsForeign}
 
 -- the first of two tests fails
-fails_first : (first second : Bool) (fault : Fault) → IsForeign first fault → IsForeign (first && second) fault
+fails_first : (first second : Bool) (fault : CommandFault) → IsForeign first fault → IsForeign (first && second) fault
 fails_first first second Memory is = tt
 fails_first first second Family is = ap (λ (b : Bool). b && second) is
 fails_first first second fault is = absurd is
@@ -44,15 +44,15 @@ module _ {A X : Type 0} (test : X → Bool) (seen : A → X) (all : List X) wher
           ∙ ap (λ (x : X). map seen typed ++ x ∷ left) passed.1 ∙ ap (λ (l : List X). map seen typed ++ l) (sym next) ∙ is.whole;
     }
 
-    pub foreign : (fault : Fault) → IsForeign (test (get_or all i past)) fault → IsForeign (list_all test all) fault
+    pub foreign : (fault : CommandFault) → IsForeign (test (get_or all i past)) fault → IsForeign (list_all test all) fault
     foreign fault fails =
         subst (λ (b : Bool). IsForeign b fault) (sym (is.tests ∙ ap (list_all test) next)) (fails_first (test (get_or all i past)) (list_all test left) fault fails)
 
 -- the second of two tests fails
-fails_behind : (first second : Bool) (fault : Fault) → first ≡ true → IsForeign second fault → IsForeign (first && second) fault
+fails_behind : (first second : Bool) (fault : CommandFault) → first ≡ true → IsForeign second fault → IsForeign (first && second) fault
 fails_behind first second fault one is = subst (λ (b : Bool). IsForeign (b && second) fault) (sym one) is
 
-pub fails_in_ports : (family : AddressFamily) (captures : Captures AnyAddress) (ports : List (Port AnyAddress)) (fault : Fault) → ports ≡ captures.ports.items → option_map_or (is_in family) captures.rp true ≡ true
+pub fails_in_ports : (family : AddressFamily) (captures : Captures AnyAddress) (ports : List (Port AnyAddress)) (fault : CommandFault) → ports ≡ captures.ports.items → option_map_or (is_in family) captures.rp true ≡ true
     → IsForeign (list_all (λ port. is_in family port.address) ports) fault → IsForeign (are_captures_in family captures) fault
 fails_in_ports family captures ports fault same one is =
     fails_behind _ _ fault one (subst (λ (l : List (Port AnyAddress)). IsForeign (list_all (λ port. is_in family port.address) l) fault) same is)

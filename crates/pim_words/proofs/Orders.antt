@@ -3,11 +3,11 @@ use Rattle.std.proofs.Common.{◌≡◌, inl, inr, false, Option, None, Some, Li
 use Rattle.std.specs.Prelude.{is_ok, is_err, if◌then◌else◌}
 use Rattle.clap.specs.Words.{Row, Text}
 use Rattle.pim_time.specs.declared.reading.Time.{Time}
-use Rattle.pim_words.specs.declared.fault.Fault.{Fault}
-use Rattle.pim_words.specs.declared.fault.Fault.TheVariants.{Memory}
-use Rattle.pim_words.specs.declared.shown.Shown.{Shown}
-use Rattle.pim_words.specs.declared.task.Kind.{Kind}
-use Rattle.pim_words.specs.declared.task.Kind.TheVariants.{Trace}
+use Rattle.pim_words.specs.declared.fault.CommandFault.{CommandFault}
+use Rattle.pim_words.specs.declared.fault.CommandFault.TheVariants.{Memory}
+use Rattle.pim_words.specs.declared.shown.ShownEvents.{ShownEvents}
+use Rattle.pim_words.specs.declared.task.CommandKind.{CommandKind}
+use Rattle.pim_words.specs.declared.task.CommandKind.TheVariants.{Trace}
 use Rattle.pim_words.specs.Ends.{time_text, IsTimed, IsTimely}
 use Rattle.pim_words.specs.declared.links.Links.{Links}
 use Rattle.pim_words.specs.Given.{words_of}
@@ -17,12 +17,12 @@ use Rattle.pim_words.specs.Reading.{AreWrongPorts, IsWrongRun, IsWrongTrace}
 use Rattle.pim_words.specs.Seen.{OrMemory}
 use Rattle.pim_words.specs.Shown.{IsShown, IsWrongShown}
 
-pub or_memory : (P : Fault → Type 0) (fault : Fault) → P fault → OrMemory P fault
+pub or_memory : (P : CommandFault → Type 0) (fault : CommandFault) → P fault → OrMemory P fault
 or_memory P Memory is = tt
 or_memory P fault is = is
 
-module _ (P Q : Fault → Type 0) where
-  pub or_more : ((fault : Fault) → P fault → Q fault) → (fault : Fault) → OrMemory P fault → OrMemory Q fault
+module _ (P Q : CommandFault → Type 0) where
+  pub or_more : ((fault : CommandFault) → P fault → Q fault) → (fault : CommandFault) → OrMemory P fault → OrMemory Q fault
   or_more more Memory is = tt
   or_more more fault is = more fault is
 
@@ -38,19 +38,19 @@ accepted (Err error) new pushed old same fine = absurd cc
 
 -- ---- the words of a run
 
-module _ (command : Kind) (rows : List Row) where
-  pub wrong_words_of : (links : Links) (fault : Fault) → AreChosenLinks command rows links → OrMemory (IsFirstWrong command links.is_any [] 0 (words_of rows)) fault → OrMemory (AreWrongPorts command rows) fault
+module _ (command : CommandKind) (rows : List Row) where
+  pub wrong_words_of : (links : Links) (fault : CommandFault) → AreChosenLinks command rows links → OrMemory (IsFirstWrong command links.is_any [] 0 (words_of rows)) fault → OrMemory (AreWrongPorts command rows) fault
   wrong_words_of links fault are is = or_more (IsFirstWrong command links.is_any [] 0 (words_of rows)) (AreWrongPorts command rows) (λ f e. inr (links, are, e)) fault is
 
-  pub wrong_ports : (at : Option Time) (fault : Fault) → IsTimed (time_text rows) at → OrMemory (AreWrongPorts command rows) fault → OrMemory (IsWrongRun command rows) fault
+  pub wrong_ports : (at : Option Time) (fault : CommandFault) → IsTimed (time_text rows) at → OrMemory (AreWrongPorts command rows) fault → OrMemory (IsWrongRun command rows) fault
   wrong_ports at fault timed is = or_more (AreWrongPorts command rows) (IsWrongRun command rows) (λ f e. inr (timely (time_text rows) at timed, e)) fault is
 
 -- ---- the words of a trace
 
 module _ (rows : List Row) (at : Option Time) (timed : IsTimed (time_text rows) at) where
-  pub wrong_shown : (fault : Fault) → OrMemory (IsWrongShown rows) fault → OrMemory (IsWrongTrace rows) fault
+  pub wrong_shown : (fault : CommandFault) → OrMemory (IsWrongShown rows) fault → OrMemory (IsWrongTrace rows) fault
   wrong_shown fault is = or_more (IsWrongShown rows) (IsWrongTrace rows) (λ f e. inr (timely (time_text rows) at timed, inl e)) fault is
 
-  pub wrong_words : (shown : Shown) (fault : Fault) → IsShown rows shown → OrMemory (AreWrongPorts Trace rows) fault → OrMemory (IsWrongTrace rows) fault
+  pub wrong_words : (shown : ShownEvents) (fault : CommandFault) → IsShown rows shown → OrMemory (AreWrongPorts Trace rows) fault → OrMemory (IsWrongTrace rows) fault
   wrong_words shown fault are is =
       or_more (AreWrongPorts Trace rows) (IsWrongTrace rows) (λ f e. inr (timely (time_text rows) at timed, inr ((shown, are), e))) fault is

@@ -6,11 +6,11 @@ use Rattle.std.specs.Str.Parse.{digits_value, without_leading_plus}
 use Rattle.std.proofs.lemmas.Bool.{false≢true}
 use Rattle.std.proofs.lemmas.List.{drop_all, drop_more}
 use Rattle.clap.specs.Words.{Text}
-use Rattle.pim_words.specs.declared.fault.Fault.{Fault}
-use Rattle.pim_words.specs.declared.fault.Fault.TheVariants as cause
+use Rattle.pim_words.specs.declared.fault.CommandFault.{CommandFault}
+use Rattle.pim_words.specs.declared.fault.CommandFault.TheVariants as cause
 use Rattle.pim_words.specs.declared.picks.Part.{Part}
 use Rattle.pim_words.specs.declared.picks.Pick.{Pick}
-use Rattle.pim_words.specs.declared.task.Link.{Link}
+use Rattle.pim_words.specs.declared.task.LinkWord.{LinkWord}
 use Rattle.pim_words.specs.Given.{IsNumber, IsNoNumber}
 use Rattle.pim_words.specs.Labels.{LacksEqualSign}
 use Rattle.pim_words.specs.Links.{IsPortNumber, IsNoPortNumber, IsTarget, IsNoTarget, LacksPoint, IsNoVlan, IsLinkText, IsNoLink, is_same_port, pick_for, IsPick, IsNoPick, ArePicks, ArePicksAfter, IsFirstWrongPick}
@@ -20,15 +20,15 @@ module _ (chosen : Part) (is_any : Bool) (count : ℕ) where
   -- These picks are those of the values before the ones that are left.
   pub record IsLeft (all left : List Text) (picks : List Pick) : Type 0 where
     pub goes_on : (more : List Pick) → ArePicksAfter chosen is_any count picks left more → ArePicks chosen is_any count all (picks ++ more)
-    pub told : (fault : Fault) → IsFirstWrongPick chosen is_any count picks left fault → IsFirstWrongPick chosen is_any count [] all fault
+    pub reported : (fault : CommandFault) → IsFirstWrongPick chosen is_any count picks left fault → IsFirstWrongPick chosen is_any count [] all fault
 
   pub begin : (all : List Text) → IsLeft all all []
-  begin all = record { goes_on = λ more are. are; told = λ fault is. is }
+  begin all = record { goes_on = λ more are. are; reported = λ fault is. is }
 
   step : (all left : List Text) (picks : List Pick) (value : Text) (pick : Pick) → IsLeft all (value ∷ left) picks → IsPick chosen is_any count picks value pick → IsLeft all left (picks ++ pick ∷ [])
   step all left picks value pick is picked = record {
     goes_on = λ more are. subst (λ l. ArePicks chosen is_any count all l) (sym (append_assoc picks (pick ∷ []) more)) (is.goes_on (pick ∷ more) (picked, are));
-    told = λ fault wrong. is.told fault (inr (pick, picked, wrong));
+    reported = λ fault wrong. is.reported fault (inr (pick, picked, wrong));
   }
 
   end : (all : List Text) (picks : List Pick) → IsLeft all [] picks → ArePicks chosen is_any count all picks
@@ -48,10 +48,10 @@ module _ (chosen : Part) (is_any : Bool) (count : ℕ) where
         (step (texts values) (texts (drop (i + 1) values)) picks here_is pick (subst (λ l. IsLeft (texts values) l picks) next is)
         (subst (λ (l : List Pick). IsPick chosen is_any count l here_is pick) same picked))
 
-    pub none_picked : (picks seen : List Pick) (told : Bor Text) → seen ≡ picks → told.now ≡ here_is → IsLeft (texts values) (texts (drop i values)) picks → IsNoPick chosen is_any count seen here_is
-        → IsFirstWrongPick chosen is_any count [] (texts values) (cause.Word told)
-    none_picked picks seen told same is_told is none =
-        is.told (cause.Word told) (subst (λ l. IsFirstWrongPick chosen is_any count picks l (cause.Word told)) (sym next)
+    pub none_picked : (picks seen : List Pick) (reported : Bor Text) → seen ≡ picks → reported.now ≡ here_is → IsLeft (texts values) (texts (drop i values)) picks → IsNoPick chosen is_any count seen here_is
+        → IsFirstWrongPick chosen is_any count [] (texts values) (cause.Word reported)
+    none_picked picks seen reported same is_told is none =
+        is.reported (cause.Word reported) (subst (λ l. IsFirstWrongPick chosen is_any count picks l (cause.Word reported)) (sym next)
         (inl (is_told, subst (λ (l : List Pick). IsNoPick chosen is_any count l here_is) same none)))
 
   pub all_read : (values : List (Bor Text)) (i : ℕ) (picks : List Pick) → length values ≤ i → IsLeft (texts values) (texts (drop i values)) picks → ArePicks chosen is_any count (texts values) picks
@@ -119,7 +119,7 @@ module _ (chosen : Part) (is_any : Bool) (count : ℕ) (earlier : List Pick) (va
 
 -- ---- the pick for a port, looked for one by one
 
-module _ (port : Option ℕ) (picks : List Pick) (i : ℕ) (past : Pick) (found : Option Link) (so_far : pick_for port (drop i picks) ≡ found) where
+module _ (port : Option ℕ) (picks : List Pick) (i : ℕ) (past : Pick) (found : Option LinkWord) (so_far : pick_for port (drop i picks) ≡ found) where
   here : (t : Bool) → i < length picks → is_same_port (get_or picks i past).port port ≡ t → cond t (Some (get_or picks i past).link) (pick_for port (drop (i + 1) picks)) ≡ found
   unfolding pick_for
   here t inside same =
@@ -131,6 +131,6 @@ module _ (port : Option ℕ) (picks : List Pick) (i : ℕ) (past : Pick) (found 
   pub not_here : i < length picks → is_same_port (get_or picks i past).port port ≡ false → pick_for port (drop (i + 1) picks) ≡ found
   not_here inside same = here false inside same
 
-pub nowhere : (port : Option ℕ) (picks : List Pick) (i : ℕ) (found : Option Link) → pick_for port (drop i picks) ≡ found → length picks ≤ i → None ≡ found
+pub nowhere : (port : Option ℕ) (picks : List Pick) (i : ℕ) (found : Option LinkWord) → pick_for port (drop i picks) ≡ found → length picks ≤ i → None ≡ found
 unfolding pick_for
 nowhere port picks i found so_far past = sym (ap (pick_for port) (drop_all i picks past)) ∙ so_far

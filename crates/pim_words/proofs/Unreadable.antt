@@ -3,27 +3,27 @@ use Rattle.std.proofs.Common.{◌≡◌, inr, true, false, List, codes, Option, 
 use Rattle.std.specs.Prelude.{IfSome}
 use Rattle.clap.specs.Words.{Row, Text, first_of}
 use Rattle.pim_lines.specs.declared.either.AnyAddress.{AnyAddress}
-use Rattle.pim_words.specs.declared.fault.Fault.{Fault}
-use Rattle.pim_words.specs.declared.fault.Fault.TheVariants.{Memory}
-use Rattle.pim_words.specs.declared.reading.Addresses.{Addresses}
-use Rattle.pim_words.specs.declared.task.Kind.{Kind}
-use Rattle.pim_words.specs.declared.task.Kind.TheVariants.{Replay, Trace, Same, Mirror, Emit, Change}
+use Rattle.pim_words.specs.declared.fault.CommandFault.{CommandFault}
+use Rattle.pim_words.specs.declared.fault.CommandFault.TheVariants.{Memory}
+use Rattle.pim_words.specs.declared.reading.AddressList.{AddressList}
+use Rattle.pim_words.specs.declared.task.CommandKind.{CommandKind}
+use Rattle.pim_words.specs.declared.task.CommandKind.TheVariants.{Replay, Trace, Same, Mirror, Emit, Change}
 use Rattle.pim_lines.specs.AnyAddress.{IsRead}
 use Rattle.pim_words.specs.Ends.{are_both_given, has_two_ends}
 use Rattle.pim_words.specs.Given.{address_texts, has_writer}
-use Rattle.pim_words.specs.Reading.{AreRead, IsNamed, IsUnreadable, IsWrongRun, IsWrongRunOf, IsWrongTrace}
+use Rattle.pim_words.specs.Reading.{AreRead, ReadsAddressOption, IsUnreadable, IsWrongRun, IsWrongRunOf, IsWrongTrace}
 use Rattle.pim_words.specs.Seen.{AreWritten, OrMemory}
 
-wrong_run : (kind : Kind) (rows : List Row) (fault : Fault) → has_two_ends kind rows ≡ false → AreRead (address_texts kind rows) → OrMemory (IsWrongRunOf kind rows) fault
+wrong_run : (kind : CommandKind) (rows : List Row) (fault : CommandFault) → has_two_ends kind rows ≡ false → AreRead (address_texts kind rows) → OrMemory (IsWrongRunOf kind rows) fault
     → IsUnreadable kind rows fault
 wrong_run kind rows Memory one read is = tt
 wrong_run kind rows fault one read is = inr (one, inr (read, is))
 
-module _ (rows : List Row) (addresses : Addresses) (fault : Fault) (one : are_both_given rows ≡ false) (written : AreWritten rows addresses) where
+module _ (rows : List Row) (addresses : AddressList) (fault : CommandFault) (one : are_both_given rows ≡ false) (written : AreWritten rows addresses) where
   read : AreRead (address_texts Same rows)
   read = ((addresses.rp, written.rp), ((addresses.upstream, written.upstream), ((addresses.own, written.own), tt)))
 
-  pub of_written : (kind : Kind) → has_writer kind ≡ true → OrMemory (IsWrongRun kind rows) fault → IsUnreadable kind rows fault
+  pub of_written : (kind : CommandKind) → has_writer kind ≡ true → OrMemory (IsWrongRun kind rows) fault → IsUnreadable kind rows fault
   of_written Same writes is = wrong_run Same rows fault one read is
   of_written Mirror writes is = wrong_run Mirror rows fault one read is
   of_written Emit writes is = wrong_run Emit rows fault one read is
@@ -32,14 +32,14 @@ module _ (rows : List Row) (addresses : Addresses) (fault : Fault) (one : are_bo
 
 -- ---- commands whose RP may lack
 
-named_read : (given : Option Text) (found : Option AnyAddress) → IsNamed given found → IfSome given IsRead
+named_read : (given : Option Text) (found : Option AnyAddress) → ReadsAddressOption given found → IfSome given IsRead
 named_read None found is = tt
 named_read (Some text) None is = absurd is
 named_read (Some text) (Some address) is = (address, is)
 
-module _ (rows : List Row) (rp : Option AnyAddress) (one : are_both_given rows ≡ false) (named : IsNamed (first_of (codes "rp") rows) rp) where
-  pub of_replay : (fault : Fault) → OrMemory (IsWrongRun Replay rows) fault → IsUnreadable Replay rows fault
+module _ (rows : List Row) (rp : Option AnyAddress) (one : are_both_given rows ≡ false) (named : ReadsAddressOption (first_of (codes "rp") rows) rp) where
+  pub of_replay : (fault : CommandFault) → OrMemory (IsWrongRun Replay rows) fault → IsUnreadable Replay rows fault
   of_replay fault is = wrong_run Replay rows fault one (named_read (first_of (codes "rp") rows) rp named, tt) is
 
-  pub of_trace : (fault : Fault) → OrMemory (IsWrongTrace rows) fault → IsUnreadable Trace rows fault
+  pub of_trace : (fault : CommandFault) → OrMemory (IsWrongTrace rows) fault → IsUnreadable Trace rows fault
   of_trace fault is = wrong_run Trace rows fault one (named_read (first_of (codes "rp") rows) rp named, tt) is

@@ -3,10 +3,10 @@ use Rattle.std.specs.Prelude.{◌≡◌, ◌&&◌, ◌<◌, ◌^◌, ⊤, Bool, 
 use Rattle.clap.specs.Words.{Row, Text, first_of}
 use Rattle.pim_time.specs.declared.reading.Time.{Time}
 use Rattle.pim_time.specs.Text.{IsTime, millis_of}
-use Rattle.pim_words.specs.declared.fault.Fault.{Fault}
-use Rattle.pim_words.specs.declared.fault.Fault.TheVariants as cause
-use Rattle.pim_words.specs.declared.task.Kind.{Kind}
-use Rattle.pim_words.specs.declared.task.Kind.TheVariants.{Check, Build}
+use Rattle.pim_words.specs.declared.fault.CommandFault.{CommandFault}
+use Rattle.pim_words.specs.declared.fault.CommandFault.TheVariants as cause
+use Rattle.pim_words.specs.declared.task.CommandKind.{CommandKind}
+use Rattle.pim_words.specs.declared.task.CommandKind.TheVariants.{Check, Build}
 
 -- ---- two ends
 
@@ -15,7 +15,7 @@ abbrev pub are_both_given : List Row → Bool
 are_both_given rows = is_some (first_of (codes "after") rows) && is_some (first_of (codes "at") rows)
 
 -- Whether the command was given two ends of its run. A command on one message has no run.
-abbrev pub has_two_ends : Kind → List Row → Bool
+abbrev pub has_two_ends : CommandKind → List Row → Bool
 has_two_ends Check rows = false
 has_two_ends Build rows = false
 has_two_ends command rows = are_both_given rows
@@ -41,8 +41,8 @@ abbrev pub IsEarly : Option Time → Type 0
 IsEarly time = IfSome time (λ time. millis_of time < 10 ^ 15)
 
 -- The option is given and names no time; the fault has its text.
-abbrev pub IsUntimed : Option Text → Fault → Type 0
-IsUntimed (Some text) (cause.Word told) = (told.now ≡ text) × IsNoTime text
+abbrev pub IsUntimed : Option Text → CommandFault → Type 0
+IsUntimed (Some text) (cause.Word reported) = (reported.now ≡ text) × IsNoTime text
 IsUntimed value fault = ⊥
 
 -- The option names a time, or it isn't given.

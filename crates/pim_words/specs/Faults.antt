@@ -10,10 +10,10 @@ use Rattle.pim_lines.specs.declared.either.AnyAddress.{AnyAddress}
 use Rattle.pim_lines.specs.declared.either.AnyAddress.TheVariants.{V4, V6}
 use Rattle.pim_lines.specs.AnyAddress.{is_in}
 use Rattle.pim_words.specs.declared.fault.ConfigCause.TheVariants as config
-use Rattle.pim_words.specs.declared.fault.Fault.{Fault}
-use Rattle.pim_words.specs.declared.fault.Fault.TheVariants.{Family, NoPort, WriterAddress, Config}
-use Rattle.pim_words.specs.declared.fault.Side.{Side}
-use Rattle.pim_words.specs.declared.fault.Side.TheVariants.{A, B}
+use Rattle.pim_words.specs.declared.fault.CommandFault.{CommandFault}
+use Rattle.pim_words.specs.declared.fault.CommandFault.TheVariants.{Family, NoPort, WriterAddress, Config}
+use Rattle.pim_words.specs.declared.fault.RouterSide.{RouterSide}
+use Rattle.pim_words.specs.declared.fault.RouterSide.TheVariants.{A, B}
 use Rattle.pim_words.specs.declared.task.Captures.{Captures}
 use Rattle.pim_words.specs.declared.task.Port.{Port}
 use Rattle.pim_words.specs.declared.task.Tracing.{Tracing}
@@ -64,37 +64,37 @@ are_in family (Change captures writing) = are_captures_in family captures && is_
 -- ---- faults
 
 -- The fault of addresses that aren't all of one family.
-abbrev pub family_faults : Task AnyAddress → List Fault
+abbrev pub family_faults : Task AnyAddress → List CommandFault
 family_faults task = fault_if (not (are_in Ipv4 task || are_in Ipv6 task)) Family
 
 -- Whether the two are the same router.
-abbrev pub is_side : Side → Side → Bool
+abbrev pub is_side : RouterSide → RouterSide → Bool
 is_side A A = true
 is_side B B = true
 is_side this that = false
 
 -- Whether the port belongs to this router.
-abbrev pub is_of : {A : Type 0} → Side → Port A → Bool
+abbrev pub is_of : {A : Type 0} → RouterSide → Port A → Bool
 is_of side port = is_side side port.side
 
 -- The number of ports of this router.
-abbrev pub port_count : Side → Captures AnyAddress → ℕ
+abbrev pub port_count : RouterSide → Captures AnyAddress → ℕ
 port_count side captures = count_by (is_of side) captures.ports.items
 
 -- The faults of words without a port of router a, or of router b.
-abbrev pub no_port_faults : Captures AnyAddress → List Fault
+abbrev pub no_port_faults : Captures AnyAddress → List CommandFault
 no_port_faults captures =
     fault_if (port_count A captures == 0) (NoPort A) ++ fault_if (port_count B captures == 0) (NoPort B)
 
 -- The fault of a writer whose addresses aren't two different valid sources.
-abbrev pub writer_faults : Writing AnyAddress → List Fault
+abbrev pub writer_faults : Writing AnyAddress → List CommandFault
 writer_faults writing =
     fault_if (not (is_valid writing.upstream) || not (is_valid writing.own) || is_same writing.own writing.upstream)
     WriterAddress
 
 -- The faults of a router: it has no port or more than 64, a port's address isn't a valid source, or
 -- the RP isn't.
-abbrev pub router_faults : Side → Captures AnyAddress → List Fault
+abbrev pub router_faults : RouterSide → Captures AnyAddress → List CommandFault
 router_faults side captures =
     fault_if (port_count side captures == 0 || nat_lt 64 (port_count side captures)) (Config config.Ports)
     ++ fault_if (list_any (λ port. is_of side port && not (is_valid port.address)) captures.ports.items)
@@ -102,12 +102,12 @@ router_faults side captures =
     ++ fault_if (option_map_or (λ rp. not (is_valid rp)) captures.rp false) (Config config.Rp)
 
 -- The faults of a task with two routers and a writer.
-abbrev pub faults_of_two : Captures AnyAddress → Writing AnyAddress → List Fault
+abbrev pub faults_of_two : Captures AnyAddress → Writing AnyAddress → List CommandFault
 faults_of_two captures writing =
     no_port_faults captures ++ (writer_faults writing ++ (router_faults A captures ++ router_faults B captures))
 
 -- The faults of a task's routers and writer.
-abbrev pub setting_faults : Task AnyAddress → List Fault
+abbrev pub setting_faults : Task AnyAddress → List CommandFault
 setting_faults (Check source destination) = []
 setting_faults (Build source destination) = []
 setting_faults (Replay captures) = router_faults A captures
@@ -118,5 +118,5 @@ setting_faults (Emit captures writing) = writer_faults writing ++ router_faults 
 setting_faults (Change captures writing) = faults_of_two captures writing
 
 -- The faults of a task: of its family, then of its routers and its writer.
-abbrev pub task_faults : Task AnyAddress → List Fault
+abbrev pub task_faults : Task AnyAddress → List CommandFault
 task_faults task = family_faults task ++ setting_faults task

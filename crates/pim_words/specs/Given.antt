@@ -3,8 +3,8 @@ use Rattle.std.specs.Prelude.{◌≡◌, ◌≤◌, ◌⊎◌, ℕ, Bool, true, 
 use Rattle.std.specs.Str.{bytes_eq}
 use Rattle.std.specs.Str.Parse.{IsNumeral, digits_value, without_leading_plus}
 use Rattle.clap.specs.Words.{Row, Text, first_of, all_of}
-use Rattle.pim_words.specs.declared.task.Kind.{Kind}
-use Rattle.pim_words.specs.declared.task.Kind.TheVariants.{Check, Build, Replay, Trace, Same, Mirror, Emit, Change}
+use Rattle.pim_words.specs.declared.task.CommandKind.{CommandKind}
+use Rattle.pim_words.specs.declared.task.CommandKind.TheVariants.{Check, Build, Replay, Trace, Same, Mirror, Emit, Change}
 
 -- The value of an option, or its default if the words have none.
 abbrev pub option_or : Text → Text → List Row → Text
@@ -43,7 +43,7 @@ IsNoNumber low high text = (number : ℕ) → IsNumber low high text number → 
 -- ---- commands
 
 -- The name of a command that asks for a task.
-abbrev pub kind_name : Kind → Text
+abbrev pub kind_name : CommandKind → Text
 kind_name Check = codes "check"
 kind_name Build = codes "build"
 kind_name Replay = codes "replay"
@@ -58,21 +58,21 @@ abbrev pub session_name : Text
 session_name = codes "session"
 
 -- The name of some command that asks for a task.
-abbrev pub AsksForTask : Text → Type 0
-AsksForTask name = (kind : Kind) × (name ≡ kind_name kind)
+abbrev pub IsNameOfTask : Text → Type 0
+IsNameOfTask name = (kind : CommandKind) × (name ≡ kind_name kind)
 
 -- The name of some command.
 abbrev pub IsKnown : Text → Type 0
-IsKnown name = (name ≡ session_name) ⊎ AsksForTask name
+IsKnown name = (name ≡ session_name) ⊎ IsNameOfTask name
 
 -- Whether the command has two routers, so that each word has the mark of its router.
-abbrev pub is_sided : Kind → Bool
+abbrev pub is_sided : CommandKind → Bool
 is_sided Same = true
 is_sided Change = true
 is_sided other = false
 
 -- Whether the command has a writer of messages.
-abbrev pub has_writer : Kind → Bool
+abbrev pub has_writer : CommandKind → Bool
 has_writer Check = false
 has_writer Build = false
 has_writer Replay = false
@@ -80,7 +80,7 @@ has_writer Trace = false
 has_writer other = true
 
 -- The text of the RP, if one is given.
-abbrev pub rp_text : Kind → List Row → Option Text
+abbrev pub rp_text : CommandKind → List Row → Option Text
 rp_text Check rows = None
 rp_text Build rows = None
 rp_text Replay rows = first_of (codes "rp") rows
@@ -96,7 +96,7 @@ abbrev pub destination_text : List Row → Text
 destination_text rows = option_or (codes "224.0.0.13") (codes "dst") rows
 
 -- The texts of the options that are addresses, in order, each if it is given or has a default.
-abbrev pub address_texts : Kind → List Row → List (Option Text)
+abbrev pub address_texts : CommandKind → List Row → List (Option Text)
 address_texts Check rows = Some (source_text rows) ∷ Some (destination_text rows) ∷ []
 address_texts Build rows = Some (source_text rows) ∷ Some (destination_text rows) ∷ []
 address_texts Replay rows = rp_text Replay rows ∷ []

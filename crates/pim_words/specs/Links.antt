@@ -8,16 +8,16 @@ use Rattle.pim_capture.specs.declared.interface.InterfaceChoice.TheVariants as i
 use Rattle.pim_capture.specs.declared.vlan.Vlan.{Vlan}
 use Rattle.pim_capture.specs.Names.{name_of}
 use Rattle.pim_lines.specs.declared.either.AnyAddress.{AnyAddress}
-use Rattle.pim_words.specs.declared.fault.Fault.{Fault}
-use Rattle.pim_words.specs.declared.fault.Fault.TheVariants as cause
+use Rattle.pim_words.specs.declared.fault.CommandFault.{CommandFault}
+use Rattle.pim_words.specs.declared.fault.CommandFault.TheVariants as cause
 use Rattle.pim_words.specs.declared.links.Links.{Links}
 use Rattle.pim_words.specs.declared.picks.Part.{Part}
 use Rattle.pim_words.specs.declared.picks.Part.TheVariants as part
 use Rattle.pim_words.specs.declared.picks.Pick.{Pick}
 use Rattle.pim_words.specs.declared.picks.Target.{Target}
-use Rattle.pim_words.specs.declared.task.Kind.{Kind}
-use Rattle.pim_words.specs.declared.task.Kind.TheVariants.{Trace}
-use Rattle.pim_words.specs.declared.task.Link.{Link}
+use Rattle.pim_words.specs.declared.task.CommandKind.{CommandKind}
+use Rattle.pim_words.specs.declared.task.CommandKind.TheVariants.{Trace}
+use Rattle.pim_words.specs.declared.task.LinkWord.{LinkWord}
 use Rattle.pim_words.specs.declared.task.Port.{Port}
 use Rattle.pim_words.specs.Given.{IsNumber, option_or, values_of, words_of}
 use Rattle.pim_words.specs.Labels.{LacksEqualSign}
@@ -29,7 +29,8 @@ use Rattle.pim_words.specs.Ports.{port_words}
 abbrev pub LacksPoint : Text → Type 0
 LacksPoint text = (place : ℕ) → place < length text → get_or text place 0 ≢ 46
 
--- `N`: frames with the tag of this VLAN alone. `0`: frames without a tag, for which `Vlan` has twice 0.
+-- `N`: frames with the tag of this VLAN alone. `0`: frames without a tag, for which `Vlan` has
+-- twice 0.
 pub record IsOneTag (text : Text) (vlan : Vlan) : Type 0 where
   pub whole : LacksPoint text
   pub outer : IsNumber 0 4094 text vlan.outer
@@ -66,13 +67,13 @@ IsNoInterface text = (choice : InterfaceChoice) → IsInterfaceText text choice 
 -- ---- a link of which one part is chosen
 
 -- The text names this part of the link: its VLAN or its interface. The other part is not chosen.
-abbrev pub IsLinkText : Part → Text → Link → Type 0
+abbrev pub IsLinkText : Part → Text → LinkWord → Type 0
 IsLinkText part.Vlan text link = IsSomeAnd link.vlan (IsVlanText text) × (link.interface ≡ None)
 IsLinkText part.Interface text link = (link.vlan ≡ None) × IsSomeAnd link.interface (IsInterfaceText text)
 
 -- The text names no such link.
 abbrev pub IsNoLink : Part → Text → Type 0
-IsNoLink chosen text = (link : Link) → IsLinkText chosen text link → ⊥
+IsNoLink chosen text = (link : LinkWord) → IsLinkText chosen text link → ⊥
 
 -- ---- the port of a value
 
@@ -109,23 +110,23 @@ is_same_port (Some one) (Some other) = one == other
 is_same_port one other = false
 
 -- The link that one of these picks has for just this port.
-unfoldable pub pick_for : Option ℕ → List Pick → Option Link
+unfoldable pub pick_for : Option ℕ → List Pick → Option LinkWord
 pick_for port [] = None
 pick_for port (pick ∷ picks) = cond (is_same_port pick.port port) (Some pick.link) (pick_for port picks)
 
 -- The link whose packets are all packets of a capture.
-abbrev pub each_link : Link
+abbrev pub each_link : LinkWord
 each_link = record { vlan = None; interface = None }
 
 -- The first of two links that there is, otherwise each.
-abbrev pub first_link : Option Link → Option Link → Link
+abbrev pub first_link : Option LinkWord → Option LinkWord → LinkWord
 first_link (Some own) other = own
 first_link None (Some link) = link
 first_link None None = each_link
 
--- The link that these picks choose for the port of this number: that of its own pick, otherwise that
--- of the pick for all ports.
-abbrev pub chosen_for : ℕ → List Pick → Link
+-- The link that these picks choose for the port of this number: that of its own pick, otherwise
+-- that of the pick for all ports.
+abbrev pub chosen_for : ℕ → List Pick → LinkWord
 chosen_for number picks = first_link (pick_for (Some number) picks) (pick_for None picks)
 
 -- After these picks, the value picks this link for this port. Any container must be read, and no
@@ -143,9 +144,9 @@ abbrev pub IsNoPick : Part → Bool → ℕ → List Pick → Text → Type 0
 IsNoPick chosen is_any count earlier value = (pick : Pick) → IsPick chosen is_any count earlier value pick → ⊥
 
 -- The fault of a value that picks nothing.
-abbrev pub IsWrongPick : Part → Bool → ℕ → List Pick → Text → Fault → Type 0
-IsWrongPick chosen is_any count earlier value (cause.Word told) =
-    (told.now ≡ value) × IsNoPick chosen is_any count earlier value
+abbrev pub IsWrongPick : Part → Bool → ℕ → List Pick → Text → CommandFault → Type 0
+IsWrongPick chosen is_any count earlier value (cause.Word reported) =
+    (reported.now ≡ value) × IsNoPick chosen is_any count earlier value
 IsWrongPick chosen is_any count earlier value fault = ⊥
 
 -- The values pick so, after earlier picks.
@@ -165,7 +166,7 @@ abbrev pub ArePickable : Part → Bool → ℕ → List Text → Type 0
 ArePickable chosen is_any count values = (picks : List Pick) × ArePicks chosen is_any count values picks
 
 -- The fault is that of the first value that picks nothing, after earlier picks.
-abbrev pub IsFirstWrongPick : Part → Bool → ℕ → List Pick → List Text → Fault → Type 0
+abbrev pub IsFirstWrongPick : Part → Bool → ℕ → List Pick → List Text → CommandFault → Type 0
 IsFirstWrongPick chosen is_any count earlier [] fault = ⊥
 IsFirstWrongPick chosen is_any count earlier (value ∷ values) fault =
     IsWrongPick chosen is_any count earlier value fault
@@ -186,14 +187,14 @@ pub record AreLinks (is_any : Bool) (rows : List Row) (links : Links) : Type 0 w
       ArePicks part.Interface is_any (word_count is_any rows) (values_of (codes "interface") rows) links.interfaces.items
 
 -- The fault of the first wrong value: of `--vlan`, otherwise of `--interface`.
-abbrev pub IsWrongLinks : Bool → List Row → Fault → Type 0
+abbrev pub IsWrongLinks : Bool → List Row → CommandFault → Type 0
 IsWrongLinks is_any rows fault =
     IsFirstWrongPick part.Vlan is_any (word_count is_any rows) [] (values_of (codes "vlan") rows) fault
     ⊎ (ArePickable part.Vlan is_any (word_count is_any rows) (values_of (codes "vlan") rows)
     × IsFirstWrongPick part.Interface is_any (word_count is_any rows) [] (values_of (codes "interface") rows) fault)
 
 -- The link of the port of this number, if any container is read.
-abbrev pub link_at : Links → ℕ → Option Link
+abbrev pub link_at : Links → ℕ → Option LinkWord
 link_at links number = cond links.is_any (Some (record {
   vlan = (chosen_for number links.vlans.items).vlan;
   interface = (chosen_for number links.interfaces.items).interface;
@@ -221,17 +222,18 @@ abbrev pub IsNoInput : Text → Type 0
 IsNoInput text = (is_any : Bool) → text ≡ input_name is_any → ⊥
 
 -- The fault of a text that names no input.
-abbrev pub IsWrongInput : Text → Fault → Type 0
-IsWrongInput text (cause.Word told) = (told.now ≡ text) × IsNoInput text
+abbrev pub IsWrongInput : Text → CommandFault → Type 0
+IsWrongInput text (cause.Word reported) = (reported.now ≡ text) × IsNoInput text
 IsWrongInput text fault = ⊥
 
 -- The options give these links. A trace reads any container.
-abbrev pub AreChosenLinks : Kind → List Row → Links → Type 0
+abbrev pub AreChosenLinks : CommandKind → List Row → Links → Type 0
 AreChosenLinks Trace rows links = AreLinks true rows links
 AreChosenLinks command rows links = (input_text rows ≡ input_name links.is_any) × AreLinks links.is_any rows links
 
--- The fault of the first wrong value: of `--input`, otherwise of `--vlan`, otherwise of `--interface`.
-abbrev pub AreWrongChoices : Kind → List Row → Fault → Type 0
+-- The fault of the first wrong value: of `--input`, otherwise of `--vlan`, otherwise of
+-- `--interface`.
+abbrev pub AreWrongChoices : CommandKind → List Row → CommandFault → Type 0
 AreWrongChoices Trace rows fault = IsWrongLinks true rows fault
 AreWrongChoices command rows fault =
     IsWrongInput (input_text rows) fault

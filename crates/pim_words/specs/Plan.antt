@@ -8,11 +8,11 @@ use Rattle.clap.specs.declared.error.kind.ErrorKind.{ErrorKind}
 use Rattle.clap.specs.declared.error.kind.ErrorKind.TheVariants.{OutOfMemory}
 use Rattle.clap.specs.Words.{App, IsAmong, Row, Text, fault_of, subcommand_of, takes}
 use Rattle.pim_lines.specs.declared.either.AnyAddress.{AnyAddress}
-use Rattle.pim_words.specs.declared.fault.Fault.{Fault}
-use Rattle.pim_words.specs.declared.fault.Fault.TheVariants as cause
-use Rattle.pim_words.specs.declared.task.Kind.{Kind}
-use Rattle.pim_words.specs.declared.task.Plan.{Plan}
-use Rattle.pim_words.specs.declared.task.Plan.TheVariants.{V4, V6, Session}
+use Rattle.pim_words.specs.declared.fault.CommandFault.{CommandFault}
+use Rattle.pim_words.specs.declared.fault.CommandFault.TheVariants as cause
+use Rattle.pim_words.specs.declared.task.CommandKind.{CommandKind}
+use Rattle.pim_words.specs.declared.task.CommandPlan.{CommandPlan}
+use Rattle.pim_words.specs.declared.task.CommandPlan.TheVariants.{V4, V6, Session}
 use Rattle.pim_words.specs.declared.task.Task.{Task}
 use Rattle.pim_words.specs.declared.task.Task.TheVariants.{Check, Build, Replay, Trace, Same, Mirror, Emit, Change}
 use Rattle.pim_words.specs.declared.task.Captures.{Captures}
@@ -31,39 +31,39 @@ use Rattle.pim_words.specs.Typed.{IsPlanFor}
 
 -- The command was given this task.
 abbrev pub IsTaskOf : Text × List Row → Task AnyAddress → Type 0
-IsTaskOf met task = (kind : Kind) × (met.0 ≡ kind_name kind) × IsTask kind met.1 task
+IsTaskOf met task = (kind : CommandKind) × (met.0 ≡ kind_name kind) × IsTask kind met.1 task
 
 -- The fault of a text that the command was given and that can't be read.
-abbrev pub IsUnreadableOf : Text × List Row → Fault → Type 0
-IsUnreadableOf met fault = (kind : Kind) × (met.0 ≡ kind_name kind) × IsUnreadable kind met.1 fault
+abbrev pub IsUnreadableOf : Text × List Row → CommandFault → Type 0
+IsUnreadableOf met fault = (kind : CommandKind) × (met.0 ≡ kind_name kind) × IsUnreadable kind met.1 fault
 
 -- ---- the plan of a task
 
 -- The task has no fault, and this is its plan.
-abbrev pub IsFaultless : Task AnyAddress → Plan → Type 0
+abbrev pub IsFaultless : Task AnyAddress → CommandPlan → Type 0
 IsFaultless task plan = (task_faults task ≡ []) × IsPlanFor plan task
 
 -- The fault is the first of a list.
-abbrev pub IsFirstOf : List Fault → Fault → Type 0
+abbrev pub IsFirstOf : List CommandFault → CommandFault → Type 0
 IsFirstOf [] fault = ⊥
 IsFirstOf (first ∷ others) fault = fault ≡ first
 
 -- The fault is the first one of the task, or memory is refused.
-abbrev pub IsFirstFault : Task AnyAddress → Fault → Type 0
+abbrev pub IsFirstFault : Task AnyAddress → CommandFault → Type 0
 IsFirstFault task cause.Memory = ⊤
 IsFirstFault task fault = IsFirstOf (task_faults task) fault
 
 -- A second file of the task is standard input. The fault has its name.
-abbrev pub IsSecondInput : Task AnyAddress → Fault → Type 0
-IsSecondInput task (cause.Word told) = (told.now ≡ input_name) × (names_input_twice task ≡ true)
+abbrev pub IsSecondInput : Task AnyAddress → CommandFault → Type 0
+IsSecondInput task (cause.Word reported) = (reported.now ≡ input_name) × (names_input_twice task ≡ true)
 IsSecondInput task other = ⊥
 
 -- The task reads standard input at most once, it has no fault, and this is its plan.
-abbrev pub IsPlanOfTask : Task AnyAddress → Plan → Type 0
+abbrev pub IsPlanOfTask : Task AnyAddress → CommandPlan → Type 0
 IsPlanOfTask task plan = (names_input_twice task ≡ false) × IsFaultless task plan
 
 -- The task reads standard input twice; otherwise the fault is its first one. Or memory is refused.
-abbrev pub IsWrongTask : Task AnyAddress → Fault → Type 0
+abbrev pub IsWrongTask : Task AnyAddress → CommandFault → Type 0
 IsWrongTask task cause.Memory = ⊤
 IsWrongTask task fault =
     IsSecondInput task fault ⊎ ((names_input_twice task ≡ false) × IsFirstOf (task_faults task) fault)
@@ -71,23 +71,23 @@ IsWrongTask task fault =
 -- ---- the plan of a command
 
 -- The command asks for this plan: `session` for a session, another one for the plan of its task.
-abbrev pub IsPlanOf : Text × List Row → Plan → Type 0
+abbrev pub IsPlanOf : Text × List Row → CommandPlan → Type 0
 IsPlanOf met Session = met.0 ≡ session_name
 IsPlanOf met plan = (task : Task AnyAddress) × IsTaskOf met task × IsPlanOfTask task plan
 
 -- What the command asks for has this fault: a text that can't be read, or a fault of its task.
-abbrev pub IsWrongOf : Text × List Row → Fault → Type 0
+abbrev pub IsWrongOf : Text × List Row → CommandFault → Type 0
 IsWrongOf met fault =
     IsUnreadableOf met fault ⊎ ((task : Task AnyAddress) × IsTaskOf met task × IsWrongTask task fault)
 
 -- ---- the plan of words by a command line; the first word is the program's name
 
 -- `clap` accepts the words, and the command in them asks for this plan.
-abbrev pub Plans : App → List Text → Plan → Type 0
+abbrev pub Plans : App → List Text → CommandPlan → Type 0
 Plans app words plan = (fault_of app words ≡ []) × IsSomeAnd (subcommand_of app words) (λ met. IsPlanOf met plan)
 
 -- `clap` accepts the words, but what they ask for has this fault.
-abbrev pub HasWrong : App → List Text → Fault → Type 0
+abbrev pub HasWrong : App → List Text → CommandFault → Type 0
 HasWrong app words fault =
     (fault_of app words ≡ []) × IsSomeAnd (subcommand_of app words) (λ met. IsWrongOf met fault)
 
@@ -96,13 +96,13 @@ abbrev pub IsRefusedBy : App → List Text → ErrorKind → Type 0
 IsRefusedBy app words kind = (takes app words ≡ true → ⊥) × IsAmong kind (fault_of app words)
 
 -- The fault is a refusal of `clap`.
-abbrev pub IsRefusal : App → List Text → Fault → Type 0
+abbrev pub IsRefusal : App → List Text → CommandFault → Type 0
 IsRefusal app words (cause.Clap refusal) = IsRefusedBy app words refusal.kind
 IsRefusal app words fault = ⊥
 
 -- Why there is no plan: a refusal of `clap`, or a fault of what the words ask for. Or memory is
 -- refused.
-abbrev pub HasCause : App → List Text → Fault → Type 0
+abbrev pub HasCause : App → List Text → CommandFault → Type 0
 HasCause app words cause.Memory = ⊤
 HasCause app words fault = IsRefusal app words fault ⊎ HasWrong app words fault
 
@@ -148,7 +148,7 @@ IsInRange (Change captures writing) =
     IsBounded captures × IsLimited captures × IsWritable writing × AreFurther captures
 
 -- The numbers of the plan are in their ranges.
-abbrev pub IsPlanInRange : Plan → Type 0
+abbrev pub IsPlanInRange : CommandPlan → Type 0
 IsPlanInRange (V4 task) = IsInRange task
 IsPlanInRange (V6 task) = IsInRange task
 IsPlanInRange Session = ⊤
@@ -157,7 +157,7 @@ IsPlanInRange Session = ⊤
 
 -- The fault of a refusal of `clap`, with its text. It is `Memory` if memory was refused, in `clap`
 -- or for the text.
-abbrev pub refusal_fault : ErrorKind → Result (String Global) AllocError → Fault
+abbrev pub refusal_fault : ErrorKind → Result (String Global) AllocError → CommandFault
 refusal_fault OutOfMemory text = cause.Memory
 refusal_fault kind (Ok text) = cause.Clap (record { kind = kind; text = text })
 refusal_fault kind (Err error) = cause.Memory

@@ -3,10 +3,10 @@ use Rattle.std.specs.Prelude.{◌≡◌, ◌≢◌, ◌<◌, ◌≤◌, ◌==◌
 use Rattle.std.specs.Prelude.{List, [], ◌∷◌, ◌++◌, length, get_or, codes}
 use Rattle.std.specs.List.{AllZip}
 use Rattle.clap.specs.Words.{Text}
-use Rattle.pim_words.specs.declared.fault.Fault.{Fault}
-use Rattle.pim_words.specs.declared.fault.Fault.TheVariants as cause
-use Rattle.pim_words.specs.declared.fault.Side.{Side}
-use Rattle.pim_words.specs.declared.fault.Side.TheVariants.{A, B}
+use Rattle.pim_words.specs.declared.fault.CommandFault.{CommandFault}
+use Rattle.pim_words.specs.declared.fault.CommandFault.TheVariants as cause
+use Rattle.pim_words.specs.declared.fault.RouterSide.{RouterSide}
+use Rattle.pim_words.specs.declared.fault.RouterSide.TheVariants.{A, B}
 use Rattle.pim_words.specs.declared.task.More.{More}
 
 -- ---- the parts of a word
@@ -20,20 +20,20 @@ abbrev pub IsCut : Text → Text → Text → Type 0
 IsCut text address file = (text ≡ address ++ (64 ∷ file)) × LacksAtSign address
 
 -- The mark of this router's words: `a=` or `b=`.
-abbrev pub mark : Side → Text
+abbrev pub mark : RouterSide → Text
 mark A = codes "a="
 mark B = codes "b="
 
 -- The word names a router, the text of an address, and a file. If the command has two routers, the
 -- word begins with the mark of its router; otherwise the router is a.
-abbrev pub IsCutWord : Bool → Text → Side → Text → Text → Type 0
+abbrev pub IsCutWord : Bool → Text → RouterSide → Text → Text → Type 0
 IsCutWord false word side address file = (side ≡ A) × IsCut word address file
 IsCutWord true word side address file = (text : Text) × (word ≡ mark side ++ text) × IsCut text address file
 
 -- The word doesn't have that form.
 abbrev pub IsUncutWord : Bool → Text → Type 0
 IsUncutWord false word = LacksAtSign word
-IsUncutWord true word = (side : Side) (text : Text) → word ≡ mark side ++ text → LacksAtSign text
+IsUncutWord true word = (side : RouterSide) (text : Text) → word ≡ mark side ++ text → LacksAtSign text
 
 -- ---- the words for further files
 
@@ -70,13 +70,14 @@ abbrev pub IsRightMore : ℕ → ℕ → Text → Type 0
 IsRightMore ports count word = ((more : More) × IsMore ports word more) × (count < 4096)
 
 -- The fault of a word that names none, or one too many.
-abbrev pub IsWrongMore : ℕ → ℕ → Text → Fault → Type 0
+abbrev pub IsWrongMore : ℕ → ℕ → Text → CommandFault → Type 0
 IsWrongMore ports count word (cause.Word text) = (text.now ≡ word) × (IsRightMore ports count word → ⊥)
 IsWrongMore ports count word other = ⊥
 
 -- ---- all words
 
--- The first of two facts for a word that names a further file, the second for one that names a port.
+-- The first of two facts for a word that names a further file, the second for one that names a
+-- port.
 abbrev pub ByKind : Bool → Type 0 → Type 0 → Type 0
 ByKind true first second = first
 ByKind false first second = second

@@ -5,16 +5,16 @@ use Rattle.std.specs.Prelude.{IfSome, IsSomeAnd}
 use Rattle.std.specs.Borrow.{Bor}
 use Rattle.clap.specs.Words.{Row, Text, first_of}
 use Rattle.pim_lines.specs.declared.either.AnyAddress.{AnyAddress}
-use Rattle.pim_words.specs.declared.fault.Fault.{Fault}
-use Rattle.pim_words.specs.declared.fault.Fault.TheVariants as cause
+use Rattle.pim_words.specs.declared.fault.CommandFault.{CommandFault}
+use Rattle.pim_words.specs.declared.fault.CommandFault.TheVariants as cause
 use Rattle.pim_words.specs.declared.links.Links.{Links}
 use Rattle.pim_words.specs.declared.task.Captures.{Captures}
 use Rattle.pim_words.specs.declared.task.More.{More}
 use Rattle.pim_words.specs.declared.task.Port.{Port}
 use Rattle.pim_words.specs.declared.task.Tracing.{Tracing}
 use Rattle.pim_words.specs.declared.task.Writing.{Writing}
-use Rattle.pim_words.specs.declared.task.Kind.{Kind}
-use Rattle.pim_words.specs.declared.task.Kind.TheVariants as kind
+use Rattle.pim_words.specs.declared.task.CommandKind.{CommandKind}
+use Rattle.pim_words.specs.declared.task.CommandKind.TheVariants as kind
 use Rattle.pim_words.specs.declared.task.Task.{Task}
 use Rattle.pim_words.specs.declared.task.Task.TheVariants.{Check, Build, Replay, Trace, Same, Mirror, Emit, Change}
 use Rattle.pim_lines.specs.AnyAddress.{Names, IsRead}
@@ -29,10 +29,10 @@ use Rattle.pim_words.specs.Shown.{IsShown, IsShowable, IsUnreadText, IsWrongShow
 -- ---- what is read
 
 -- An option that is given names this address; an option that isn't given names none.
-abbrev pub IsNamed : Option Text → Option AnyAddress → Type 0
-IsNamed None None = ⊤
-IsNamed (Some text) (Some address) = Names text address
-IsNamed given read = ⊥
+abbrev pub ReadsAddressOption : Option Text → Option AnyAddress → Type 0
+ReadsAddressOption None None = ⊤
+ReadsAddressOption (Some text) (Some address) = Names text address
+ReadsAddressOption given read = ⊥
 
 -- The options of a run other than the RP.
 pub record IsRun (rows : List Row) (captures : Captures AnyAddress) : Type 0 where
@@ -43,9 +43,9 @@ pub record IsRun (rows : List Row) (captures : Captures AnyAddress) : Type 0 whe
   pub early : IsEarly captures.at
   pub one_end : are_both_given rows ≡ false
 
--- The words name these ports, with these names, the links that the options choose, and these further
--- files.
-pub record ArePorts (command : Kind) (rows : List Row) (ports : List (Port AnyAddress)) (more : List More)
+-- The words name these ports, with these names, the links that the options choose, and these
+-- further files.
+pub record ArePorts (command : CommandKind) (rows : List Row) (ports : List (Port AnyAddress)) (more : List More)
     (names : List (Option (Bor Text))) : Type 0 where
   pub links : Links
   pub chosen : AreChosenLinks command rows links
@@ -54,7 +54,7 @@ pub record ArePorts (command : Kind) (rows : List Row) (ports : List (Port AnyAd
   pub further : AreMore links.is_any (words_of rows) more
 
 -- The options of a run other than the RP, and the ports and further files that the words name.
-pub record AreCaptures (command : Kind) (rows : List Row) (captures : Captures AnyAddress) : Type 0 where
+pub record AreCaptures (command : CommandKind) (rows : List Row) (captures : Captures AnyAddress) : Type 0 where
   pub run : IsRun rows captures
   pub names : List (Option (Bor Text))
   pub ports : ArePorts command rows captures.ports.items captures.more.items names
@@ -75,19 +75,19 @@ pub record IsWriting (rows : List Row) (writing : Writing AnyAddress) : Type 0 w
   pub budget : IsNumber 70 65000 (option_or (codes "1460") (codes "budget") rows) writing.budget
 
 -- The options and ports of a command with captures.
-abbrev pub AreCapturesOf : Kind → List Row → Captures AnyAddress → Type 0
+abbrev pub AreCapturesOf : CommandKind → List Row → Captures AnyAddress → Type 0
 AreCapturesOf command rows captures =
-    IsNamed (rp_text command rows) captures.rp × AreCaptures command rows captures
+    ReadsAddressOption (rp_text command rows) captures.rp × AreCaptures command rows captures
 
 -- The command was given this task.
-abbrev pub IsTask : Kind → List Row → Task AnyAddress → Type 0
+abbrev pub IsTask : CommandKind → List Row → Task AnyAddress → Type 0
 IsTask kind.Check rows (Check source destination) =
     Names (source_text rows) source × Names (destination_text rows) destination
 IsTask kind.Build rows (Build source destination) =
     Names (source_text rows) source × Names (destination_text rows) destination
 IsTask kind.Replay rows (Replay captures) = AreCapturesOf kind.Replay rows captures
 IsTask kind.Trace rows (Trace captures tracing) =
-    IsNamed (rp_text kind.Trace rows) captures.rp × AreTraced rows captures tracing
+    ReadsAddressOption (rp_text kind.Trace rows) captures.rp × AreTraced rows captures tracing
 IsTask kind.Same rows (Same captures writing) = AreCapturesOf kind.Same rows captures × IsWriting rows writing
 IsTask kind.Mirror rows (Mirror captures writing) = AreCapturesOf kind.Mirror rows captures × IsWriting rows writing
 IsTask kind.Emit rows (Emit captures writing) = AreCapturesOf kind.Emit rows captures × IsWriting rows writing
@@ -97,11 +97,11 @@ IsTask command rows task = ⊥
 -- ---- what can't be read
 
 -- The option is given and names no address.
-abbrev pub IsUnreadValue : Option Text → Fault → Type 0
+abbrev pub IsUnreadValue : Option Text → CommandFault → Type 0
 IsUnreadValue value fault = IsSomeAnd value (λ text. IsUnreadText text fault)
 
 -- The fault is that of the first of these values that names no address.
-abbrev pub IsFirstUnread : List (Option Text) → Fault → Type 0
+abbrev pub IsFirstUnread : List (Option Text) → CommandFault → Type 0
 IsFirstUnread [] fault = ⊥
 IsFirstUnread (value ∷ values) fault = IsUnreadValue value fault ⊎ (IfSome value IsRead × IsFirstUnread values fault)
 
@@ -111,40 +111,40 @@ AreRead [] = ⊤
 AreRead (value ∷ values) = IfSome value IsRead × AreRead values
 
 -- The fault of ports: of a value that chooses their links, otherwise of a word.
-abbrev pub AreWrongPorts : Kind → List Row → Fault → Type 0
+abbrev pub AreWrongPorts : CommandKind → List Row → CommandFault → Type 0
 AreWrongPorts command rows fault =
     AreWrongChoices command rows fault
     ⊎ ((links : Links) × AreChosenLinks command rows links
     × IsFirstWrong command links.is_any [] 0 (words_of rows) fault)
 
 -- The fault of a run's words: its time can't be read, or else it is a fault of the ports.
-abbrev pub IsWrongRun : Kind → List Row → Fault → Type 0
+abbrev pub IsWrongRun : CommandKind → List Row → CommandFault → Type 0
 IsWrongRun command rows fault =
     IsUntimed (time_text rows) fault ⊎ (IsTimely (time_text rows) × AreWrongPorts command rows fault)
 
--- The fault of a trace's words: the time of its end can't be read, or else a value of what it shows, or
--- else it is a fault of the ports.
-abbrev pub IsWrongTrace : List Row → Fault → Type 0
+-- The fault of a trace's words: the time of its end can't be read, or else a value of what it
+-- shows, or else it is a fault of the ports.
+abbrev pub IsWrongTrace : List Row → CommandFault → Type 0
 IsWrongTrace rows fault =
     IsUntimed (time_text rows) fault
     ⊎ (IsTimely (time_text rows) × (IsWrongShown rows fault
     ⊎ (IsShowable rows × AreWrongPorts kind.Trace rows fault)))
 
 -- The same, of the run of a command.
-abbrev pub IsWrongRunOf : Kind → List Row → Fault → Type 0
+abbrev pub IsWrongRunOf : CommandKind → List Row → CommandFault → Type 0
 IsWrongRunOf kind.Trace rows fault = IsWrongTrace rows fault
 IsWrongRunOf command rows fault = IsWrongRun command rows fault
 
 -- The fault of texts that can't be read: of the first such address of an option, otherwise of the
 -- time, of what a trace shows, of the links, or of the first such word.
-abbrev pub IsUnreadOf : Kind → List Row → Fault → Type 0
+abbrev pub IsUnreadOf : CommandKind → List Row → CommandFault → Type 0
 IsUnreadOf command rows fault =
     IsFirstUnread (address_texts command rows) fault
     ⊎ (AreRead (address_texts command rows) × IsWrongRunOf command rows fault)
 
 -- The fault of words that don't give a task: the run has two ends, otherwise a text can't be read.
 -- Or memory is refused.
-abbrev pub IsUnreadable : Kind → List Row → Fault → Type 0
+abbrev pub IsUnreadable : CommandKind → List Row → CommandFault → Type 0
 IsUnreadable command rows cause.Memory = ⊤
 IsUnreadable command rows fault =
     ((fault ≡ cause.TwoEnds) × (has_two_ends command rows ≡ true))

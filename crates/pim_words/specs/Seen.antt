@@ -6,40 +6,40 @@ use Rattle.std.specs.Str.{bytes_eq}
 use Rattle.clap.specs.Words.{App, IsUnsignedIn, Row, Rule, Shape, Text, built, is_simple, is_simple_and_free}
 use Rattle.clap.specs.declared.builder.value_parser.ValueParser.{ValueParser}
 use Rattle.clap.specs.declared.builder.value_parser.ValueParser.TheVariants.{Unsigned}
-use Rattle.pim_words.specs.declared.fault.Fault.{Fault}
-use Rattle.pim_words.specs.declared.fault.Fault.TheVariants.{Family, Memory}
-use Rattle.pim_words.specs.declared.fault.Side.{Side}
+use Rattle.pim_words.specs.declared.fault.CommandFault.{CommandFault}
+use Rattle.pim_words.specs.declared.fault.CommandFault.TheVariants.{Family, Memory}
+use Rattle.pim_words.specs.declared.fault.RouterSide.{RouterSide}
 use Rattle.pim_lines.specs.declared.either.AnyAddress.{AnyAddress}
 use Rattle.pim_words.specs.declared.links.Links.{Links}
-use Rattle.pim_words.specs.declared.port.Cut.{Cut}
+use Rattle.pim_words.specs.declared.port.PortCut.{PortCut}
 use Rattle.pim_words.specs.declared.task.Port.{Port}
-use Rattle.pim_words.specs.declared.reading.Addresses.{Addresses}
-use Rattle.pim_words.specs.declared.reading.Ends.{Ends}
+use Rattle.pim_words.specs.declared.reading.AddressList.{AddressList}
+use Rattle.pim_words.specs.declared.reading.AddressEnds.{AddressEnds}
 use Rattle.pim_lines.specs.AnyAddress.{Names}
 use Rattle.pim_words.specs.Given.{IsKnown, destination_text, option_or, required, source_text}
 use Rattle.pim_words.specs.Links.{link_at}
 use Rattle.pim_words.specs.Ports.{IsCut, IsCutWord}
 
 -- A fault of this kind, or memory is refused.
-abbrev pub OrMemory : (Fault → Type 0) → Fault → Type 0
+abbrev pub OrMemory : (CommandFault → Type 0) → CommandFault → Type 0
 OrMemory Is Memory = ⊤
 OrMemory Is fault = Is fault
 
 -- The text of a port of this router is cut into its address and its file.
-abbrev pub IsCutFor : Side → Text → Cut → Type 0
+abbrev pub IsCutFor : RouterSide → Text → PortCut → Type 0
 IsCutFor side text cut = (cut.side ≡ side) × IsCut text cut.address.now cut.file.now
 
 -- The word is cut into its router, its address and its file.
-abbrev pub IsCutOf : Bool → Text → Cut → Type 0
+abbrev pub IsCutOf : Bool → Text → PortCut → Type 0
 IsCutOf is_sided word cut = IsCutWord is_sided word cut.side cut.address.now cut.file.now
 
 -- These are the addresses of a command on one message.
-pub record AreEnds (rows : List Row) (ends : Ends) : Type 0 where
+pub record AreEnds (rows : List Row) (ends : AddressEnds) : Type 0 where
   pub source : Names (source_text rows) ends.src
   pub destination : Names (destination_text rows) ends.dst
 
 -- These are the addresses of a command that writes messages.
-pub record AreWritten (rows : List Row) (addresses : Addresses) : Type 0 where
+pub record AreWritten (rows : List Row) (addresses : AddressList) : Type 0 where
   pub rp : Names (required (codes "rp") rows) addresses.rp
   pub upstream : Names (required (codes "upstream") rows) addresses.upstream
   pub own : Names (required (codes "own") rows) addresses.own
@@ -54,7 +54,7 @@ with_links links number [] = []
 with_links links number (port ∷ ports) = with_link links number port ∷ with_links links (number + 1) ports
 
 -- The test for one family failed, or memory is refused.
-abbrev pub IsForeign : Bool → Fault → Type 0
+abbrev pub IsForeign : Bool → CommandFault → Type 0
 IsForeign test Memory = ⊤
 IsForeign test Family = test ≡ false
 IsForeign test fault = ⊥

@@ -9,8 +9,8 @@ use Rattle.pim_words.specs.declared.task.Captures.{Captures}
 use Rattle.pim_words.specs.declared.task.Port.{Port}
 use Rattle.pim_words.specs.declared.task.Tracing.{Tracing}
 use Rattle.pim_words.specs.declared.task.Writing.{Writing}
-use Rattle.pim_words.specs.declared.task.Plan.{Plan}
-use Rattle.pim_words.specs.declared.task.Plan.TheVariants.{V4, V6, Session}
+use Rattle.pim_words.specs.declared.task.CommandPlan.{CommandPlan}
+use Rattle.pim_words.specs.declared.task.CommandPlan.TheVariants.{V4, V6, Session}
 use Rattle.pim_words.specs.declared.task.Task.{Task}
 use Rattle.pim_words.specs.declared.task.Task.TheVariants.{Check, Build, Replay, Trace, Same, Mirror, Emit, Change}
 
@@ -39,7 +39,8 @@ module _ {A : Type 0} (family : AddressFamily) (bytes_of : A → List ℕ) where
     pub ports : map port_seen typed.ports.items ≡ captures.ports.items
     pub more : typed.more.items ≡ captures.more.items
 
-  -- The two show the same: the time from which they show, groups, sources, form, all or not, JSON or not, and names.
+  -- The two show the same: the time from which they show, groups, sources, form, all or not, JSON
+  -- or not, and names.
   pub record SameTracing (typed : Tracing A) (tracing : Tracing AnyAddress) : Type 0 where
     pub from : typed.from ≡ tracing.from
     pub groups : map address_seen typed.groups.items ≡ tracing.groups.items
@@ -71,7 +72,7 @@ module _ {A : Type 0} (family : AddressFamily) (bytes_of : A → List ℕ) where
   SameTask typed task = ⊥
 
 -- The plan is this task, with all its addresses of one family.
-abbrev pub IsPlanFor : Plan → Task AnyAddress → Type 0
+abbrev pub IsPlanFor : CommandPlan → Task AnyAddress → Type 0
 IsPlanFor (V4 typed) task = SameTask Ipv4 (λ address. address) typed task
 IsPlanFor (V6 typed) task = SameTask Ipv6 (λ address. address) typed task
 IsPlanFor Session task = ⊥

@@ -34,7 +34,7 @@ enum Form {
 
 /// An option of a command, or its words.
 #[derive(Clone, Copy)]
-struct Row<'a> {
+struct OptionRow<'a> {
     /// Its name.
     name: &'a str,
     /// What it takes.
@@ -57,7 +57,7 @@ struct Offer<'a> {
     /// What the command prints, and an example.
     after_help: &'a str,
     /// Its options and words.
-    rows: &'a [Row<'a>],
+    rows: &'a [OptionRow<'a>],
 }
 
 /// The purpose of the program, as help prints it.
@@ -79,7 +79,7 @@ Faults that are often met first, on standard error:
 Exit status: 0 for success, 1 where `same` prints `different`, 2 for a fault.";
 
 /// `--src`.
-const SRC: Row<'static> = Row {
+const SRC: OptionRow<'static> = OptionRow {
     name: "src",
     form: Form::Text,
     value: "ADDRESS",
@@ -88,7 +88,7 @@ const SRC: Row<'static> = Row {
 };
 
 /// `--dst`.
-const DST: Row<'static> = Row {
+const DST: OptionRow<'static> = OptionRow {
     name: "dst",
     form: Form::Text,
     value: "ADDRESS",
@@ -97,7 +97,7 @@ const DST: Row<'static> = Row {
 };
 
 /// `--rp` of a command that writes messages.
-const RP: Row<'static> = Row {
+const RP: OptionRow<'static> = OptionRow {
     name: "rp",
     form: Form::Required,
     value: "ADDRESS",
@@ -105,7 +105,7 @@ const RP: Row<'static> = Row {
 };
 
 /// `--rp` of `replay`.
-const REPLAY_RP: Row<'static> = Row {
+const REPLAY_RP: OptionRow<'static> = OptionRow {
     name: "rp",
     form: Form::Text,
     value: "ADDRESS",
@@ -114,7 +114,7 @@ without --rp and{n}--routes none does",
 };
 
 /// `--rp` of `trace`.
-const TRACE_RP: Row<'static> = Row {
+const TRACE_RP: OptionRow<'static> = OptionRow {
     name: "rp",
     form: Form::Text,
     value: "ADDRESS",
@@ -123,7 +123,7 @@ without --rp and{n}--routes each is",
 };
 
 /// `--upstream`.
-const UPSTREAM: Row<'static> = Row {
+const UPSTREAM: OptionRow<'static> = OptionRow {
     name: "upstream",
     form: Form::Required,
     value: "ADDRESS",
@@ -131,7 +131,7 @@ const UPSTREAM: Row<'static> = Row {
 };
 
 /// `--own`.
-const OWN: Row<'static> = Row {
+const OWN: OptionRow<'static> = OptionRow {
     name: "own",
     form: Form::Required,
     value: "ADDRESS",
@@ -139,7 +139,7 @@ const OWN: Row<'static> = Row {
 };
 
 /// `--routes`.
-const ROUTES: Row<'static> = Row {
+const ROUTES: OptionRow<'static> = OptionRow {
     name: "routes",
     form: Form::Text,
     value: "FILE",
@@ -150,7 +150,7 @@ these groups,{n}and `via PREFIX/LENGTH ADDRESS`, the upstream{n}neighbour toward
 };
 
 /// `--holdtime`.
-const HOLDTIME: Row<'static> = Row {
+const HOLDTIME: OptionRow<'static> = OptionRow {
     name: "holdtime",
     form: Form::Number(99, 65_535),
     value: "S",
@@ -158,7 +158,7 @@ const HOLDTIME: Row<'static> = Row {
 };
 
 /// `--budget`.
-const BUDGET: Row<'static> = Row {
+const BUDGET: OptionRow<'static> = OptionRow {
     name: "budget",
     form: Form::Number(70, 65_000),
     value: "N",
@@ -166,7 +166,7 @@ const BUDGET: Row<'static> = Row {
 };
 
 /// `--limit`.
-const LIMIT: Row<'static> = Row {
+const LIMIT: OptionRow<'static> = OptionRow {
     name: "limit",
     form: Form::Number(1, 100_000),
     value: "N",
@@ -174,7 +174,7 @@ const LIMIT: Row<'static> = Row {
 };
 
 /// `--after`.
-const AFTER: Row<'static> = Row {
+const AFTER: OptionRow<'static> = OptionRow {
     name: "after",
     form: Form::Number(0, 1_000_000_000),
     value: "MS",
@@ -182,7 +182,7 @@ const AFTER: Row<'static> = Row {
 };
 
 /// `--at`.
-const AT: Row<'static> = Row {
+const AT: OptionRow<'static> = OptionRow {
     name: "at",
     form: Form::Text,
     value: "TIME",
@@ -191,7 +191,7 @@ const AT: Row<'static> = Row {
 };
 
 /// `--input`.
-const INPUT: Row<'static> = Row {
+const INPUT: OptionRow<'static> = OptionRow {
     name: "input",
     form: Form::Text,
     value: "KIND",
@@ -200,7 +200,7 @@ const INPUT: Row<'static> = Row {
 };
 
 /// `--vlan` of a command that reads classic captures unless `--input any` is given.
-const VLAN: Row<'static> = Row {
+const VLAN: OptionRow<'static> = OptionRow {
     name: "vlan",
     form: Form::Repeated,
     value: "[P=]VLAN",
@@ -209,7 +209,7 @@ at all ports, or{n}at the port P",
 };
 
 /// `--interface` of such a command.
-const INTERFACE: Row<'static> = Row {
+const INTERFACE: OptionRow<'static> = OptionRow {
     name: "interface",
     form: Form::Repeated,
     value: "[P=]N",
@@ -218,7 +218,7 @@ ports, or at P",
 };
 
 /// `--vlan` of `trace`.
-const TRACE_VLAN: Row<'static> = Row {
+const TRACE_VLAN: OptionRow<'static> = OptionRow {
     name: "vlan",
     form: Form::Repeated,
     value: "[P=]VLAN",
@@ -227,7 +227,7 @@ at the port P",
 };
 
 /// `--interface` of `trace`.
-const TRACE_INTERFACE: Row<'static> = Row {
+const TRACE_INTERFACE: OptionRow<'static> = OptionRow {
     name: "interface",
     form: Form::Repeated,
     value: "[P=]N",
@@ -236,7 +236,7 @@ port P",
 };
 
 /// `--from`.
-const FROM: Row<'static> = Row {
+const FROM: OptionRow<'static> = OptionRow {
     name: "from",
     form: Form::Text,
     value: "TIME",
@@ -244,7 +244,7 @@ const FROM: Row<'static> = Row {
 };
 
 /// `--group`.
-const GROUP: Row<'static> = Row {
+const GROUP: OptionRow<'static> = OptionRow {
     name: "group",
     form: Form::Repeated,
     value: "ADDRESS",
@@ -252,7 +252,7 @@ const GROUP: Row<'static> = Row {
 };
 
 /// `--source`.
-const SOURCE: Row<'static> = Row {
+const SOURCE: OptionRow<'static> = OptionRow {
     name: "source",
     form: Form::Repeated,
     value: "ADDRESS",
@@ -260,7 +260,7 @@ const SOURCE: Row<'static> = Row {
 };
 
 /// `--time`.
-const TIME: Row<'static> = Row {
+const TIME: OptionRow<'static> = OptionRow {
     name: "time",
     form: Form::Text,
     value: "FORM",
@@ -269,7 +269,7 @@ const TIME: Row<'static> = Row {
 };
 
 /// `--all`.
-const ALL: Row<'static> = Row {
+const ALL: OptionRow<'static> = OptionRow {
     name: "all",
     form: Form::Flag,
     value: "",
@@ -277,7 +277,7 @@ const ALL: Row<'static> = Row {
 };
 
 /// `--json`.
-const JSON: Row<'static> = Row {
+const JSON: OptionRow<'static> = OptionRow {
     name: "json",
     form: Form::Flag,
     value: "",
@@ -285,7 +285,7 @@ const JSON: Row<'static> = Row {
 };
 
 /// The words of `trace`.
-const NAMED_PORTS: Row<'static> = Row {
+const LABELLED_PORTS: OptionRow<'static> = OptionRow {
     name: "words",
     form: Form::Words,
     value: "[NAME=]ADDRESS@FILE",
@@ -294,7 +294,7 @@ link; 1 to 64 ports",
 };
 
 /// The words of a command with one router.
-const PORTS: Row<'static> = Row {
+const PORTS: OptionRow<'static> = OptionRow {
     name: "words",
     form: Form::Words,
     value: "ADDRESS@FILE",
@@ -302,7 +302,7 @@ const PORTS: Row<'static> = Row {
 };
 
 /// The words of a command with two routers.
-const SIDED_PORTS: Row<'static> = Row {
+const SIDED_PORTS: OptionRow<'static> = OptionRow {
     name: "words",
     form: Form::Words,
     value: "a|b=ADDRESS@FILE",
@@ -311,15 +311,15 @@ of each",
 };
 
 /// The options of `check` and `build`.
-const OF_MESSAGE: [Row<'static>; 2] = [SRC, DST];
+const OF_MESSAGE: [OptionRow<'static>; 2] = [SRC, DST];
 
 /// The options and words of `replay`.
-const OF_REPLAY: [Row<'static>; 9] = [
+const OF_REPLAY: [OptionRow<'static>; 9] = [
     REPLAY_RP, ROUTES, LIMIT, AFTER, AT, INPUT, VLAN, INTERFACE, PORTS,
 ];
 
 /// The options and words of `trace`.
-const OF_TRACE: [Row<'static>; 14] = [
+const OF_TRACE: [OptionRow<'static>; 14] = [
     TRACE_RP,
     ROUTES,
     LIMIT,
@@ -327,7 +327,7 @@ const OF_TRACE: [Row<'static>; 14] = [
     AT,
     TRACE_VLAN,
     TRACE_INTERFACE,
-    NAMED_PORTS,
+    LABELLED_PORTS,
     FROM,
     GROUP,
     SOURCE,
@@ -337,12 +337,12 @@ const OF_TRACE: [Row<'static>; 14] = [
 ];
 
 /// The options and words of a command that writes messages of one router.
-const OF_ONE: [Row<'static>; 13] = [
+const OF_ONE: [OptionRow<'static>; 13] = [
     RP, UPSTREAM, OWN, ROUTES, HOLDTIME, BUDGET, LIMIT, AFTER, AT, INPUT, VLAN, INTERFACE, PORTS,
 ];
 
 /// The options and words of a command with two routers.
-const OF_TWO: [Row<'static>; 13] = [
+const OF_TWO: [OptionRow<'static>; 13] = [
     RP,
     UPSTREAM,
     OWN,
@@ -634,7 +634,7 @@ const OFFERS: [Offer<'static>; 9] = [
 ];
 
 /// An option that takes one text.
-fn text_option<'a>(alloc: Global, row: Row<'a>) -> Arg<'a>
+fn text_option<'a>(alloc: Global, row: OptionRow<'a>) -> Arg<'a>
     ensures rule { rule_of result ≡ text_option row.entry.name.now }
     ensures local { result.global ≡ false }
 {
@@ -645,7 +645,7 @@ fn text_option<'a>(alloc: Global, row: Row<'a>) -> Arg<'a>
 }
 
 /// An option that takes a number from `low` to `high`.
-fn number_option<'a>(alloc: Global, row: Row<'a>, low: u64, high: u64) -> Arg<'a>
+fn number_option<'a>(alloc: Global, row: OptionRow<'a>, low: u64, high: u64) -> Arg<'a>
     ensures rule { rule_of result ≡ number_option row.entry.name.now low high }
     ensures local { result.global ≡ false }
 {
@@ -653,7 +653,7 @@ fn number_option<'a>(alloc: Global, row: Row<'a>, low: u64, high: u64) -> Arg<'a
 }
 
 /// An option without a value.
-fn flag<'a>(alloc: Global, row: Row<'a>) -> Arg<'a>
+fn flag<'a>(alloc: Global, row: OptionRow<'a>) -> Arg<'a>
     ensures rule { rule_of result ≡ flag row.entry.name.now }
     ensures local { result.global ≡ false }
 {
@@ -664,7 +664,7 @@ fn flag<'a>(alloc: Global, row: Row<'a>) -> Arg<'a>
 }
 
 /// The words that aren't options, any number of them.
-fn words<'a>(alloc: Global, row: Row<'a>) -> Arg<'a>
+fn words<'a>(alloc: Global, row: OptionRow<'a>) -> Arg<'a>
     ensures rule { rule_of result ≡ words_rule row.entry.name.now }
     ensures local { result.global ≡ false }
 {
@@ -675,7 +675,7 @@ fn words<'a>(alloc: Global, row: Row<'a>) -> Arg<'a>
 }
 
 /// The option, or the words, of a row.
-fn option<'a>(alloc: Global, row: Row<'a>) -> Arg<'a>
+fn option<'a>(alloc: Global, row: OptionRow<'a>) -> Arg<'a>
     ensures rule { rule_of result ≡ rule_by row.entry }
     ensures local { result.global ≡ false }
 {
@@ -715,7 +715,7 @@ fn with_command<'a>(whole: Command<'a>, command: Command<'a>) -> Result<Command<
 fn with_rows<'a>(
     alloc: Global,
     command: Command<'a>,
-    rows: &[Row<'a>],
+    rows: &[OptionRow<'a>],
 ) -> Result<Command<'a>, AllocError>
     requires { (out-Command command).has_globals ≡ false }
     ensures app { IfOk result (λ c. app_of c ≡ with_rows (app_of command.entry) rows.now) }

@@ -11,7 +11,7 @@ use std::alloc::AllocError;
 
 /// A router of a command with two routers.
 #[derive(Clone, Copy, Debug, PartialEq, Eq)]
-pub enum Side {
+pub enum RouterSide {
     /// The router whose words begin with `a=`, or the only router of a command.
     A,
     /// The router whose words begin with `b=`.
@@ -41,7 +41,7 @@ pub struct Refusal {
 /// Why there is no plan. Of several causes, `plan` returns the first in the order that it lists, or
 /// `Memory`.
 #[derive(Debug, Drop)]
-pub enum Fault<'a> {
+pub enum CommandFault<'a> {
     /// `clap` refuses the words, or they ask for help or the version.
     Clap(Refusal),
     /// A value of an option isn't an address, or the address in a word can't be read. The text is
@@ -61,7 +61,7 @@ pub enum Fault<'a> {
     /// The addresses of the command aren't all of one family.
     Family,
     /// No word is a port of this router of two.
-    NoPort(Side),
+    NoPort(RouterSide),
     /// The upstream neighbour and the own address aren't two different valid sources.
     WriterAddress,
     /// The words give no configuration of a router.
@@ -72,11 +72,14 @@ pub enum Fault<'a> {
 
 /// The fault of a refusal of this kind and text. It is `Memory` if memory was refused, in `clap` or
 /// for the text.
-pub(crate) fn refusal_fault(kind: ErrorKind, text: Result<String, AllocError>) -> Fault<'static>
+pub(crate) fn refusal_fault(
+    kind: ErrorKind,
+    text: Result<String, AllocError>,
+) -> CommandFault<'static>
     ensures { result ≡ refusal_fault kind text }
 {
     match (kind, text) {
-        (ErrorKind::OutOfMemory, _) | (_, Err(_)) => Fault::Memory,
-        (kind, Ok(text)) => Fault::Clap(Refusal { kind, text }),
+        (ErrorKind::OutOfMemory, _) | (_, Err(_)) => CommandFault::Memory,
+        (kind, Ok(text)) => CommandFault::Clap(Refusal { kind, text }),
     }
 }

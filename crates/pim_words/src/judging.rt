@@ -9,7 +9,7 @@ ghost use Rattle.pim_words.specs.Faults.{is_valid, is_same, is_of, port_count, n
 ghost use Rattle.pim_words.specs.Faults.{writer_faults};
 ghost use Rattle.pim_words.specs.Faults.{router_faults, faults_of_two, setting_faults};
 
-use crate::fault::{ConfigCause, Fault, Side};
+use crate::fault::{CommandFault, ConfigCause, RouterSide};
 use crate::task::{Captures, Port, Task, Writing};
 use pim_addr::{Family, V4, V6};
 use pim_lines::AnyAddress;
@@ -39,17 +39,17 @@ fn is_same(this: AnyAddress, that: AnyAddress) -> bool
 }
 
 /// Returns whether the port belongs to this router.
-pub fn is_of<A: Copy>(side: Side, port: &Port<'_, A>) -> bool
+pub fn is_of<A: Copy>(side: RouterSide, port: &Port<'_, A>) -> bool
     ensures { result ≡ is_of side port.now }
 {
     match (side, port.side) {
-        (Side::A, Side::A) | (Side::B, Side::B) => true,
+        (RouterSide::A, RouterSide::A) | (RouterSide::B, RouterSide::B) => true,
         _ => false,
     }
 }
 
 /// The number of ports of a router.
-fn port_count(side: Side, captures: &Captures<'_, AnyAddress>) -> usize
+fn port_count(side: RouterSide, captures: &Captures<'_, AnyAddress>) -> usize
     ensures { result ≡ port_count side captures.now }
 {
     captures
@@ -60,7 +60,7 @@ fn port_count(side: Side, captures: &Captures<'_, AnyAddress>) -> usize
 }
 
 /// Whether the port belongs to this router and its address isn't a valid source.
-fn is_bad_port(side: Side, port: &Port<'_, AnyAddress>) -> bool
+fn is_bad_port(side: RouterSide, port: &Port<'_, AnyAddress>) -> bool
     ensures { result ≡ (is_of side port.now && not (is_valid port.now.address)) }
 {
     if is_of(side, port) {
@@ -71,7 +71,7 @@ fn is_bad_port(side: Side, port: &Port<'_, AnyAddress>) -> bool
 }
 
 /// Whether this router has a port whose address isn't a valid source.
-fn has_bad_port(side: Side, captures: &Captures<'_, AnyAddress>) -> bool
+fn has_bad_port(side: RouterSide, captures: &Captures<'_, AnyAddress>) -> bool
     ensures { result
         ≡ list_any (λ port. is_of side port
         && not (is_valid port.address)) captures.now.ports.items }
@@ -98,59 +98,63 @@ fn is_bad_writing(writing: Writing<AnyAddress>) -> bool
 }
 
 /// Checks that each of two routers has a port.
-fn judge_ports(captures: &Captures<'_, AnyAddress>) -> Result<(), Fault<'static>>
+fn judge_ports(captures: &Captures<'_, AnyAddress>) -> Result<(), CommandFault<'static>>
     ensures { result ≡ judged (no_port_faults captures.now) tt }
 {
-    if port_count(Side::A, captures) == 0 {
-        return Err(Fault::NoPort(Side::A));
+    if port_count(RouterSide::A, captures) == 0 {
+        return Err(CommandFault::NoPort(RouterSide::A));
     }
-    if port_count(Side::B, captures) == 0 {
-        return Err(Fault::NoPort(Side::B));
+    if port_count(RouterSide::B, captures) == 0 {
+        return Err(CommandFault::NoPort(RouterSide::B));
     }
     Ok(())
 }
 
 /// Checks that the writer's addresses are two different valid sources.
-fn judge_writer(writing: Writing<AnyAddress>) -> Result<(), Fault<'static>>
+fn judge_writer(writing: Writing<AnyAddress>) -> Result<(), CommandFault<'static>>
     ensures { result ≡ judged (writer_faults writing) tt }
 {
     if is_bad_writing(writing) {
-        return Err(Fault::WriterAddress);
+        return Err(CommandFault::WriterAddress);
     }
     Ok(())
 }
 
 /// Checks the ports and the RP of a router.
-fn judge_router(side: Side, captures: &Captures<'_, AnyAddress>) -> Result<(), Fault<'static>>
+fn judge_router(
+    side: RouterSide,
+    captures: &Captures<'_, AnyAddress>,
+) -> Result<(), CommandFault<'static>>
     ensures { result ≡ judged (router_faults side captures.now) tt }
 {
     let count = port_count(side, captures);
     if count == 0 || MOST_PORTS < count {
-        return Err(Fault::Config(ConfigCause::Ports));
+        return Err(CommandFault::Config(ConfigCause::Ports));
     }
     if has_bad_port(side, captures) {
-        return Err(Fault::Config(ConfigCause::Address));
+        return Err(CommandFault::Config(ConfigCause::Address));
     }
     if is_bad_rp(captures.rp) {
-        return Err(Fault::Config(ConfigCause::Rp));
+        return Err(CommandFault::Config(ConfigCause::Rp));
     }
     Ok(())
 }
 
 /// Checks the ports and the RP of both routers.
-fn judge_routers(captures: &Captures<'_, AnyAddress>) -> Result<(), Fault<'static>>
+fn judge_routers(captures: &Captures<'_, AnyAddress>) -> Result<(), CommandFault<'static>>
     ensures { result
-        ≡ judged (router_faults Side.A captures.now ++ router_faults Side.B captures.now) tt }
+        ≡ judged (router_faults RouterSide.A captures.now
+        ++ router_faults RouterSide.B captures.now) tt }
 {
-    judge_router(Side::A, captures)?;
-    judge_router(Side::B, captures)
+    judge_router(RouterSide::A, captures)?;
+    judge_router(RouterSide::B, captures)
 }
 
 /// Checks two routers and the writer.
 fn judge_two(
     captures: &Captures<'_, AnyAddress>,
     writing: Writing<AnyAddress>,
-) -> Result<(), Fault<'static>>
+) -> Result<(), CommandFault<'static>>
     ensures { result ≡ judged (faults_of_two captures.now writing) tt }
 {
     judge_ports(captures)?;
@@ -162,20 +166,21 @@ fn judge_two(
 fn judge_one(
     captures: &Captures<'_, AnyAddress>,
     writing: Writing<AnyAddress>,
-) -> Result<(), Fault<'static>>
-    ensures { result ≡ judged (writer_faults writing ++ router_faults Side.A captures.now) tt }
+) -> Result<(), CommandFault<'static>>
+    ensures { result
+        ≡ judged (writer_faults writing ++ router_faults RouterSide.A captures.now) tt }
 {
     judge_writer(writing)?;
-    judge_router(Side::A, captures)
+    judge_router(RouterSide::A, captures)
 }
 
 /// Checks the routers and the writer of a task.
-pub(crate) fn judge(task: &Task<'_, AnyAddress>) -> Result<(), Fault<'static>>
+pub(crate) fn judge(task: &Task<'_, AnyAddress>) -> Result<(), CommandFault<'static>>
     ensures { result ≡ judged (setting_faults task.now) tt }
 {
     match task {
         Task::Check { .. } | Task::Build { .. } => Ok(()),
-        Task::Replay(captures) | Task::Trace(captures, _) => judge_router(Side::A, captures),
+        Task::Replay(captures) | Task::Trace(captures, _) => judge_router(RouterSide::A, captures),
         Task::Same(captures, writing) | Task::Change(captures, writing) => {
             judge_two(captures, *writing)
         }

@@ -2,10 +2,10 @@
 
 ghost use Rattle.std.specs.Prelude.{◌≡◌, true, map};
 ghost use Rattle.std.specs.List.{list_any};
-ghost use Rattle.pim_words.specs.Labels.{is_named, has_name, is_fresh};
+ghost use Rattle.pim_words.specs.Labels.{is_name_of, has_name, is_fresh};
 ghost use Rattle.pim_words.specs.Labels.{IsLabelOf};
 
-use crate::task::Kind;
+use crate::task::CommandKind;
 use pim_lines::is_port_name;
 
 /// A word that is cut into its name and the rest.
@@ -19,14 +19,14 @@ pub(crate) struct Label<'a> {
 
 /// Cuts a word of a trace at its first `=`, if that comes before its first `@`. Other words have no
 /// names.
-pub(crate) fn label_of<'a>(kind: Kind, word: &'a str) -> Label<'a>
+pub(crate) fn label_of<'a>(kind: CommandKind, word: &'a str) -> Label<'a>
     ensures { IsLabelOf kind word.now result.name result.text.now }
 {
     let whole = Label {
         name: None,
         text: word,
     };
-    let Kind::Trace = kind else {
+    let CommandKind::Trace = kind else {
         return whole;
     };
     let Some((name, text)) = word.split_once('=') else {
@@ -42,8 +42,8 @@ pub(crate) fn label_of<'a>(kind: Kind, word: &'a str) -> Label<'a>
 }
 
 /// Whether a port has this name.
-fn is_named(name: &str, port: Option<&str>) -> bool
-    ensures { result ≡ is_named name.now port.entry }
+fn is_name_of(name: &str, port: Option<&str>) -> bool
+    ensures { result ≡ is_name_of name.now port.entry }
 {
     match port {
         Some(other) => other == name,
@@ -56,7 +56,7 @@ fn has_name(names: &[Option<&str>], name: &str) -> bool
     ensures { result ≡ has_name names.now name.now }
 {
     for &port in names {
-        if is_named(name, port) {
+        if is_name_of(name, port) {
             return true;
         }
     }

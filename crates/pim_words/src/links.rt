@@ -7,13 +7,13 @@ ghost use Rattle.pim_words.specs.Links.{ArePicks, IsFirstWrongPick, AreLinks, Is
 ghost use Rattle.pim_words.specs.Links.{link_at, word_count, input_name, IsNoInput};
 ghost use Rattle.pim_words.specs.Links.{AreChosenLinks, AreWrongChoices};
 ghost use Rattle.pim_words.specs.Seen.{OrMemory, with_link, with_links};
-ghost use Rattle.pim_words.specs.declared.fault.Fault.TheVariants.{Memory};
+ghost use Rattle.pim_words.specs.declared.fault.CommandFault.TheVariants.{Memory};
 
-use crate::fault::Fault;
+use crate::fault::CommandFault;
 use crate::given::{option_or, values_of};
 use crate::more::count_ports;
 use crate::picks::{Part, Pick, chosen_for, read_picks};
-use crate::task::{Kind, Link, Port};
+use crate::task::{CommandKind, LinkWord, Port};
 use clap::ArgMatches;
 use pim_lines::AnyAddress;
 use std::alloc::Global;
@@ -36,7 +36,7 @@ fn read_part<'a>(
     is_any: bool,
     name: &str,
     options: &ArgMatches<'a>,
-) -> Result<Vec<Pick>, Fault<'a>>
+) -> Result<Vec<Pick>, CommandFault<'a>>
     ensures { MatchResult result
         (λ picks. ArePicks part is_any (word_count is_any (rows_of (found_of options.now)))
         (values_of name.now (rows_of (found_of options.now))) picks.items)
@@ -49,7 +49,11 @@ fn read_part<'a>(
 }
 
 /// The links that the words pick, where any container is read or not.
-fn read_links<'a>(alloc: Global, is_any: bool, options: &ArgMatches<'a>) -> Result<Links, Fault<'a>>
+fn read_links<'a>(
+    alloc: Global,
+    is_any: bool,
+    options: &ArgMatches<'a>,
+) -> Result<Links, CommandFault<'a>>
     ensures { MatchResult result (AreLinks is_any (rows_of (found_of options.now)))
         (OrMemory (IsWrongLinks is_any (rows_of (found_of options.now)))) }
 {
@@ -63,7 +67,7 @@ fn read_links<'a>(alloc: Global, is_any: bool, options: &ArgMatches<'a>) -> Resu
 }
 
 /// Whether the input of this name is any container. `None` for any other text.
-fn input_named(text: &str) -> Option<bool>
+fn read_input(text: &str) -> Option<bool>
     ensures { MatchOption result (IsNoInput text.now) (λ is_any. text.now ≡ input_name is_any) }
 {
     match text {
@@ -77,30 +81,30 @@ fn input_named(text: &str) -> Option<bool>
 /// command does.
 pub(crate) fn read_chosen_links<'a>(
     alloc: Global,
-    kind: Kind,
+    kind: CommandKind,
     options: &ArgMatches<'a>,
-) -> Result<Links, Fault<'a>>
+) -> Result<Links, CommandFault<'a>>
     ensures { MatchResult result (AreChosenLinks kind (rows_of (found_of options.now)))
         (OrMemory (AreWrongChoices kind (rows_of (found_of options.now)))) }
 {
-    if let Kind::Trace = kind {
+    if let CommandKind::Trace = kind {
         return read_links(alloc, true, options);
     }
     let text = option_or(options, "input", "classic");
-    let Some(is_any) = input_named(text) else {
-        return Err(Fault::Word(text));
+    let Some(is_any) = read_input(text) else {
+        return Err(CommandFault::Word(text));
     };
     read_links(alloc, is_any, options)
 }
 
 /// The link of the port of this number, if any container is read.
-fn link_at(links: &Links, number: usize) -> Option<Link>
+fn link_at(links: &Links, number: usize) -> Option<LinkWord>
     ensures { result ≡ link_at links.now number }
 {
     if !links.is_any {
         return None;
     }
-    Some(Link {
+    Some(LinkWord {
         vlan: chosen_for(&links.vlans, number).vlan,
         interface: chosen_for(&links.interfaces, number).interface,
     })
@@ -124,14 +128,14 @@ pub(crate) fn linked<'a>(
     alloc: Global,
     links: &Links,
     ports: &[Port<'a, AnyAddress>],
-) -> Result<Vec<Port<'a, AnyAddress>>, Fault<'static>>
+) -> Result<Vec<Port<'a, AnyAddress>>, CommandFault<'static>>
     ensures { MatchResult result (λ made. made.items ≡ with_links links.now 0 ports.now)
         (λ fault. fault ≡ Memory) }
 {
     let mut made = Vec::new(alloc);
     for (number, port) in ports.iter().enumerate() {
         if made.push(with_link(links, number, *port)).is_err() {
-            return Err(Fault::Memory);
+            return Err(CommandFault::Memory);
         }
     }
     Ok(made)

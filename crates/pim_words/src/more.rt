@@ -5,7 +5,7 @@
 ghost use Rattle.std.specs.Prelude.{◌≡◌, ◌<◌, MatchResult, count_by, not};
 ghost use Rattle.pim_words.specs.Ports.{is_more, IsMore, IsWrongMore};
 
-use crate::fault::Fault;
+use crate::fault::CommandFault;
 use crate::task::More;
 
 /// The most further files of a command.
@@ -27,15 +27,19 @@ pub(crate) fn count_ports(is_any: bool, words: &[&str]) -> usize
 
 /// The further file that a word names, after words for this many ports and further files. Or the
 /// fault of the word.
-pub(crate) fn read_more<'a>(ports: usize, more: usize, word: &'a str) -> Result<More<'a>, Fault<'a>>
+pub(crate) fn read_more<'a>(
+    ports: usize,
+    more: usize,
+    word: &'a str,
+) -> Result<More<'a>, CommandFault<'a>>
     ensures { MatchResult result (λ m. IsMore ports word.now m × (more < 4096))
         (IsWrongMore ports more word.now) }
 {
     let Some(file) = word.strip_prefix("+") else {
-        return Err(Fault::Word(word));
+        return Err(CommandFault::Word(word));
     };
     if file.is_empty() || ports == 0 || MOST_MORE <= more {
-        return Err(Fault::Word(word));
+        return Err(CommandFault::Word(word));
     }
     Ok(More {
         port: ports - 1,

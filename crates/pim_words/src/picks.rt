@@ -12,9 +12,9 @@ ghost use Rattle.pim_words.specs.Links.{is_same_port, pick_for, chosen_for};
 ghost use Rattle.pim_words.specs.Links.{IsPick, IsNoPick, ArePicks, IsFirstWrongPick};
 ghost use Rattle.pim_words.specs.Seen.{OrMemory};
 
-use crate::fault::Fault;
+use crate::fault::CommandFault;
 use crate::given::number_between;
-use crate::task::Link;
+use crate::task::LinkWord;
 use pim_capture::{InterfaceChoice, InterfaceName, Vlan};
 use std::alloc::Global;
 
@@ -42,11 +42,11 @@ pub(crate) struct Pick {
     /// The number of the port. `None` stands for all ports that have no pick of their own.
     pub port: Option<usize>,
     /// The link, of which only the part of the option is chosen.
-    pub link: Link,
+    pub link: LinkWord,
 }
 
 /// The number of the port that a text spells, if it is one of `count` ports.
-fn port_named(count: usize, text: &str) -> Option<usize>
+fn read_port_number(count: usize, text: &str) -> Option<usize>
     ensures { MatchOption result (IsNoPortNumber count text.now) (IsPortNumber count text.now) }
 {
     match number_between(text, 0, count as u64) {
@@ -65,7 +65,7 @@ pub(crate) fn target_of<'a>(count: usize, value: &'a str) -> Option<Target<'a>>
             text: value,
         });
     };
-    match port_named(count, port) {
+    match read_port_number(count, port) {
         Some(port) => Some(Target {
             port: Some(port),
             text,
@@ -75,7 +75,7 @@ pub(crate) fn target_of<'a>(count: usize, value: &'a str) -> Option<Target<'a>>
 }
 
 /// The VLAN that a text names: `N`, `N.M`, or `0` for frames without a tag.
-fn vlan_named(text: &str) -> Option<Vlan>
+fn read_vlan(text: &str) -> Option<Vlan>
     ensures { MatchOption result (IsNoVlan text.now) (IsVlanText text.now) }
 {
     let Some((outer, inner)) = text.split_once('.') else {
@@ -100,7 +100,7 @@ fn vlan_named(text: &str) -> Option<Vlan>
 }
 
 /// The interface that a text names: by its name, or by its number.
-fn interface_named(text: &str) -> Option<InterfaceChoice>
+fn read_interface(text: &str) -> Option<InterfaceChoice>
     ensures { MatchOption result (IsNoInterface text.now) (IsInterfaceText text.now) }
 {
     if let Some(name) = InterfaceName::of(text.as_bytes()) {
@@ -113,19 +113,19 @@ fn interface_named(text: &str) -> Option<InterfaceChoice>
 }
 
 /// The link of which a text names this part.
-fn link_named(part: Part, text: &str) -> Option<Link>
+fn read_link(part: Part, text: &str) -> Option<LinkWord>
     ensures { MatchOption result (IsNoLink part text.now) (IsLinkText part text.now) }
 {
     match part {
-        Part::Vlan => match vlan_named(text) {
-            Some(vlan) => Some(Link {
+        Part::Vlan => match read_vlan(text) {
+            Some(vlan) => Some(LinkWord {
                 vlan: Some(vlan),
                 interface: None,
             }),
             None => None,
         },
-        Part::Interface => match interface_named(text) {
-            Some(interface) => Some(Link {
+        Part::Interface => match read_interface(text) {
+            Some(interface) => Some(LinkWord {
                 vlan: None,
                 interface: Some(interface),
             }),
@@ -146,7 +146,7 @@ fn is_same_port(one: Option<usize>, other: Option<usize>) -> bool
 }
 
 /// The link that one of these picks has for just this port.
-fn pick_for(picks: &[Pick], port: Option<usize>) -> Option<Link>
+fn pick_for(picks: &[Pick], port: Option<usize>) -> Option<LinkWord>
     ensures { result ≡ pick_for port picks.now }
 {
     for pick in picks {
@@ -158,7 +158,7 @@ fn pick_for(picks: &[Pick], port: Option<usize>) -> Option<Link>
 }
 
 /// The link that these picks choose for the port of this number.
-pub(crate) fn chosen_for(picks: &[Pick], number: usize) -> Link
+pub(crate) fn chosen_for(picks: &[Pick], number: usize) -> LinkWord
     ensures { result ≡ chosen_for number picks.now }
 {
     if let Some(link) = pick_for(picks, Some(number)) {
@@ -166,7 +166,7 @@ pub(crate) fn chosen_for(picks: &[Pick], number: usize) -> Link
     }
     match pick_for(picks, None) {
         Some(link) => link,
-        None => Link {
+        None => LinkWord {
             vlan: None,
             interface: None,
         },
@@ -188,7 +188,7 @@ fn read_pick(part: Part, is_any: bool, count: usize, earlier: &[Pick], value: &s
     if pick_for(earlier, target.port).is_some() {
         return None;
     }
-    match link_named(part, target.text) {
+    match read_link(part, target.text) {
         Some(link) => Some(Pick {
             port: target.port,
             link,
@@ -205,7 +205,7 @@ pub(crate) fn read_picks<'a>(
     is_any: bool,
     count: usize,
     values: &[&'a str],
-) -> Result<Vec<Pick>, Fault<'a>>
+) -> Result<Vec<Pick>, CommandFault<'a>>
     ensures { MatchResult result
         (λ picks. ArePicks part is_any count (map (λ v. v.now) values.now) picks.items)
         (OrMemory (IsFirstWrongPick part is_any count [] (map (λ v. v.now) values.now))) }
@@ -213,10 +213,10 @@ pub(crate) fn read_picks<'a>(
     let mut picks = Vec::new(alloc);
     for value in values {
         let Some(pick) = read_pick(part, is_any, count, &picks, value) else {
-            return Err(Fault::Word(value));
+            return Err(CommandFault::Word(value));
         };
         if picks.push(pick).is_err() {
-            return Err(Fault::Memory);
+            return Err(CommandFault::Memory);
         }
     }
     Ok(picks)

@@ -12,18 +12,18 @@ ghost use Rattle.clap.specs.Words.{app_of, kind_of};
 ghost use Rattle.pim_addr.specs.declared.family.AddressFamily.TheVariants.{Ipv4};
 ghost use Rattle.pim_words.specs.CommandLine.{pimtree};
 ghost use Rattle.pim_words.specs.Faults.{are_in};
-ghost use Rattle.pim_words.specs.Given.{AsksForTask, kind_name};
+ghost use Rattle.pim_words.specs.Given.{IsNameOfTask, kind_name};
 ghost use Rattle.pim_words.specs.Plan.{IsPlanOfTask, IsWrongTask, IsPlanOf, IsWrongOf, Plans};
 ghost use Rattle.pim_words.specs.Plan.{IsFaultless, IsFirstFault, HasCause};
 ghost use Rattle.pim_words.specs.Plan.{IsPlanInRange};
 ghost use Rattle.pim_words.specs.Seen.{HasNumbers, IsGiven, IsOffered};
 
 use crate::commands::command;
-use crate::fault::{Fault, refusal_fault};
+use crate::fault::{CommandFault, refusal_fault};
 use crate::inputs::{STANDARD_INPUT, names_input_twice};
 use crate::judging::judge;
 use crate::reading::read_task;
-use crate::task::{Kind, Plan, Task};
+use crate::task::{CommandKind, CommandPlan, Task};
 use crate::typed::task_in_family;
 use clap::error::ErrorKind;
 use clap::{ArgMatches, Command, Error};
@@ -52,30 +52,33 @@ fn matches_of<'a, S: AsStr>(whole: Command<'a>, words: &'a [S]) -> Result<ArgMat
 }
 
 /// The command of this name, if it asks for a task.
-fn kind_named(name: &str) -> Option<Kind>
-    ensures { MatchOption result (AsksForTask name.now → ⊥) (λ kind. name.now ≡ kind_name kind) }
+fn read_kind(name: &str) -> Option<CommandKind>
+    ensures { MatchOption result (IsNameOfTask name.now → ⊥) (λ kind. name.now ≡ kind_name kind) }
 {
     match name {
-        "check" => Some(Kind::Check),
-        "build" => Some(Kind::Build),
-        "replay" => Some(Kind::Replay),
-        "trace" => Some(Kind::Trace),
-        "same" => Some(Kind::Same),
-        "mirror" => Some(Kind::Mirror),
-        "emit" => Some(Kind::Emit),
-        "change" => Some(Kind::Change),
+        "check" => Some(CommandKind::Check),
+        "build" => Some(CommandKind::Build),
+        "replay" => Some(CommandKind::Replay),
+        "trace" => Some(CommandKind::Trace),
+        "same" => Some(CommandKind::Same),
+        "mirror" => Some(CommandKind::Mirror),
+        "emit" => Some(CommandKind::Emit),
+        "change" => Some(CommandKind::Change),
         _ => None,
     }
 }
 
 /// The plan of a task whose addresses aren't all IPv4, or its first fault.
-fn plan_v6<'a>(alloc: Global, task: &Task<'a, AnyAddress>) -> Result<Plan<'a>, Fault<'a>>
+fn plan_v6<'a>(
+    alloc: Global,
+    task: &Task<'a, AnyAddress>,
+) -> Result<CommandPlan<'a>, CommandFault<'a>>
     requires { are_in Ipv4 task.now ≡ false }
     ensures { MatchResult result (IsFaultless task.now) (IsFirstFault task.now) }
 {
     match task_in_family::<V6>(alloc, task) {
         Ok(typed) => match judge(task) {
-            Ok(()) => Ok(Plan::V6(typed)),
+            Ok(()) => Ok(CommandPlan::V6(typed)),
             Err(fault) => Err(fault),
         },
         Err(fault) => Err(fault),
@@ -83,31 +86,41 @@ fn plan_v6<'a>(alloc: Global, task: &Task<'a, AnyAddress>) -> Result<Plan<'a>, F
 }
 
 /// The plan of a task, or its first fault.
-fn plan_typed<'a>(alloc: Global, task: &Task<'a, AnyAddress>) -> Result<Plan<'a>, Fault<'a>>
+fn plan_typed<'a>(
+    alloc: Global,
+    task: &Task<'a, AnyAddress>,
+) -> Result<CommandPlan<'a>, CommandFault<'a>>
     ensures { MatchResult result (IsFaultless task.now) (IsFirstFault task.now) }
 {
     match task_in_family::<V4>(alloc, task) {
         Ok(typed) => match judge(task) {
-            Ok(()) => Ok(Plan::V4(typed)),
+            Ok(()) => Ok(CommandPlan::V4(typed)),
             Err(fault) => Err(fault),
         },
-        Err(Fault::Family) => plan_v6(alloc, task),
+        Err(CommandFault::Family) => plan_v6(alloc, task),
         Err(fault) => Err(fault),
     }
 }
 
 /// The plan of a task that reads standard input at most once, or its first fault.
-fn plan_task<'a>(alloc: Global, task: &Task<'a, AnyAddress>) -> Result<Plan<'a>, Fault<'a>>
+fn plan_task<'a>(
+    alloc: Global,
+    task: &Task<'a, AnyAddress>,
+) -> Result<CommandPlan<'a>, CommandFault<'a>>
     ensures { MatchResult result (IsPlanOfTask task.now) (IsWrongTask task.now) }
 {
     if names_input_twice(task) {
-        return Err(Fault::Word(STANDARD_INPUT));
+        return Err(CommandFault::Word(STANDARD_INPUT));
     }
     plan_typed(alloc, task)
 }
 
 /// The plan of a command that asks for a task.
-fn plan_kind<'a>(alloc: Global, kind: Kind, options: &ArgMatches<'a>) -> Result<Plan<'a>, Fault<'a>>
+fn plan_kind<'a>(
+    alloc: Global,
+    kind: CommandKind,
+    options: &ArgMatches<'a>,
+) -> Result<CommandPlan<'a>, CommandFault<'a>>
     requires { HasNumbers (rows_of (found_of options.now)) }
     ensures { MatchResult result (IsPlanOf (kind_name kind, rows_of (found_of options.now)))
         (IsWrongOf (kind_name kind, rows_of (found_of options.now))) }
@@ -117,7 +130,10 @@ fn plan_kind<'a>(alloc: Global, kind: Kind, options: &ArgMatches<'a>) -> Result<
 }
 
 /// The plan of the command that `clap` found.
-fn plan_met<'a>(alloc: Global, matches: &ArgMatches<'a>) -> Result<Plan<'a>, Fault<'a>>
+fn plan_met<'a>(
+    alloc: Global,
+    matches: &ArgMatches<'a>,
+) -> Result<CommandPlan<'a>, CommandFault<'a>>
     requires { IsSomeAnd (subcommand_rows_of matches.now) IsGiven }
     ensures { MatchResult result
         (λ plan. IsSomeAnd (subcommand_rows_of matches.now) (λ met. IsPlanOf met plan))
@@ -127,9 +143,9 @@ fn plan_met<'a>(alloc: Global, matches: &ArgMatches<'a>) -> Result<Plan<'a>, Fau
         unreachable!()
     };
     if name == "session" {
-        return Ok(Plan::Session);
+        return Ok(CommandPlan::Session);
     }
-    let Some(kind) = kind_named(name) else {
+    let Some(kind) = read_kind(name) else {
         unreachable!()
     };
     plan_kind(alloc, kind, options)
@@ -140,7 +156,7 @@ fn plan_by<'a, S: AsStr>(
     alloc: Global,
     whole: Command<'a>,
     words: &'a [S],
-) -> Result<Plan<'a>, Fault<'a>>
+) -> Result<CommandPlan<'a>, CommandFault<'a>>
     requires offered { IsOffered (app_of whole) }
     requires local { (out-Command whole).has_globals ≡ false }
     ensures { MatchResult result (Plans (app_of whole.entry) (map S.text words.entry.now))
@@ -171,13 +187,16 @@ fn plan_by<'a, S: AsStr>(
 /// - `NoPort` of router a, then of b, in a command with two routers.
 /// - `WriterAddress`.
 /// - `Config` of router a, then of b: `Ports`, `Address`, `Rp`.
-pub fn plan<'a, S: AsStr>(alloc: Global, words: &'a [S]) -> Result<Plan<'a>, Fault<'a>>
+pub fn plan<'a, S: AsStr>(
+    alloc: Global,
+    words: &'a [S],
+) -> Result<CommandPlan<'a>, CommandFault<'a>>
     ensures plan { MatchResult result (Plans pimtree (map S.text words.entry.now))
         (HasCause pimtree (map S.text words.entry.now)) }
     ensures range { IfOk result IsPlanInRange }
 {
     let Ok(whole) = command(alloc) else {
-        return Err(Fault::Memory);
+        return Err(CommandFault::Memory);
     };
     plan_by(alloc, whole, words)
 }

@@ -8,38 +8,38 @@ ghost use Rattle.std.specs.Prelude.{option_map};
 ghost use Rattle.clap.specs.Words.{rows_of, found_of};
 ghost use Rattle.pim_lines.specs.AnyAddress.{Names};
 ghost use Rattle.pim_words.specs.Ends.{are_both_given, time_text, IsTimed, IsEarly, IsUntimed};
-ghost use Rattle.pim_words.specs.declared.fault.Fault.TheVariants.{TwoEnds};
+ghost use Rattle.pim_words.specs.declared.fault.CommandFault.TheVariants.{TwoEnds};
 ghost use Rattle.pim_words.specs.Given.{address_texts, has_writer, required};
-ghost use Rattle.pim_words.specs.Reading.{IsNamed, IsUnreadValue, IsFirstUnread};
+ghost use Rattle.pim_words.specs.Reading.{ReadsAddressOption, IsUnreadValue, IsFirstUnread};
 ghost use Rattle.pim_words.specs.Reading.{ArePorts, AreWrongPorts, IsRun, AreCaptures};
 ghost use Rattle.pim_words.specs.Reading.{IsWriting, IsTask, IsUnreadable, IsWrongRun};
 ghost use Rattle.pim_words.specs.Seen.{OrMemory, AreEnds, AreWritten, HasNumbers};
 ghost use Rattle.pim_words.specs.Shown.{IsUnreadText};
 
-use crate::fault::Fault;
+use crate::fault::CommandFault;
 use crate::given::{is_flag, number_of, option_of, option_or, values_of};
 use crate::links::{linked, read_chosen_links};
-use crate::named::{Labelled, read_labelled};
+use crate::port_word::{Labelled, read_labelled};
 use crate::shown::read_shown;
-use crate::task::{Captures, Kind, More, Port, Task, Tracing, Writing};
+use crate::task::{Captures, CommandKind, More, Port, Task, Tracing, Writing};
 use clap::ArgMatches;
 use pim_lines::{AnyAddress, read_any_address};
 use pim_time::{Time, read_time};
 use std::alloc::Global;
 
 /// The address that is the value of an option.
-pub(crate) fn read_option<'a>(text: &'a str) -> Result<AnyAddress, Fault<'a>>
+pub(crate) fn read_option<'a>(text: &'a str) -> Result<AnyAddress, CommandFault<'a>>
     ensures { MatchResult result (Names text.now) (IsUnreadText text.now) }
 {
     match read_any_address(text) {
         Some(address) => Ok(address),
-        None => Err(Fault::Address(text)),
+        None => Err(CommandFault::Address(text)),
     }
 }
 
 /// The address that is the value of an option, if it is given.
-fn read_given<'a>(text: Option<&'a str>) -> Result<Option<AnyAddress>, Fault<'a>>
-    ensures { MatchResult result (IsNamed (option_map (λ s. s.now) text.entry))
+fn read_given<'a>(text: Option<&'a str>) -> Result<Option<AnyAddress>, CommandFault<'a>>
+    ensures { MatchResult result (ReadsAddressOption (option_map (λ s. s.now) text.entry))
         (IsUnreadValue (option_map (λ s. s.now) text.entry)) }
 {
     let Some(text) = text else {
@@ -49,7 +49,7 @@ fn read_given<'a>(text: Option<&'a str>) -> Result<Option<AnyAddress>, Fault<'a>
 }
 
 /// The time that is the value of an option, if it is given.
-pub(crate) fn read_at<'a>(text: Option<&'a str>) -> Result<Option<Time>, Fault<'a>>
+pub(crate) fn read_at<'a>(text: Option<&'a str>) -> Result<Option<Time>, CommandFault<'a>>
     ensures read { MatchResult result (IsTimed (option_map (λ s. s.now) text.entry))
         (IsUntimed (option_map (λ s. s.now) text.entry)) }
     ensures early { IfOk result IsEarly }
@@ -59,7 +59,7 @@ pub(crate) fn read_at<'a>(text: Option<&'a str>) -> Result<Option<Time>, Fault<'
     };
     match read_time(text) {
         Some(time) => Ok(Some(time)),
-        None => Err(Fault::Word(text)),
+        None => Err(CommandFault::Word(text)),
     }
 }
 
@@ -71,12 +71,12 @@ fn are_both_given(options: &ArgMatches<'_>) -> bool
 }
 
 /// Checks that the run of a command has one end.
-fn judge_end(options: &ArgMatches<'_>) -> Result<(), Fault<'static>>
+fn judge_end(options: &ArgMatches<'_>) -> Result<(), CommandFault<'static>>
     ensures { MatchResult result (λ done. are_both_given (rows_of (found_of options.now)) ≡ false)
         (λ fault. (fault ≡ TwoEnds) × (are_both_given (rows_of (found_of options.now)) ≡ true)) }
 {
     if are_both_given(options) {
-        return Err(Fault::TwoEnds);
+        return Err(CommandFault::TwoEnds);
     }
     Ok(())
 }
@@ -84,9 +84,9 @@ fn judge_end(options: &ArgMatches<'_>) -> Result<(), Fault<'static>>
 /// The ports that the words of a command name, with their names, links and further files.
 fn read_linked<'a>(
     alloc: Global,
-    kind: Kind,
+    kind: CommandKind,
     options: &ArgMatches<'a>,
-) -> Result<Labelled<'a>, Fault<'a>>
+) -> Result<Labelled<'a>, CommandFault<'a>>
     ensures { MatchResult result
         (λ labelled. ArePorts kind (rows_of (found_of options.now)) labelled.ports.items
         labelled.more.items labelled.names.items)
@@ -136,15 +136,15 @@ fn captures_of<'a>(
 /// The ports and the options of the run of a command with this RP.
 fn read_captures<'a>(
     alloc: Global,
-    kind: Kind,
+    kind: CommandKind,
     rp: Option<AnyAddress>,
     options: &ArgMatches<'a>,
-) -> Result<Captures<'a, AnyAddress>, Fault<'a>>
+) -> Result<Captures<'a, AnyAddress>, CommandFault<'a>>
     requires numbers { HasNumbers (rows_of (found_of options.now)) }
     requires one_end { are_both_given (rows_of (found_of options.now)) ≡ false }
     ensures rp { IfOk result (λ captures. captures.rp ≡ rp) }
     ensures captures { IfOk result (AreCaptures kind (rows_of (found_of options.now))) }
-    ensures told { IfErr result (OrMemory (IsWrongRun kind (rows_of (found_of options.now)))) }
+    ensures reported { IfErr result (OrMemory (IsWrongRun kind (rows_of (found_of options.now)))) }
 {
     let at = read_at(option_of(options, "at"))?;
     let labelled = read_linked(alloc, kind, options)?;
@@ -153,7 +153,7 @@ fn read_captures<'a>(
 
 /// The addresses of a command on one message.
 #[derive(Clone, Copy)]
-struct Ends {
+struct AddressEnds {
     /// The source address.
     src: AnyAddress,
     /// The destination address.
@@ -161,27 +161,27 @@ struct Ends {
 }
 
 /// The addresses of a command on one message, or the fault of the first that can't be read.
-fn read_ends<'a>(options: &ArgMatches<'a>) -> Result<Ends, Fault<'a>>
+fn read_ends<'a>(options: &ArgMatches<'a>) -> Result<AddressEnds, CommandFault<'a>>
     ensures { MatchResult result (AreEnds (rows_of (found_of options.now)))
-        (IsFirstUnread (address_texts Kind.Check (rows_of (found_of options.now)))) }
+        (IsFirstUnread (address_texts CommandKind.Check (rows_of (found_of options.now)))) }
 {
     let src = read_option(option_or(options, "src", "0.0.0.0"))?;
     let dst = read_option(option_or(options, "dst", "224.0.0.13"))?;
-    Ok(Ends { src, dst })
+    Ok(AddressEnds { src, dst })
 }
 
 /// The task of `replay`.
 fn read_replay<'a>(
     alloc: Global,
     options: &ArgMatches<'a>,
-) -> Result<Task<'a, AnyAddress>, Fault<'a>>
+) -> Result<Task<'a, AnyAddress>, CommandFault<'a>>
     requires { HasNumbers (rows_of (found_of options.now)) }
-    ensures { MatchResult result (IsTask Kind.Replay (rows_of (found_of options.now)))
-        (IsUnreadable Kind.Replay (rows_of (found_of options.now))) }
+    ensures { MatchResult result (IsTask CommandKind.Replay (rows_of (found_of options.now)))
+        (IsUnreadable CommandKind.Replay (rows_of (found_of options.now))) }
 {
     judge_end(options)?;
     let rp = read_given(option_of(options, "rp"))?;
-    let captures = read_captures(alloc, Kind::Replay, rp, options)?;
+    let captures = read_captures(alloc, CommandKind::Replay, rp, options)?;
     Ok(Task::Replay(captures))
 }
 
@@ -189,16 +189,16 @@ fn read_replay<'a>(
 fn read_trace<'a>(
     alloc: Global,
     options: &ArgMatches<'a>,
-) -> Result<Task<'a, AnyAddress>, Fault<'a>>
+) -> Result<Task<'a, AnyAddress>, CommandFault<'a>>
     requires { HasNumbers (rows_of (found_of options.now)) }
-    ensures { MatchResult result (IsTask Kind.Trace (rows_of (found_of options.now)))
-        (IsUnreadable Kind.Trace (rows_of (found_of options.now))) }
+    ensures { MatchResult result (IsTask CommandKind.Trace (rows_of (found_of options.now)))
+        (IsUnreadable CommandKind.Trace (rows_of (found_of options.now))) }
 {
     judge_end(options)?;
     let rp = read_given(option_of(options, "rp"))?;
     let end = read_at(option_of(options, "at"))?;
     let shown = read_shown(alloc, options)?;
-    let labelled = read_linked(alloc, Kind::Trace, options)?;
+    let labelled = read_linked(alloc, CommandKind::Trace, options)?;
     let captures = captures_of(rp, end, labelled.ports, labelled.more, options);
     let tracing = Tracing {
         from: shown.from,
@@ -214,7 +214,7 @@ fn read_trace<'a>(
 
 /// The addresses of a command that writes messages.
 #[derive(Clone, Copy)]
-struct Addresses {
+struct AddressList {
     /// The RP.
     rp: AnyAddress,
     /// The upstream neighbour.
@@ -224,18 +224,18 @@ struct Addresses {
 }
 
 /// The addresses of a command that writes messages, or the fault of the first that can't be read.
-fn read_addresses<'a>(options: &ArgMatches<'a>) -> Result<Addresses, Fault<'a>>
+fn read_addresses<'a>(options: &ArgMatches<'a>) -> Result<AddressList, CommandFault<'a>>
     ensures { MatchResult result (AreWritten (rows_of (found_of options.now)))
-        (IsFirstUnread (address_texts Kind.Same (rows_of (found_of options.now)))) }
+        (IsFirstUnread (address_texts CommandKind.Same (rows_of (found_of options.now)))) }
 {
     let rp = read_option(option_or(options, "rp", ""))?;
     let upstream = read_option(option_or(options, "upstream", ""))?;
     let own = read_option(option_or(options, "own", ""))?;
-    Ok(Addresses { rp, upstream, own })
+    Ok(AddressList { rp, upstream, own })
 }
 
 /// The writer of a command with these addresses.
-fn read_writing(addresses: Addresses, options: &ArgMatches<'_>) -> Writing<AnyAddress>
+fn read_writing(addresses: AddressList, options: &ArgMatches<'_>) -> Writing<AnyAddress>
     requires addresses { AreWritten (rows_of (found_of options.now)) addresses }
     requires numbers { HasNumbers (rows_of (found_of options.now)) }
     ensures { IsWriting (rows_of (found_of options.now)) result }
@@ -253,9 +253,9 @@ fn read_writing(addresses: Addresses, options: &ArgMatches<'_>) -> Writing<AnyAd
 /// The task of a command that has a writer.
 fn read_written<'a>(
     alloc: Global,
-    kind: Kind,
+    kind: CommandKind,
     options: &ArgMatches<'a>,
-) -> Result<Task<'a, AnyAddress>, Fault<'a>>
+) -> Result<Task<'a, AnyAddress>, CommandFault<'a>>
     requires writer { has_writer kind ≡ true }
     requires numbers { HasNumbers (rows_of (found_of options.now)) }
     ensures { MatchResult result (IsTask kind (rows_of (found_of options.now)))
@@ -266,10 +266,10 @@ fn read_written<'a>(
     let captures = read_captures(alloc, kind, Some(addresses.rp), options)?;
     let writing = read_writing(addresses, options);
     match kind {
-        Kind::Same => Ok(Task::Same(captures, writing)),
-        Kind::Mirror => Ok(Task::Mirror(captures, writing)),
-        Kind::Emit => Ok(Task::Emit(captures, writing)),
-        Kind::Change => Ok(Task::Change(captures, writing)),
+        CommandKind::Same => Ok(Task::Same(captures, writing)),
+        CommandKind::Mirror => Ok(Task::Mirror(captures, writing)),
+        CommandKind::Emit => Ok(Task::Emit(captures, writing)),
+        CommandKind::Change => Ok(Task::Change(captures, writing)),
         _ => unreachable!(),
     }
 }
@@ -277,24 +277,25 @@ fn read_written<'a>(
 /// The task of a command, or the fault of the first text that can't be read.
 pub(crate) fn read_task<'a>(
     alloc: Global,
-    kind: Kind,
+    kind: CommandKind,
     options: &ArgMatches<'a>,
-) -> Result<Task<'a, AnyAddress>, Fault<'a>>
+) -> Result<Task<'a, AnyAddress>, CommandFault<'a>>
     requires { HasNumbers (rows_of (found_of options.now)) }
     ensures { MatchResult result (IsTask kind (rows_of (found_of options.now)))
         (IsUnreadable kind (rows_of (found_of options.now))) }
 {
     match kind {
-        Kind::Check => {
-            let Ends { src, dst } = read_ends(options)?;
+        CommandKind::Check => {
+            let AddressEnds { src, dst } = read_ends(options)?;
             Ok(Task::Check { src, dst })
         }
-        Kind::Build => {
-            let Ends { src, dst } = read_ends(options)?;
+        CommandKind::Build => {
+            let AddressEnds { src, dst } = read_ends(options)?;
             Ok(Task::Build { src, dst })
         }
-        Kind::Replay => read_replay(alloc, options),
-        Kind::Trace => read_trace(alloc, options),
-        Kind::Same | Kind::Mirror | Kind::Emit | Kind::Change => read_written(alloc, kind, options),
+        CommandKind::Replay => read_replay(alloc, options),
+        CommandKind::Trace => read_trace(alloc, options),
+        CommandKind::Same | CommandKind::Mirror | CommandKind::Emit | CommandKind::Change =>
+            read_written(alloc, kind, options),
     }
 }

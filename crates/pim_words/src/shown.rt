@@ -9,13 +9,12 @@ ghost use Rattle.pim_words.specs.Given.{values_of};
 ghost use Rattle.pim_words.specs.Shown.{form_name, IsFormless, AreShownAddresses, IsWrongChoice};
 ghost use Rattle.pim_words.specs.Shown.{IsShown, IsWrongShown};
 
-use crate::fault::Fault;
+use crate::fault::CommandFault;
 use crate::given::{option_of, option_or, values_of};
 use crate::reading::{read_at, read_option};
-use crate::task::TimeForm;
 use clap::ArgMatches;
 use pim_lines::AnyAddress;
-use pim_time::Time;
+use pim_time::{Time, TimeForm};
 use std::alloc::Global;
 
 /// The most groups and the most sources that a trace may show by name.
@@ -23,7 +22,7 @@ const MOST_SHOWN: usize = 64;
 
 /// What a trace shows.
 #[derive(Drop)]
-pub(crate) struct Shown {
+pub(crate) struct ShownEvents {
     /// The time before which nothing is shown, if one is given.
     pub from: Option<Time>,
     /// The groups that are shown.
@@ -35,7 +34,7 @@ pub(crate) struct Shown {
 }
 
 /// The form of moments that a text names. `None` for any other text.
-fn form_named(text: &str) -> Option<TimeForm>
+fn read_form(text: &str) -> Option<TimeForm>
     ensures { MatchOption result (IsFormless text.now) (λ form. text.now ≡ form_name form) }
 {
     match text {
@@ -52,7 +51,7 @@ fn read_choice<'a>(
     alloc: Global,
     options: &ArgMatches<'a>,
     name: &str,
-) -> Result<Vec<AnyAddress>, Fault<'a>>
+) -> Result<Vec<AnyAddress>, CommandFault<'a>>
     ensures { MatchResult result
         (λ addresses. AreShownAddresses (values_of name.now (rows_of (found_of options.now)))
         addresses.items)
@@ -62,18 +61,21 @@ fn read_choice<'a>(
     let texts = values_of(options, name);
     for text in texts {
         if addresses.len() == MOST_SHOWN {
-            return Err(Fault::Word(text));
+            return Err(CommandFault::Word(text));
         }
         let address = read_option(text)?;
         if addresses.push(address).is_err() {
-            return Err(Fault::Memory);
+            return Err(CommandFault::Memory);
         }
     }
     Ok(addresses)
 }
 
 /// What a trace shows, or the fault of the first value that is wrong.
-pub(crate) fn read_shown<'a>(alloc: Global, options: &ArgMatches<'a>) -> Result<Shown, Fault<'a>>
+pub(crate) fn read_shown<'a>(
+    alloc: Global,
+    options: &ArgMatches<'a>,
+) -> Result<ShownEvents, CommandFault<'a>>
     ensures { MatchResult result (IsShown (rows_of (found_of options.now)))
         (OrMemory (IsWrongShown (rows_of (found_of options.now)))) }
 {
@@ -81,10 +83,10 @@ pub(crate) fn read_shown<'a>(alloc: Global, options: &ArgMatches<'a>) -> Result<
     let groups = read_choice(alloc, options, "group")?;
     let sources = read_choice(alloc, options, "source")?;
     let text = option_or(options, "time", "ms");
-    let Some(form) = form_named(text) else {
-        return Err(Fault::Word(text));
+    let Some(form) = read_form(text) else {
+        return Err(CommandFault::Word(text));
     };
-    Ok(Shown {
+    Ok(ShownEvents {
         from,
         groups,
         sources,

@@ -1,15 +1,14 @@
 //! What a command asks for.
 //!
-//! `Plan` is apart from `plan`, since two names of a module can't differ by case alone. The ranges
-//! below are those of a plan.
+//! The ranges below are those of a plan.
 
-use crate::fault::Side;
+use crate::fault::RouterSide;
 use pim_capture::{InterfaceChoice, Vlan};
-use pim_time::Time;
+use pim_time::{Time, TimeForm};
 
 /// The link of a port, in a capture of any container: the packets that are taken are of it.
 #[derive(Clone, Copy, Debug, PartialEq, Eq)]
-pub struct Link {
+pub struct LinkWord {
     /// The VLAN. `None` is each, as long as all packets have one.
     pub vlan: Option<Vlan>,
     /// The interface, by its name or its number. `None` is each, as long as all packets have one.
@@ -19,8 +18,8 @@ pub struct Link {
 /// A port of a router, which a word of the command line names.
 #[derive(Clone, Copy, Debug, PartialEq, Eq)]
 pub struct Port<'a, A> {
-    /// The router of the port: `Side::A` if the command has one router.
-    pub side: Side,
+    /// The router of the port: `RouterSide::A` if the command has one router.
+    pub side: RouterSide,
     /// The router's address on the port.
     pub address: A,
     /// The name of the file with the capture of the port.
@@ -28,7 +27,7 @@ pub struct Port<'a, A> {
     /// The whole word.
     pub word: &'a str,
     /// The port's link, if its file is read as any container. `None` reads a classic capture.
-    pub link: Option<Link>,
+    pub link: Option<LinkWord>,
 }
 
 /// A further file of a port: its capture goes on in it.
@@ -73,17 +72,6 @@ pub struct Writing<A> {
     pub holdtime: u16,
     /// The most bytes of a message: 70 to 65,000.
     pub budget: usize,
-}
-
-/// How the moments of a trace are written as text.
-#[derive(Clone, Copy, Debug, PartialEq, Eq)]
-pub enum TimeForm {
-    /// `ms`: milliseconds since the first record.
-    Ms,
-    /// `epoch`: seconds since 1970.
-    Epoch,
-    /// `utc`: a UTC date.
-    Utc,
 }
 
 /// What a trace shows of its events, and how.
@@ -139,7 +127,7 @@ pub enum Task<'a, A> {
 
 /// A session, or a task whose addresses are all of one family.
 #[derive(Debug, Drop)]
-pub enum Plan<'a> {
+pub enum CommandPlan<'a> {
     /// All addresses are IPv4.
     V4(Task<'a, [u8; 4]>),
     /// All addresses are IPv6.
@@ -150,7 +138,7 @@ pub enum Plan<'a> {
 
 /// The commands that ask for a task: all but `session`.
 #[derive(Clone, Copy, Debug, PartialEq, Eq)]
-pub enum Kind {
+pub enum CommandKind {
     /// `check`
     Check,
     /// `build`

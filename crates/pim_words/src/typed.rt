@@ -4,7 +4,7 @@
 ghost use Rattle.std.specs.Prelude.{◌≡◌, MatchResult, true, map, option_map};
 ghost use Rattle.std.specs.List.{list_all};
 ghost use Rattle.std.specs.Option.{option_map_or};
-ghost use Rattle.pim_words.specs.declared.fault.Fault.TheVariants.{Memory};
+ghost use Rattle.pim_words.specs.declared.fault.CommandFault.TheVariants.{Memory};
 ghost use Rattle.pim_words.specs.Faults.{are_captures_in, is_tracing_in, is_writing_in};
 ghost use Rattle.pim_lines.specs.AnyAddress.{is_in, address_in};
 ghost use Rattle.pim_words.specs.Faults.{are_in};
@@ -12,26 +12,26 @@ ghost use Rattle.pim_words.specs.Typed.{port_seen, SameCaptures, SameTracing};
 ghost use Rattle.pim_words.specs.Typed.{SameWriting, SameTask};
 ghost use Rattle.pim_words.specs.Seen.{IsForeign};
 
-use crate::fault::Fault;
+use crate::fault::CommandFault;
 use crate::task::{Captures, Port, Task, Tracing, Writing};
 use pim_addr::Family;
 use pim_lines::{AnyAddress, of_family};
 use std::alloc::Global;
 
 /// The address, if it is of this family.
-fn in_family<F: Family>(address: AnyAddress) -> Result<F::Addr, Fault<'static>>
+fn in_family<F: Family>(address: AnyAddress) -> Result<F::Addr, CommandFault<'static>>
     ensures { MatchResult result
         (λ a. (is_in F.family address ≡ true) × (address_in F.family (F.bytes_of a) ≡ address))
         (IsForeign (is_in F.family address)) }
 {
     match of_family::<F>(address) {
         Some(address) => Ok(address),
-        None => Err(Fault::Family),
+        None => Err(CommandFault::Family),
     }
 }
 
 /// The RP, if it is of this family or isn't given.
-fn rp_in_family<F: Family>(rp: Option<AnyAddress>) -> Result<Option<F::Addr>, Fault<'static>>
+fn rp_in_family<F: Family>(rp: Option<AnyAddress>) -> Result<Option<F::Addr>, CommandFault<'static>>
     ensures { MatchResult result
         (λ r. (option_map_or (is_in F.family) rp true ≡ true)
         × (option_map (λ a. address_in F.family (F.bytes_of a)) r ≡ rp))
@@ -46,7 +46,7 @@ fn rp_in_family<F: Family>(rp: Option<AnyAddress>) -> Result<Option<F::Addr>, Fa
 /// The port, if its address is of this family.
 fn port_in_family<'a, F: Family>(
     port: &Port<'a, AnyAddress>,
-) -> Result<Port<'a, F::Addr>, Fault<'static>>
+) -> Result<Port<'a, F::Addr>, CommandFault<'static>>
     ensures { MatchResult result
         (λ p. (is_in F.family port.now.address ≡ true)
         × (port_seen F.family F.bytes_of p ≡ port.now))
@@ -66,7 +66,7 @@ fn port_in_family<'a, F: Family>(
 fn ports_in_family<'a, F: Family>(
     alloc: Global,
     ports: &[Port<'a, AnyAddress>],
-) -> Result<Vec<Port<'a, F::Addr>>, Fault<'static>>
+) -> Result<Vec<Port<'a, F::Addr>>, CommandFault<'static>>
     ensures { MatchResult result
         (λ typed. (list_all (λ port. is_in F.family port.address) ports.now ≡ true)
         × (map (port_seen F.family F.bytes_of) typed.items ≡ ports.now))
@@ -76,20 +76,20 @@ fn ports_in_family<'a, F: Family>(
     for port in ports {
         let port = port_in_family::<F>(port)?;
         if typed.push(port).is_err() {
-            return Err(Fault::Memory);
+            return Err(CommandFault::Memory);
         }
     }
     Ok(typed)
 }
 
 /// A copy of these values.
-fn copied<T: Copy>(alloc: Global, values: &[T]) -> Result<Vec<T>, Fault<'static>>
+fn copied<T: Copy>(alloc: Global, values: &[T]) -> Result<Vec<T>, CommandFault<'static>>
     ensures { MatchResult result (λ copied. copied.items ≡ values.now) (λ fault. fault ≡ Memory) }
 {
     let mut copied = Vec::new(alloc);
     match copied.extend_from_slice(values) {
         Ok(()) => Ok(copied),
-        Err(_) => Err(Fault::Memory),
+        Err(_) => Err(CommandFault::Memory),
     }
 }
 
@@ -97,7 +97,7 @@ fn copied<T: Copy>(alloc: Global, values: &[T]) -> Result<Vec<T>, Fault<'static>
 fn captures_in_family<'a, F: Family>(
     alloc: Global,
     captures: &Captures<'a, AnyAddress>,
-) -> Result<Captures<'a, F::Addr>, Fault<'static>>
+) -> Result<Captures<'a, F::Addr>, CommandFault<'static>>
     ensures { MatchResult result
         (λ typed. (are_captures_in F.family captures.now ≡ true)
         × SameCaptures F.family F.bytes_of typed captures.now)
@@ -121,7 +121,7 @@ fn captures_in_family<'a, F: Family>(
 fn all_in_family<F: Family>(
     alloc: Global,
     addresses: &[AnyAddress],
-) -> Result<Vec<F::Addr>, Fault<'static>>
+) -> Result<Vec<F::Addr>, CommandFault<'static>>
     ensures { MatchResult result
         (λ typed. (list_all (is_in F.family) addresses.now ≡ true)
         × (map (λ a. address_in F.family (F.bytes_of a)) typed.items ≡ addresses.now))
@@ -131,7 +131,7 @@ fn all_in_family<F: Family>(
     for address in addresses {
         let address = in_family::<F>(*address)?;
         if typed.push(address).is_err() {
-            return Err(Fault::Memory);
+            return Err(CommandFault::Memory);
         }
     }
     Ok(typed)
@@ -141,7 +141,7 @@ fn all_in_family<F: Family>(
 fn tracing_in_family<'a, F: Family>(
     alloc: Global,
     tracing: &Tracing<'a, AnyAddress>,
-) -> Result<Tracing<'a, F::Addr>, Fault<'static>>
+) -> Result<Tracing<'a, F::Addr>, CommandFault<'static>>
     ensures { MatchResult result
         (λ typed. (is_tracing_in F.family tracing.now ≡ true)
         × SameTracing F.family F.bytes_of typed tracing.now)
@@ -164,7 +164,7 @@ fn tracing_in_family<'a, F: Family>(
 /// The writer, if both its addresses are of this family.
 fn writing_in_family<F: Family>(
     writing: Writing<AnyAddress>,
-) -> Result<Writing<F::Addr>, Fault<'static>>
+) -> Result<Writing<F::Addr>, CommandFault<'static>>
     ensures { MatchResult result
         (λ typed. (is_writing_in F.family writing ≡ true)
         × SameWriting F.family F.bytes_of typed writing)
@@ -184,7 +184,7 @@ fn writing_in_family<F: Family>(
 pub(crate) fn task_in_family<'a, F: Family>(
     alloc: Global,
     task: &Task<'a, AnyAddress>,
-) -> Result<Task<'a, F::Addr>, Fault<'static>>
+) -> Result<Task<'a, F::Addr>, CommandFault<'static>>
     ensures { MatchResult result
         (λ typed. (are_in F.family task.now ≡ true) × SameTask F.family F.bytes_of typed task.now)
         (IsForeign (are_in F.family task.now)) }

@@ -7,7 +7,7 @@ use pim_cases::{Case, MOST_READ, Runner, files_of};
 use pim_commands::{Fault, report_fault};
 use pim_files::{HeldFile, HeldFiles};
 use pim_main::{WithInput, run_on_devices, run_session, task_reads_any};
-use pim_words::{Plan, STANDARD_INPUT, Task, plan};
+use pim_words::{CommandPlan, STANDARD_INPUT, Task, plan};
 use std::alloc::Global;
 
 /// Does the task of a case over these files. Where any container is read, standard input is one
@@ -42,9 +42,9 @@ fn answer<'c>(
         return Err(Fault::Memory);
     };
     match &plan {
-        Plan::V4(task) => answer_task::<V4>(alloc, &files, case, task, output, errors),
-        Plan::V6(task) => answer_task::<V6>(alloc, &files, case, task, output, errors),
-        Plan::Session => run_session(alloc, case.input.reader(), output),
+        CommandPlan::V4(task) => answer_task::<V4>(alloc, &files, case, task, output, errors),
+        CommandPlan::V6(task) => answer_task::<V6>(alloc, &files, case, task, output, errors),
+        CommandPlan::Session => run_session(alloc, case.input.reader(), output),
     }
 }
 

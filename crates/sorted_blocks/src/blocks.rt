@@ -1,7 +1,8 @@
 //! The list with its public calls.
 
 ghost use Rattle.std.specs.Prelude.{◌≡◌, ◌+◌, ◌-◌, ◌*◌, ◌<◌, ◌≤◌, [], length, take, drop};
-ghost use Rattle.std.specs.Prelude.{slice_index_or, OnOk, IsOk, IsTrue, ◌↔◌, IfSome, IfNone, IsSome};
+ghost use Rattle.std.specs.Prelude.{slice_index_or, OnOk, IsOk, IsTrue, ◌↔◌, IfSome, IfNone};
+ghost use Rattle.std.specs.Prelude.{IsSome};
 ghost use Rattle.std.specs.List.{All, insert, remove};
 ghost use Rattle.sorted_blocks.specs.Shape.{items, capacity, cut, spliced, Shape};
 ghost use Rattle.sorted_blocks.specs.Places.{before, rest_of, IsPlace, IsItem, HasRoom};

@@ -10,7 +10,8 @@ ghost use Rattle.sorted_slab.specs.Listed.{at, numbers, IsPlace, IsItem, IsFound
 use crate::probe::ByNumber;
 use crate::walk::Walk;
 use slab::Slab;
-use sorted_blocks::{Blocks, Place, Probe, item_has_a_place, place_is_within};
+use sorted_blocks::laws::{item_has_a_place, place_is_within};
+use sorted_blocks::{Blocks, Place, Probe};
 use std::alloc::{AllocError, Global};
 use std::marker::Model;
 

@@ -92,7 +92,8 @@ fn end_next<F: Family>(
     last: Option<F::Addr>,
 )
     requires ascending { IsAscending (records_seen F.bytes_of records.old.items) }
-    requires ended { (other : F.Addr) → last ≡ Some other → records_seen F.bytes_of records.old.items
+    requires ended { (other : F.Addr) → last ≡ Some other
+        → records_seen F.bytes_of records.old.items
         ≡ filter (λ held. not (is_over_in port (F.bytes_of other) held))
         (records_seen F.bytes_of records.old.items) }
     ensures { records_seen F.bytes_of records.new.items

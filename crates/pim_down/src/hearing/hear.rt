@@ -145,7 +145,8 @@ pub(crate) fn join_rpts<F: Family>(
 )
     requires { IsAscending (records_seen F.bytes_of records.old.items) }
     ensures records { records_seen F.bytes_of records.new.items
-        ≡ each_changed (on_rpts port (F.bytes_of group)) (records_seen F.bytes_of records.old.items) }
+        ≡ each_changed (on_rpts port (F.bytes_of group))
+        (records_seen F.bytes_of records.old.items) }
     ensures capacity { records.new.capacity ≡ records.old.capacity }
 {
     let mut place = records.first_behind(Place::START, &RptsOf::<F> { port, group });

@@ -2,7 +2,7 @@
 
 ghost use Rattle.std.specs.Prelude.{◌≡◌, ◌≤◌, ◌<◌, ◌+◌, map, length, slice_index_or, Some};
 ghost use Rattle.pim_down.specs.Words.{IsAscending, changed, each_changed, act, act_all, on_rpts};
-ghost use Rattle.pim_down.specs.Words.{StayButNamed, IsLast, HasRoom, rpt_key, on_star_join};
+ghost use Rattle.pim_down.specs.Words.{StayButListed, IsLast, HasRoom, rpt_key, on_star_join};
 ghost use Rattle.pim_down.specs.Words.{start_seen, records_seen, event_seen};
 
 use crate::hearing::hear::{act_on_own, is_star_join, join_rpts};
@@ -55,7 +55,7 @@ fn join_rpt<F: Family>(
 
 /// Applies Join(*,G) to the (S,G,rpt) machines of its group. It changes only machines that these
 /// events name.
-fn join_named<F: Family>(
+fn join_entries<F: Family>(
     records: &mut Store<F::Addr, OfFamily<F>>,
     near: &mut Place,
     port: usize,
@@ -63,10 +63,11 @@ fn join_named<F: Family>(
     named: &[Event<F::Addr>],
 )
     requires ascending { IsAscending (records_seen F.bytes_of records.old.items) }
-    requires stay { StayButNamed port (F.bytes_of group) (map (event_seen F.bytes_of) named.now)
+    requires stay { StayButListed port (F.bytes_of group) (map (event_seen F.bytes_of) named.now)
         (records_seen F.bytes_of records.old.items) }
     ensures records { records_seen F.bytes_of records.new.items
-        ≡ each_changed (on_rpts port (F.bytes_of group)) (records_seen F.bytes_of records.old.items) }
+        ≡ each_changed (on_rpts port (F.bytes_of group))
+        (records_seen F.bytes_of records.old.items) }
     ensures capacity { records.new.capacity ≡ records.old.capacity }
 {
     for event in named {
@@ -90,14 +91,15 @@ fn join_listed<F: Family>(
 )
     requires ascending { IsAscending (records_seen F.bytes_of records.old.items) }
     requires stay { (other : F.Addr) → last ≡ Some other →
-        StayButNamed port (F.bytes_of other) (map (event_seen F.bytes_of) since.now)
+        StayButListed port (F.bytes_of other) (map (event_seen F.bytes_of) since.now)
         (records_seen F.bytes_of records.old.items) }
     ensures records { records_seen F.bytes_of records.new.items
-        ≡ each_changed (on_rpts port (F.bytes_of group)) (records_seen F.bytes_of records.old.items) }
+        ≡ each_changed (on_rpts port (F.bytes_of group))
+        (records_seen F.bytes_of records.old.items) }
     ensures capacity { records.new.capacity ≡ records.old.capacity }
 {
     match last {
-        Some(other) if other == group => join_named::<F>(records, near, port, group, since),
+        Some(other) if other == group => join_entries::<F>(records, near, port, group, since),
         _ => join_rpts::<F>(records, port, group),
     }
 }

@@ -46,7 +46,8 @@ fn is_new<F: Family>(
 ) -> bool
     requires { IsAscending (records_seen F.bytes_of records.now.items) }
     ensures { result
-        ≡ is_new port (records_seen F.bytes_of records.now.items) (event_seen F.bytes_of event.now) }
+        ≡ is_new port (records_seen F.bytes_of records.now.items)
+        (event_seen F.bytes_of event.now) }
 {
     let key = Key {
         port,

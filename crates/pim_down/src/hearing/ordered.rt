@@ -28,7 +28,8 @@ use std::cmp::Ordering;
 #[tactic(auto, unfolding(crate::specs::Key::key_cmp))]
 fn compare_events<F: Family>(a: &Event<F::Addr>, b: &Event<F::Addr>) -> Ordering
     ensures { result
-        ≡ key_cmp (key_of 0 (event_seen F.bytes_of a.now)) (key_of 0 (event_seen F.bytes_of b.now)) }
+        ≡ key_cmp (key_of 0 (event_seen F.bytes_of a.now))
+        (key_of 0 (event_seen F.bytes_of b.now)) }
 {
     let by_group = compare_addresses::<F>(a.group, b.group);
     if by_group.is_ne() {

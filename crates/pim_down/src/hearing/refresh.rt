@@ -19,7 +19,8 @@ use crate::machines::machine::State;
 use crate::records::store::Store;
 use pim_addr::Family;
 use pim_jp::{Entries, Entry};
-use sorted_blocks::{Place, item_has_a_place};
+use sorted_blocks::Place;
+use sorted_blocks::laws::item_has_a_place;
 
 /// Whether the key is of the (S,G) machine of this source and group on the port.
 fn is_source_of<F: Family>(key: &Key<F::Addr>, port: usize, group: F::Addr, source: F::Addr) -> bool

@@ -2,7 +2,7 @@
 
 ghost use Rattle.std.specs.Prelude.{◌≡◌, option_map};
 ghost use Rattle.pim_down.specs.Words.{next_machine, left_behind, IsAscending, key_seen};
-ghost use Rattle.pim_down.specs.Words.{records_seen, shown, told_seen};
+ghost use Rattle.pim_down.specs.Words.{records_seen, shown, record_of_seen};
 
 use crate::machines::key::{Key, OfFamily};
 use crate::machines::machine::Record;
@@ -72,7 +72,7 @@ impl<'a, F: Family> GroupMachines<'a, F> {
     // Inlined, so that a caller who reads only a part of the record doesn't build the rest.
     #[inline(always)]
     pub fn next_machine(&mut self) -> Option<Record<F::Addr>>
-        ensures told { option_map (told_seen F.bytes_of) result ≡ next_machine self.old }
+        ensures reported { option_map (record_of_seen F.bytes_of) result ≡ next_machine self.old }
         ensures left { self.new ≡ left_behind self.old (next_machine self.old) }
     {
         if !self.records.is_item(self.place) {

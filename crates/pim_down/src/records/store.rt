@@ -17,7 +17,8 @@ use crate::machines::key::{KeyOrder, What};
 use crate::records::bound::{Bound, Side};
 use crate::records::deadline::Deadline;
 use crate::records::schedule::Schedule;
-use sorted_blocks::{Place, Probe, item_has_a_place};
+use sorted_blocks::laws::item_has_a_place;
+use sorted_blocks::{Place, Probe};
 use sorted_slab::{SortedSlab, Walk};
 use std::alloc::{AllocError, Global};
 use std::fmt;
@@ -232,8 +233,11 @@ impl<A: Copy, O: KeyOrder<A>> Store<A, O> {
     pub(crate) fn set_machine(&mut self, place: Place, machine: Timed)
         requires { IsItem self.old place }
         ensures items { (d : Held A) → self.new.items ≡ slice_set self.old.items (at self.old place)
-            (record
-            { key = (slice_index_or self.old.items (at self.old place) d).key; machine = machine }) }
+            (record {
+              key = (slice_index_or self.old.items (at self.old place) d).key;
+              machine =
+                  machine;
+            }) }
         ensures places { (p : Place) → IsItem self.old p → IsItem self.new p }
         ensures at { (p : Place) → at self.new p ≡ at self.old p }
         ensures capacity { self.new.capacity ≡ self.old.capacity }

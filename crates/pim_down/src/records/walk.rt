@@ -4,7 +4,8 @@
 ghost use Rattle.std.specs.Prelude.{◌≡◌, ◌<◌, ℕ, List};
 ghost use Rattle.pim_down.specs.Words.{filter, YieldsFirstBy, item_count};
 ghost use Rattle.pim_down.specs.Words.{IsAscending, is_on, count_on, machine_after, record_after};
-ghost use Rattle.pim_down.specs.Words.{timed_seen, record_seen, told_seen, records_seen, shown};
+ghost use Rattle.pim_down.specs.Words.{timed_seen, record_seen, record_of_seen, records_seen};
+ghost use Rattle.pim_down.specs.Words.{shown};
 
 use crate::machines::held::{Held, Timed};
 use crate::machines::key::{Key, OfFamily};
@@ -41,7 +42,7 @@ pub(crate) fn machine_after(machine: &Timed, now: u64) -> Machine
 
 /// The record at this moment, with countdowns.
 pub(crate) fn record_after<A: Copy>(held: &Held<A>, now: u64) -> Record<A>
-    ensures { (bytes_of : A → List ℕ) → told_seen bytes_of result
+    ensures { (bytes_of : A → List ℕ) → record_of_seen bytes_of result
         ≡ record_after now (record_seen bytes_of held.now) }
 {
     Record {
@@ -125,7 +126,7 @@ impl<'a, F: Family> Records<'a, F> {
 impl<'a, F: Family> Iterator for Records<'a, F> {
     type Item = Record<F::Addr>;
 
-    ghost next_gives = { YieldsFirstBy (told_seen F.bytes_of) (λ records. records) };
+    ghost next_gives = { YieldsFirstBy (record_of_seen F.bytes_of) (λ records. records) };
 
     ghost remaining = { item_count (λ records. records) };
 

@@ -140,7 +140,8 @@ fn fire_pending<F: Family>(
     now: u64,
 ) -> (Firing<F::Addr>, Place)
     requires { IsItem records.old place }
-    ensures told { (d : Held F.Addr) → firing_seen F.bytes_of result.0 ≡ ppt_fires (record_after now
+    ensures reported { (d : Held F.Addr) → firing_seen F.bytes_of result.0
+        ≡ ppt_fires (record_after now
         (record_seen F.bytes_of (slice_index_or records.old.items (at records.old place) d))) }
     ensures left { (d : Held F.Addr) → records_seen F.bytes_of records.new.items
         ≡ take (at records.old place) (records_seen F.bytes_of records.old.items)
@@ -162,7 +163,8 @@ fn fire_expiry<F: Family>(
     now: u64,
 ) -> (Firing<F::Addr>, Place)
     requires { IsItem records.old place }
-    ensures told { (d : Held F.Addr) → firing_seen F.bytes_of result.0 ≡ et_fires (record_after now
+    ensures reported { (d : Held F.Addr) → firing_seen F.bytes_of result.0
+        ≡ et_fires (record_after now
         (record_seen F.bytes_of (slice_index_or records.old.items (at records.old place) d))) }
     ensures left { records.new.items ≡ remove records.old.items (at records.old place) }
 {

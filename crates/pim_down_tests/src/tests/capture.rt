@@ -83,7 +83,7 @@ fn v6(millis: u64, payload_end: usize) -> Event {
 /// Whether the next answer is this event.
 fn tells(capture: &mut Capture<ScriptedFeed<'_>>, buffer: &mut Vec<u8>, event: &Event) -> bool {
     match capture.next(buffer) {
-        Ok(told) => told == *event,
+        Ok(reported) => reported == *event,
         Err(_) => false,
     }
 }
@@ -97,8 +97,8 @@ fn ends(
     let later = fault.map(|_| CaptureFault::Failed);
     for fault in [fault, later, later] {
         let is_so = match capture.next(buffer) {
-            Ok(told) => fault.is_none() && told == Event::End,
-            Err(told) => Some(told) == fault,
+            Ok(reported) => fault.is_none() && reported == Event::End,
+            Err(reported) => Some(reported) == fault,
         };
         if !is_so {
             return false;

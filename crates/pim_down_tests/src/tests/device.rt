@@ -61,8 +61,8 @@ fn counted_passes_bytes_on(rt: HostRuntime) {
 fn counts_reads() -> bool {
     let mut feed = Counted::new(Broken);
     for failures in 1..4 {
-        let told = feed.read(&mut [0; 4]);
-        if told != Err(Failed) || feed.failures() != failures {
+        let reported = feed.read(&mut [0; 4]);
+        if reported != Err(Failed) || feed.failures() != failures {
             return false;
         }
     }
@@ -73,8 +73,8 @@ fn counts_reads() -> bool {
 fn counts_writes() -> bool {
     let mut drain = Counted::new(Stuck);
     for failures in 1..4 {
-        let told = write_all(&mut drain, b"some");
-        if told != Err(Failed) || drain.failures() != failures {
+        let reported = write_all(&mut drain, b"some");
+        if reported != Err(Failed) || drain.failures() != failures {
             return false;
         }
     }

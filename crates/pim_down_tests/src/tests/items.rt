@@ -5,7 +5,7 @@ ghost use Rattle.std.specs.Prelude.{◌≡◌, ◌+◌, min, None};
 ghost use Rattle.pim_device.specs.Device.{top_count};
 
 use pim_device::{Drain, Failed, ScriptedDrain, ScriptedFeed};
-use pim_items::{Answers, Item, Items, Stopped, TextItem};
+use pim_request::{Answers, InputItems, Item, Stopped, TextItem};
 use std::alloc::{AllocError, Global};
 use std::test::Fail;
 
@@ -65,7 +65,11 @@ fn show_pieces(out: &mut Vec<u8>, pieces: &[&[u8]]) -> Result<(), AllocError> {
 }
 
 /// Writes an item as the rows have it.
-fn show(out: &mut Vec<u8>, items: &Items<ScriptedFeed<'_>>, item: Item) -> Result<(), AllocError> {
+fn show(
+    out: &mut Vec<u8>,
+    items: &InputItems<ScriptedFeed<'_>>,
+    item: Item,
+) -> Result<(), AllocError> {
     match item {
         Item::Line => {
             out.push(b'L')?;
@@ -81,7 +85,7 @@ fn show(out: &mut Vec<u8>, items: &Items<ScriptedFeed<'_>>, item: Item) -> Resul
 /// Writes up to 30 items of a device, and `I` or `O` where it stops.
 fn show_all<W: Answers>(
     out: &mut Vec<u8>,
-    items: &mut Items<ScriptedFeed<'_>>,
+    items: &mut InputItems<ScriptedFeed<'_>>,
     answers: &mut W,
 ) -> Result<(), AllocError> {
     for _ in 0..30 {
@@ -97,7 +101,7 @@ fn show_all<W: Answers>(
 
 /// Whether a device that gives at most so many bytes a read has these items.
 fn has(alloc: Global, feed: ScriptedFeed<'_>, wanted: &[u8]) -> bool {
-    let Ok(mut items) = Items::new(alloc, feed) else {
+    let Ok(mut items) = InputItems::new(alloc, feed) else {
         return false;
     };
     let mut answers = ScriptedDrain::new(alloc, NEVER, NEVER);
@@ -160,7 +164,7 @@ impl Answers for Stuck {
 #[test]
 fn answers_are_passed_on_before_a_read(rt: HostRuntime) -> Result<(), Fail> {
     let alloc = rt.alloc();
-    let mut items = Items::new(alloc, ScriptedFeed::new(b"now", NEVER, NEVER))?;
+    let mut items = InputItems::new(alloc, ScriptedFeed::new(b"now", NEVER, NEVER))?;
     let mut answers = Stuck { failures: 0 };
     assert_eq!(rt; items.next(&mut answers), Err(Stopped::Output));
     assert_eq!(rt; answers.failures, 1);

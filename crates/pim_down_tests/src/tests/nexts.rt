@@ -94,21 +94,21 @@ fn is_told_near(
     ports: &Ports<V4>,
     (port, group, what): (usize, [u8; 4], What<[u8; 4]>),
     near: Near,
-    told: Told,
+    reported: Told,
 ) -> bool {
     let (next, _place) = ports.record_after_near(port, group, what, near);
     let (above, _place) = ports.group_after_near(port, Some(group), near);
     let (state, _place) = ports.state_of_near(port, group, what, near);
-    what_of(next) == told.0 && above == told.1 && state == told.2
+    what_of(next) == reported.0 && above == reported.1 && state == reported.2
 }
 
 /// Whether look-ups near this place tell this: before, at and after records, and on no port.
-fn are_told_near(ports: &Ports<V4>, near: Near, told: [Told; 5]) -> bool {
-    is_told_near(ports, (0, GROUP, What::Star), near, told[0])
-        && is_told_near(ports, (0, LOWER, What::Rpt(SECOND)), near, told[1])
-        && is_told_near(ports, (0, GROUP, What::Source(FIRST)), near, told[2])
-        && is_told_near(ports, (1, GROUP, What::Rpt(FIRST)), near, told[3])
-        && is_told_near(ports, (2, GROUP, What::Star), near, told[4])
+fn are_told_near(ports: &Ports<V4>, near: Near, reported: [Told; 5]) -> bool {
+    is_told_near(ports, (0, GROUP, What::Star), near, reported[0])
+        && is_told_near(ports, (0, LOWER, What::Rpt(SECOND)), near, reported[1])
+        && is_told_near(ports, (0, GROUP, What::Source(FIRST)), near, reported[2])
+        && is_told_near(ports, (1, GROUP, What::Rpt(FIRST)), near, reported[3])
+        && is_told_near(ports, (2, GROUP, What::Star), near, reported[4])
 }
 
 /// The place behind the first source's record on the first port.
@@ -148,10 +148,10 @@ const TOLD: [What<[u8; 4]>; 3] = [What::Source(FIRST), What::Source(SECOND), Wha
 fn are_told(ports: &Ports<V4>, near: Near) -> bool {
     let mut left = ports.machines_after_near(0, GROUP, What::Star, near);
     for what in &TOLD {
-        let Some(told) = left.next_machine() else {
+        let Some(reported) = left.next_machine() else {
             return false;
         };
-        if told.key.what != *what || !are_told_near(ports, left.near(), OF_ALL) {
+        if reported.key.what != *what || !are_told_near(ports, left.near(), OF_ALL) {
             return false;
         }
     }

@@ -145,10 +145,10 @@ fn answer_alike(
 ) -> bool {
     let timing = numbers.timing();
     let port = usize::from(numbers.byte(2));
-    let told = hear_body(ports, routes, port, body, timing);
+    let reported = hear_body(ports, routes, port, body, timing);
     match slow.hear(port, message, holdtime, timing) {
-        Ok(None) => told == Some(Ok(())),
-        Ok(Some(needed)) => told == Some(Err(HearFault::Full { needed })),
+        Ok(None) => reported == Some(Ok(())),
+        Ok(Some(needed)) => reported == Some(Err(HearFault::Full { needed })),
         Err(_) => false,
     }
 }
@@ -208,7 +208,7 @@ fn is_alike(ports: &Ports<V4>, slow: &Slow) -> bool {
 }
 
 /// A record of the slow list, as it is told at this moment.
-fn told(held: &SlowRecord, moment: u64) -> Record<[u8; 4]> {
+fn reported(held: &SlowRecord, moment: u64) -> Record<[u8; 4]> {
     let SlowRecord { key, course } = *held;
     Record {
         key,
@@ -237,7 +237,7 @@ fn pending(course: Course, moment: u64) -> Option<Pending> {
 fn holds_alike(ports: &Ports<V4>, slow: &Slow) -> bool {
     let mut records = ports.records();
     for held in &slow.records {
-        if records.next() != Some(told(held, slow.moment)) {
+        if records.next() != Some(reported(held, slow.moment)) {
             return false;
         }
     }
@@ -272,7 +272,7 @@ fn source_after(
 ) -> Option<Record<[u8; 4]>> {
     for held in &slow.records {
         if is_behind(held.key, port, group, source) {
-            return Some(told(held, slow.moment));
+            return Some(reported(held, slow.moment));
         }
     }
     None

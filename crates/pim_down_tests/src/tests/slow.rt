@@ -342,9 +342,9 @@ impl Slow {
     pub(super) fn run_to(&mut self, moment: u64) -> Option<Step<[u8; 4]>> {
         let moment = moment.max(self.moment);
         for _ in 0..1_000_000u32 {
-            let told = self.turn(moment);
-            if told.is_some() {
-                return told;
+            let reported = self.turn(moment);
+            if reported.is_some() {
+                return reported;
             }
         }
         None

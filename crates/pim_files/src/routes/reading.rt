@@ -64,7 +64,7 @@ fn add_row<F: Family>(
     ensures ok { OnOk result (routes.new
         ≡ with_file_row (file_row_seen F.bytes_of row) routes.old) }
     ensures err { OnErr result (routes.new ≡ routes.old) }
-    ensures told { IsRefusedBy (row_faults F.family (file_row_seen F.bytes_of row) routes.old)
+    ensures reported { IsRefusedBy (row_faults F.family (file_row_seen F.bytes_of row) routes.old)
         result }
 {
     match row {
@@ -81,7 +81,7 @@ fn add_line<F: Family>(
 ) -> Result<(), RoutesFault>
     ensures ok { OnOk result (AddsLine F.family line.now routes.old routes.new) }
     ensures err { OnErr result (routes.new ≡ routes.old) }
-    ensures told { IfErr result (IsLineFault F.family line.now number routes.old) }
+    ensures reported { IfErr result (IsLineFault F.family line.now number routes.old) }
 {
     if is_passed_over(line) {
         return Ok(());
@@ -100,7 +100,7 @@ fn add_line<F: Family>(
 fn add_lines<F: Family>(file: &[u8], routes: &mut Routes<F>) -> Result<(), RoutesFault>
     requires { length file.now ≤ file_limit }
     ensures ok { OnOk result (Adds F.family (lines_of file.now) routes.old routes.new) }
-    ensures told { IfErr result (StopsIn F.family (lines_of file.now) routes.old routes.new) }
+    ensures reported { IfErr result (StopsIn F.family (lines_of file.now) routes.old routes.new) }
 {
     let mut number = 0;
     for line in Lines::new(file) {

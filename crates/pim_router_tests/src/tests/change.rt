@@ -1,7 +1,7 @@
 //! Changes of what is asked of the group 239.1.1.1 while growths are refused. What changes are
 //! told, and how, is in the scenarios of `pimtree_cases`.
 
-mod told;
+mod reported;
 mod units;
 
 use super::state::{GROUP, JOIN_FIRST, RPT_FIRST, RPT_SECOND, STAR, State, hear, state4};
@@ -53,7 +53,7 @@ fn are_as_wanted(
     old: &NormalForm<V4>,
     new: &NormalForm<V4>,
 ) -> Result<bool, AllocError> {
-    Ok(units::are_units_at_last(alloc, old, new)? && told::is_told_at_last(alloc, old, new)?)
+    Ok(units::are_units_at_last(alloc, old, new)? && reported::is_told_at_last(alloc, old, new)?)
 }
 
 /// The same of the change to the new form.

@@ -6,8 +6,8 @@ use pim_capture::Why;
 use pim_down::{Machine, State, Timer, What};
 use pim_event_lines::JsonPrinter;
 use pim_events::{
-    Cause, Ending, Event, Filter, Fired, Greeting, Happening, Ignored, Judgment, OwnRestart, Skip,
-    SkipCounts, Skipping, Teller, TimeOut, Transition,
+    Cause, EndOfTrace, EventWriter, Filter, Fired, Greeting, Happening, Ignored, Judgment,
+    OwnRestart, Skip, SkipCounts, Skipping, TimeOut, TraceEvent, Transition,
 };
 use pim_hello::Heard;
 use pim_jp::JpView;
@@ -31,7 +31,7 @@ fn are_equal(alloc: Global, this: &str, other: &str) -> bool {
 }
 
 /// Whether the JSON line of an event is read as this object.
-fn is_written(alloc: Global, event: &Event<'_, V4>, object: &str) -> bool {
+fn is_written(alloc: Global, event: &TraceEvent<'_, V4>, object: &str) -> bool {
     let names = [Name::number(0), Name::number(1)];
     let filter = Filter {
         all: true,
@@ -44,7 +44,7 @@ fn is_written(alloc: Global, event: &Event<'_, V4>, object: &str) -> bool {
         filter,
     };
     let mut device = ScriptedDrain::new(alloc, 5, usize::MAX);
-    let Ok(()) = printer.tell(&mut device, event) else {
+    let Ok(()) = printer.write_event(&mut device, event) else {
         return false;
     };
     match str::from_utf8(device.written()) {
@@ -55,7 +55,7 @@ fn is_written(alloc: Global, event: &Event<'_, V4>, object: &str) -> bool {
 
 /// Whether what happens on port 1 at 1500 ms is written so.
 fn is_on_port(alloc: Global, what: Happening<'_, V4>, object: &str) -> bool {
-    let event = Event {
+    let event = TraceEvent {
         ms: 1500,
         epoch: Some(1_000_001_500),
         port: Some(1),
@@ -213,11 +213,11 @@ const ENDING: &str =
 
 /// Whether the end of a run without a record is written so.
 fn writes_ending(alloc: Global) -> bool {
-    let event = Event {
+    let event = TraceEvent {
         ms: 90_000,
         epoch: None,
         port: None,
-        what: Happening::Ended(Ending {
+        what: Happening::Ended(EndOfTrace {
             records: 7,
             neighbours: 4,
             skipped: SkipCounts {

@@ -13,7 +13,8 @@ use crate::message::{Spelled, spell};
 use pim_addr::{Family, group_reads_back, source_reads_back};
 use pim_frame::{Body, MessageType, open, seal};
 use pim_hello::{Hello, reads_back};
-use pim_jp::{JpView, canonical_head_is_read};
+use pim_jp::JpView;
+use pim_jp::laws::canonical_head_is_read;
 use std::alloc::{AllocError, Global};
 
 /// Returns the type of a message.
@@ -96,7 +97,8 @@ pub fn build_message<F: Family>(
     requires { length text.now ≤ text_limit }
     ensures built { IfOk result
         (λ m. IsBuilt F.family (F.bytes_of src) (F.bytes_of dst) text.now m.items) }
-    ensures fault { IfErr result (IsBuildFault F.family (F.bytes_of src) (F.bytes_of dst) text.now) }
+    ensures fault { IfErr result
+        (IsBuildFault F.family (F.bytes_of src) (F.bytes_of dst) text.now) }
 {
     reads_back();
     canonical_head_is_read();

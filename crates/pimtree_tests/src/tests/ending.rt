@@ -7,7 +7,7 @@ use pim_addr::{Counted, ScriptedDrain, ScriptedFeed, V4};
 use pim_commands::Fault;
 use pim_files::HeldFiles;
 use pim_main::{Output, run_on_devices};
-use pim_words::{Plan, plan};
+use pim_words::{CommandPlan, plan};
 use std::alloc::Global;
 use std::cell::Cell;
 use std::io::{self, ErrorKind, Write};
@@ -59,14 +59,14 @@ impl Write for Watcher<'_> {
 /// output isn't passed on.
 fn plan_ends(
     alloc: Global,
-    plan: &Plan<'_>,
+    plan: &CommandPlan<'_>,
     taker: Taker<'_>,
     watcher: Watcher<'_>,
     is_written: bool,
 ) -> bool
     requires { IsPlanInRange plan.now }
 {
-    let Plan::V4(task) = plan else {
+    let CommandPlan::V4(task) = plan else {
         return false;
     };
     let Ok(mut output) = Output::new(alloc, taker, false) else {
@@ -184,7 +184,7 @@ const ROWS: [Row; 2] = [
 
 /// Whether these names were noted.
 fn has_noted(files: &HeldFiles<'_>, names: &[&str]) -> bool {
-    match files.asked() {
+    match files.requested() {
         Some(asked) => {
             asked.len() == names.len()
                 && asked
@@ -197,10 +197,10 @@ fn has_noted(files: &HeldFiles<'_>, names: &[&str]) -> bool {
 }
 
 /// Whether a plan over IPv4 asks for the files of these names.
-fn plan_asks_for(alloc: Global, plan: &Plan<'_>, names: &[&str]) -> bool
+fn plan_asks_for(alloc: Global, plan: &CommandPlan<'_>, names: &[&str]) -> bool
     requires { IsPlanInRange plan.now }
 {
-    let Plan::V4(task) = plan else {
+    let CommandPlan::V4(task) = plan else {
         return false;
     };
     let files = all_files();

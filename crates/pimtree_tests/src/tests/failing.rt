@@ -10,11 +10,11 @@ use pim_addr::ScriptedDrain;
 use pim_capture::CaptureFault;
 use pim_commands::Fault;
 use pim_files::HeldFile;
-use pim_words::{Plan, plan};
+use pim_words::{CommandPlan, plan};
 use std::alloc::Global;
 
 /// Whether a device that fails from this byte on took the text up to it, and failed once.
-fn leaves_front(alloc: Global, row: &Row, plan: &Plan<'_>, fails_from: usize) -> bool
+fn leaves_front(alloc: Global, row: &Row, plan: &CommandPlan<'_>, fails_from: usize) -> bool
     requires { IsPlanInRange plan.now }
 {
     let files = all_files();
@@ -26,7 +26,7 @@ fn leaves_front(alloc: Global, row: &Row, plan: &Plan<'_>, fails_from: usize) ->
 }
 
 /// Whether a device that fails only after the text took all of it.
-fn is_taken(alloc: Global, row: &Row, plan: &Plan<'_>) -> bool
+fn is_taken(alloc: Global, row: &Row, plan: &CommandPlan<'_>) -> bool
     requires { IsPlanInRange plan.now }
 {
     let files = all_files();
@@ -38,7 +38,7 @@ fn is_taken(alloc: Global, row: &Row, plan: &Plan<'_>) -> bool
 }
 
 /// Whether devices that fail at each byte of the text took a front of it.
-fn leave_fronts(alloc: Global, row: &Row, plan: &Plan<'_>) -> bool
+fn leave_fronts(alloc: Global, row: &Row, plan: &CommandPlan<'_>) -> bool
     requires { IsPlanInRange plan.now }
 {
     for fails_from in 0..row.text.len() {
@@ -166,7 +166,7 @@ fn ends(
     let mut output = ScriptedDrain::new(alloc, 7, NEVER);
     let end = match answer(alloc, spoilt.words, &files, &mut output) {
         Ok(status) => status == 0 && cause.is_none(),
-        Err(Fault::Capture(told)) => Some(told) == cause,
+        Err(Fault::Capture(reported)) => Some(reported) == cause,
         Err(_) => false,
     };
     end && output.written() == text.as_bytes()

@@ -6,7 +6,7 @@ use pim_capture::{CaptureFault, Vlan};
 use pim_commands::{Fault, report_fault};
 use pim_files::FileCause;
 use pim_lines::AnyAddress;
-use pim_words::{ConfigCause, Fault as Unplanned, Refusal, Side};
+use pim_words::{CommandFault as Unplanned, ConfigCause, Refusal, RouterSide};
 use std::alloc::{AllocError, Global};
 use std::test::Fail;
 
@@ -67,7 +67,7 @@ fn lines_of_faults_stop_at_a_failure(rt: HostRuntime) {
             "pimtree: address 1.2.3\n",
         ),
         (
-            words(Unplanned::NoPort(Side::B)),
+            words(Unplanned::NoPort(RouterSide::B)),
             "pimtree: no port for b\n",
         ),
         (

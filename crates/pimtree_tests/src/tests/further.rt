@@ -1,6 +1,6 @@
 //! The further files of ports in a plan, by words `+FILE`.
 
-use pim_words::{Fault, More, Plan, Task, plan};
+use pim_words::{CommandFault, CommandPlan, More, Task, plan};
 use std::alloc::{AllocError, Global};
 use std::test::Fail;
 
@@ -103,8 +103,8 @@ fn task_has<A>(task: &Task<'_, A>, wanted: &[Wanted]) -> bool {
 /// Whether the words of a row have a plan with its further files.
 fn plan_has(alloc: Global, row: &Row) -> bool {
     match plan(alloc, row.words) {
-        Ok(Plan::V4(task)) => task_has(&task, row.more),
-        Ok(Plan::V6(task)) => task_has(&task, row.more),
+        Ok(CommandPlan::V4(task)) => task_has(&task, row.more),
+        Ok(CommandPlan::V6(task)) => task_has(&task, row.more),
         _ => false,
     }
 }
@@ -133,7 +133,7 @@ fn is_planned(alloc: Global, words: &[&str]) -> bool {
 /// Whether the fault of the words is their last one.
 fn is_refused(alloc: Global, words: &[&str]) -> bool {
     match plan(alloc, words) {
-        Err(Fault::Word(word)) => word == "+b",
+        Err(CommandFault::Word(word)) => word == "+b",
         _ => false,
     }
 }

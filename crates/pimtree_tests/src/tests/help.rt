@@ -1,7 +1,7 @@
 //! How wide the help texts are.
 
 use clap::error::ErrorKind;
-use pim_words::{Fault, plan};
+use pim_words::{CommandFault, plan};
 use std::alloc::Global;
 
 /// The most columns of a line of help.
@@ -27,9 +27,9 @@ fn has_narrow_lines(text: &str) -> bool {
 }
 
 /// Whether a fault is a help text whose lines are narrow enough.
-fn is_narrow_help(fault: &Fault<'_>) -> bool {
+fn is_narrow_help(fault: &CommandFault<'_>) -> bool {
     match fault {
-        Fault::Clap(refusal) => {
+        CommandFault::Clap(refusal) => {
             refusal.kind == ErrorKind::DisplayHelp && has_narrow_lines(&refusal.text)
         }
         _ => false,

@@ -6,7 +6,7 @@ use super::running::{
 };
 use pim_addr::ScriptedDrain;
 use pim_commands::Fault;
-use pim_words::Fault as Unplanned;
+use pim_words::CommandFault as Unplanned;
 use std::alloc::{AllocError, Global};
 use std::process::Abort;
 use std::test::Fail;

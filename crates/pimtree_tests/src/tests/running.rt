@@ -5,7 +5,7 @@ ghost use Rattle.pim_words.specs.Plan.{IsPlanInRange};
 use pim_addr::{ScriptedDrain, ScriptedFeed, V4, V6};
 use pim_commands::{Fault, run_task};
 use pim_files::{HeldFile, HeldFiles};
-use pim_words::{Plan, plan};
+use pim_words::{CommandPlan, plan};
 use std::alloc::Global;
 
 /// Never in reach of a test.
@@ -14,7 +14,7 @@ pub const NEVER: usize = usize::MAX;
 /// Does what a plan asks for, without standard input.
 pub fn run<'a>(
     alloc: Global,
-    plan: &Plan<'a>,
+    plan: &CommandPlan<'a>,
     files: &[HeldFile<'_>],
     output: &mut ScriptedDrain,
 ) -> Result<u8, Fault<'a>>
@@ -24,13 +24,13 @@ pub fn run<'a>(
     let mut input = ScriptedFeed::new(b"", 1, NEVER);
     let mut errors = ScriptedDrain::new(alloc, 1, 0);
     match plan {
-        Plan::V4(task) => {
+        CommandPlan::V4(task) => {
             run_task::<V4, _, _, _, _>(alloc, &mut files, task, &mut input, output, &mut errors)
         }
-        Plan::V6(task) => {
+        CommandPlan::V6(task) => {
             run_task::<V6, _, _, _, _>(alloc, &mut files, task, &mut input, output, &mut errors)
         }
-        Plan::Session => Ok(0),
+        CommandPlan::Session => Ok(0),
     }
 }
 

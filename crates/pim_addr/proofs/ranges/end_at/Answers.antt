@@ -5,7 +5,7 @@ use Rattle.std.proofs.lemmas.List.{length-map}
 use Rattle.std.proofs.lemmas.List.{get_or-map as get_or_of_map}
 use Rattle.pim_addr.specs.Routes.{Row}
 use Rattle.pim_addr.specs.RouteRows.{row_seen, answers_seen, before, answer_of, AreRanges, IsEnd, KeepAnswers}
-use Rattle.pim_addr.proofs.RangeEnds.{told_apart}
+use Rattle.pim_addr.proofs.RangeEnds.{distinct_keys}
 use Rattle.pim_addr.proofs.OneMoreEnd.{before_within, end_there, one_more_range, map_insert}
 use Rattle.pim_addr.proofs.ranges.end_at.Goals as goal
 use Rattle.pim_addr.proofs.ranges.end_at.Goals.{else-place-len-via-then-place-len+else-eq, else-place-len-via-else-place-len}
@@ -59,7 +59,7 @@ one_more g c =
     ∙ ap (λ rs. answer_of ends (answers_seen g.F.Family.bytes_of rs) number) c.deref-3.ensures.value)
     (λ within same. elim c.else-place-len.branch [
       | else-place-len-via-then-place-len+else-eq w ↦
-          told_apart g.F.Family.value_of g.F.Number.PartialEq.eq g.met.F.Family.equality_of_numbers c.args.ends.now.items c.args.number w.index.result.now c.ranges_before-place.result at w.index.ensures
+          distinct_keys g.F.Family.value_of g.F.Number.PartialEq.eq g.met.F.Family.equality_of_numbers c.args.ends.now.items c.args.number w.index.result.now c.ranges_before-place.result at w.index.ensures
           (sym w.eq.ensures ∙ w.if-eq.false) within same
       | else-place-len-via-else-place-len w ↦
           absurd (omega (arith, at, within, w.if-place-len.false, c.len.ensures, length-map c.args.ends.now.items g.F.Family.value_of))

@@ -3,9 +3,9 @@ use Rattle.std.proofs.lemmas.Result.{err_from_is_err_and}
 use Rattle.std.specs.Option.{option_map}
 use Rattle.pim_capture.specs.declared.fault.CaptureFault.TheVariants.{TooLong}
 use Rattle.pim_capture.specs.Frame.{judge_frame}
-use Rattle.pim_capture.specs.Capture.{most_captured, captured_length, millis_of, told_of, records}
+use Rattle.pim_capture.specs.Capture.{most_captured, captured_length, millis_of, event_by, records}
 use Rattle.pim_capture.specs.Parts.{FillsExactly}
-use Rattle.pim_capture.specs.Next.{IsNext, CountsReads, event_seen, length_named, IsNamed}
+use Rattle.pim_capture.specs.Next.{IsNext, CountsReads, event_seen, stated_length, HasLength}
 use Rattle.pim_capture.proofs.Known.{end_known, bound_known, header_cut_known, whole_header, too_long_known, frame_fault_known, record_known}
 use Rattle.std.proofs.lemmas.List.{length-take-le}
 use Rattle.pim_capture.proofs.Taken.{front_taken, both_taken, most_with_frame}
@@ -54,10 +54,10 @@ returns-clause-answer g c =
     let new = g.R.Feed.remaining c.read_frame.new.reader in
     let left = c.args.left in
     let format = c.args.format in
-    let P : List ℕ → Type 0 = λ bytes. event_seen bytes c.event_of.result ≡ told_of c.millis-millis.result bytes (judge_frame format.link bytes) in
-    let told : event_seen frame c.event_of.result ≡ told_of (millis_of format header) frame (judge_frame format.link frame) =
-    subst P c.as_slice.ensures.value c.event_of.ensures.event ∙ ap (λ millis. told_of millis frame (judge_frame format.link frame)) c.millis-millis.ensures.millis in
-    inr (subst (λ t. IsNext (option_map (records left format) old) (Ok t) (option_map (records (left - 1) format) new)) (sym told)
+    let P : List ℕ → Type 0 = λ bytes. event_seen bytes c.event_of.result ≡ event_by c.millis-millis.result bytes (judge_frame format.link bytes) in
+    let reported : event_seen frame c.event_of.result ≡ event_by (millis_of format header) frame (judge_frame format.link frame) =
+    subst P c.as_slice.ensures.value c.event_of.ensures.event ∙ ap (λ millis. event_by millis frame (judge_frame format.link frame)) c.millis-millis.ensures.millis in
+    inr (subst (λ t. IsNext (option_map (records left format) old) (Ok t) (option_map (records (left - 1) format) new)) (sym reported)
     (record_known left format old (g.R.Feed.remaining c.read_up_to.new.feed) new header frame (omega arith) l
     (whole_header _ _ header c.in_ok-got.got l (omega arith) c.in_ok-got.ensures.bytes) (omega arith)
     (c.in_ok-read_frame.ensures.answer.0 ∙ c.read_u32_at-length.ensures) c.in_ok-read_frame.ensures.answer.1))
@@ -82,23 +82,23 @@ pub returns-clause-length : goal.returns-clause-length
 returns-clause-length g c =
     let header = c.read_up_to.new.buffer in
     let l : length header ≡ 16 = omega arith in
-    let named = named_known c.args.left c.args.format _ _ header (omega arith) l
+    let next_length = named_known c.args.left c.args.format _ _ header (omega arith) l
     (whole_header _ _ header c.in_ok-got.got l (omega arith) c.in_ok-got.ensures.bytes) (omega arith) in
     let size : captured_length c.args.format header ≡ vec_len c.read_frame.new.buffer =
     omega (arith, c.as_slice.ensures.len, ap length c.as_slice.ensures.value, c.in_ok-read_frame.ensures.answer.0, c.read_u32_at-length.ensures) in
     fits_told c.event_of.result (vec_len c.args.buffer.now) (vec_len c.read_frame.new.buffer) _ c.event_of.ensures.record
-    (subst (λ n. IsNamed n (option_map (length_named c.args.left c.args.format) (g.R.Feed.remaining c.args.reader.now))) size named)
+    (subst (λ n. HasLength n (option_map (stated_length c.args.left c.args.format) (g.R.Feed.remaining c.args.reader.now))) size next_length)
 
 pub returns-in_err-read_frame-clause-length : goal.returns-in_err-read_frame-clause-length
 returns-in_err-read_frame-clause-length g c =
     let p = err_from_is_err_and c.from_residual-in_err-read_frame.result c.from_residual-in_err-read_frame.ensures.1 in
     let header = c.read_up_to.new.buffer in
     let l : length header ≡ 16 = omega arith in
-    let named = named_known c.args.left c.args.format _ _ header (omega arith) l
+    let next_length = named_known c.args.left c.args.format _ _ header (omega arith) l
     (whole_header _ _ header c.in_ok-got.got l (omega arith) c.in_ok-got.ensures.bytes) (omega arith) in
-    let P : ℕ → Type 0 = λ n. IsNamed n (option_map (length_named c.args.left c.args.format) (g.R.Feed.remaining c.args.reader.now)) in
+    let P : ℕ → Type 0 = λ n. HasLength n (option_map (stated_length c.args.left c.args.format) (g.R.Feed.remaining c.args.reader.now)) in
     rw p.1 (elim c.read_frame.ensures.length [
-      | inl long ↦ inr (subst P (sym (long ∙ c.read_u32_at-length.ensures)) named)
+      | inl long ↦ inr (subst P (sym (long ∙ c.read_u32_at-length.ensures)) next_length)
       | inr kept ↦ inl kept.1
     ])
 
@@ -107,9 +107,9 @@ returns-in_err-read_frame-clause-memory g c =
     let p = err_from_is_err_and c.from_residual-in_err-read_frame.result c.from_residual-in_err-read_frame.ensures.1 in
     let header = c.read_up_to.new.buffer in
     let l : length header ≡ 16 = omega arith in
-    let named = named_known c.args.left c.args.format _ _ header (omega arith) l
+    let next_length = named_known c.args.left c.args.format _ _ header (omega arith) l
     (whole_header _ _ header c.in_ok-got.got l (omega arith) c.in_ok-got.ensures.bytes) (omega arith) in
     let capacity = vec_capacity c.args.buffer.now in
     rw (p.1, p.2) (memory_passed c.in_err-read_frame.field-0.0 _ _
-    (λ (less : capacity < c.read_u32_at-length.result). lacks_room capacity _ _ named (omega arith) (omega (arith, less, c.read_u32_at-length.ensures)))
+    (λ (less : capacity < c.read_u32_at-length.result). lacks_room capacity _ _ next_length (omega arith) (omega (arith, less, c.read_u32_at-length.ensures)))
     c.in_err-read_frame.ensures.memory)

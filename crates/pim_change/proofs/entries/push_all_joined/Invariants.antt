@@ -3,7 +3,7 @@ use Rattle.std.specs.List.{flat_map}
 use Rattle.pim_addr.specs.Routes.{rp_of}
 use Rattle.pim_jp.specs.Seen.{entry_seen}
 use Rattle.pim_change.specs.Seen.{tellings_seen}
-use Rattle.pim_change.specs.Told.{joined_entries}
+use Rattle.pim_change.specs.Written.{joined_entries}
 use Rattle.pim_change.proofs.entries.push_all_joined.Given as goal
 
 -- what is there and what is left to add are all

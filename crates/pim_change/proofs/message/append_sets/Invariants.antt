@@ -3,7 +3,7 @@ use Rattle.std.specs.List.{AllByRecursion, flat_map}
 use Rattle.pim_addr.specs.Routes.{rp_of}
 use Rattle.pim_jp.specs.Canonical.{canonical_set, canonical_sets_length}
 use Rattle.pim_change.specs.Seen.{units_seen}
-use Rattle.pim_change.specs.Told.{IsShort, told_sets}
+use Rattle.pim_change.specs.Written.{IsShort, written_sets}
 use Rattle.pim_change.proofs.message.append_sets.Given as goal
 
 -- what is appended and the sets that are left are all
@@ -11,7 +11,7 @@ abbrev pub invariant-loop-start : goal.invariant-loop-start
 invariant-loop-start g l =
     let family = g.F.Family.family in
     let bytes_of = g.F.Family.bytes_of in
-    let sets = told_sets (rp_of family l.routes) in record {
+    let sets = written_sets (rp_of family l.routes) in record {
       within : l.start ≤ length l.units;
       short : AllByRecursion IsShort (sets (units_seen bytes_of (drop l.start l.units)));
       counted : l.count + length (sets (units_seen bytes_of (drop l.start l.units)))

@@ -1,7 +1,7 @@
 use Rattle.std.proofs.Common.{◌∙◌, refl, ap}
 use Rattle.pim_change.specs.declared.unit.Unit.{Unit}
-use Rattle.pim_change.specs.Seen.{telling_seen}
-use Rattle.pim_change.specs.TooBig.{telling_fits}
+use Rattle.pim_change.specs.Seen.{action_seen}
+use Rattle.pim_change.specs.TooBig.{action_fits}
 use Rattle.pim_change.proofs.RunCounts.{counted_next, stops_here, fits_at, some_fit, none_fit}
 use Rattle.pim_change.proofs.runs.run_length.Goals as goal
 
@@ -16,8 +16,8 @@ loop-index-init g c = record {
 pub entry_count-requires-clause-fits : goal.entry_count-requires-clause-fits
 entry_count-requires-clause-fits g c =
     let bytes_of = g.F.Family.bytes_of in
-    ap (λ (u : Unit _). telling_fits g.F.Family.family c.args.budget (bytes_of u.group)
-    (telling_seen bytes_of u.telling)) c.index-units-index.is
+    ap (λ (u : Unit _). action_fits g.F.Family.family c.args.budget (bytes_of u.group)
+    (action_seen bytes_of u.action)) c.index-units-index.is
     ∙ fits_at bytes_of g.F.Family.family c.args.budget c.args.units.now c.loop-index.index c.index-units-index.result
     c.loop-index-test.true c.requires.alone
 

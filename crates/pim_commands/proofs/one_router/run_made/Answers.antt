@@ -20,8 +20,8 @@ returns-in-Err-clause-runs g c =
     let setup : List (PortConfig g.row.F-Addr.Denot) → Setup = λ configs. setup_seen g.F.Family.bytes_of configs c.args.routes.now c.args.captures.now.limit in
     inl (subst (λ (s : Setup). IsFirstCause (config_causes g.F.Family.family s) c.in-Err.fault) (ap setup same) c.in-Err.ensures, (refl {a = g.W.Drain.contents c.args.writer.now}, refl {a = c.args.merge.now}))
 
-pub lead-told-requires-clause-ports : goal.lead-told-requires-clause-ports
-lead-told-requires-clause-ports g c =
+pub lead-reported-requires-clause-ports : goal.lead-reported-requires-clause-ports
+lead-reported-requires-clause-ports g c =
     let ports : List (Port g.row.F-Addr.Denot) = c.args.captures.now.ports.items in
     let same : c.deref-2.result.now ≡ map config_of ports = c.deref-2.ensures.value ∙ c.in-Ok.ensures ∙ ap (λ (l : List (Port g.row.F-Addr.Denot)). map config_of (filter (is_in None) l)) c.deref.ensures.value ∙ ap (map config_of) (all_in ports) in
     c.requires.ports ∙ sym
@@ -33,12 +33,12 @@ returns-clause-runs g c =
     let same : c.deref-2.result.now ≡ map config_of ports = c.deref-2.ensures.value ∙ c.in-Ok.ensures ∙ ap (λ (l : List (Port g.row.F-Addr.Denot)). map config_of (filter (is_in None) l)) c.deref.ensures.value ∙ ap (map config_of) (all_in ports) in
     let setup : List (PortConfig g.row.F-Addr.Denot) → Setup = λ configs. setup_seen g.F.Family.bytes_of configs c.args.routes.now c.args.captures.now.limit in
     ran (config_causes g.F.Family.family (setup_in g.F.Family.bytes_of c.args.captures.now None c.args.routes.now)) _ _ (port_files c.args.captures.now) (port_files c.args.captures.now) g.F.Family.family g.F.Family.bytes_of
-    c.lead-told.new.router c.lead-told.result c.answer_of.result
-    (subst (λ (s : RouterState). Does g.F.Family.family g.F.Family.bytes_of c.args.captures.now (engine_seen g.F.Family.family g.F.Family.bytes_of c.args.made) c.args.merge.now c.lead-told.new.merge s
-    (g.W.Drain.contents c.args.writer.now) (g.W.Drain.contents c.lead-told.new.writer) c.lead-told.new.router c.lead-told.result) (c.in-Ok-router_of.ensures.1 ∙ ap new_router (ap setup same)) c.lead-told.ensures.does)
+    c.lead-reported.new.router c.lead-reported.result c.answer_of.result
+    (subst (λ (s : RouterState). Does g.F.Family.family g.F.Family.bytes_of c.args.captures.now (engine_seen g.F.Family.family g.F.Family.bytes_of c.args.made) c.args.merge.now c.lead-reported.new.merge s
+    (g.W.Drain.contents c.args.writer.now) (g.W.Drain.contents c.lead-reported.new.writer) c.lead-reported.new.router c.lead-reported.result) (c.in-Ok-router_of.ensures.1 ∙ ap new_router (ap setup same)) c.lead-reported.ensures.does)
     c.answer_of.ensures
 
 pub returns-clause-count : goal.returns-clause-count
 returns-clause-count g c =
     rw (c.answer_of.ensures)
-    (c.lead-told.ensures.count ∙ failures_answered (port_files c.args.captures.now) (port_files c.args.captures.now) g.F.Family.family g.F.Family.bytes_of (g.W.Drain.failures c.args.writer.now) c.lead-told.result)
+    (c.lead-reported.ensures.count ∙ failures_answered (port_files c.args.captures.now) (port_files c.args.captures.now) g.F.Family.family g.F.Family.bytes_of (g.W.Drain.failures c.args.writer.now) c.lead-reported.result)

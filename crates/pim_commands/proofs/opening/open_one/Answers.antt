@@ -2,8 +2,8 @@ use Rattle.pim_commands.proofs.opening.open_one.Goals as goal
 
 pub returns-in-Err-clause-unopened : goal.returns-in-Err-clause-unopened
 returns-in-Err-clause-unopened g c = record {
-  told = c.in-Err.told;
+  reported = c.in-Err.reported;
   is = c.from.ensures;
   unopened = c.in-Err.ensures.unopened;
-  asked = c.in-Err.ensures.asked;
+  requested = c.in-Err.ensures.requested;
 }

@@ -1,8 +1,8 @@
 use Rattle.std.proofs.Common.{vec_capacity, subst, sym, ◌∙◌, Ok, Err, inl, refl}
 use Rattle.std.proofs.lemmas.Result.{err_from_is_err_and}
 use Rattle.pim_container.specs.declared.container.Container.{Container}
-use Rattle.pim_container.specs.declared.piece.Found.{Found}
-use Rattle.pim_container.specs.declared.event.Event.{Event}
+use Rattle.pim_container.specs.declared.piece.FoundPiece.{FoundPiece}
+use Rattle.pim_container.specs.declared.event.ContainerEvent.{ContainerEvent}
 use Rattle.pim_container.specs.Next.{IsPiece}
 use Rattle.pim_container.specs.Pieces.{head_faults, extent_of, piece_length}
 use Rattle.pim_container.proofs.Whole.{extent_is, head_fault_known, rest_fault_known, told_fault_known, told_known, is_piece}
@@ -24,8 +24,8 @@ returns-in_err-read_after-clause-answer g c =
     rw (p.1, p.2) (rest_fault_known c.args.container c.args.interfaces.now.items c.args.interfaces.now.items c.args.head.now c.read_after.new.buffer.items c.in_ok-extent.extent.length
     (g.R.Feed.remaining c.args.device.now) (g.R.Feed.remaining c.read_after.new.device) c.in_err-read_after.field-0.0 c.requires x.0 x.2 c.in_err-read_after.ensures.answer)
 
-pub tell-requires : goal.tell-requires
-tell-requires g c =
+pub read_piece-requires : goal.read_piece-requires
+read_piece-requires g c =
     let x = extent_is c.args.container c.args.head.now c.in_ok-extent.extent c.in_ok-extent.ensures.answer in
     let P : Container → Type 0 = λ it. IsPiece it c.read_after.new.buffer.items in
     subst P (sym x.1) (is_piece c.args.container c.args.head.now c.read_after.new.buffer.items c.requires x.0 (c.in_ok-read_after.ensures.answer.0 ∙ x.2) c.in_ok-read_after.ensures.answer.1)
@@ -34,28 +34,28 @@ pub returns-in_err-event-clause-answer : goal.returns-in_err-event-clause-answer
 returns-in_err-event-clause-answer g c =
     let p = err_from_is_err_and c.from_residual-in_err-event.result c.from_residual-in_err-event.ensures.1 in
     let x = extent_is c.args.container c.args.head.now c.in_ok-extent.extent c.in_ok-extent.ensures.answer in
-    rw (p.1, p.2) (told_fault_known c.args.container c.in_ok-extent.extent.container c.args.interfaces.now.items c.tell.new.interfaces.items c.args.head.now c.read_after.new.buffer.items c.tell.new.buffer.items
+    rw (p.1, p.2) (told_fault_known c.args.container c.in_ok-extent.extent.container c.args.interfaces.now.items c.read_piece.new.interfaces.items c.args.head.now c.read_after.new.buffer.items c.read_piece.new.buffer.items
     c.in_ok-extent.extent.length (g.R.Feed.remaining c.args.device.now) (g.R.Feed.remaining c.read_after.new.device) c.in_err-event.field-0.0 c.requires x.0 x.1 x.2
     c.in_ok-read_after.ensures.answer c.in_err-event.ensures.answer)
 
 pub returns-clause-answer : goal.returns-clause-answer
 returns-clause-answer g c =
     let x = extent_is c.args.container c.args.head.now c.in_ok-extent.extent c.in_ok-extent.ensures.answer in
-    let found : Found = record { container = c.in_ok-extent.extent.container; event = c.in_ok-event.event } in
-    told_known c.args.container c.args.interfaces.now.items c.tell.new.interfaces.items c.args.head.now c.read_after.new.buffer.items c.tell.new.buffer.items
+    let found : FoundPiece = record { container = c.in_ok-extent.extent.container; event = c.in_ok-event.event } in
+    told_known c.args.container c.args.interfaces.now.items c.read_piece.new.interfaces.items c.args.head.now c.read_after.new.buffer.items c.read_piece.new.buffer.items
     c.in_ok-extent.extent.length (g.R.Feed.remaining c.args.device.now) (g.R.Feed.remaining c.read_after.new.device) found c.requires x.0 x.1 x.2
     c.in_ok-read_after.ensures.answer c.in_ok-event.ensures.answer c.in_ok-event.ensures.interfaces
 
 pub returns-in_err-extent-clause-memory : goal.returns-in_err-extent-clause-memory
 returns-in_err-extent-clause-memory g c =
     let p = err_from_is_err_and c.from_residual.result c.from_residual.ensures.1 in
-    rw (p.1, p.2) (memory_not Found c.in_err-extent.field-0.0 _ c.in_err-extent.ensures.not_other)
+    rw (p.1, p.2) (memory_not FoundPiece c.in_err-extent.field-0.0 _ c.in_err-extent.ensures.not_other)
 
 pub returns-in_err-read_after-clause-memory : goal.returns-in_err-read_after-clause-memory
 returns-in_err-read_after-clause-memory g c =
     let p = err_from_is_err_and c.from_residual-in_err-read_after.result c.from_residual-in_err-read_after.ensures.1 in
     let x = extent_is c.args.container c.args.head.now c.in_ok-extent.extent c.in_ok-extent.ensures.answer in
-    rw (p.1, p.2) (memory_passed (Unit {0}) Found c.in_err-read_after.field-0.0 _ _
+    rw (p.1, p.2) (memory_passed (Unit {0}) FoundPiece c.in_err-read_after.field-0.0 _ _
     (room_known (vec_capacity c.args.buffer.now) c.in_ok-extent.extent.length c.args.container c.args.head.now (g.R.Feed.remaining c.args.device.now) c.requires x.2)
     c.in_err-read_after.ensures.memory)
 
@@ -63,7 +63,7 @@ pub returns-in_err-event-clause-memory : goal.returns-in_err-event-clause-memory
 returns-in_err-event-clause-memory g c =
     let p = err_from_is_err_and c.from_residual-in_err-event.result c.from_residual-in_err-event.ensures.1 in
     let x = extent_is c.args.container c.args.head.now c.in_ok-extent.extent c.in_ok-extent.ensures.answer in
-    rw (p.1, p.2) (memory_passed Event Found c.in_err-event.field-0.0 _ _
+    rw (p.1, p.2) (memory_passed ContainerEvent FoundPiece c.in_err-event.field-0.0 _ _
     (described_known (vec_capacity c.args.buffer.now) c.in_ok-extent.extent.length c.args.container c.in_ok-extent.extent.container c.args.head.now c.read_after.new.buffer.items
     (g.R.Feed.remaining c.args.device.now) (g.R.Feed.remaining c.read_after.new.device) c.requires x.0 x.1 x.2 c.in_ok-read_after.ensures.answer)
     c.in_err-event.ensures.memory)
@@ -90,7 +90,7 @@ returns-in_err-event-clause-taken g c =
 pub returns-clause-taken : goal.returns-clause-taken
 returns-clause-taken g c =
     let x = extent_is c.args.container c.args.head.now c.in_ok-extent.extent c.in_ok-extent.ensures.answer in
-    let found : Found = record { container = c.in_ok-extent.extent.container; event = c.in_ok-event.event } in
+    let found : FoundPiece = record { container = c.in_ok-extent.extent.container; event = c.in_ok-event.event } in
     piece_lost c.args.container c.args.head.now c.in_ok-extent.extent.length (g.R.Feed.remaining c.args.device.now) (g.R.Feed.remaining c.read_after.new.device)
     (Ok found) x.0 x.2 c.in_ok-read_after.ensures.taken
 
@@ -108,23 +108,23 @@ returns-in_err-read_after-clause-grows g c =
 pub returns-in_err-event-clause-grows : goal.returns-in_err-event-clause-grows
 returns-in_err-event-clause-grows g c =
     let x = extent_is c.args.container c.args.head.now c.in_ok-extent.extent c.in_ok-extent.ensures.answer in
-    rw (named_ok c.args.container c.args.head.now c.in_ok-extent.extent.length x.0 x.2, c.tell.ensures.capacity) c.read_after.ensures.grows
+    rw (named_ok c.args.container c.args.head.now c.in_ok-extent.extent.length x.0 x.2, c.read_piece.ensures.capacity) c.read_after.ensures.grows
 
 pub returns-clause-grows : goal.returns-clause-grows
 returns-clause-grows g c =
     let x = extent_is c.args.container c.args.head.now c.in_ok-extent.extent c.in_ok-extent.ensures.answer in
-    rw (named_ok c.args.container c.args.head.now c.in_ok-extent.extent.length x.0 x.2, c.tell.ensures.capacity) c.read_after.ensures.grows
+    rw (named_ok c.args.container c.args.head.now c.in_ok-extent.extent.length x.0 x.2, c.read_piece.ensures.capacity) c.read_after.ensures.grows
 
 pub returns-in_err-extent-clause-asked : goal.returns-in_err-extent-clause-asked
 returns-in_err-extent-clause-asked g c =
     let p = err_from_is_err_and c.from_residual.result c.from_residual.ensures.1 in
-    rw (p.1, p.2) (memory_not Found c.in_err-extent.field-0.0 _ c.in_err-extent.ensures.not_other)
+    rw (p.1, p.2) (memory_not FoundPiece c.in_err-extent.field-0.0 _ c.in_err-extent.ensures.not_other)
 
 pub returns-in_err-read_after-clause-asked : goal.returns-in_err-read_after-clause-asked
 returns-in_err-read_after-clause-asked g c =
     let p = err_from_is_err_and c.from_residual-in_err-read_after.result c.from_residual-in_err-read_after.ensures.1 in
     let x = extent_is c.args.container c.args.head.now c.in_ok-extent.extent c.in_ok-extent.ensures.answer in
-    rw (p.1, p.2) (memory_passed (Unit {0}) Found c.in_err-read_after.field-0.0 _ _
+    rw (p.1, p.2) (memory_passed (Unit {0}) FoundPiece c.in_err-read_after.field-0.0 _ _
     (λ less. inl (lacks_known (vec_capacity c.args.buffer.now) c.in_ok-extent.extent.length c.args.container c.args.head.now x.0 x.2 less))
     c.in_err-read_after.ensures.memory)
 
@@ -132,7 +132,7 @@ pub returns-in_err-event-clause-asked : goal.returns-in_err-event-clause-asked
 returns-in_err-event-clause-asked g c =
     let p = err_from_is_err_and c.from_residual-in_err-event.result c.from_residual-in_err-event.ensures.1 in
     let x = extent_is c.args.container c.args.head.now c.in_ok-extent.extent c.in_ok-extent.ensures.answer in
-    rw (p.1, p.2) (asks_place Event Found c.in_err-event.field-0.0 _ _ _ _
+    rw (p.1, p.2) (asks_place ContainerEvent FoundPiece c.in_err-event.field-0.0 _ _ _ _
     (described_first c.in_ok-extent.extent.length c.args.container c.in_ok-extent.extent.container c.args.head.now c.read_after.new.buffer.items
     (g.R.Feed.remaining c.args.device.now) (g.R.Feed.remaining c.read_after.new.device) c.requires x.0 x.1 x.2 c.in_ok-read_after.ensures.answer)
     c.in_err-event.ensures.memory c.in_err-event.ensures.full)

@@ -1,17 +1,17 @@
 use Rattle.std.proofs.Common.{vec_capacity, vec_len, true, ◌≡◌, ◌≤◌, length, arith, inl, inr, subst, false, Ok, Err}
 use Rattle.std.specs.Option.{option_map}
 use Rattle.std.proofs.lemmas.Result.{err_from_is_err_and, IfOk-weaker}
-use Rattle.pim_container.specs.declared.classic.Format.{Format}
-use Rattle.pim_container.specs.declared.reader.State.TheVariants.{Failed, Pieces}
+use Rattle.pim_container.specs.declared.classic.ClassicFormat.{ClassicFormat}
+use Rattle.pim_container.specs.declared.reader.ReaderState.TheVariants.{Failed, Pieces}
 use Rattle.pim_container.specs.declared.container.Container.TheVariants.{Classic}
-use Rattle.pim_container.specs.declared.event.Event.TheVariants.{Section}
-use Rattle.pim_container.specs.declared.reader.Step.{Step}
+use Rattle.pim_container.specs.declared.event.ContainerEvent.TheVariants.{Section}
+use Rattle.pim_container.specs.declared.reader.ReaderStep.{ReaderStep}
 use Rattle.pim_container.specs.Block.{is_section}
 use Rattle.pim_container.specs.Next.{answers_in, CountsReads}
 use Rattle.pim_container.proofs.Beginnings.{short_known, all_read, classic_fault_known}
 use Rattle.pim_container.proofs.Room.{memory_passed, memory_of, blocks_memory, classic_memory}
-use Rattle.pim_container.specs.declared.fault.Fault.TheVariants.{Truncated}
-use Rattle.pim_container.specs.Room.{first_named}
+use Rattle.pim_container.specs.declared.fault.ContainerFault.TheVariants.{Truncated}
+use Rattle.pim_container.specs.Room.{first_length}
 use Rattle.pim_container.proofs.Named.{grows_not, grows_first, grows_classic, asks_first, asks_classic}
 use Rattle.pim_container.proofs.Taken.{takes_passed, first_failed, first_lost, blocks_taken, classic_taken}
 use Rattle.pim_container.proofs.Needs.{blocks_pass, classic_passes}
@@ -31,7 +31,7 @@ returns-in_err-format-clause-answer g c =
     rw (p.1, p.2) (classic_fault_known (g.R.Feed.remaining c.args.device.now) (g.R.Feed.remaining c.read_up_to.new.feed) (g.R.Feed.remaining c.begin_classic.new.device) head c.in_err-format.field-0.0
     (g.R.Feed.failures c.args.device.now) (g.R.Feed.failures c.begin_classic.new.device) (answers_in Failed c.clear.new.self.items) l classic
     (all_read _ _ head c.in_ok-got.got (omega arith) c.in_ok-got.ensures.bytes) c.in_err-format.ensures.answer
-    (subst (λ n. CountsReads {A = Format} ⊥ n (g.R.Feed.failures c.begin_classic.new.device) (Err c.in_err-format.field-0.0)) c.in_ok-got.ensures.count c.in_err-format.ensures.reads))
+    (subst (λ n. CountsReads {A = ClassicFormat} ⊥ n (g.R.Feed.failures c.begin_classic.new.device) (Err c.in_err-format.field-0.0)) c.in_ok-got.ensures.count c.in_err-format.ensures.reads))
 
 pub returns-then-is_section-clause-memory : goal.returns-then-is_section-clause-memory
 returns-then-is_section-clause-memory g c =
@@ -48,7 +48,7 @@ returns-in_err-format-clause-memory g c =
     let head = c.read_up_to.new.buffer in
     let l : length head ≡ 12 = omega arith in
     let classic : is_section head ≡ false = grind arith in
-    rw (p.1, p.2) (memory_passed Format Step c.in_err-format.field-0.0 _ _
+    rw (p.1, p.2) (memory_passed ClassicFormat ReaderStep c.in_err-format.field-0.0 _ _
     (classic_memory (vec_capacity c.args.buffer.now) (g.R.Feed.remaining c.args.device.now) (g.R.Feed.remaining c.read_up_to.new.feed) head l classic
     (all_read _ _ head c.in_ok-got.got (omega arith) c.in_ok-got.ensures.bytes)) c.in_err-format.ensures.memory)
 
@@ -75,21 +75,21 @@ returns-in_err-format-clause-taken g c =
     let l : length head ≡ 12 = omega arith in
     let classic : is_section head ≡ false = grind arith in
     rw (p.1, p.2) (classic_taken head (g.R.Feed.remaining c.args.device.now) (g.R.Feed.remaining c.read_up_to.new.feed) _ (Err c.in_err-format.field-0.0) l classic (all_read _ _ head c.in_ok-got.got (omega arith) c.in_ok-got.ensures.bytes)
-    (takes_passed Format Step 24 c.in_err-format.field-0.0 _ _ c.in_err-format.ensures.taken))
+    (takes_passed ClassicFormat ReaderStep 24 c.in_err-format.field-0.0 _ _ c.in_err-format.ensures.taken))
 
 pub returns-clause-taken : goal.returns-clause-taken
 returns-clause-taken g c =
     let head = c.read_up_to.new.buffer in
     let l : length head ≡ 12 = omega arith in
     let classic : is_section head ≡ false = grind arith in
-    let step : Step = record { state = Pieces (Classic c.in_ok-format.format) 4294967295; event = Section } in
+    let step : ReaderStep = record { state = Pieces (Classic c.in_ok-format.format) 4294967295; event = Section } in
     classic_taken head (g.R.Feed.remaining c.args.device.now) (g.R.Feed.remaining c.read_up_to.new.feed) _ (Ok step) l classic (all_read _ _ head c.in_ok-got.got (omega arith) c.in_ok-got.ensures.bytes) c.in_ok-format.ensures.taken
 
 pub returns-in_err-got-clause-grows : goal.returns-in_err-got-clause-grows
-returns-in_err-got-clause-grows g c = grows_not (option_map first_named (g.R.Feed.remaining c.args.device.now)) (vec_capacity c.args.buffer.now)
+returns-in_err-got-clause-grows g c = grows_not (option_map first_length (g.R.Feed.remaining c.args.device.now)) (vec_capacity c.args.buffer.now)
 
 pub returns-then-got-lt12-clause-grows : goal.returns-then-got-lt12-clause-grows
-returns-then-got-lt12-clause-grows g c = grows_not (option_map first_named (g.R.Feed.remaining c.args.device.now)) (vec_capacity c.args.buffer.now)
+returns-then-got-lt12-clause-grows g c = grows_not (option_map first_length (g.R.Feed.remaining c.args.device.now)) (vec_capacity c.args.buffer.now)
 
 pub returns-then-is_section-clause-grows : goal.returns-then-is_section-clause-grows
 returns-then-is_section-clause-grows g c =
@@ -128,7 +128,7 @@ returns-in_err-format-clause-asked g c =
     let head = c.read_up_to.new.buffer in
     let l : length head ≡ 12 = omega arith in
     let classic : is_section head ≡ false = grind arith in
-    rw (p.1, p.2) (memory_passed Format Step c.in_err-format.field-0.0 _ _
+    rw (p.1, p.2) (memory_passed ClassicFormat ReaderStep c.in_err-format.field-0.0 _ _
     (λ less. inl (asks_classic head (g.R.Feed.remaining c.args.device.now) (g.R.Feed.remaining c.read_up_to.new.feed) (vec_capacity c.args.buffer.now) l classic (all_read _ _ head c.in_ok-got.got (omega arith) c.in_ok-got.ensures.bytes) less)) c.in_err-format.ensures.memory)
 
 pub returns-then-is_section-clause-ahead : goal.returns-then-is_section-clause-ahead

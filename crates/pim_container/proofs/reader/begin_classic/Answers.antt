@@ -1,7 +1,7 @@
 use Rattle.std.proofs.Common.{List, ℕ, subst}
 use Rattle.std.proofs.lemmas.Result.{err_from_is_err_and}
 use Rattle.pim_addr.specs.Faults.{Answers}
-use Rattle.pim_container.specs.declared.classic.Format.{Format}
+use Rattle.pim_container.specs.declared.classic.ClassicFormat.{ClassicFormat}
 use Rattle.pim_container.specs.Classic.{judge_header}
 use Rattle.pim_container.proofs.Beginnings.{header_known}
 use Rattle.pim_container.proofs.Taken.{takes_passed, takes_result}
@@ -16,7 +16,7 @@ returns-clause-answer g c =
 pub returns-in_err-read_after-clause-taken : goal.returns-in_err-read_after-clause-taken
 returns-in_err-read_after-clause-taken g c =
     let p = err_from_is_err_and c.from_residual.result c.from_residual.ensures.1 in
-    rw (p.1, p.2) (takes_passed (Unit {0}) Format 24 c.in_err-read_after.field-0.0 _ _ c.in_err-read_after.ensures.taken)
+    rw (p.1, p.2) (takes_passed (Unit {0}) ClassicFormat 24 c.in_err-read_after.field-0.0 _ _ c.in_err-read_after.ensures.taken)
 
 pub returns-clause-taken : goal.returns-clause-taken
 returns-clause-taken g c = takes_result 24 c.read_header.result _ _ c.in_ok-read_after.ensures.taken

@@ -1,8 +1,8 @@
 use Rattle.std.proofs.Common.{arith, vec_len}
 use Rattle.std.proofs.lemmas.Result.{err_from_is_err_and}
-use Rattle.pim_container.specs.declared.reader.State.TheVariants.{Failed}
-use Rattle.pim_container.specs.declared.reader.Step.{Step}
-use Rattle.pim_container.specs.declared.piece.Found.{Found}
+use Rattle.pim_container.specs.declared.reader.ReaderState.TheVariants.{Failed}
+use Rattle.pim_container.specs.declared.reader.ReaderStep.{ReaderStep}
+use Rattle.pim_container.specs.declared.piece.FoundPiece.{FoundPiece}
 use Rattle.pim_container.specs.Next.{answers_in}
 use Rattle.pim_container.proofs.Steps.{head_some, found_known, fault_known}
 use Rattle.pim_container.proofs.Room.{memory_passed}
@@ -25,17 +25,17 @@ returns-clause-answer g c =
 pub returns-in_err-found-clause-memory : goal.returns-in_err-found-clause-memory
 returns-in_err-found-clause-memory g c =
     let p = err_from_is_err_and c.from_residual.result c.from_residual.ensures.1 in
-    rw (p.1, p.2) (memory_passed Found Step c.in_err-found.field-0.0 _ _ (λ m. m) c.in_err-found.ensures.memory)
+    rw (p.1, p.2) (memory_passed FoundPiece ReaderStep c.in_err-found.field-0.0 _ _ (λ m. m) c.in_err-found.ensures.memory)
 
 pub returns-in_err-found-clause-taken : goal.returns-in_err-found-clause-taken
 returns-in_err-found-clause-taken g c =
     let p = err_from_is_err_and c.from_residual.result c.from_residual.ensures.1 in
-    rw (p.1, p.2) (takes_passed Found Step _ c.in_err-found.field-0.0 _ _ c.in_err-found.ensures.taken)
+    rw (p.1, p.2) (takes_passed FoundPiece ReaderStep _ c.in_err-found.field-0.0 _ _ c.in_err-found.ensures.taken)
 
 pub returns-in_err-found-clause-asked : goal.returns-in_err-found-clause-asked
 returns-in_err-found-clause-asked g c =
     let p = err_from_is_err_and c.from_residual.result c.from_residual.ensures.1 in
-    rw (p.1, p.2) (memory_passed Found Step c.in_err-found.field-0.0 _ _ (λ m. m) c.in_err-found.ensures.asked)
+    rw (p.1, p.2) (memory_passed FoundPiece ReaderStep c.in_err-found.field-0.0 _ _ (λ m. m) c.in_err-found.ensures.asked)
 
 pub returns-clause-ahead : goal.returns-clause-ahead
 returns-clause-ahead g c =

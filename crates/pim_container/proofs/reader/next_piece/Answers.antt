@@ -1,16 +1,16 @@
 use Rattle.std.proofs.Common.{vec_capacity, vec_len, length, subst, arith, inr, Ok, Err}
 use Rattle.std.specs.Option.{option_map}
 use Rattle.std.proofs.lemmas.Result.{err_from_is_err_and, IfOk-weaker}
-use Rattle.pim_container.specs.declared.fault.Fault.TheVariants.{Truncated}
-use Rattle.pim_container.specs.Room.{next_named}
+use Rattle.pim_container.specs.declared.fault.ContainerFault.TheVariants.{Truncated}
+use Rattle.pim_container.specs.Room.{next_length}
 use Rattle.pim_container.proofs.Named.{grows_not, grows_next, asks_next}
 use Rattle.pim_container.proofs.Taken.{front_most, next_failed, next_lost, next_taken}
 use Rattle.pim_container.proofs.Needs.{next_passes}
-use Rattle.pim_container.specs.declared.reader.State.TheVariants.{Ended, Failed}
-use Rattle.pim_container.specs.Next.{answers_in, Tells, behind}
+use Rattle.pim_container.specs.declared.reader.ReaderState.TheVariants.{Ended, Failed}
+use Rattle.pim_container.specs.Next.{answers_in, Reads, behind}
 use Rattle.pim_container.specs.Pieces.{pieces}
-use Rattle.pim_container.specs.declared.reader.Step.{Step}
-use Rattle.pim_container.specs.declared.event.Event.TheVariants.{End}
+use Rattle.pim_container.specs.declared.reader.ReaderStep.{ReaderStep}
+use Rattle.pim_container.specs.declared.event.ContainerEvent.TheVariants.{End}
 use Rattle.pim_container.proofs.Beginnings.{end_known, bound_known, cut_known, tells_from, piece_begins}
 use Rattle.pim_container.proofs.Steps.{head_some}
 use Rattle.pim_container.proofs.Room.{memory_of, piece_memory}
@@ -46,7 +46,7 @@ returns-in_err-got-clause-taken g c =
 
 pub returns-then-got-eq0-clause-taken : goal.returns-then-got-eq0-clause-taken
 returns-then-got-eq0-clause-taken g c =
-    let step : Step = record { state = Ended; event = End } in
+    let step : ReaderStep = record { state = Ended; event = End } in
     next_lost c.args.left c.args.container c.in_ok-got.got c.read_up_to.new.buffer (g.R.Feed.remaining c.args.device.now) (g.R.Feed.remaining c.read_up_to.new.feed) (Ok step) (omega arith) c.in_ok-got.ensures.bound c.in_ok-got.ensures.bytes
     (c.in_ok-got.ensures.end (omega (arith, head_some c.args.container)))
 
@@ -66,16 +66,16 @@ returns-clause-taken g c =
     next_taken c.args.left c.args.container head (g.R.Feed.remaining c.args.device.now) (g.R.Feed.remaining c.read_up_to.new.feed) _ c.go_on.result (omega arith) (omega arith) (all_read _ _ head c.in_ok-got.got (omega arith) c.in_ok-got.ensures.bytes) c.go_on.ensures.taken
 
 pub returns-in_err-got-clause-grows : goal.returns-in_err-got-clause-grows
-returns-in_err-got-clause-grows g c = grows_not (option_map (next_named c.args.left c.args.container) (g.R.Feed.remaining c.args.device.now)) (vec_capacity c.args.buffer.now)
+returns-in_err-got-clause-grows g c = grows_not (option_map (next_length c.args.left c.args.container) (g.R.Feed.remaining c.args.device.now)) (vec_capacity c.args.buffer.now)
 
 pub returns-then-got-eq0-clause-grows : goal.returns-then-got-eq0-clause-grows
-returns-then-got-eq0-clause-grows g c = grows_not (option_map (next_named c.args.left c.args.container) (g.R.Feed.remaining c.args.device.now)) (vec_capacity c.args.buffer.now)
+returns-then-got-eq0-clause-grows g c = grows_not (option_map (next_length c.args.left c.args.container) (g.R.Feed.remaining c.args.device.now)) (vec_capacity c.args.buffer.now)
 
 pub returns-then-left-eq0-clause-grows : goal.returns-then-left-eq0-clause-grows
-returns-then-left-eq0-clause-grows g c = grows_not (option_map (next_named c.args.left c.args.container) (g.R.Feed.remaining c.args.device.now)) (vec_capacity c.args.buffer.now)
+returns-then-left-eq0-clause-grows g c = grows_not (option_map (next_length c.args.left c.args.container) (g.R.Feed.remaining c.args.device.now)) (vec_capacity c.args.buffer.now)
 
 pub returns-then-got-head-clause-grows : goal.returns-then-got-head-clause-grows
-returns-then-got-head-clause-grows g c = grows_not (option_map (next_named c.args.left c.args.container) (g.R.Feed.remaining c.args.device.now)) (vec_capacity c.args.buffer.now)
+returns-then-got-head-clause-grows g c = grows_not (option_map (next_length c.args.left c.args.container) (g.R.Feed.remaining c.args.device.now)) (vec_capacity c.args.buffer.now)
 
 pub returns-clause-grows : goal.returns-clause-grows
 returns-clause-grows g c =
@@ -108,7 +108,7 @@ returns-clause-answer g c =
     let is' = c.go_on.new.interfaces.items in
     let bytes = c.go_on.new.buffer.items in
     let results = pieces c.args.left c.args.container is in
-    subst (λ m. Tells m n (option_map results old) new is' bytes c.go_on.result) c.in_ok-got.ensures.count
+    subst (λ m. Reads m n (option_map results old) new is' bytes c.go_on.result) c.in_ok-got.ensures.count
     (tells_from (g.R.Feed.failures c.read_up_to.new.feed) n old results (option_map results (behind head mid)) new is' bytes c.go_on.result
     (piece_begins c.args.left c.args.container is old mid head (all_read _ _ head c.in_ok-got.got (omega arith) c.in_ok-got.ensures.bytes))
     c.go_on.ensures.answer)

@@ -18,7 +18,7 @@ fn ends(alloc: Global, routes: &mut Routes<V4>, fails_from: usize, fault: Routes
     let mut reader = ScriptedFeed::new(FILE, 5, fails_from);
     match read_routes(alloc, &mut reader, routes) {
         Ok(()) => false,
-        Err(told) => told == fault,
+        Err(reported) => reported == fault,
     }
 }
 

@@ -4,7 +4,7 @@ use super::{CAPTURE, NEVER};
 use pim_addr::ScriptedFeed;
 use pim_capture::CaptureFault;
 use pim_container::Choice;
-use pim_merge::{Merge, MergeFault, Place, Tally, Turn};
+use pim_merge::{Merge, MergeFault, RecordPlace, Tally, Turn};
 use std::alloc::Global;
 
 /// All packets.
@@ -16,8 +16,8 @@ const EACH: Choice = Choice {
 /// The capture and the moment of a turn, or why there is none.
 type Told = Result<Option<(usize, u64)>, MergeFault>;
 
-fn place(told: Result<Option<Turn>, MergeFault>) -> Told {
-    match told {
+fn place(reported: Result<Option<Turn>, MergeFault>) -> Told {
+    match reported {
         Ok(Some(turn)) => Ok(Some((turn.capture, turn.moment))),
         Ok(None) => Ok(None),
         Err(fault) => Err(fault),
@@ -177,7 +177,7 @@ fn tally_of_two_files(rt: HostRuntime) {
         records: 2,
         fragments: 0,
         cut_frames: 0,
-        cut_short: Some(Place { file: 0, record: 2 }),
+        cut_short: Some(RecordPlace { file: 0, record: 2 }),
         last: Some(100_005),
         ran_back: None,
         jumped: None,

@@ -227,7 +227,7 @@ fn is_told(
                 && neighbours.knows(sender) == known
                 && goes(neighbours, hears)
         }
-        told => told == want,
+        reported => reported == want,
     }
 }
 

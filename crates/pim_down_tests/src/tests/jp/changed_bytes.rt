@@ -65,7 +65,7 @@ impl Told {
 
 /// What is told of the body with each byte changed to each value, byte by byte.
 fn told_of_changes(body: &mut [u8]) -> Told {
-    let mut told = Told {
+    let mut reported = Told {
         counts: [0; 11],
         digest: 0,
     };
@@ -73,11 +73,11 @@ fn told_of_changes(body: &mut [u8]) -> Told {
         let old = body[at];
         for byte in 0..=255 {
             body[at] = byte;
-            told.count(body);
+            reported.count(body);
         }
         body[at] = old;
     }
-    told
+    reported
 }
 
 #[test]

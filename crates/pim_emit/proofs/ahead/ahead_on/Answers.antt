@@ -14,5 +14,5 @@ returns g c =
     let bytes_of = g.F.Family.bytes_of in
     let group = bytes_of c.args.group in
     let was = c.machines_after-left.ensures ∙ ap (machines_behind c.args.ports.now c.args.port group) c.passed.ensures in
-    let told = c.in_ok-next.ensures c.args.ports.now c.args.port group (option_map bytes_of c.args.bound) c.is_sound.ensures was in
-    record { next = told.0; left = told.1 }
+    let reported = c.in_ok-next.ensures c.args.ports.now c.args.port group (option_map bytes_of c.args.bound) c.is_sound.ensures was in
+    record { next = reported.0; left = reported.1 }

@@ -1,16 +1,16 @@
 use Rattle.std.proofs.Common.{◌∙◌, refl, sym, ap, subst, arith}
-use Rattle.pim_emit.specs.Asking.{Asking}
+use Rattle.pim_emit.specs.DemandSeen.{DemandSeen}
 use Rattle.pim_emit.specs.Drafts.{IsMessage}
 use Rattle.pim_emit.specs.Left.{position_seen}
-use Rattle.pim_emit.proofs.Telling.{asked_of_writer, none_gone, one_more_gone, all_gone, some_gone}
+use Rattle.pim_emit.proofs.Action.{asked_of_writer, none_gone, one_more_gone, all_gone, some_gone}
 use Rattle.pim_emit.proofs.canonical.write_canonical.Goals as goal
 
 pub loop-length-init : goal.loop-length-init
 loop-length-init g c =
-    let asked = asked_of_writer g.F.Family.family c.args.writer.now c.args.routes.now c.args.ports.now c.new-asked.result (g.F.Family.bytes_of c.upstream.result)
-    c.form_of_what_is_asked.ensures c.is_sound.ensures c.new-asked.ensures c.upstream.ensures in
+    let demand = asked_of_writer g.F.Family.family c.args.writer.now c.args.routes.now c.args.ports.now c.new-demand.result (g.F.Family.bytes_of c.upstream.result)
+    c.form_of_demand_toward.ensures c.is_sound.ensures c.new-demand.ensures c.upstream.ensures in
     record {
-      underway = none_gone g.F.Family.family c.args.writer.now c.new-asked.result (g.D.Drain.contents c.args.out.now) asked.few;
+      underway = none_gone g.F.Family.family c.args.writer.now c.new-demand.result (g.D.Drain.contents c.args.out.now) demand.few;
       position = tt;
       room = refl;
       failures = refl;
@@ -21,12 +21,12 @@ loop-length-preserved g c =
     let family = g.F.Family.family in
     let bytes_of = g.F.Family.bytes_of in
     let writing = c.args.writer.now in
-    let asking = c.new-asked.result in
-    let message : IsMessage family writing asking (position_seen bytes_of c.loop-length.position) (position_seen bytes_of c.next_message.new.position) c.split_at.result.0.now =
-    subst (IsMessage family writing asking (position_seen bytes_of c.loop-length.position) (position_seen bytes_of c.next_message.new.position)) (sym c.split_at.ensures.front)
+    let demand_seen = c.new-demand.result in
+    let message : IsMessage family writing demand_seen (position_seen bytes_of c.loop-length.position) (position_seen bytes_of c.next_message.new.position) c.split_at.result.0.now =
+    subst (IsMessage family writing demand_seen (position_seen bytes_of c.loop-length.position) (position_seen bytes_of c.next_message.new.position)) (sym c.split_at.ensures.front)
     c.in-Some-next_message.ensures.next in
     record {
-      underway = one_more_gone family writing asking c.first_run_is_told.ensures c.one_list_of_messages.ensures
+      underway = one_more_gone family writing demand_seen c.first_run_is_written.ensures c.one_list_of_messages.ensures
           (position_seen bytes_of c.loop-length.position) (position_seen bytes_of c.next_message.new.position) c.split_at.result.0.now c.loop-length.count c.loop-length.sent c.send_framed.new.sent
           _ _ _ c.loop-length.invariant.underway message
           (omega (arith, c.split_at.ensures.front_len, c.in-Some-next_message.ensures.within, c.is_writing.ensures.most)) c.in-Ok.ensures.all c.send_framed.ensures.bytes;
@@ -40,10 +40,10 @@ returns-clause-written g c =
     let family = g.F.Family.family in
     let bytes_of = g.F.Family.bytes_of in
     let writing = c.args.writer.now in
-    let asking = c.new-asked.result in
-    let asked = asked_of_writer family writing c.args.routes.now c.args.ports.now asking (bytes_of c.upstream.result)
-    c.form_of_what_is_asked.ensures c.is_sound.ensures c.new-asked.ensures c.upstream.ensures in
-    all_gone family writing c.args.routes.now c.args.ports.now asking asked.is (ap (λ (a : Asking). a.table) c.new-asked.ensures)
+    let demand_seen = c.new-demand.result in
+    let demand = asked_of_writer family writing c.args.routes.now c.args.ports.now demand_seen (bytes_of c.upstream.result)
+    c.form_of_demand_toward.ensures c.is_sound.ensures c.new-demand.ensures c.upstream.ensures in
+    all_gone family writing c.args.routes.now c.args.ports.now demand_seen demand.is (ap (λ (a : DemandSeen). a.table) c.new-demand.ensures)
     (position_seen bytes_of c.loop-length.position) c.loop-length.count c.loop-length.sent _ _ c.loop-length.invariant.underway c.in_default-next_message.ensures.next
 
 pub returns-in_default-send_framed-clause-written : goal.returns-in_default-send_framed-clause-written
@@ -51,13 +51,13 @@ returns-in_default-send_framed-clause-written g c =
     let family = g.F.Family.family in
     let bytes_of = g.F.Family.bytes_of in
     let writing = c.args.writer.now in
-    let asking = c.new-asked.result in
-    let asked = asked_of_writer family writing c.args.routes.now c.args.ports.now asking (bytes_of c.upstream.result)
-    c.form_of_what_is_asked.ensures c.is_sound.ensures c.new-asked.ensures c.upstream.ensures in
-    let message : IsMessage family writing asking (position_seen bytes_of c.loop-length.position) (position_seen bytes_of c.next_message.new.position) c.split_at.result.0.now =
-    subst (IsMessage family writing asking (position_seen bytes_of c.loop-length.position) (position_seen bytes_of c.next_message.new.position)) (sym c.split_at.ensures.front)
+    let demand_seen = c.new-demand.result in
+    let demand = asked_of_writer family writing c.args.routes.now c.args.ports.now demand_seen (bytes_of c.upstream.result)
+    c.form_of_demand_toward.ensures c.is_sound.ensures c.new-demand.ensures c.upstream.ensures in
+    let message : IsMessage family writing demand_seen (position_seen bytes_of c.loop-length.position) (position_seen bytes_of c.next_message.new.position) c.split_at.result.0.now =
+    subst (IsMessage family writing demand_seen (position_seen bytes_of c.loop-length.position) (position_seen bytes_of c.next_message.new.position)) (sym c.split_at.ensures.front)
     c.in-Some-next_message.ensures.next in
-    some_gone family writing c.args.routes.now c.args.ports.now asking asked.is (ap (λ (a : Asking). a.table) c.new-asked.ensures)
-    c.one_normal_form.ensures c.first_run_is_told.ensures c.one_list_of_messages.ensures
+    some_gone family writing c.args.routes.now c.args.ports.now demand_seen demand.is (ap (λ (a : DemandSeen). a.table) c.new-demand.ensures)
+    c.one_normal_form.ensures c.first_run_is_written.ensures c.one_list_of_messages.ensures
     (position_seen bytes_of c.loop-length.position) (position_seen bytes_of c.next_message.new.position) c.split_at.result.0.now c.loop-length.count c.loop-length.sent c.send_framed.new.sent
     _ _ _ c.loop-length.invariant.underway message c.send_framed.ensures.rises c.send_framed.ensures.most c.send_framed.ensures.bytes

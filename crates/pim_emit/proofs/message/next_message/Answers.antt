@@ -15,15 +15,15 @@ loop-draft-init g c =
     let budget = c.args.writer.now.budget in
     let position = position_seen bytes_of c.args.position.now in
     record {
-      made = subst (λ d. IsDraft family budget c.args.asked.now position d c.split_at_mut-bytes.result.0.now) (λ i. draft_seen bytes_of (sym c.empty_draft-draft.ensures i))
-          (draft_begins family budget c.args.asked.now position c.split_at_mut-bytes.result.0.now c.requires.position c.is_writing.ensures.least);
+      made = subst (λ d. IsDraft family budget c.args.demand.now position d c.split_at_mut-bytes.result.0.now) (λ i. draft_seen bytes_of (sym c.empty_draft-draft.ensures i))
+          (draft_begins family budget c.args.demand.now position c.split_at_mut-bytes.result.0.now c.requires.position c.is_writing.ensures.least);
       room = c.split_at_mut-bytes.ensures.front_len ∙ c.budget.ensures;
       start = refl;
     }
 
 pub returns-then-draft-eq0-clause-next : goal.returns-then-draft-eq0-clause-next
 returns-then-draft-eq0-clause-next g c =
-    nothing_left g.F.Family.family c.args.writer.now.budget c.args.asked.now (position_seen g.F.Family.bytes_of c.args.position.now) (draft_seen g.F.Family.bytes_of c.loop-draft.draft) c.loop-draft.bytes
+    nothing_left g.F.Family.family c.args.writer.now.budget c.args.demand.now (position_seen g.F.Family.bytes_of c.args.position.now) (draft_seen g.F.Family.bytes_of c.loop-draft.draft) c.loop-draft.bytes
     c.groups_are_counted.ensures c.is_writing.ensures.least c.requires.fits c.loop-draft.invariant.made c.loop-draft-test.false c.if-draft-eq0.true
 
 pub returns-clause-next : goal.returns-clause-next
@@ -37,6 +37,6 @@ returns-clause-next g c =
     let sealed : IsSealed family writing.own (all_routers family) JoinPrune (canonical_head family writing.upstream c.loop-draft.draft.groups writing.holdtime ++ drop (body_start family) (take c.loop-draft.draft.end c.loop-draft.bytes)) c.seal_message.new.bytes =
     subst (λ (b : List ℕ). IsSealed family writing.own (all_routers family) JoinPrune (canonical_head family writing.upstream c.loop-draft.draft.groups writing.holdtime ++ drop (body_start family) b) c.seal_message.new.bytes)
     c.split_at_mut-message.ensures.front c.seal_message.ensures.sealed in
-    subst (IsMessage family writing c.args.asked.now from draft.position) (sym front)
-    (message_made family writing c.args.asked.now from draft c.loop-draft.bytes c.seal_message.new.bytes c.loop-draft.draft.groups c.groups_are_counted.ensures c.loop-draft.invariant.made c.loop-draft-test.false
+    subst (IsMessage family writing c.args.demand.now from draft.position) (sym front)
+    (message_made family writing c.args.demand.now from draft c.loop-draft.bytes c.seal_message.new.bytes c.loop-draft.draft.groups c.groups_are_counted.ensures c.loop-draft.invariant.made c.loop-draft-test.false
     c.if-draft-eq0.false refl sealed)

@@ -11,13 +11,13 @@ returns-then-most_exceptions-room g c =
     let family = g.F.Family.family in
     let is_room = room_alone family c.args.budget c.room-room.result c.empty_draft.result.groups c.empty_draft.result.end
     (λ i. (c.empty_draft.ensures i).groups) (λ i. (c.empty_draft.ensures i).end) c.room-room.ensures in
-    sym (none_above family c.args.budget c.args.asked.now.form c.is_normal.ensures.normal c.groups_are_counted.ensures c.room-room.result is_room
+    sym (none_above family c.args.budget c.args.demand.now.form c.is_normal.ensures.normal c.groups_are_counted.ensures c.room-room.result is_room
     (λ group is_group. omega (arith, c.most_exceptions.ensures group is_group, c.if-most_exceptions-room.true))
     (option_map g.F.Family.bytes_of c.args.bound))
 
 pub has_star-requires : goal.has_star-requires
 has_star-requires g c =
-    let form = c.args.asked.now.form in
+    let form = c.args.demand.now.form in
     let bound = option_map g.F.Family.bytes_of c.loop-group.passed in
     let group = g.F.Family.bytes_of c.in-Some.group in
     let normal = c.is_normal.ensures.normal in
@@ -27,7 +27,7 @@ has_star-requires g c =
 
 pub exception_count-requires-clause-group : goal.exception_count-requires-clause-group
 exception_count-requires-clause-group g c =
-    let form = c.args.asked.now.form in
+    let form = c.args.demand.now.form in
     let bound = option_map g.F.Family.bytes_of c.loop-group.passed in
     let group = g.F.Family.bytes_of c.in-Some.group in
     let normal = c.is_normal.ensures.normal in
@@ -38,7 +38,7 @@ exception_count-requires-clause-group g c =
 pub returns-then-room-exception_count : goal.returns-then-room-exception_count
 returns-then-room-exception_count g c =
     let family = g.F.Family.family in
-    let form = c.args.asked.now.form in
+    let form = c.args.demand.now.form in
     let bound = option_map g.F.Family.bytes_of c.loop-group.passed in
     let group = g.F.Family.bytes_of c.in-Some.group in
     let found = sym c.next_group.ensures ∙ ap (option_map g.F.Family.bytes_of) c.in-Some.is in
@@ -49,13 +49,13 @@ returns-then-room-exception_count g c =
 
 pub loop-group-smaller : goal.loop-group-smaller
 loop-group-smaller g c =
-    fewer_groups (option_map g.F.Family.bytes_of c.loop-group.passed) c.args.asked.now.form c.is_normal.ensures.normal.ascending (g.F.Family.bytes_of c.in-Some.group)
+    fewer_groups (option_map g.F.Family.bytes_of c.loop-group.passed) c.args.demand.now.form c.is_normal.ensures.normal.ascending (g.F.Family.bytes_of c.in-Some.group)
     (sym c.next_group.ensures ∙ ap (option_map g.F.Family.bytes_of) c.in-Some.is)
 
 pub loop-group-preserved : goal.loop-group-preserved
 loop-group-preserved g c =
     let family = g.F.Family.family in
-    let form = c.args.asked.now.form in
+    let form = c.args.demand.now.form in
     let bound = option_map g.F.Family.bytes_of c.loop-group.passed in
     let group = g.F.Family.bytes_of c.in-Some.group in
     let normal = c.is_normal.ensures.normal in
@@ -72,5 +72,5 @@ loop-group-preserved g c =
 
 pub returns : goal.returns
 returns g c =
-    sym (none_too_big g.F.Family.family c.args.budget (option_map g.F.Family.bytes_of c.loop-group.passed) c.args.asked.now.form c.is_normal.ensures.normal
+    sym (none_too_big g.F.Family.family c.args.budget (option_map g.F.Family.bytes_of c.loop-group.passed) c.args.demand.now.form c.is_normal.ensures.normal
     (sym c.next_group.ensures ∙ ap (option_map g.F.Family.bytes_of) c.in_default.is)) ∙ c.loop-group.invariant

@@ -9,10 +9,10 @@ use Rattle.pim_emit.proofs.new_star.new_too_big.Given as goal
 abbrev pub invariant-loop-group : goal.invariant-loop-group
 invariant-loop-group g l =
     let bound = option_map g.F.Family.bytes_of l.bound in record {
-      least : too_big g.F.Family.family l.budget (new_of l.last (groups_above bound l.asked.form)) ≡ too_big g.F.Family.family l.budget (new_of l.last l.asked.form);
+      least : too_big g.F.Family.family l.budget (new_of l.last (groups_above bound l.demand.form)) ≡ too_big g.F.Family.family l.budget (new_of l.last l.demand.form);
       stars : HaveSameStars bound l.left l.last;
       ascending : AreAscending (groups_of l.left);
     }
 
 abbrev pub decreases-loop-group : goal.decreases-loop-group
-decreases-loop-group g l = length (groups_above (option_map g.F.Family.bytes_of l.bound) l.asked.form)
+decreases-loop-group g l = length (groups_above (option_map g.F.Family.bytes_of l.bound) l.demand.form)

@@ -13,7 +13,7 @@ pub returns-then-has_source : goal.returns-then-has_source
 returns-then-has_source g c =
     let family = g.F.Family.family in
     let bytes_of = g.F.Family.bytes_of in
-    let form = c.args.asked.now.form in
+    let form = c.args.demand.now.form in
     let group = bytes_of c.in-Within.group in
     let from = option_map bytes_of c.in-Within.from in
     let seen : position_seen bytes_of c.args.position ≡ Within group from = ap (position_seen bytes_of) c.in-Within.is in
@@ -26,7 +26,7 @@ pub returns-in_err-group : goal.returns-in_err-group
 returns-in_err-group g c =
     let family = g.F.Family.family in
     let bytes_of = g.F.Family.bytes_of in
-    let form = c.args.asked.now.form in
+    let form = c.args.demand.now.form in
     let position = position_seen bytes_of c.args.position in
     let bound = option_map bytes_of c.match-position.bound in
     let between : IsBetween position bound form = elim c.match-position.branch [
@@ -41,7 +41,7 @@ returns-in_err-group g c =
 
 pub has_star-requires : goal.has_star-requires
 has_star-requires g c =
-    let form = c.args.asked.now.form in
+    let form = c.args.demand.now.form in
     let bytes_of = g.F.Family.bytes_of in
     let bound = option_map bytes_of c.match-position.bound in
     let found = sym c.next_group.ensures ∙ ap (option_map bytes_of) (c.in_ok-group.was) in
@@ -53,7 +53,7 @@ pub returns : goal.returns
 returns g c =
     let family = g.F.Family.family in
     let bytes_of = g.F.Family.bytes_of in
-    let form = c.args.asked.now.form in
+    let form = c.args.demand.now.form in
     let position = position_seen bytes_of c.args.position in
     let bound = option_map bytes_of c.match-position.bound in
     let between : IsBetween position bound form = elim c.match-position.branch [

@@ -24,11 +24,11 @@ write_entry_at-requires g c =
     let family = g.F.Family.family in
     let bytes_of = g.F.Family.bytes_of in
     let size = source_length family in
-    let all = exceptions_in (bytes_of c.args.group) c.args.asked.now.form in
+    let all = exceptions_in (bytes_of c.args.group) c.args.demand.now.form in
     let bound = Some c.loop-exception.rpts.bound in
     let exception = bytes_of c.in-Some.exception in
     let is : above bound all ≡ exception ∷ above (Some exception) all =
-    above_first bound all exception (exceptions_ascend family (bytes_of c.args.group) c.args.asked.now.form c.is_normal.ensures.normal)
+    above_first bound all exception (exceptions_ascend family (bytes_of c.args.group) c.args.demand.now.form c.is_normal.ensures.normal)
     (sym c.next_exception.ensures.exception ∙ ap (option_map bytes_of) c.in-Some.is) in
     room_of_one c.loop-exception.place size (c.args.at + length all * size) (length c.loop-exception.bytes) (above bound all) exception (above (Some exception) all) is
     c.loop-exception.invariant.place (omega (arith, c.requires.room, c.loop-exception.invariant.long))
@@ -38,11 +38,11 @@ loop-exception-smaller g c =
     let family = g.F.Family.family in
     let bytes_of = g.F.Family.bytes_of in
     let size = source_length family in
-    let all = exceptions_in (bytes_of c.args.group) c.args.asked.now.form in
+    let all = exceptions_in (bytes_of c.args.group) c.args.demand.now.form in
     let bound = Some c.loop-exception.rpts.bound in
     let exception = bytes_of c.in-Some.exception in
     let is : above bound all ≡ exception ∷ above (Some exception) all =
-    above_first bound all exception (exceptions_ascend family (bytes_of c.args.group) c.args.asked.now.form c.is_normal.ensures.normal)
+    above_first bound all exception (exceptions_ascend family (bytes_of c.args.group) c.args.demand.now.form c.is_normal.ensures.normal)
     (sym c.next_exception.ensures.exception ∙ ap (option_map bytes_of) c.in-Some.is) in
     subst (λ (e : List ℕ). length (above (Some e) all) < length (above bound all)) (sym c.in-Some.ensures.bound)
     (fewer_left (above bound all) exception (above (Some exception) all) is)
@@ -52,11 +52,11 @@ loop-exception-preserved g c =
     let family = g.F.Family.family in
     let bytes_of = g.F.Family.bytes_of in
     let size = source_length family in
-    let all = exceptions_in (bytes_of c.args.group) c.args.asked.now.form in
+    let all = exceptions_in (bytes_of c.args.group) c.args.demand.now.form in
     let bound = Some c.loop-exception.rpts.bound in
     let exception = bytes_of c.in-Some.exception in
     let is : above bound all ≡ exception ∷ above (Some exception) all =
-    above_first bound all exception (exceptions_ascend family (bytes_of c.args.group) c.args.asked.now.form c.is_normal.ensures.normal)
+    above_first bound all exception (exceptions_ascend family (bytes_of c.args.group) c.args.demand.now.form c.is_normal.ensures.normal)
     (sym c.next_exception.ensures.exception ∙ ap (option_map bytes_of) c.in-Some.is) in
     let length_is = c.source_length-place.ensures in
     let written : take (c.loop-exception.place + size) c.write_entry_at.new.bytes ≡ take c.loop-exception.place c.loop-exception.bytes ++ canonical_entry family (Rpt exception) =
@@ -78,7 +78,7 @@ pub returns-clause-written : goal.returns-clause-written
 returns-clause-written g c =
     let family = g.F.Family.family in
     let bytes_of = g.F.Family.bytes_of in
-    let all = exceptions_in (bytes_of c.args.group) c.args.asked.now.form in
+    let all = exceptions_in (bytes_of c.args.group) c.args.demand.now.form in
     let bound = Some c.loop-exception.rpts.bound in
     no_more (λ s. canonical_entry family (Rpt s)) (source_length family) c.loop-exception.place (c.args.at + length all * source_length family) (above bound all) c.loop-exception.bytes _
     (above_none bound all (sym c.next_exception.ensures.exception ∙ ap (option_map bytes_of) c.in_default.is)) c.loop-exception.invariant.place c.loop-exception.invariant.written

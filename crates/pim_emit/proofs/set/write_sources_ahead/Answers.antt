@@ -41,7 +41,7 @@ pub loop-count-preserved : goal.loop-count-preserved
 loop-count-preserved g c =
     let family = g.F.Family.family in
     let bytes_of = g.F.Family.bytes_of in
-    let form = c.args.asked.now.form in
+    let form = c.args.demand.now.form in
     let sources = sources_in (bytes_of c.args.piece.now.group) form in
     let all = (piece_form (piece_seen bytes_of c.args.piece.now) form).sources in
     let source = bytes_of c.in-Some.source in
@@ -62,11 +62,11 @@ loop-count-preserved g c =
           ≡ take (c.args.at + c.loop-count.count * n) c.loop-count.bytes ++ canonical_entry family (Source source)) c.source_length.ensures c.write_entry_at.ensures.written);
     }
 
-pub returns-clause-told : goal.returns-clause-told
-returns-clause-told g c =
+pub returns-clause-reported : goal.returns-clause-reported
+returns-clause-reported g c =
     let family = g.F.Family.family in
     let bytes_of = g.F.Family.bytes_of in
-    let form = c.args.asked.now.form in
+    let form = c.args.demand.now.form in
     let all = (piece_form (piece_seen bytes_of c.args.piece.now) form).sources in
     let kept = c.loop-count.invariant in
     record {

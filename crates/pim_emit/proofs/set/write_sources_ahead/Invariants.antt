@@ -9,13 +9,13 @@ use Rattle.pim_emit.proofs.set.write_sources_ahead.Given as goal
 abbrev pub invariant-loop-count : goal.invariant-loop-count
 invariant-loop-count g l =
     let family = g.F.Family.family in
-    let all = (piece_form (piece_seen g.F.Family.bytes_of l.piece) l.asked.form).sources in record {
+    let all = (piece_form (piece_seen g.F.Family.bytes_of l.piece) l.demand.form).sources in record {
       most : l.count ≤ l.most;
       within : l.count ≤ length all;
       long : length l.bytes ≡ length l.initial.bytes;
-      next : l.asked.machines.ports ≤ length l.nexts →
-          AreNext l.asked.machines (g.F.Family.bytes_of l.piece.group) (option_map g.F.Family.bytes_of l.last) l.nexts;
-      left : above (option_map g.F.Family.bytes_of l.last) (sources_in (g.F.Family.bytes_of l.piece.group) l.asked.form) ≡ drop l.count all;
+      next : l.demand.machines.ports ≤ length l.nexts →
+          AreNext l.demand.machines (g.F.Family.bytes_of l.piece.group) (option_map g.F.Family.bytes_of l.last) l.nexts;
+      left : above (option_map g.F.Family.bytes_of l.last) (sources_in (g.F.Family.bytes_of l.piece.group) l.demand.form) ≡ drop l.count all;
       written : take (l.at + l.count * source_length family) l.bytes
           ≡ take l.at l.initial.bytes ++ source_entries family (take l.count all);
     }

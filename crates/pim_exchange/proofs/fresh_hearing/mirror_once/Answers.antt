@@ -14,10 +14,10 @@ pub mirror-requires-clause-short : goal.mirror-requires-clause-short
 mirror-requires-clause-short g c =
     let family = g.F.Family.family in
     let table = c.args.fresh.now.routes.now in
-    let asked = c.requires.sent.asked in
+    let demanded = c.requires.sent.demanded in
     all_short c.args.by.now.budget c.is_writing.ensures.most c.args.messages.now
-    (c.canonical_messages_are_short.ensures family c.args.by.now (rp_of family table) asked.form c.args.messages.now c.is_writing.ensures asked.is.normal
-    (c.asked_stars_have_rps.ensures family table c.args.by.now.upstream c.requires.sent.state asked.form c.is_sound.ensures asked.is) asked.told)
+    (c.canonical_messages_are_short.ensures family c.args.by.now (rp_of family table) demanded.form c.args.messages.now c.is_writing.ensures demanded.is.normal
+    (c.demanded_stars_have_rps.ensures family table c.args.by.now.upstream c.requires.sent.state demanded.form c.is_sound.ensures demanded.is) demanded.reported)
 
 pub returns-clause-mirrored : goal.returns-clause-mirrored
 returns-clause-mirrored g c =

@@ -15,7 +15,7 @@ hear_again-requires-clause-sent g c =
 pub returns-in_default-clause-exchanges : goal.returns-in_default-clause-exchanges
 returns-in_default-clause-exchanges g c = record {
   messages = c.in_ok-messages.messages;
-  asked = c.in_ok-messages.ensures.0;
+  demanded = c.in_ok-messages.ensures.0;
   written = front-longer (g.W.Drain.contents c.args.writer.now) (g.W.Drain.contents c.write_messages.new.writer) (messages_text c.in_ok-messages.messages) agrees_line c.in_default.ensures.bytes;
 }
 
@@ -27,7 +27,7 @@ returns-in-Err-clause-exchanges g c = rw (c.of_mirror.ensures)
 pub returns-in_default-write_all-clause-exchanges : goal.returns-in_default-write_all-clause-exchanges
 returns-in_default-write_all-clause-exchanges g c = record {
   messages = c.in_ok-messages.messages;
-  asked = c.in_ok-messages.ensures.0;
+  demanded = c.in_ok-messages.ensures.0;
   written = front_agreed c.in_ok-messages.messages c.in_ok-messages.messages c.in-Ok-hear_again.again c.judgement.result.now c.in-Ok-hear_again.ensures.1 c.judgement.ensures (g.W.Drain.contents c.args.writer.now)
       (g.W.Drain.contents c.write_messages.new.writer) (g.W.Drain.contents c.write_all.new.drain) c.in-Ok.ensures.bytes c.in_default-write_all.ensures.bytes;
 }
@@ -37,7 +37,7 @@ returns-clause-exchanges g c = (
   refl,
   record {
     messages = c.in_ok-messages.messages;
-    asked = c.in_ok-messages.ensures.0;
+    demanded = c.in_ok-messages.ensures.0;
     written = (
       subst (λ t. HaveRoom g.F.Family.family t c.args.by.now c.args.limit c.in_ok-messages.messages) c.routes.ensures c.in-Ok-hear_again.ensures.0,
       all_agreed c.in_ok-messages.messages c.in_ok-messages.messages c.in-Ok-hear_again.again c.judgement.result.now c.in-Ok-hear_again.ensures.1 c.judgement.ensures (g.W.Drain.contents c.args.writer.now)

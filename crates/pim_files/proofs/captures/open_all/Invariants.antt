@@ -1,6 +1,6 @@
 use Rattle.std.proofs.Common.{◌≡◌, ◌+◌, drop, take, length}
 use Rattle.pim_merge.specs.Next.{IsUntaken}
-use Rattle.pim_files.specs.Files.{AsksFor}
+use Rattle.pim_files.specs.Files.{RequestsFor}
 use Rattle.pim_files.specs.Captures.{all_files, files_from, names_of, CanOpen, HoldFiles}
 use Rattle.pim_files.proofs.captures.open_all.Given as goal
 
@@ -10,7 +10,7 @@ invariant-loop-port g l = record {
   at : l.number ≡ l.port-index;
   each : length l.merge.lanes + length (drop l.port-index l.ports) ≡ length l.ports;
   untaken : IsUntaken l.merge;
-  asked : AsksFor (g.O.Opener.known l.initial.opener) (g.O.Opener.known l.opener) (names_of (all_files (take l.port-index (files_from 0 l.further l.ports))));
+  requested : RequestsFor (g.O.Opener.known l.initial.opener) (g.O.Opener.known l.opener) (names_of (all_files (take l.port-index (files_from 0 l.further l.ports))));
   present : CanOpen (g.O.Opener.known l.initial.opener).files (all_files (take l.port-index (files_from 0 l.further l.ports)));
   held : HoldFiles (g.O.Opener.known l.initial.opener).files (take l.port-index (files_from 0 l.further l.ports)) l.merge.lanes;
 }

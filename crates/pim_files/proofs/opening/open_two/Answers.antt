@@ -11,11 +11,11 @@ returns-in_err-routes-clause-unopened g c =
     let p = err_from_is_err_and c.from_residual.result c.from_residual.ensures.1 in
     rw (p.1, p.2) (inl c.in_err-routes.ensures.table)
 
-pub returns-in_err-routes-clause-asked : goal.returns-in_err-routes-clause-asked
-returns-in_err-routes-clause-asked g c =
+pub returns-in_err-routes-clause-requested : goal.returns-in_err-routes-clause-requested
+returns-in_err-routes-clause-requested g c =
     let p = err_from_is_err_and c.from_residual.result c.from_residual.ensures.1 in
     rw (p.1)
-    (front_of_more (g.O.Opener.known c.args.opener.now) (g.O.Opener.known c.table.new.opener) (table_names c.args.captures.now) (names_of (all_files (port_files c.args.captures.now))) c.in_err-routes.ensures.asked)
+    (front_of_more (g.O.Opener.known c.args.opener.now) (g.O.Opener.known c.table.new.opener) (table_names c.args.captures.now) (names_of (all_files (port_files c.args.captures.now))) c.in_err-routes.ensures.requested)
 
 pub returns-in_err-pair-clause-unopened : goal.returns-in_err-pair-clause-unopened
 returns-in_err-pair-clause-unopened g c =
@@ -25,16 +25,16 @@ returns-in_err-pair-clause-unopened g c =
     rw (p.1, p.2)
     (no_port g.F.Family.family g.F.Family.bytes_of g.O.Reader.Feed.remaining g.O.Reader.Feed.failures (g.O.Opener.known c.args.opener.now) (g.O.Opener.known c.table.new.opener)
     (g.O.Opener.known c.open_both.new.opener) c.args.captures.now c.args.upstream c.in_ok-routes.routes all c.in_err-pair.field-0.0 same
-    c.in_ok-routes.ensures.table c.in_ok-routes.ensures.asked c.in_err-pair.ensures.fault)
+    c.in_ok-routes.ensures.table c.in_ok-routes.ensures.requested c.in_err-pair.ensures.fault)
 
-pub returns-in_err-pair-clause-asked : goal.returns-in_err-pair-clause-asked
-returns-in_err-pair-clause-asked g c =
+pub returns-in_err-pair-clause-requested : goal.returns-in_err-pair-clause-requested
+returns-in_err-pair-clause-requested g c =
     let all = files_from 0 c.deref-2.result.now c.deref.result.now in
     let same = same_files c.deref-2.result.now c.args.captures.now.more.items c.deref.result.now c.args.captures.now.ports.items c.deref-2.ensures.value c.deref.ensures.value in
     let p = err_from_is_err_and c.from_residual-in_err-pair.result c.from_residual-in_err-pair.ensures.1 in
     rw (p.1)
     (port_asked g.F.Family.family g.F.Family.bytes_of g.O.Reader.Feed.remaining g.O.Reader.Feed.failures (g.O.Opener.known c.args.opener.now) (g.O.Opener.known c.table.new.opener)
-    (g.O.Opener.known c.open_both.new.opener) c.args.captures.now c.args.upstream all same c.in_ok-routes.ensures.asked c.in_err-pair.ensures.asked)
+    (g.O.Opener.known c.open_both.new.opener) c.args.captures.now c.args.upstream all same c.in_ok-routes.ensures.requested c.in_err-pair.ensures.requested)
 
 pub returns-clause-opened : goal.returns-clause-opened
 returns-clause-opened g c =
@@ -42,5 +42,5 @@ returns-clause-opened g c =
     let same = same_files c.deref-2.result.now c.args.captures.now.more.items c.deref.result.now c.args.captures.now.ports.items c.deref-2.ensures.value c.deref.ensures.value in
     are_open g.F.Family.family g.F.Family.bytes_of g.O.Reader.Feed.remaining g.O.Reader.Feed.failures (g.O.Opener.known c.args.opener.now) (g.O.Opener.known c.table.new.opener) (g.O.Opener.known c.open_both.new.opener)
     c.args.captures.now c.args.upstream c.in_ok-routes.routes c.in_ok-pair.pair.a c.in_ok-pair.pair.b c.deref.result.now all c.deref.ensures.value same c.in_ok-routes.ensures.table
-    c.in_ok-routes.ensures.asked c.in_ok-pair.ensures.a c.in_ok-pair.ensures.b c.in_ok-pair.ensures.untaken_of_a c.in_ok-pair.ensures.untaken_of_b
-    c.in_ok-pair.ensures.opened_of_a c.in_ok-pair.ensures.opened_of_b c.in_ok-pair.ensures.asked
+    c.in_ok-routes.ensures.requested c.in_ok-pair.ensures.a c.in_ok-pair.ensures.b c.in_ok-pair.ensures.untaken_of_a c.in_ok-pair.ensures.untaken_of_b
+    c.in_ok-pair.ensures.opened_of_a c.in_ok-pair.ensures.opened_of_b c.in_ok-pair.ensures.requested

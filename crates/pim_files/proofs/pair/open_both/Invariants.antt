@@ -1,8 +1,8 @@
 use Rattle.std.proofs.Common.{◌≡◌, ◌+◌, drop, take, length}
 use Rattle.pim_merge.specs.Next.{IsUntaken}
 use Rattle.std.specs.List.{filter}
-use Rattle.pim_words.specs.declared.fault.Side.TheVariants.{A, B}
-use Rattle.pim_files.specs.Files.{AsksFor}
+use Rattle.pim_words.specs.declared.fault.RouterSide.TheVariants.{A, B}
+use Rattle.pim_files.specs.Files.{RequestsFor}
 use Rattle.pim_files.specs.Captures.{all_files, files_from, names_of, of_router, CanOpen, HoldFiles}
 use Rattle.pim_words.specs.Faults.{is_of}
 use Rattle.pim_files.proofs.pair.open_both.Given as goal
@@ -15,7 +15,7 @@ invariant-loop-port g l = record {
   each_of_b : length l.pair.b.lanes + length (filter (is_of B) (drop l.port-index l.ports)) ≡ length (filter (is_of B) l.ports);
   untaken_of_a : IsUntaken l.pair.a;
   untaken_of_b : IsUntaken l.pair.b;
-  asked : AsksFor (g.O.Opener.known l.initial.opener) (g.O.Opener.known l.opener) (names_of (all_files (take l.port-index (files_from 0 l.further l.ports))));
+  requested : RequestsFor (g.O.Opener.known l.initial.opener) (g.O.Opener.known l.opener) (names_of (all_files (take l.port-index (files_from 0 l.further l.ports))));
   present : CanOpen (g.O.Opener.known l.initial.opener).files (all_files (take l.port-index (files_from 0 l.further l.ports)));
   held_of_a : HoldFiles (g.O.Opener.known l.initial.opener).files (of_router A (take l.port-index (files_from 0 l.further l.ports))) l.pair.a.lanes;
   held_of_b : HoldFiles (g.O.Opener.known l.initial.opener).files (of_router B (take l.port-index (files_from 0 l.further l.ports))) l.pair.b.lanes;

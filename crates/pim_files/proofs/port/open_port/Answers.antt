@@ -1,8 +1,8 @@
 use Rattle.std.proofs.Common.{◌∙◌, List, map, sym, subst, arith}
 use Rattle.std.proofs.lemmas.Result.{err_from_is_err_and}
 use Rattle.pim_files.specs.declared.fault.OpenFault.TheVariants as opening
-use Rattle.pim_files.specs.Files.{AsksFor}
-use Rattle.pim_files.specs.Captures.{NamedFile, first_file, further_file, files_of, names_of, with_more, HaveFiles}
+use Rattle.pim_files.specs.Files.{RequestsFor}
+use Rattle.pim_files.specs.Captures.{FileOfName, first_file, further_file, files_of, names_of, with_more, HaveFiles}
 use Rattle.pim_files.proofs.Several.{front_of_first, stops_first}
 use Rattle.pim_files.proofs.Further.{same_files, asks_further, front_further, have_further, stops_further, all_by}
 use Rattle.pim_files.proofs.port.open_port.Goals as goal
@@ -13,31 +13,31 @@ returns-in_err-readers-clause-fault g c =
     rw (p.1, p.2) (stops_first (g.O.Opener.known c.args.opener.now).files (first_file c.args.port.now) (map further_file (with_more c.args.number c.args.further.now c.args.port.now).more)
     c.in_err-readers.field-0.0 c.in_err-readers.ensures.fault)
 
-pub returns-in_err-readers-clause-asked : goal.returns-in_err-readers-clause-asked
-returns-in_err-readers-clause-asked g c =
+pub returns-in_err-readers-clause-requested : goal.returns-in_err-readers-clause-requested
+returns-in_err-readers-clause-requested g c =
     let p = err_from_is_err_and c.from_residual.result c.from_residual.ensures.1 in
     rw (p.1) (front_of_first (g.O.Opener.known c.args.opener.now) (g.O.Opener.known c.open_first.new.opener) (first_file c.args.port.now)
-    (map further_file (with_more c.args.number c.args.further.now c.args.port.now).more) c.in_err-readers.ensures.asked)
+    (map further_file (with_more c.args.number c.args.further.now c.args.port.now).more) c.in_err-readers.ensures.requested)
 
 pub loop-one-init : goal.loop-one-init
-loop-one-init g c = record { some = c.in_ok-readers.ensures.some; asked = c.in_ok-readers.ensures.asked; held = c.in_ok-readers.ensures.opened }
+loop-one-init g c = record { some = c.in_ok-readers.ensures.some; requested = c.in_ok-readers.ensures.requested; held = c.in_ok-readers.ensures.opened }
 
 pub loop-one-preserved-then-not-is_further : goal.loop-one-preserved-then-not-is_further
 loop-one-preserved-then-not-is_further g c =
     let same = same_files c.args.number c.args.port.now c.args.further.now c.loop-one.one-index _ c.loop-one-test.true (sym c.is_further.ensures ∙ c.if-not-is_further.true) in
     record {
       some = c.loop-one.invariant.some;
-      asked = subst (λ (l : List NamedFile). AsksFor (g.O.Opener.known c.args.opener.now) (g.O.Opener.known c.loop-one.opener) (names_of l)) same c.loop-one.invariant.asked;
-      held = subst (λ (l : List NamedFile). HaveFiles g.O.Reader.Feed.remaining (g.O.Opener.known c.args.opener.now).files l c.loop-one.readers.items) same c.loop-one.invariant.held;
+      requested = subst (λ (l : List FileOfName). RequestsFor (g.O.Opener.known c.args.opener.now) (g.O.Opener.known c.loop-one.opener) (names_of l)) same c.loop-one.invariant.requested;
+      held = subst (λ (l : List FileOfName). HaveFiles g.O.Reader.Feed.remaining (g.O.Opener.known c.args.opener.now).files l c.loop-one.readers.items) same c.loop-one.invariant.held;
     }
 
 pub loop-one-preserved : goal.loop-one-preserved
 loop-one-preserved g c = record {
   some = omega (arith, c.loop-one.invariant.some, c.in-Ok.ensures.lower_bound);
-  asked = asks_further c.args.number c.args.port.now c.args.further.now c.loop-one.one-index _ c.loop-one-test.true (sym c.is_further.ensures ∙ c.if-not-is_further.false)
-      (g.O.Opener.known c.args.opener.now) (g.O.Opener.known c.loop-one.opener) (g.O.Opener.known c.open_further.new.opener) c.loop-one.invariant.asked c.in_ok-reader.ensures.asked;
+  requested = asks_further c.args.number c.args.port.now c.args.further.now c.loop-one.one-index _ c.loop-one-test.true (sym c.is_further.ensures ∙ c.if-not-is_further.false)
+      (g.O.Opener.known c.args.opener.now) (g.O.Opener.known c.loop-one.opener) (g.O.Opener.known c.open_further.new.opener) c.loop-one.invariant.requested c.in_ok-reader.ensures.requested;
   held = have_further c.args.number c.args.port.now c.args.further.now c.loop-one.one-index _ c.loop-one-test.true (sym c.is_further.ensures ∙ c.if-not-is_further.false)
-      g.O.Reader.Feed.remaining (g.O.Opener.known c.args.opener.now).files (g.O.Opener.known c.loop-one.opener).files c.loop-one.readers.items c.loop-one.invariant.asked.files c.loop-one.invariant.held
+      g.O.Reader.Feed.remaining (g.O.Opener.known c.args.opener.now).files (g.O.Opener.known c.loop-one.opener).files c.loop-one.readers.items c.loop-one.invariant.requested.files c.loop-one.invariant.held
       c.push.new.self.items c.in_ok-reader.reader c.in-Ok.ensures.items c.in_ok-reader.ensures.opened;
 }
 
@@ -46,33 +46,33 @@ returns-in_err-reader-clause-fault g c =
     let p = err_from_is_err_and c.from_residual-in_err-reader.result c.from_residual-in_err-reader.ensures.1 in
     rw (p.1, p.2)
     (stops_further c.args.number c.args.port.now c.args.further.now c.loop-one.one-index _ c.loop-one-test.true (sym c.is_further.ensures ∙ c.if-not-is_further.false)
-    g.O.Reader.Feed.remaining (g.O.Opener.known c.args.opener.now).files (g.O.Opener.known c.loop-one.opener).files c.loop-one.readers.items c.loop-one.invariant.asked.files c.loop-one.invariant.held
+    g.O.Reader.Feed.remaining (g.O.Opener.known c.args.opener.now).files (g.O.Opener.known c.loop-one.opener).files c.loop-one.readers.items c.loop-one.invariant.requested.files c.loop-one.invariant.held
     c.in_err-reader.field-0.0 c.in_err-reader.ensures.opened)
 
-pub returns-in_err-reader-clause-asked : goal.returns-in_err-reader-clause-asked
-returns-in_err-reader-clause-asked g c =
+pub returns-in_err-reader-clause-requested : goal.returns-in_err-reader-clause-requested
+returns-in_err-reader-clause-requested g c =
     let p = err_from_is_err_and c.from_residual-in_err-reader.result c.from_residual-in_err-reader.ensures.1 in
     rw (p.1)
     (front_further c.args.number c.args.port.now c.args.further.now c.loop-one.one-index _ c.loop-one-test.true (sym c.is_further.ensures ∙ c.if-not-is_further.false)
-    (g.O.Opener.known c.args.opener.now) (g.O.Opener.known c.loop-one.opener) (g.O.Opener.known c.open_further.new.opener) c.loop-one.invariant.asked c.in_err-reader.ensures.asked)
+    (g.O.Opener.known c.args.opener.now) (g.O.Opener.known c.loop-one.opener) (g.O.Opener.known c.open_further.new.opener) c.loop-one.invariant.requested c.in_err-reader.ensures.requested)
 
 pub returns-in_default-clause-fault : goal.returns-in_default-clause-fault
 returns-in_default-clause-fault g c =
     stops_further c.args.number c.args.port.now c.args.further.now c.loop-one.one-index _ c.loop-one-test.true (sym c.is_further.ensures ∙ c.if-not-is_further.false)
-    g.O.Reader.Feed.remaining (g.O.Opener.known c.args.opener.now).files (g.O.Opener.known c.loop-one.opener).files c.loop-one.readers.items c.loop-one.invariant.asked.files c.loop-one.invariant.held
+    g.O.Reader.Feed.remaining (g.O.Opener.known c.args.opener.now).files (g.O.Opener.known c.loop-one.opener).files c.loop-one.readers.items c.loop-one.invariant.requested.files c.loop-one.invariant.held
     opening.Memory tt
 
-pub returns-in_default-clause-asked : goal.returns-in_default-clause-asked
-returns-in_default-clause-asked g c =
+pub returns-in_default-clause-requested : goal.returns-in_default-clause-requested
+returns-in_default-clause-requested g c =
     front_further c.args.number c.args.port.now c.args.further.now c.loop-one.one-index _ c.loop-one-test.true (sym c.is_further.ensures ∙ c.if-not-is_further.false)
-    (g.O.Opener.known c.args.opener.now) (g.O.Opener.known c.loop-one.opener) (g.O.Opener.known c.open_further.new.opener) c.loop-one.invariant.asked c.in_ok-reader.ensures.asked
+    (g.O.Opener.known c.args.opener.now) (g.O.Opener.known c.loop-one.opener) (g.O.Opener.known c.open_further.new.opener) c.loop-one.invariant.requested c.in_ok-reader.ensures.requested
 
 pub returns-clause-opened : goal.returns-clause-opened
 returns-clause-opened g c =
-    subst (λ (l : List NamedFile). HaveFiles g.O.Reader.Feed.remaining (g.O.Opener.known c.args.opener.now).files l c.loop-one.readers.items)
+    subst (λ (l : List FileOfName). HaveFiles g.O.Reader.Feed.remaining (g.O.Opener.known c.args.opener.now).files l c.loop-one.readers.items)
     (all_by c.args.number c.args.port.now c.args.further.now c.loop-one.one-index c.loop-one-test.false) c.loop-one.invariant.held
 
-pub returns-clause-asked : goal.returns-clause-asked
-returns-clause-asked g c =
-    subst (λ (l : List NamedFile). AsksFor (g.O.Opener.known c.args.opener.now) (g.O.Opener.known c.loop-one.opener) (names_of l))
-    (all_by c.args.number c.args.port.now c.args.further.now c.loop-one.one-index c.loop-one-test.false) c.loop-one.invariant.asked
+pub returns-clause-requested : goal.returns-clause-requested
+returns-clause-requested g c =
+    subst (λ (l : List FileOfName). RequestsFor (g.O.Opener.known c.args.opener.now) (g.O.Opener.known c.loop-one.opener) (names_of l))
+    (all_by c.args.number c.args.port.now c.args.further.now c.loop-one.one-index c.loop-one-test.false) c.loop-one.invariant.requested

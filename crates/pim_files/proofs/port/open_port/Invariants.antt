@@ -1,5 +1,5 @@
 use Rattle.std.proofs.Common.{◌<◌, vec_len}
-use Rattle.pim_files.specs.Files.{AsksFor}
+use Rattle.pim_files.specs.Files.{RequestsFor}
 use Rattle.pim_files.specs.Captures.{names_of, HaveFiles}
 use Rattle.pim_files.proofs.Further.{files_by}
 use Rattle.pim_files.proofs.port.open_port.Given as goal
@@ -8,6 +8,6 @@ use Rattle.pim_files.proofs.port.open_port.Given as goal
 abbrev pub invariant-loop-one : goal.invariant-loop-one
 invariant-loop-one g l = record {
   some : 0 < vec_len l.readers;
-  asked : AsksFor (g.O.Opener.known l.fn.opener) (g.O.Opener.known l.opener) (names_of (files_by l.number l.port l.further l.one-index));
+  requested : RequestsFor (g.O.Opener.known l.fn.opener) (g.O.Opener.known l.opener) (names_of (files_by l.number l.port l.further l.one-index));
   held : HaveFiles g.O.Reader.Feed.remaining (g.O.Opener.known l.fn.opener).files (files_by l.number l.port l.further l.one-index) l.readers.items;
 }

@@ -5,8 +5,8 @@ use Rattle.pim_files.specs.Table.{IsFileFault, name_of, table_names}
 use Rattle.pim_files.proofs.Asked.{asks_no_names}
 use Rattle.pim_files.proofs.route_table.table.Goals as goal
 
-pub returns-in_default-clause-asked : goal.returns-in_default-clause-asked
-returns-in_default-clause-asked g c =
+pub returns-in_default-clause-requested : goal.returns-in_default-clause-requested
+returns-in_default-clause-requested g c =
     asks_no_names (g.O.Opener.known c.args.opener.now) (table_names c.args.captures.now) c.first_rows.result (ap name_of c.in_default.is)
 
 pub returns-in_err-add_file-clause-table : goal.returns-in_err-add_file-clause-table

@@ -1,12 +1,12 @@
 use Rattle.std.proofs.Common.{◌+◌, List, ◌∷◌}
-use Rattle.pim_form.specs.declared.place.Place.{Place}
+use Rattle.pim_form.specs.declared.place.GroupPlace.{GroupPlace}
 use Rattle.pim_form.specs.Filling.{IsFilling, IsNext, star_count, place_sources}
 use Rattle.pim_form.proofs.filling.fill.Given as goal
 
 -- whatever went on with the group goes on with what is left of it
 abbrev pub invariant-loop-filling : goal.invariant-loop-filling
 invariant-loop-filling g l = record {
-  goes : (row : List g.row.F-Addr.Denot) (places left : List (Place g.row.F-Addr.Denot)) →
+  goes : (row : List g.row.F-Addr.Denot) (places left : List (GroupPlace g.row.F-Addr.Denot)) →
       IsFilling g.F.Family.bytes_of g.F.Family.family l.budget row places (l.fn.place ∷ left) l.fn.filling →
       IsFilling g.F.Family.bytes_of g.F.Family.family l.budget row places (l.left ∷ left) l.filling;
   next : IsNext g.F.Family.bytes_of g.F.Family.family l.budget l.left l.filling;

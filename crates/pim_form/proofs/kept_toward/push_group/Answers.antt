@@ -1,7 +1,7 @@
 use Rattle.std.proofs.Common.{List, ℕ, ◌≡◌, ◌∙◌, ap, map, length, arith}
 use Rattle.std.specs.List.{filter}
 use Rattle.pim_addr.specs.Routes.{rp_of}
-use Rattle.pim_form.specs.Toward.{via_in}
+use Rattle.pim_form.specs.Toward.{via_of}
 use Rattle.pim_form.specs.KeptToward.{is_reached, group_toward}
 use Rattle.pim_form.proofs.PushedGroups.{filter_mapped, pushed}
 use Rattle.pim_form.proofs.kept_toward.push_group.Goals as goal
@@ -10,7 +10,7 @@ pub returns : goal.returns
 returns g c =
     let bytes_of = g.F.Family.bytes_of in
     let rps = rp_of g.F.Family.family c.args.routes.now in
-    let via = via_in g.F.Family.family c.args.routes.now in
+    let via = via_of g.F.Family.family c.args.routes.now in
     let upstream : List ℕ = bytes_of c.args.upstream in
     let kept : List g.row.F-Addr.Denot = filter (λ source. is_reached rps via upstream (bytes_of source)) c.sources.result.now in
     let lists : map bytes_of kept ≡ filter (is_reached rps via upstream) c.args.this.now.sources =

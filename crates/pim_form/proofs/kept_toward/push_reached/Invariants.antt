@@ -1,7 +1,7 @@
 use Rattle.std.proofs.Common.{◌≡◌, ◌++◌, drop}
 use Rattle.std.specs.List.{filter}
 use Rattle.pim_addr.specs.Routes.{rp_of}
-use Rattle.pim_form.specs.Toward.{via_in}
+use Rattle.pim_form.specs.Toward.{via_of}
 use Rattle.pim_form.specs.KeptToward.{is_reached}
 use Rattle.pim_form.proofs.kept_toward.push_reached.Given as goal
 
@@ -9,5 +9,5 @@ use Rattle.pim_form.proofs.kept_toward.push_reached.Given as goal
 abbrev pub invariant-loop-source : goal.invariant-loop-source
 invariant-loop-source g l =
     let bytes_of = g.F.Family.bytes_of in
-    let keeps = λ (source : g.row.F-Addr.Denot). is_reached (rp_of g.F.Family.family l.routes) (via_in g.F.Family.family l.routes) (bytes_of l.upstream) (bytes_of source) in
+    let keeps = λ (source : g.row.F-Addr.Denot). is_reached (rp_of g.F.Family.family l.routes) (via_of g.F.Family.family l.routes) (bytes_of l.upstream) (bytes_of source) in
     l.row.items ++ filter keeps (drop l.source-index l.sources) ≡ l.initial.row.items ++ filter keeps l.sources

@@ -6,13 +6,13 @@ use Rattle.pim_form.specs.Units.{units_of}
 use Rattle.pim_form.specs.Rows.{form_seen}
 use Rattle.pim_form.specs.Plan.{IsPlan, parts_from, run_of}
 use Rattle.pim_form.specs.Parts.{PartHasRps}
-use Rattle.pim_form.specs.Messages.{HaveRps, TellRuns, AreCanonical}
+use Rattle.pim_form.specs.Messages.{HaveRps, CarryRuns, AreCanonical}
 use Rattle.pim_form.specs.Packing.{IsPacking}
 use Rattle.pim_form.proofs.PlannedParts.{plan_fits, plan_has_rps}
 use Rattle.pim_form.proofs.packing.packed.Goals as goal
 
-pub told_plan-requires-clause-parts : goal.told_plan-requires-clause-parts
-told_plan-requires-clause-parts g c =
+pub write_plan-requires-clause-parts : goal.write_plan-requires-clause-parts
+write_plan-requires-clause-parts g c =
     let bytes_of = g.F.Family.bytes_of in
     let family = g.F.Family.family in
     let pieces = c.in_ok-plan.plan.pieces.items in
@@ -21,8 +21,8 @@ told_plan-requires-clause-parts g c =
     let plan = subst (λ (budget : ℕ). IsPlan bytes_of family budget c.deref-3.result.now c.deref-2.result.now pieces ends) c.budget.ensures same in
     plan_fits bytes_of family c.deref-3.result.now c.args.writer.now.budget c.deref-2.result.now pieces ends plan
 
-pub told_plan-requires-clause-rps : goal.told_plan-requires-clause-rps
-told_plan-requires-clause-rps g c =
+pub write_plan-requires-clause-rps : goal.write_plan-requires-clause-rps
+write_plan-requires-clause-rps g c =
     let bytes_of = g.F.Family.bytes_of in
     let family = g.F.Family.family in
     let rps = rp_of family c.args.routes.now in
@@ -54,5 +54,5 @@ returns g c =
     let runs = map (run_of bytes_of c.deref-3.result.now) (parts_from 0 ends pieces) in
     let packing : IsPacking family c.args.writer.now.budget (units_of c.args.normal.now) runs =
     subst (λ (form : List GroupForm). IsPacking family c.args.writer.now.budget (units_of form) runs) form plan.packing in
-    if_ok (λ messages. TellRuns family c.args.writer.now rps runs messages) (λ messages. AreCanonical family c.args.writer.now rps c.args.normal.now messages)
-    (λ messages told. record { runs = runs; packing = packing; told = told }) c.told_plan.result c.told_plan.ensures
+    if_ok (λ messages. CarryRuns family c.args.writer.now rps runs messages) (λ messages. AreCanonical family c.args.writer.now rps c.args.normal.now messages)
+    (λ messages reported. record { runs = runs; packing = packing; reported = reported }) c.write_plan.result c.write_plan.ensures

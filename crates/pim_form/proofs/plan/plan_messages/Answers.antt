@@ -1,7 +1,7 @@
 use Rattle.std.proofs.Common.{◌≡◌, ◌∙◌, ℕ, ◌+◌, ◌<◌, List, [], ◌∷◌, length, drop, get_or, sym, ap, subst, add-one, drop-cons}
 use Rattle.std.proofs.lemmas.Result.{IfOk-weaker}
 use Rattle.std.proofs.Math.ListN.{drop_of_length-le}
-use Rattle.pim_form.specs.declared.place.Place.{Place}
+use Rattle.pim_form.specs.declared.place.GroupPlace.{GroupPlace}
 use Rattle.pim_form.specs.Filling.{IsFilling}
 use Rattle.pim_form.proofs.PlanFilling.{starts}
 use Rattle.pim_form.proofs.plan.plan_messages.Goals as goal
@@ -23,14 +23,14 @@ add-requires-clause-next g c =
       row = c.args.row.now;
       places = c.args.places.now;
       left = drop (c.loop-place.place-index + 1) c.args.places.now;
-      filling = subst (λ (xs : List (Place g.row.F-Addr.Denot)). IsFilling g.F.Family.bytes_of g.F.Family.family c.args.budget c.args.row.now c.args.places.now xs c.loop-place.filling) left c.loop-place.invariant;
+      filling = subst (λ (xs : List (GroupPlace g.row.F-Addr.Denot)). IsFilling g.F.Family.bytes_of g.F.Family.family c.args.budget c.args.row.now c.args.places.now xs c.loop-place.filling) left c.loop-place.invariant;
     }
 
 pub loop-place-preserved : goal.loop-place-preserved
 loop-place-preserved g c =
     let left = drop_first c.args.places.now c.loop-place.place-index c.place-item.result c.loop-place-test.true c.place-item.is in
     c.in_ok-add.ensures {u = tt} c.args.row.now c.args.places.now (drop (c.loop-place.place-index + 1) c.args.places.now)
-    (subst (λ (xs : List (Place g.row.F-Addr.Denot)). IsFilling g.F.Family.bytes_of g.F.Family.family c.args.budget c.args.row.now c.args.places.now xs c.loop-place.filling) left c.loop-place.invariant)
+    (subst (λ (xs : List (GroupPlace g.row.F-Addr.Denot)). IsFilling g.F.Family.bytes_of g.F.Family.family c.args.budget c.args.row.now c.args.places.now xs c.loop-place.filling) left c.loop-place.invariant)
 
 pub returns : goal.returns
 returns g c =
@@ -39,5 +39,5 @@ returns g c =
     let row = c.args.row.now in
     let places = c.args.places.now in
     let done : drop c.loop-place.place-index places ≡ [] = drop_of_length-le places c.loop-place-test.false in
-    let filling = subst (λ (xs : List (Place g.row.F-Addr.Denot)). IsFilling bytes_of family c.args.budget row places xs c.loop-place.filling) done c.loop-place.invariant in
+    let filling = subst (λ (xs : List (GroupPlace g.row.F-Addr.Denot)). IsFilling bytes_of family c.args.budget row places xs c.loop-place.filling) done c.loop-place.invariant in
     IfOk-weaker c.finish.result _ _ (λ plan goes. goes c.args.budget row places filling) c.finish.ensures

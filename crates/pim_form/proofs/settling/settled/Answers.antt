@@ -11,7 +11,7 @@ returns-then-all_held_settle g c =
     let form = c.args.normal.now in
     by_second (IsSettledAt port form records) c.all_held_settle.result c.all_groups_settle.result (list_all (record_settles form) (filter (is_on port) records)) (list_all (group_settles records port) form)
     c.all_held_settle.ensures c.if-all_held_settle.true c.all_groups_settle.ensures
-    (settles_exactly records port c.keys_are_told_apart.ensures form c.is_sound.ensures.ascending c.is_normal.ensures.ascending)
+    (settles_exactly records port c.keys_are_distinct.ensures form c.is_sound.ensures.ascending c.is_normal.ensures.ascending)
 
 pub returns-else-all_held_settle : goal.returns-else-all_held_settle
 returns-else-all_held_settle g c =
@@ -20,4 +20,4 @@ returns-else-all_held_settle g c =
     let form = c.args.normal.now in
     by_first (IsSettledAt port form records) c.all_held_settle.result (list_all (record_settles form) (filter (is_on port) records)) (list_all (group_settles records port) form)
     c.all_held_settle.ensures c.if-all_held_settle.false
-    (settles_exactly records port c.keys_are_told_apart.ensures form c.is_sound.ensures.ascending c.is_normal.ensures.ascending)
+    (settles_exactly records port c.keys_are_distinct.ensures form c.is_sound.ensures.ascending c.is_normal.ensures.ascending)

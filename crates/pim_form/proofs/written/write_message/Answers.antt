@@ -1,14 +1,14 @@
 use Rattle.std.proofs.Common.{arith}
 use Rattle.std.proofs.lemmas.List.{length-map}
 use Rattle.pim_addr.specs.Routes.{rp_of}
-use Rattle.pim_form.specs.Messages.{told_set}
+use Rattle.pim_form.specs.Messages.{written_set}
 use Rattle.pim_form.proofs.PartMessage.{message_is, message_room, sealed_is}
 use Rattle.pim_form.proofs.written.write_message.Goals as goal
 
 pub overflow_cast-count_left : goal.overflow_cast-count_left
 overflow_cast-count_left g c =
     let is = message_is g.F.Family.family c.args.writer.now (rp_of g.F.Family.family c.args.routes.now) c.args.part c.requires.normal c.requires.rps c.requires.fitting c.is_writing.ensures in
-    omega (arith, is.2, c.count_left.ensures, length-map c.args.part (told_set (rp_of g.F.Family.family c.args.routes.now)))
+    omega (arith, is.2, c.count_left.ensures, length-map c.args.part (written_set (rp_of g.F.Family.family c.args.routes.now)))
 
 pub write_sets-requires-clause-sets : goal.write_sets-requires-clause-sets
 write_sets-requires-clause-sets g c =

@@ -6,7 +6,7 @@ use Rattle.pim_addr.specs.Encoded.{group_length, source_length}
 use Rattle.pim_addr.specs.Routes.{rp_of}
 use Rattle.pim_form.specs.Entries.{canonical_source_entry, canonical_rpt_entry}
 use Rattle.pim_form.specs.Rows.{exceptions_of}
-use Rattle.pim_form.specs.Messages.{star_entries, told_set}
+use Rattle.pim_form.specs.Messages.{star_entries, written_set}
 use Rattle.pim_form.proofs.Sets.{pruned_count, joined_count, stars_count, exceptions_room, set_spelled}
 use Rattle.pim_form.proofs.written.write_set.Goals as goal
 
@@ -27,7 +27,7 @@ split_at_mut-star-requires g c =
     let stars : c.from-stars.result ≡ length (star_entries (rps this.group) this.star) =
     stars_count g.F.Family.family (rps this.group) this.star c.star.result c.from-stars.result c.requires.rp c.star.ensures c.from-stars.ensures in
     let room = rooms (source_length g.F.Family.family) (group_length g.F.Family.family) c.from-stars.result (length c.sources-sources.result.now)
-    (length (told_set rps this).joined) (length (told_set rps this).pruned) (length c.args.bytes.now) (length c.split_at_mut-front.result.1.now) 0
+    (length (written_set rps this).joined) (length (written_set rps this).pruned) (length c.args.bytes.now) (length c.split_at_mut-front.result.1.now) 0
     (omega (arith, joined_count rps this, stars, sources)) c.requires.length (omega (arith, c.split_at_mut-front.ensures.back_len)) in
     omega (arith, room.0, ap (λ (n : ℕ). c.from-stars.result * n) c.source_length.ensures)
 
@@ -39,7 +39,7 @@ split_at_mut-joins-requires g c =
     let stars : c.from-stars.result ≡ length (star_entries (rps this.group) this.star) =
     stars_count g.F.Family.family (rps this.group) this.star c.star.result c.from-stars.result c.requires.rp c.star.ensures c.from-stars.ensures in
     let room = rooms (source_length g.F.Family.family) (group_length g.F.Family.family) c.from-stars.result (length c.sources-sources.result.now)
-    (length (told_set rps this).joined) (length (told_set rps this).pruned) (length c.args.bytes.now) (length c.split_at_mut-front.result.1.now) (length c.split_at_mut-star.result.1.now)
+    (length (written_set rps this).joined) (length (written_set rps this).pruned) (length c.args.bytes.now) (length c.split_at_mut-front.result.1.now) (length c.split_at_mut-star.result.1.now)
     (omega (arith, joined_count rps this, stars, sources)) c.requires.length (omega (arith, c.split_at_mut-front.ensures.back_len)) in
     let two = room.1 (ap (λ (n : ℕ). length c.split_at_mut-star.result.1.now + c.from-stars.result * n) (sym c.source_length.ensures) ∙ c.split_at_mut-star.ensures.back_len) in
     omega (arith, two, ap (λ (n : ℕ). length c.sources-sources.result.now * n) c.source_length-2.ensures)
@@ -54,7 +54,7 @@ write_exceptions-requires g c =
     let stars : c.from-stars.result ≡ length (star_entries (rps this.group) this.star) =
     stars_count g.F.Family.family (rps this.group) this.star c.star.result c.from-stars.result c.requires.rp c.star.ensures c.from-stars.ensures in
     exceptions_room (source_length g.F.Family.family) (group_length g.F.Family.family) c.from-stars.result (length c.sources-sources.result.now) (length c.exceptions-exceptions.result.now)
-    (length (told_set rps this).joined) (length (told_set rps this).pruned) (length c.args.bytes.now) (length c.split_at_mut-front.result.1.now)
+    (length (written_set rps this).joined) (length (written_set rps this).pruned) (length c.args.bytes.now) (length c.split_at_mut-front.result.1.now)
     (length c.split_at_mut-star.result.1.now) (length c.split_at_mut-joins.result.1.now)
     (omega (arith, joined_count rps this, stars, sources)) (omega (arith, pruned_count this.star, exceptions))
     c.requires.length (omega (arith, c.split_at_mut-front.ensures.back_len)) (ap (λ (n : ℕ). length c.split_at_mut-star.result.1.now + c.from-stars.result * n) (sym c.source_length.ensures) ∙ c.split_at_mut-star.ensures.back_len)

@@ -1,7 +1,7 @@
 use Rattle.std.proofs.Common.{◌≡◌, ◌∙◌, ℕ, ◌+◌, List, length, take, ◌++◌, ap, arith}
 use Rattle.pim_jp.specs.Canonical.{canonical_set_length}
 use Rattle.pim_addr.specs.Routes.{rp_of}
-use Rattle.pim_form.specs.Messages.{told_set}
+use Rattle.pim_form.specs.Messages.{written_set}
 use Rattle.pim_form.proofs.Sets.{few_sources, front_and_piece}
 use Rattle.pim_form.proofs.written.write_set_at.Goals as goal
 
@@ -12,27 +12,27 @@ pub split_at_mut-place-requires : goal.split_at_mut-place-requires
 split_at_mut-place-requires g c =
     let rps = rp_of g.F.Family.family c.args.routes.now in
     let this = c.args.group.now in
-    let size : c.set_length-length.result ≡ canonical_set_length g.F.Family.family (length (told_set rps this).joined) (length (told_set rps this).pruned) =
+    let size : c.set_length-length.result ≡ canonical_set_length g.F.Family.family (length (written_set rps this).joined) (length (written_set rps this).pruned) =
     c.set_length-length.ensures ∙ ap (λ (n : ℕ). canonical_set_length g.F.Family.family n c.pruned_count.result) (c.joined_count.ensures rps c.requires.rp)
-    ∙ ap (canonical_set_length g.F.Family.family (length (told_set rps this).joined)) (c.pruned_count.ensures rps) in
+    ∙ ap (canonical_set_length g.F.Family.family (length (written_set rps this).joined)) (c.pruned_count.ensures rps) in
     omega (arith, size, c.requires.room, c.split_at_mut-behind.ensures.back_len)
 
 pub write_set-requires-clause-length : goal.write_set-requires-clause-length
 write_set-requires-clause-length g c =
     let rps = rp_of g.F.Family.family c.args.routes.now in
     let this = c.args.group.now in
-    let size : c.set_length-length.result ≡ canonical_set_length g.F.Family.family (length (told_set rps this).joined) (length (told_set rps this).pruned) =
+    let size : c.set_length-length.result ≡ canonical_set_length g.F.Family.family (length (written_set rps this).joined) (length (written_set rps this).pruned) =
     c.set_length-length.ensures ∙ ap (λ (n : ℕ). canonical_set_length g.F.Family.family n c.pruned_count.result) (c.joined_count.ensures rps c.requires.rp)
-    ∙ ap (canonical_set_length g.F.Family.family (length (told_set rps this).joined)) (c.pruned_count.ensures rps) in
+    ∙ ap (canonical_set_length g.F.Family.family (length (written_set rps this).joined)) (c.pruned_count.ensures rps) in
     c.split_at_mut-place.ensures.front_len ∙ size
 
 pub returns-clause-end : goal.returns-clause-end
 returns-clause-end g c =
     let rps = rp_of g.F.Family.family c.args.routes.now in
     let this = c.args.group.now in
-    let size : c.set_length-length.result ≡ canonical_set_length g.F.Family.family (length (told_set rps this).joined) (length (told_set rps this).pruned) =
+    let size : c.set_length-length.result ≡ canonical_set_length g.F.Family.family (length (written_set rps this).joined) (length (written_set rps this).pruned) =
     c.set_length-length.ensures ∙ ap (λ (n : ℕ). canonical_set_length g.F.Family.family n c.pruned_count.result) (c.joined_count.ensures rps c.requires.rp)
-    ∙ ap (canonical_set_length g.F.Family.family (length (told_set rps this).joined)) (c.pruned_count.ensures rps) in
+    ∙ ap (canonical_set_length g.F.Family.family (length (written_set rps this).joined)) (c.pruned_count.ensures rps) in
     ap (λ (n : ℕ). c.args.at + n) size
 
 pub returns-clause-front : goal.returns-clause-front

@@ -2,7 +2,7 @@ use Rattle.std.proofs.Common.{◌≡◌, ◌∙◌, List, ◌∷◌, map, take, 
 use Rattle.std.specs.List.{AllByRecursion}
 use Rattle.pim_jp.specs.Canonical.{IsMessageSet}
 use Rattle.pim_form.specs.NormalForm.{GroupForm}
-use Rattle.pim_form.specs.Messages.{HaveRps, told_set}
+use Rattle.pim_form.specs.Messages.{HaveRps, written_set}
 use Rattle.pim_addr.specs.Routes.{rp_of}
 use Rattle.pim_form.proofs.Sets.{room_of_first, room_of_others, one_more_set, no_more_set}
 use Rattle.pim_form.proofs.written.write_sets.Goals as goal
@@ -18,7 +18,7 @@ loop-group-preserved g c =
     let steps : c.loop-group.group-iterator ≡ c.in-Some.group ∷ c.next.new.self = c.in-Some.ensures.steps in
     record {
       rps = (subst (HaveRps family rps) steps c.loop-group.invariant.rps).1;
-      sets = (subst (λ (part : List GroupForm). AllByRecursion (IsMessageSet family) (map (told_set rps) part)) steps c.loop-group.invariant.sets).1;
+      sets = (subst (λ (part : List GroupForm). AllByRecursion (IsMessageSet family) (map (written_set rps) part)) steps c.loop-group.invariant.sets).1;
       room = room_of_others family rps c.loop-group.group-iterator c.next.new.self c.in-Some.group c.loop-group.at c.write_set_at-at.result _ steps
           (c.loop-group.invariant.room ∙ sym c.write_set_at-at.ensures.length) c.write_set_at-at.ensures.end;
       long = c.write_set_at-at.ensures.length ∙ c.loop-group.invariant.long;

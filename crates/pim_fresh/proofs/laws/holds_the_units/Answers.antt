@@ -5,7 +5,7 @@ use Rattle.pim_fresh.proofs.laws.holds_the_units.Goals as goal
 pub returns : goal.returns
 returns c =
     let laws : Machines = record {
-      keys = c.keys_are_told_apart.ensures;
+      keys = c.keys_are_distinct.ensures;
       order = c.hearing_keeps_the_order.ensures;
       hears = c.hearing_acts_at_each_key.ensures;
       run_order = c.run_keeps_the_order.ensures;

@@ -2,4 +2,4 @@ use Rattle.pim_merge.proofs.Alike.{content_alike, time_alike}
 use Rattle.pim_merge.proofs.laws.records_hold_alike.Goals as goal
 
 pub returns : goal.returns
-returns c family told = (content_alike family told, time_alike told)
+returns c family reported = (content_alike family reported, time_alike reported)

@@ -1,13 +1,13 @@
 use Rattle.std.proofs.Common.{◌∙◌, sym}
 use Rattle.std.proofs.lemmas.Bool.{false≢true}
-use Rattle.pim_mirror.proofs.Conditions.{clash, named, named_test, early, early_test, delivered, delivered_test}
+use Rattle.pim_mirror.proofs.Conditions.{clash, listed, named_test, early, early_test, delivered, delivered_test}
 use Rattle.pim_mirror.proofs.fitting.deliveries_fit.Goals as goal
 
-pub returns-then-not-are_named : goal.returns-then-not-are_named
-returns-then-not-are_named g c = (
+pub returns-then-not-are_listed : goal.returns-then-not-are_listed
+returns-then-not-are_listed g c = (
   λ e. absurd (false≢true e),
-  λ fits. clash c.are_named.result _ c.are_named.ensures c.if-not-are_named.true
-      (named_test c.args.fresh.now.deliveries.now c.args.count fits.named),
+  λ fits. clash c.are_listed.result _ c.are_listed.ensures c.if-not-are_listed.true
+      (named_test c.args.fresh.now.deliveries.now c.args.count fits.listed),
 )
 
 pub returns-then-not-each_is_delivered : goal.returns-then-not-each_is_delivered
@@ -20,7 +20,7 @@ returns-then-not-each_is_delivered g c = (
 pub returns : goal.returns
 returns g c = (
   λ e. record {
-    named = named c.args.fresh.now.deliveries.now c.args.count (sym c.are_named.ensures ∙ c.if-not-are_named.false);
+    listed = listed c.args.fresh.now.deliveries.now c.args.count (sym c.are_listed.ensures ∙ c.if-not-are_listed.false);
     delivered = delivered c.args.fresh.now.deliveries.now c.args.count
         (c.each_is_delivered.ensures.0 c.if-not-each_is_delivered.false);
     early = early c.args.fresh.now.deliveries.now (sym c.are_early.ensures ∙ e);

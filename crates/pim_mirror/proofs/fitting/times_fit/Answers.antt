@@ -24,7 +24,7 @@ returns g c = (
     others_stay = stay_at g.F.Family.bytes_of c.args.fresh.now.others.now c.end_of-end.result _ c.end_of-end.ensures.end
         (sym c.stay_until.ensures ∙ c.if-not-stay_until.false);
     timely = timely_at c.args.fresh.now.deliveries.now c.end_of-end.result _ c.args.count c.expiry_of.result (expiry_of c.args.holdtime) c.expiry_of.ensures
-        c.end_of-end.ensures.end (sym c.are_in_order.ensures ∙ c.if-not-are_in_order.false) c.requires.deliveries.named (c.each_is_kept.ensures.0 e);
+        c.end_of-end.ensures.end (sym c.are_in_order.ensures ∙ c.if-not-are_in_order.false) c.requires.deliveries.listed (c.each_is_kept.ensures.0 e);
   },
   λ fits. c.each_is_kept.ensures.1 (kept_test_at c.args.fresh.now.deliveries.now c.end_of-end.result _ c.args.count c.expiry_of.result (expiry_of c.args.holdtime) c.expiry_of.ensures
       c.end_of-end.ensures.end fits.timely),

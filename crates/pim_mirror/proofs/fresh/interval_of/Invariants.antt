@@ -1,5 +1,5 @@
 use Rattle.std.proofs.Common.{◌≡◌, ◌≤◌, drop}
-use Rattle.pim_hello.specs.Interval.{override_interval}
+use Rattle.pim_hello.specs.Interval.{jp_override_interval}
 use Rattle.pim_mirror.specs.Config.{fresh_seen, interval_of}
 use Rattle.pim_mirror.proofs.Intervals.{hellos_of}
 use Rattle.pim_mirror.proofs.fresh.interval_of.Given as goal
@@ -8,7 +8,7 @@ use Rattle.pim_mirror.proofs.fresh.interval_of.Given as goal
 abbrev pub invariant-loop-other : goal.invariant-loop-other
 invariant-loop-other g l = record {
   interval :
-      override_interval l.propagation l.override_ms (hellos_of g.F.Family.bytes_of (drop l.other-index l.fresh.others.now))
+      jp_override_interval l.propagation l.override_ms (hellos_of g.F.Family.bytes_of (drop l.other-index l.fresh.others.now))
       ≡ interval_of (fresh_seen g.F.Family.bytes_of l.fresh);
   propagation : l.propagation ≤ 65535;
   override_ms : l.override_ms ≤ 65535;

@@ -8,4 +8,4 @@ returns-clause-passes g c =
     hello_met c.sealed_opens.ensures g.F.Family.family (neighbour_seen g.F.Family.bytes_of c.args.neighbour)
     (g.F.Family.bytes_of c.all_routers.result) c.put_hello.new.frame (hello_seen g.F.Family.family c.hello_of-hello.result) c.args.router.now
     c.take_packet.new.self c.in_ok-take_packet.field-0 c.all_routers.ensures c.hello_of-hello.ensures c.put_hello.ensures.sealed
-    c.put_hello.ensures.fits c.in_ok-take_packet.ensures.told
+    c.put_hello.ensures.fits c.in_ok-take_packet.ensures.reported

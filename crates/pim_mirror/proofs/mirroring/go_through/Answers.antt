@@ -9,9 +9,9 @@ use Rattle.pim_mirror.proofs.mirroring.go_through.Goals as goal
 
 pub returns-in_err-hear_deliveries : goal.returns-in_err-hear_deliveries
 returns-in_err-hear_deliveries g c =
-    let told = err_from_is_err_and c.from_residual.result c.from_residual.ensures.1 in
+    let reported = err_from_is_err_and c.from_residual.result c.from_residual.ensures.1 in
     let fresh = fresh_seen g.F.Family.bytes_of c.args.fresh.now in
-    rw (told.1, told.2) (mirror_stops c.course_goes_on.ensures c.every_list_has_a_course.ensures g.F.Family.family c.args.messages.now fresh
+    rw (reported.1, reported.2) (mirror_stops c.course_goes_on.ensures c.every_list_has_a_course.ensures g.F.Family.family c.args.messages.now fresh
     c.in-Ok.router c.hear_deliveries.new.router c.in_err-hear_deliveries.field-0.0 c.in-Ok.ensures.passes
     (subst (λ (k : ℕ). Passes g.F.Family.family (flat_map (delivery_inputs g.F.Family.family c.args.messages.now fresh.sender) fresh.deliveries ++ runs_to k ∷ [])
     c.in-Ok.router (Err c.in_err-hear_deliveries.field-0.0) c.hear_deliveries.new.router) c.end_of.ensures.end c.in_err-hear_deliveries.ensures.passes))

@@ -16,9 +16,9 @@ pub returns-in_err-hear_one-clause-passes : goal.returns-in_err-hear_one-clause-
 returns-in_err-hear_one-clause-passes g c =
     let deliveries = c.args.deliveries.now in
     let i = c.loop-delivery.delivery-index in
-    let told = err_from_is_err_and c.from_residual.result c.from_residual.ensures.1 in
+    let reported = err_from_is_err_and c.from_residual.result c.from_residual.ensures.1 in
     c.loop-delivery.invariant.0 c.from_residual.result c.hear_one.new.router
-    (rw (told.1, told.2) (stopped_there c.course_goes_on.ensures c.every_list_has_a_course.ensures g.F.Family.family c.args.messages.now
+    (rw (reported.1, reported.2) (stopped_there c.course_goes_on.ensures c.every_list_has_a_course.ensures g.F.Family.family c.args.messages.now
     (g.F.Family.bytes_of c.args.sender) (drop i deliveries) (drop (i + 1) deliveries) (slice_index_or deliveries i _) c.loop-delivery.router c.hear_one.new.router c.in_err-hear_one.field-0.0
     (left_is deliveries i _ c.loop-delivery-test.true) c.in_err-hear_one.ensures.passes))
 
@@ -26,8 +26,8 @@ pub returns-in_err-hear_one-clause-stops : goal.returns-in_err-hear_one-clause-s
 returns-in_err-hear_one-clause-stops g c =
     let deliveries = c.args.deliveries.now in
     let i = c.loop-delivery.delivery-index in
-    let told = err_from_is_err_and c.from_residual.result c.from_residual.ensures.1 in
-    rw (told.1, told.2) (c.loop-delivery.invariant.2 c.in_err-hear_one.field-0.0 c.hear_one.new.router
+    let reported = err_from_is_err_and c.from_residual.result c.from_residual.ensures.1 in
+    rw (reported.1, reported.2) (c.loop-delivery.invariant.2 c.in_err-hear_one.field-0.0 c.hear_one.new.router
     (stops_here c.course_goes_on.ensures c.every_list_has_a_course.ensures g.F.Family.family c.args.messages.now
     (g.F.Family.bytes_of c.args.sender) (drop i deliveries) (drop (i + 1) deliveries) (slice_index_or deliveries i _) c.loop-delivery.router c.hear_one.new.router c.in_err-hear_one.field-0.0
     (left_is deliveries i _ c.loop-delivery-test.true) c.in_err-hear_one.ensures.reaches c.in_err-hear_one.ensures.refused))

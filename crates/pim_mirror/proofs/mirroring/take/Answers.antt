@@ -9,7 +9,7 @@ use Rattle.pim_mirror.proofs.mirroring.take.Goals as goal
 pub returns-clause-ports : goal.returns-clause-ports
 returns-clause-ports g c =
     taken_keeps g.F.Family.family (packet_seen g.F.Family.bytes_of 0 c.args.source c.all_routers.result c.args.bytes.now) c.args.router.now
-    c.take_packet.new.self c.take_packet.result c.take_packet.ensures.told
+    c.take_packet.new.self c.take_packet.result c.take_packet.ensures.reported
 
 pub returns-clause-passes : goal.returns-clause-passes
 returns-clause-passes g c =
@@ -20,12 +20,12 @@ returns-clause-passes g c =
       bytes = c.args.bytes.now;
     }) ∷ []) c.args.router.now c.passed.result c.take_packet.new.self) c.all_routers.ensures
     (taken g.F.Family.family (packet_seen g.F.Family.bytes_of 0 c.args.source c.all_routers.result c.args.bytes.now) c.args.router.now
-    c.take_packet.new.self c.take_packet.result c.passed.result c.take_packet.ensures.told c.passed.ensures)
+    c.take_packet.new.self c.take_packet.result c.passed.result c.take_packet.ensures.reported c.passed.ensures)
 
 pub returns-clause-unchanged : goal.returns-clause-unchanged
 returns-clause-unchanged g c =
     refusal_keeps g.F.Family.family (packet_seen g.F.Family.bytes_of 0 c.args.source c.all_routers.result c.args.bytes.now) c.args.router.now
-    c.take_packet.new.self c.take_packet.result c.take_packet.ensures.told c.passed.result c.passed.ensures
+    c.take_packet.new.self c.take_packet.result c.take_packet.ensures.reported c.passed.result c.passed.ensures
 
 pub returns-clause-refused : goal.returns-clause-refused
 returns-clause-refused g c =
@@ -36,4 +36,4 @@ returns-clause-refused g c =
       bytes = c.args.bytes.now;
     }) c.args.router.now)) c.all_routers.ensures
     (is_refused g.F.Family.family (packet_seen g.F.Family.bytes_of 0 c.args.source c.all_routers.result c.args.bytes.now) c.args.router.now
-    c.take_packet.new.self c.take_packet.result c.take_packet.ensures.told c.passed.result c.passed.ensures)
+    c.take_packet.new.self c.take_packet.result c.take_packet.ensures.reported c.passed.result c.passed.ensures)

@@ -4,7 +4,7 @@ use Rattle.pim_moving.proofs.laws.change_moves_a_router.Goals as goal
 pub returns : goal.returns
 returns c =
     let laws : Machines = record {
-      keys = c.keys_are_told_apart.ensures;
+      keys = c.keys_are_distinct.ensures;
       acts = c.hearing_acts_at_each_key.ensures;
       hears_order = c.hearing_keeps_the_order.ensures;
       bounds = c.run_keeps_its_bounds.ensures;
@@ -13,4 +13,4 @@ returns c =
       runs = c.router_runs_as_its_machines.ensures;
       stays = c.writer_stays_heard.ensures;
     } in
-    moves laws c.test_tells_who_is_asked.ensures c.change_is_read.ensures c.told_change_settles.ensures c.settled_wants.ensures
+    moves laws c.test_finds_the_neighbour.ensures c.change_is_read.ensures c.written_change_settles.ensures c.settled_wants.ensures

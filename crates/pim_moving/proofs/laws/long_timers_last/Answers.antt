@@ -4,7 +4,7 @@ use Rattle.pim_moving.proofs.laws.long_timers_last.Goals as goal
 pub returns : goal.returns
 returns c =
     let laws : Machines = record {
-      keys = c.keys_are_told_apart.ensures;
+      keys = c.keys_are_distinct.ensures;
       acts = c.hearing_acts_at_each_key.ensures;
       hears_order = c.hearing_keeps_the_order.ensures;
       bounds = c.run_keeps_its_bounds.ensures;

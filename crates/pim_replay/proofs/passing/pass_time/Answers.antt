@@ -2,7 +2,7 @@ use Rattle.std.proofs.Common.{rules, ◌∙◌, refl, subst, arith}
 use Rattle.std.specs.Io.KnownBytes.{Appends}
 use Rattle.pim_device.specs.Device.{AppendsFront}
 use Rattle.pim_down.specs.Seen.{what_seen, step_seen}
-use Rattle.pim_router.specs.Refreshes.{RunsPast, told_behind}
+use Rattle.pim_router.specs.Refreshes.{RunsPast, fires_behind}
 use Rattle.pim_replay.specs.declared.event.ReplayEvent.TheVariants as event
 use Rattle.pim_replay.specs.Passing.{PassesTime}
 use Rattle.pim_replay.proofs.Told.{tells_err}
@@ -24,7 +24,7 @@ loop-port-preserved g c = record {
       c.loop-port.router c.run_past_refreshes-step.new.self (g.L.Listener.contents c.loop-port.device) (g.L.Listener.contents c.hear.new.device)
       c.loop-port.refreshes c.run_past_refreshes-step.result.1 c.saturating_add-refreshes.result c.loop-port.invariant.way c.saturating_add-refreshes.ensures
       c.in-Echo.port (g.F.Family.bytes_of c.in-Echo.group) (what_seen g.F.Family.bytes_of c.in-Echo.what)
-      (subst (λ step. RunsPast c.run_past_refreshes-step.result.1 c.args.moment c.loop-port.router (told_behind (step_seen g.F.Family.bytes_of step)) c.run_past_refreshes-step.new.self) c.in-Echo.is c.run_past_refreshes-step.ensures.run)
+      (subst (λ step. RunsPast c.run_past_refreshes-step.result.1 c.args.moment c.loop-port.router (fires_behind (step_seen g.F.Family.bytes_of step)) c.run_past_refreshes-step.new.self) c.in-Echo.is c.run_past_refreshes-step.ensures.run)
       (subst (λ moment. Appends (g.L.Listener.contents c.loop-port.device) (g.L.Listener.contents c.hear.new.device)
       (g.L.Listener.line c.args.listener.now (event.Echo moment c.in-Echo.port (g.F.Family.bytes_of c.in-Echo.group) (what_seen g.F.Family.bytes_of c.in-Echo.what)))) c.now.ensures c.in_ok-hear-in-Echo.ensures.bytes);
   failures = c.in_ok-hear-in-Echo.ensures.count ∙ c.loop-port.invariant.failures;
@@ -33,22 +33,22 @@ loop-port-preserved g c = record {
   setup = c.run_past_refreshes-step.ensures.setup ∙ c.loop-port.invariant.setup;
 }
 
-pub returns-in_err-hear-in-Echo-clause-told : goal.returns-in_err-hear-in-Echo-clause-told
-returns-in_err-hear-in-Echo-clause-told g c =
+pub returns-in_err-hear-in-Echo-clause-reported : goal.returns-in_err-hear-in-Echo-clause-reported
+returns-in_err-hear-in-Echo-clause-reported g c =
     tells_err (g.L.Listener.line c.args.listener.now) (PassesTime c.args.moment c.args.router.now) c.run_past_refreshes-step.new.self (g.L.Listener.contents c.args.device.now) (g.L.Listener.contents c.hear.new.device)
     c.args.counts c.from_residual.result c.from_residual.ensures.0
     (stopped c.args.moment (g.L.Listener.line c.args.listener.now) c.args.router.now (g.L.Listener.contents c.args.device.now) c.args.counts (search rules)
     c.loop-port.router c.run_past_refreshes-step.new.self (g.L.Listener.contents c.loop-port.device) (g.L.Listener.contents c.hear.new.device)
     c.loop-port.refreshes c.run_past_refreshes-step.result.1 c.saturating_add-refreshes.result c.loop-port.invariant.way c.saturating_add-refreshes.ensures
     c.in-Echo.port (g.F.Family.bytes_of c.in-Echo.group) (what_seen g.F.Family.bytes_of c.in-Echo.what)
-    (subst (λ step. RunsPast c.run_past_refreshes-step.result.1 c.args.moment c.loop-port.router (told_behind (step_seen g.F.Family.bytes_of step)) c.run_past_refreshes-step.new.self) c.in-Echo.is c.run_past_refreshes-step.ensures.run)
+    (subst (λ step. RunsPast c.run_past_refreshes-step.result.1 c.args.moment c.loop-port.router (fires_behind (step_seen g.F.Family.bytes_of step)) c.run_past_refreshes-step.new.self) c.in-Echo.is c.run_past_refreshes-step.ensures.run)
     c.every_list_has_a_course.ensures g.F.Family.family
     (subst (λ moment. AppendsFront (g.L.Listener.contents c.loop-port.device) (g.L.Listener.contents c.hear.new.device)
     (g.L.Listener.line c.args.listener.now (event.Echo moment c.in-Echo.port (g.F.Family.bytes_of c.in-Echo.group) (what_seen g.F.Family.bytes_of c.in-Echo.what)))) c.now.ensures c.in_err-hear-in-Echo.ensures.bytes))
 
-pub returns-in-Reached-clause-told : goal.returns-in-Reached-clause-told
-returns-in-Reached-clause-told g c =
+pub returns-in-Reached-clause-reported : goal.returns-in-Reached-clause-reported
+returns-in-Reached-clause-reported g c =
     reached c.args.moment (g.L.Listener.line c.args.listener.now) c.args.router.now (g.L.Listener.contents c.args.device.now) c.args.counts (search rules)
     c.loop-port.router c.run_past_refreshes-step.new.self (g.L.Listener.contents c.loop-port.device) (g.L.Listener.contents c.loop-port.device)
     c.loop-port.refreshes c.run_past_refreshes-step.result.1 c.saturating_add-refreshes.result c.loop-port.invariant.way c.saturating_add-refreshes.ensures
-    (subst (λ step. RunsPast c.run_past_refreshes-step.result.1 c.args.moment c.loop-port.router (told_behind (step_seen g.F.Family.bytes_of step)) c.run_past_refreshes-step.new.self) c.in-Reached.is c.run_past_refreshes-step.ensures.run)
+    (subst (λ step. RunsPast c.run_past_refreshes-step.result.1 c.args.moment c.loop-port.router (fires_behind (step_seen g.F.Family.bytes_of step)) c.run_past_refreshes-step.new.self) c.in-Reached.is c.run_past_refreshes-step.ensures.run)

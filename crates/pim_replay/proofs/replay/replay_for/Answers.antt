@@ -15,10 +15,10 @@ pub returns-in_default-clause-heard : goal.returns-in_default-clause-heard
 returns-in_default-clause-heard g c =
     all_stopped (g.L.Listener.line c.args.listener.now) g.F.Family.family c.args.end c.args.merge.now c.args.router.now (g.L.Listener.contents c.args.device.now)
     c.run.new.merge c.run.new.kept c.run.new.router (g.L.Listener.contents c.run.new.device) (g.L.Listener.contents c.pass_time.new.device) c.in_ok-run.ensures.runs
-    c.end_moment-moment.result (c.end_moment-moment.ensures.moment ∙ ap (end_moment c.args.end c.run.new.merge.clock) c.now.ensures) c.in_default.ensures.told
+    c.end_moment-moment.result (c.end_moment-moment.ensures.moment ∙ ap (end_moment c.args.end c.run.new.merge.clock) c.now.ensures) c.in_default.ensures.reported
 
 pub returns-clause-heard : goal.returns-clause-heard
 returns-clause-heard g c =
     all_passed (g.L.Listener.line c.args.listener.now) g.F.Family.family c.args.end c.args.merge.now c.args.router.now (g.L.Listener.contents c.args.device.now)
     c.run.new.merge c.run.new.kept c.run.new.router (g.L.Listener.contents c.run.new.device) (g.L.Listener.contents c.pass_time.new.device) c.in_ok-run.ensures.runs
-    c.end_moment-moment.result (c.end_moment-moment.ensures.moment ∙ ap (end_moment c.args.end c.run.new.merge.clock) c.now.ensures) c.pass_time.new.router c.in-Ok.counts c.in-Ok.ensures.told
+    c.end_moment-moment.result (c.end_moment-moment.ensures.moment ∙ ap (end_moment c.args.end c.run.new.merge.clock) c.now.ensures) c.pass_time.new.router c.in-Ok.counts c.in-Ok.ensures.reported

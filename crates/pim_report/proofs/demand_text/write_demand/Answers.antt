@@ -8,7 +8,7 @@ use Rattle.pim_report.proofs.demand_text.write_demand.Goals as goal
 pub loop-group-init : goal.loop-group-init
 loop-group-init g c =
     let old = g.W.Drain.contents c.args.writer.now in
-    let text = group_text g.F.Family.family c.args.tells_via c.args.routes.now in (
+    let text = group_text g.F.Family.family c.args.shows_via c.args.routes.now in (
       subst (λ (left : List GroupForm). IsLeft old old (flat_map text left) (flat_map text c.args.form.now))
           (sym c.groups-group-items.ensures ∙ sym c.into_iter-group-iterator.ensures.into_iter_gives) (left_all old _),
       refl,
@@ -17,13 +17,13 @@ loop-group-init g c =
 pub returns-in_err-write_group-clause-bytes : goal.returns-in_err-write_group-clause-bytes
 returns-in_err-write_group-clause-bytes g c =
     stopped _ _ c.from_residual.result _ c.from_residual.ensures.0
-    (first_stopped (group_text g.F.Family.family c.args.tells_via c.args.routes.now) _ _ _ _ _ _ _ c.in-Some.ensures.steps c.loop-group.invariant.0 c.in_err-write_group.ensures.bytes)
+    (first_stopped (group_text g.F.Family.family c.args.shows_via c.args.routes.now) _ _ _ _ _ _ _ c.in-Some.ensures.steps c.loop-group.invariant.0 c.in_err-write_group.ensures.bytes)
 
 pub loop-group-preserved : goal.loop-group-preserved
 loop-group-preserved g c = (
-  first_written (group_text g.F.Family.family c.args.tells_via c.args.routes.now) _ _ _ _ _ _ _ c.in-Some.ensures.steps c.loop-group.invariant.0 c.in_ok-write_group.ensures.bytes,
+  first_written (group_text g.F.Family.family c.args.shows_via c.args.routes.now) _ _ _ _ _ _ _ c.in-Some.ensures.steps c.loop-group.invariant.0 c.in_ok-write_group.ensures.bytes,
   c.in_ok-write_group.ensures.count ∙ c.loop-group.invariant.1,
 )
 
 pub returns-clause-bytes : goal.returns-clause-bytes
-returns-clause-bytes g c = none_left (group_text g.F.Family.family c.args.tells_via c.args.routes.now) _ _ _ _ c.in-None.ensures.steps.0 c.loop-group.invariant.0
+returns-clause-bytes g c = none_left (group_text g.F.Family.family c.args.shows_via c.args.routes.now) _ _ _ _ c.in-None.ensures.steps.0 c.loop-group.invariant.0

@@ -11,5 +11,5 @@ pub returns-clause-bytes : goal.returns-clause-bytes
 returns-clause-bytes g c =
     let bytes_of = g.F.Family.bytes_of in
     subst (λ t. AppendsAll (g.W.Drain.contents c.args.writer.now) (g.W.Drain.contents c.write_sources.new.writer) c.write_sources.result t)
-    (group_is g.F.Family.family c.args.tells_via c.args.routes.now c.args.this.now (bytes_of c.group.result) (map bytes_of c.sources.result.now) c.group.ensures c.sources.ensures)
+    (group_is g.F.Family.family c.args.shows_via c.args.routes.now c.args.this.now (bytes_of c.group.result) (map bytes_of c.sources.result.now) c.group.ensures c.sources.ensures)
     (both _ _ _ c.write_sources.result _ _ c.in_ok-write_star.ensures.bytes c.write_sources.ensures.bytes)

@@ -2,24 +2,24 @@ use Rattle.std.proofs.Common.{refl, decimal}
 use Rattle.pim_request.specs.Forms.{number, address, most, IsFault}
 use Rattle.pim_request.specs.Commands.{sender_forms, destination_forms}
 use Rattle.pim_request.specs.Steps.{words_left}
-use Rattle.pim_request.proofs.Faults.{told, each, at_each, step}
+use Rattle.pim_request.proofs.Faults.{reported, each, at_each, step}
 use Rattle.pim_request.proofs.commands.read_origin.Goals as goal
 
 pub returns-in_err-port-clause-fault : goal.returns-in_err-port-clause-fault
 returns-in_err-port-clause-fault c =
-    told (IsFault sender_forms c.args.command.now (words_left c.args.left)) c.in_err-port.field-0.0 c.from_residual.result c.from_residual.ensures.1
+    reported (IsFault sender_forms c.args.command.now (words_left c.args.left)) c.in_err-port.field-0.0 c.from_residual.result c.from_residual.ensures.1
     (at_each (number 0 most) (each address destination_forms) tt c.args.command.now (words_left c.args.left) c.in_err-port.field-0.0 c.in_err-port.ensures.fault)
 
 pub returns-in_err-source-clause-fault : goal.returns-in_err-source-clause-fault
 returns-in_err-source-clause-fault c =
-    told (IsFault sender_forms c.args.command.now (words_left c.args.left)) c.in_err-source.field-0.0 c.from_residual-in_err-source.result c.from_residual-in_err-source.ensures.1
+    reported (IsFault sender_forms c.args.command.now (words_left c.args.left)) c.in_err-source.field-0.0 c.from_residual-in_err-source.result c.from_residual-in_err-source.ensures.1
     (step (number 0 most) (each address destination_forms) c.args.command.now (decimal c.in_ok-port.port.number) (words_left c.in_ok-port.port.left) (words_left c.args.left) c.in_err-source.field-0.0 c.in_ok-port.ensures.read
     (c.in_ok-port.port.number, c.in_ok-port.ensures.low, c.in_ok-port.ensures.high, refl)
     (at_each address destination_forms tt c.args.command.now (words_left c.in_ok-port.port.left) c.in_err-source.field-0.0 c.in_err-source.ensures.fault))
 
 pub returns-in_err-destination-clause-fault : goal.returns-in_err-destination-clause-fault
 returns-in_err-destination-clause-fault c =
-    told (IsFault sender_forms c.args.command.now (words_left c.args.left)) c.in_err-destination.field-0.0 c.from_residual-in_err-destination.result c.from_residual-in_err-destination.ensures.1
+    reported (IsFault sender_forms c.args.command.now (words_left c.args.left)) c.in_err-destination.field-0.0 c.from_residual-in_err-destination.result c.from_residual-in_err-destination.ensures.1
     (step (number 0 most) (each address destination_forms) c.args.command.now (decimal c.in_ok-port.port.number) (words_left c.in_ok-port.port.left) (words_left c.args.left) c.in_err-destination.field-0.0 c.in_ok-port.ensures.read
     (c.in_ok-port.port.number, c.in_ok-port.ensures.low, c.in_ok-port.ensures.high, refl)
     (let source = c.in_ok-source.ensures.read in

@@ -22,4 +22,4 @@ returns-in-None-clause-fault c =
     let read = c.in-Some-read_decimal.ensures.read in
     no_name c.in-Some.cut.word.now c.cut_at-parts.result.word.now c.in-Some-left.digits.now cut c.in-Some.cut.word refl c.in-Some-read_decimal.length
     (is_prefix c.in-Some.cut.word.now c.cut_at-parts.result.word.now c.in-Some-left.digits.now cut c.in-Some-read_decimal.length read.0 read.1)
-    (λ a named. let found = c.in-None.ensures.only a named in let none = c.in-None.is in absurd cc) c.args.command.now (words_left c.in-Some.cut.left) (words_left c.args.left) c.in-Some.ensures.word
+    (λ a compared. let found = c.in-None.ensures.only a compared in let none = c.in-None.is in absurd cc) c.args.command.now (words_left c.in-Some.cut.left) (words_left c.args.left) c.in-Some.ensures.word

@@ -2,16 +2,16 @@ use Rattle.std.proofs.Common.{[]}
 use Rattle.pim_request.specs.Forms.{address, IsFault}
 use Rattle.pim_request.specs.Commands.{address_forms, no_words}
 use Rattle.pim_request.specs.Steps.{words_left}
-use Rattle.pim_request.proofs.Faults.{told, at_slot, step}
+use Rattle.pim_request.proofs.Faults.{reported, at_slot, step}
 use Rattle.pim_request.proofs.tails.last_address.Goals as goal
 
 pub returns-in_err-read-clause-fault : goal.returns-in_err-read-clause-fault
 returns-in_err-read-clause-fault c =
-    told (IsFault address_forms c.args.command.now (words_left c.args.left)) c.in_err-read.field-0.0 c.from_residual.result c.from_residual.ensures.1
+    reported (IsFault address_forms c.args.command.now (words_left c.args.left)) c.in_err-read.field-0.0 c.from_residual.result c.from_residual.ensures.1
     (at_slot address [] [] c.args.command.now (words_left c.args.left) c.in_err-read.field-0.0 c.in_err-read.ensures.fault)
 
 pub returns-in_err-line_end-clause-fault : goal.returns-in_err-line_end-clause-fault
 returns-in_err-line_end-clause-fault c =
-    told (IsFault address_forms c.args.command.now (words_left c.args.left)) c.in_err-line_end.field-0.0 c.from_residual-in_err-line_end.result c.from_residual-in_err-line_end.ensures.1
+    reported (IsFault address_forms c.args.command.now (words_left c.args.left)) c.in_err-line_end.field-0.0 c.from_residual-in_err-line_end.result c.from_residual-in_err-line_end.ensures.1
     (let read = c.in_ok-read.ensures.read in
     step address no_words c.args.command.now read.0 (words_left c.in_ok-read.read.left) (words_left c.args.left) c.in_err-line_end.field-0.0 read.2 (c.in_ok-read.read.address, read.1) (c.in_err-line_end.ensures.fault c.args.command.now))

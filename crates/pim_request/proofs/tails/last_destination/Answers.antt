@@ -2,7 +2,7 @@ use Rattle.std.proofs.Common.{[], ◌∷◌, codes}
 use Rattle.pim_request.specs.Forms.{address, IsFault}
 use Rattle.pim_request.specs.Commands.{destination_forms}
 use Rattle.pim_request.specs.Steps.{words_left}
-use Rattle.pim_request.proofs.Faults.{told, another, after_key}
+use Rattle.pim_request.proofs.Faults.{reported, another, after_key}
 use Rattle.pim_request.proofs.tails.last_destination.Goals as goal
 
 pub returns-then-not-is_word-clause-fault : goal.returns-then-not-is_word-clause-fault
@@ -12,6 +12,6 @@ returns-then-not-is_word-clause-fault c =
 
 pub returns-in_err-address-clause-fault : goal.returns-in_err-address-clause-fault
 returns-in_err-address-clause-fault c =
-    told (IsFault destination_forms c.args.command.now (words_left c.args.left)) c.in_err-address.field-0.0 c.from_residual.result c.from_residual.ensures.1
+    reported (IsFault destination_forms c.args.command.now (words_left c.args.left)) c.in_err-address.field-0.0 c.from_residual.result c.from_residual.ensures.1
     (after_key (codes "to") (address ∷ []) c.args.command.now c.in-Some.cut.word.now (words_left c.in-Some.cut.left) (words_left c.args.left) c.in_err-address.field-0.0 c.in-Some.ensures.word (c.is_word.ensures.yes c.if-not-is_word.false)
     c.in_err-address.ensures.fault)

@@ -3,14 +3,14 @@
 use super::old_form;
 use crate::tests::state::{FIRST, GROUP, SECOND, State, refused, state4};
 use pim_addr::V4;
-use pim_change::{Kind, Telling, Unit, changed, too_big};
+use pim_change::{Action, ActionKind, Unit, changed, too_big};
 use pim_form::NormalForm;
 use std::alloc::{AllocError, Global};
 
 /// Whether a unit tells this of a source of the group.
-fn is_of(unit: Unit<'_, [u8; 4]>, kind: Kind, source: [u8; 4]) -> bool {
-    match unit.telling {
-        Telling::Of(other, of) => unit.group == GROUP && other == kind && of == source,
+fn is_of(unit: Unit<'_, [u8; 4]>, kind: ActionKind, source: [u8; 4]) -> bool {
+    match unit.action {
+        Action::Of(other, of) => unit.group == GROUP && other == kind && of == source,
         _ => false,
     }
 }
@@ -24,9 +24,9 @@ fn are_units(
 ) -> Result<bool, AllocError> {
     let units = changed(alloc, old, new)?;
     let are = units.len() == 3
-        && is_of(units[0], Kind::JoinRpt, FIRST)
-        && is_of(units[1], Kind::PruneRpt, SECOND)
-        && is_of(units[2], Kind::JoinSource, FIRST);
+        && is_of(units[0], ActionKind::JoinRpt, FIRST)
+        && is_of(units[1], ActionKind::PruneRpt, SECOND)
+        && is_of(units[2], ActionKind::JoinSource, FIRST);
     Ok(are)
 }
 

@@ -27,8 +27,8 @@ enum Told {
 }
 
 /// Hears what is told: whether it was taken.
-fn hear_told(alloc: Global, state: &mut State, told: Told, timing: Timing) -> bool {
-    let (port, joined, pruned): (usize, &[_], &[_]) = match told {
+fn hear_told(alloc: Global, state: &mut State, reported: Told, timing: Timing) -> bool {
+    let (port, joined, pruned): (usize, &[_], &[_]) = match reported {
         Told::Nil => return true,
         Told::Star => (0, &[STAR], &[]),
         Told::But => (0, &[STAR], &[RPT_FIRST]),
@@ -76,17 +76,17 @@ const CASES: [Case; 20] = [
 fn hear_until(
     alloc: Global,
     state: &mut State,
-    (told, timing): (Told, Timing),
+    (reported, timing): (Told, Timing),
     until: u64,
 ) -> bool {
-    hear_told(alloc, state, told, timing)
+    hear_told(alloc, state, reported, timing)
         && until <= 4000
         && state.ports.run_to(until) == Step::Reached
 }
 
 /// The form of a router that is told this.
-fn form_after(alloc: Global, state: &mut State, told: Told) -> Option<NormalForm<V4>> {
-    if hear_until(alloc, state, (told, ALONE), 0) {
+fn form_after(alloc: Global, state: &mut State, reported: Told) -> Option<NormalForm<V4>> {
+    if hear_until(alloc, state, (reported, ALONE), 0) {
         NormalForm::of(alloc, &state.ports).ok()
     } else {
         None
@@ -94,9 +94,9 @@ fn form_after(alloc: Global, state: &mut State, told: Told) -> Option<NormalForm
 }
 
 /// The same of a new router.
-fn form_of(alloc: Global, told: Told) -> Option<NormalForm<V4>> {
+fn form_of(alloc: Global, reported: Told) -> Option<NormalForm<V4>> {
     match state4(alloc, 1, 1480) {
-        Some(mut state) => form_after(alloc, &mut state, told),
+        Some(mut state) => form_after(alloc, &mut state, reported),
         None => None,
     }
 }
@@ -150,7 +150,7 @@ fn hear_gone(alloc: Global, state: &mut State, again: bool) -> bool {
     let last = if again { Told::Gone } else { Told::Nil };
     [(Told::Star, 10), (Told::Gone, 2000), (last, 3009)]
         .iter()
-        .all(|&(told, until)| hear_until(alloc, state, (told, SEVERAL), until))
+        .all(|&(reported, until)| hear_until(alloc, state, (reported, SEVERAL), until))
 }
 
 const ECHO: Step<[u8; 4]> = Step::Echo {

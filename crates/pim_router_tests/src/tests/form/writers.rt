@@ -30,7 +30,7 @@ const ROWS: [Row; 13] = [
 fn is_so(&(upstream, own, holdtime, budget, fault): &Row) -> bool {
     match Writer::<V4>::new(upstream, own, holdtime, budget) {
         Ok(_) => fault.is_none(),
-        Err(told) => fault == Some(told),
+        Err(reported) => fault == Some(reported),
     }
 }
 

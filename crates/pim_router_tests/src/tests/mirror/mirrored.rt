@@ -237,17 +237,22 @@ fn is_seen(
 }
 
 /// The same of a router that is a mirror.
-fn stands(alloc: Global, router: &mut Router<'_, V4>, asking: &Asking, told: Told) -> Option<bool> {
-    match told {
+fn stands(
+    alloc: Global,
+    router: &mut Router<'_, V4>,
+    asking: &Asking,
+    reported: Told,
+) -> Option<bool> {
+    match reported {
         Told::Stands(seen) => is_seen(alloc, router, asking, seen),
         _ => Some(false),
     }
 }
 
 /// Whether a message has no room, as is told.
-fn is_full(fault: MirrorFault, told: Told) -> bool {
+fn is_full(fault: MirrorFault, reported: Told) -> bool {
     match fault {
-        MirrorFault::Full { needed } => told == Told::Full(needed),
+        MirrorFault::Full { needed } => reported == Told::Full(needed),
         MirrorFault::Memory => false,
     }
 }
@@ -257,17 +262,17 @@ fn becomes(
     alloc: Global,
     asking: &Asking,
     fresh: &FreshConfig<'_, V4>,
-    told: Told,
+    reported: Told,
 ) -> Option<bool> {
     match mirrored(alloc, &asking.messages, &asking.writer, fresh) {
-        None => Some(told == Told::Unfit),
-        Some(Err(fault)) => Some(is_full(fault, told)),
-        Some(Ok(mut router)) => stands(alloc, &mut router, asking, told),
+        None => Some(reported == Told::Unfit),
+        Some(Err(fault)) => Some(is_full(fault, reported)),
+        Some(Ok(mut router)) => stands(alloc, &mut router, asking, reported),
     }
 }
 
 /// The same of the fresh router of a course.
-fn ends(alloc: Global, asking: &Asking, course: Course<'_>, told: Told) -> Option<bool> {
+fn ends(alloc: Global, asking: &Asking, course: Course<'_>, reported: Told) -> Option<bool> {
     let deliveries = deliveries(alloc, course.deliveries)?;
     let fresh = FreshConfig {
         ports: &[course.port],
@@ -277,11 +282,11 @@ fn ends(alloc: Global, asking: &Asking, course: Course<'_>, told: Told) -> Optio
         others: course.others,
         deliveries: &deliveries,
     };
-    becomes(alloc, asking, &fresh, told)
+    becomes(alloc, asking, &fresh, reported)
 }
 
 /// Whether a row goes so; `None` where memory is refused.
-fn row_goes(alloc: Global, asking: &Asking, &(given, told): &(Given, Told)) -> Option<bool> {
+fn row_goes(alloc: Global, asking: &Asking, &(given, reported): &(Given, Told)) -> Option<bool> {
     match given {
         Given::Deliveries(limit, holdtime, deliveries) => {
             let others = [other(OTHER, holdtime)];
@@ -290,11 +295,11 @@ fn row_goes(alloc: Global, asking: &Asking, &(given, told): &(Given, Told)) -> O
                 deliveries,
                 ..at_once(&others)
             };
-            ends(alloc, asking, course, told)
+            ends(alloc, asking, course, reported)
         }
         Given::Beside(address) => {
             let others = [other(THIRD, 210), other(address, 210)];
-            ends(alloc, asking, at_once(&others), told)
+            ends(alloc, asking, at_once(&others), reported)
         }
         Given::Port(address, propagation, override_ms) => {
             let port = PortConfig {
@@ -306,7 +311,7 @@ fn row_goes(alloc: Global, asking: &Asking, &(given, told): &(Given, Told)) -> O
                 port,
                 ..at_once(&[])
             };
-            ends(alloc, asking, course, told)
+            ends(alloc, asking, course, reported)
         }
     }
 }

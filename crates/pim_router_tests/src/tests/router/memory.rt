@@ -58,7 +58,7 @@ fn is_told(
     before: (usize, usize),
 ) -> bool {
     match receive(router, 0, from, bytes) {
-        Ok(told) => told == Some(wanted),
+        Ok(reported) => reported == Some(wanted),
         Err(_) => holds(router, before) && receive(router, 0, from, bytes) == Ok(Some(wanted)),
     }
 }

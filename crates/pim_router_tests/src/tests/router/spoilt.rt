@@ -147,14 +147,14 @@ struct Change {
 fn tell<F: Family>(
     router: &mut Router<'_, F>,
     from: F::Addr,
-    told: &mut Told,
+    reported: &mut Told,
     bytes: &[u8],
 ) -> Result<(), AllocError> {
     if router.port_count() == 0 || bytes.len() >= 65_536 {
         return Err(AllocError);
     }
     let verdict = router.take_packet(0, from, all_routers::<F>(), bytes)?;
-    told.count(verdict);
+    reported.count(verdict);
     Ok(())
 }
 
@@ -162,7 +162,7 @@ fn tell<F: Family>(
 fn tell_change<F: Family>(
     router: &mut Router<'_, F>,
     from: F::Addr,
-    told: &mut Told,
+    reported: &mut Told,
     bytes: &mut [u8],
     change: Change,
 ) -> Result<(), AllocError> {
@@ -171,7 +171,7 @@ fn tell_change<F: Family>(
         if change.mends {
             mend::<F>(from, bytes);
         }
-        tell(router, from, told, bytes)?;
+        tell(router, from, reported, bytes)?;
     }
     Ok(())
 }
@@ -183,15 +183,15 @@ fn changed<F: Family>(
     bytes: &mut [u8],
     mends: bool,
 ) -> Result<Told, AllocError> {
-    let mut told = NOTHING;
+    let mut reported = NOTHING;
     mend::<F>(from, bytes);
     for at in 0..bytes.len() {
         let old = byte_at(bytes, at);
-        tell_change(router, from, &mut told, bytes, Change { at, mends })?;
+        tell_change(router, from, &mut reported, bytes, Change { at, mends })?;
         put(bytes, at, old);
         mend::<F>(from, bytes);
     }
-    Ok(told)
+    Ok(reported)
 }
 
 /// What is answered to a message's fronts, from the shortest to the whole of it, each with its
@@ -201,15 +201,15 @@ fn cut<F: Family>(
     from: F::Addr,
     bytes: &mut [u8],
 ) -> Result<Told, AllocError> {
-    let mut told = NOTHING;
+    let mut reported = NOTHING;
     for length in 0..=bytes.len() {
         if length <= bytes.len() {
             let (front, _) = bytes.split_at_mut(length);
             mend::<F>(from, front);
-            tell(router, from, &mut told, front)?;
+            tell(router, from, &mut reported, front)?;
         }
     }
-    Ok(told)
+    Ok(reported)
 }
 
 /// What is answered to a message that is cut, changed, and changed and mended.
@@ -227,9 +227,9 @@ fn spoilt<F: Family>(
 /// A Hello of the sender comes, with a holdtime for ever.
 fn greet<F: Family>(router: &mut Router<'_, F>, from: F::Addr) -> Result<(), AllocError> {
     let mut hello = GREETING;
-    let mut told = NOTHING;
+    let mut reported = NOTHING;
     mend::<F>(from, &mut hello);
-    tell(router, from, &mut told, &hello)
+    tell(router, from, &mut reported, &hello)
 }
 
 /// The same of a sender that greets before or not, and how many records the first port keeps.
@@ -241,8 +241,8 @@ fn spoilt_after<F: Family>(
     if greets {
         greet(router, from).ok()?;
     }
-    let told = spoilt(router, from, bytes).ok()?;
-    Some((told, router.ports().count_on(0)))
+    let reported = spoilt(router, from, bytes).ok()?;
+    Some((reported, router.ports().count_on(0)))
 }
 
 /// The same on a new router under this table.
@@ -299,7 +299,7 @@ const SENDER_V6: [u8; 16] = [0xfe, 0x80, 0, 0, 0, 0, 0, 0, 0, 0, 0, 0, 0, 0, 0, 
 struct Row {
     bytes: &'static [u8],
     greets: bool,
-    told: [Told; 3],
+    reported: [Told; 3],
     kept: usize,
 }
 
@@ -307,31 +307,31 @@ const ROWS: [Row; 5] = [
     Row {
         bytes: &HELLO,
         greets: false,
-        told: OF_HELLO,
+        reported: OF_HELLO,
         kept: 0,
     },
     Row {
         bytes: &LISTS,
         greets: false,
-        told: OF_LISTS,
+        reported: OF_LISTS,
         kept: 0,
     },
     Row {
         bytes: &OTHER,
         greets: false,
-        told: OF_ANOTHER_TYPE,
+        reported: OF_ANOTHER_TYPE,
         kept: 0,
     },
     Row {
         bytes: &STAR,
         greets: true,
-        told: OF_STAR,
+        reported: OF_STAR,
         kept: 1,
     },
     Row {
         bytes: &LISTS,
         greets: true,
-        told: OF_NEIGHBOUR,
+        reported: OF_NEIGHBOUR,
         kept: 3538,
     },
 ];
@@ -340,25 +340,25 @@ const ROWS_V6: [Row; 4] = [
     Row {
         bytes: &HELLO,
         greets: false,
-        told: OF_HELLO_V6,
+        reported: OF_HELLO_V6,
         kept: 0,
     },
     Row {
         bytes: &LISTS_V6,
         greets: false,
-        told: OF_LISTS_V6,
+        reported: OF_LISTS_V6,
         kept: 0,
     },
     Row {
         bytes: &OTHER,
         greets: false,
-        told: OF_ANOTHER_TYPE_V6,
+        reported: OF_ANOTHER_TYPE_V6,
         kept: 0,
     },
     Row {
         bytes: &LISTS_V6,
         greets: true,
-        told: OF_NEIGHBOUR_V6,
+        reported: OF_NEIGHBOUR_V6,
         kept: 15809,
     },
 ];
@@ -372,8 +372,8 @@ fn answers<F: Family>(
 ) -> bool {
     match Vec::from_slice(alloc, row.bytes) {
         Ok(mut bytes) => {
-            let told = spoilt_on::<F>(alloc, ports, (from, row.greets), &mut bytes);
-            told == Some((row.told, row.kept))
+            let reported = spoilt_on::<F>(alloc, ports, (from, row.greets), &mut bytes);
+            reported == Some((row.reported, row.kept))
         }
         Err(_) => false,
     }

@@ -1,6 +1,6 @@
 use Rattle.std.proofs.Common.{ℕ, List, refl}
 use Rattle.pim_router.specs.State.{RouterState}
-use Rattle.pim_answers.specs.Asking.{AnswersKeep}
+use Rattle.pim_answers.specs.Demanding.{AnswersKeep}
 use Rattle.pim_answers.specs.Kept.{Kept}
 use Rattle.pim_answers.specs.Packets.{AnswersPacket}
 use Rattle.pim_answers.specs.Running.{AnswersRun}
@@ -44,7 +44,7 @@ returns-in_default g c =
     let kept : List Kept = store_seen c.args.store.now in
     record {
       answered = told_as (Serves family c.args.command.now (router, kept)) (g.W.Drain.contents c.args.answers.now) (g.W.Drain.contents c.report_any.new.answers) c.report_any.result (router, kept)
-          (λ (text : List ℕ) it. serves_told family router router kept kept text c.args.command.now c.in_default.not-Run c.in_default.not-Packet c.in_default.not-Keep it) c.report_any.ensures.told;
+          (λ (text : List ℕ) it. serves_told family router router kept kept text c.args.command.now c.in_default.not-Run c.in_default.not-Packet c.in_default.not-Keep it) c.report_any.ensures.reported;
       family = refl;
       count = c.report_any.ensures.count;
     }

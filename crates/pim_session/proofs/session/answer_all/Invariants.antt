@@ -1,6 +1,6 @@
 use Rattle.std.proofs.Common.{◌≡◌}
 use Rattle.std.specs.Option.{IfSome}
-use Rattle.pim_items.specs.Items.{items_of}
+use Rattle.pim_request.specs.Items.{items_of}
 use Rattle.pim_answers.specs.StoreSeen.{store_seen}
 use Rattle.pim_session.specs.Answers.{session_in}
 use Rattle.pim_session.specs.SetupSeen.{gathered_seen}

@@ -1,7 +1,7 @@
 use Rattle.std.proofs.Common.{◌≡◌, subst, Some}
-use Rattle.pim_text.specs.declared.line.Asked.{Asked}
-use Rattle.pim_text.specs.Asked.{after}
+use Rattle.pim_text.specs.declared.line.Expected.{Expected}
+use Rattle.pim_text.specs.Expected.{after}
 use Rattle.pim_text.proofs.steps.step.Goals as goal
 
 pub returns-in-Body-clause-only : goal.returns-in-Body-clause-only
-returns-in-Body-clause-only c line next asks is = c.body_step.ensures.only line next (subst (λ (a : Asked). after a line ≡ Some next) c.in-Body.is asks) is
+returns-in-Body-clause-only c line next asks is = c.body_step.ensures.only line next (subst (λ (a : Expected). after a line ≡ Some next) c.in-Body.is asks) is

@@ -19,15 +19,15 @@ returns-in-Ok-clause-put g c =
 pub returns-in_ok-reserve-in-Err-clause-order : goal.returns-in_ok-reserve-in-Err-clause-order
 returns-in_ok-reserve-in-Err-clause-order g c =
     let bytes_of = g.F.Family.bytes_of in
-    let told = c.in_ok-reserve-in-Err.ensures in
+    let reported = c.in_ok-reserve-in-Err.ensures in
     order_inserted bytes_of c.args.list.now c.args.key c.requires.order c.in-Err.place
     (subst (IsPlaceFor bytes_of c.args.key c.args.list.now) c.in-Err.is c.requires.found) c.args.value c.insert_within-stands.new.self.items
-    (c.insert_within-stands.ensures.items ∙ (λ i. insert (told.items i) (told.at c.in-Err.place i) (c.args.key, c.args.value)))
+    (c.insert_within-stands.ensures.items ∙ (λ i. insert (reported.items i) (reported.at c.in-Err.place i) (c.args.key, c.args.value)))
 
 pub returns-in_ok-reserve-in-Err-clause-put : goal.returns-in_ok-reserve-in-Err-clause-put
 returns-in_ok-reserve-in-Err-clause-put g c =
     let bytes_of = g.F.Family.bytes_of in
-    let told = c.in_ok-reserve-in-Err.ensures in
+    let reported = c.in_ok-reserve-in-Err.ensures in
     holds_inserted bytes_of g.F.Family.address_of g.met.F.Family.put_of_take c.args.list.now c.args.key c.requires.order c.in-Err.place c.insert_within-stands.new.self.items
     (subst (IsPlaceFor bytes_of c.args.key c.args.list.now) c.in-Err.is c.requires.found) c.args.value
-    (c.insert_within-stands.ensures.items ∙ (λ i. insert (told.items i) (told.at c.in-Err.place i) (c.args.key, c.args.value)))
+    (c.insert_within-stands.ensures.items ∙ (λ i. insert (reported.items i) (reported.at c.in-Err.place i) (c.args.key, c.args.value)))

@@ -7,9 +7,9 @@ use Rattle.pim_trace.proofs.passing.pass_time.Given as goal
 -- what happens from here happens from the start
 abbrev pub invariant-loop-end : goal.invariant-loop-end
 invariant-loop-end g l = record {
-  way : IsOnTheWay (g.T.Teller.line l.fn.teller) l.fn.moment (ledger_seen g.F.Family.bytes_of l.fn.ledger) l.fn.router (g.T.Teller.contents l.fn.device)
-      (ledger_seen g.F.Family.bytes_of l.ledger) l.router (g.T.Teller.contents l.device);
-  failures : g.T.Teller.failures l.device ≡ g.T.Teller.failures l.fn.device;
+  way : IsOnTheWay (g.T.EventWriter.line l.fn.event_writer) l.fn.moment (ledger_seen g.F.Family.bytes_of l.fn.ledger) l.fn.router (g.T.EventWriter.contents l.fn.device)
+      (ledger_seen g.F.Family.bytes_of l.ledger) l.router (g.T.EventWriter.contents l.device);
+  failures : g.T.EventWriter.failures l.device ≡ g.T.EventWriter.failures l.fn.device;
   later : l.fn.router.machines.moment ≤ l.router.machines.moment;
   within : l.router.machines.moment ≤ max l.fn.router.machines.moment l.fn.moment;
   setup : setup_of l.router ≡ setup_of l.fn.router;

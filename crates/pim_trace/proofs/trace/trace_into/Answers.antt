@@ -6,7 +6,7 @@ use Rattle.pim_trace.proofs.trace.trace_into.Goals as goal
 
 pub returns-in_default-clause-events : goal.returns-in_default-clause-events
 returns-in_default-clause-events g c =
-    (inl (nothing_yet (g.T.Teller.line c.args.teller.now) g.F.Family.family c.args.end c.args.merge.now c.args.router.now (g.T.Teller.contents c.args.device.now) c.every_state_goes_on.ensures), untaken c.args.end c.args.merge.now)
+    (inl (nothing_yet (g.T.EventWriter.line c.args.event_writer.now) g.F.Family.family c.args.end c.args.merge.now c.args.router.now (g.T.EventWriter.contents c.args.device.now) c.every_state_goes_on.ensures), untaken c.args.end c.args.merge.now)
 
 pub trace_with-requires-clause-new : goal.trace_with-requires-clause-new
 trace_with-requires-clause-new g c = c.in-Ok.ensures ∙ ap new_ledger c.port_count.ensures

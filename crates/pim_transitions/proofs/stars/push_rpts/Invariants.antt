@@ -10,7 +10,7 @@ abbrev pub invariant-loop-held : goal.invariant-loop-held
 invariant-loop-held g l =
     let bytes_of = g.F.Family.bytes_of in record {
       ascending : IsAscending l.left.records;
-      told : map (event_seen bytes_of) l.marks.items ++ flat_map rpt_mark (walk_left l.left)
+      reported : map (event_seen bytes_of) l.marks.items ++ flat_map rpt_mark (walk_left l.left)
           ≡ map (event_seen bytes_of) l.fn.marks.items ++ rpt_marks l.port (bytes_of l.fn.group) (what_seen bytes_of l.fn.what) l.ports.records;
     }
 

@@ -11,4 +11,4 @@ returns c =
     let rows = rows_of (found_of c.in-Some.options.now) in
     of_met (λ b. (out-SubCommand (box_value b)).name.now) (λ b. rows_of (found_of (out-SubCommand (box_value b)).matches)) (out-ArgMatches c.args.matches.now).subcommand c.in-Some.name.now rows
     c.in-Some.ensures.name c.in-Some.ensures.rows c.plan_kind.result
-    (subst (λ (name : Text). MatchResult c.plan_kind.result (IsPlanOf (name, rows)) (IsWrongOf (name, rows))) (sym c.in-Some-kind_named.ensures) c.plan_kind.ensures)
+    (subst (λ (name : Text). MatchResult c.plan_kind.result (IsPlanOf (name, rows)) (IsWrongOf (name, rows))) (sym c.in-Some-read_kind.ensures) c.plan_kind.ensures)

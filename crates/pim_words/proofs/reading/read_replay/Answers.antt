@@ -1,12 +1,12 @@
 use Rattle.std.proofs.Common.{Option, subst}
 use Rattle.std.proofs.lemmas.Result.{err_from_is_err_and}
 use Rattle.clap.specs.Words.{Text, found_of, rows_of}
-use Rattle.pim_words.specs.Reading.{IsNamed}
+use Rattle.pim_words.specs.Reading.{ReadsAddressOption}
 use Rattle.pim_words.proofs.Unreadable.{of_replay}
 use Rattle.pim_words.proofs.reading.read_replay.Goals as goal
 
 pub returns-in_err-captures : goal.returns-in_err-captures
 returns-in_err-captures c =
-    let named = subst (λ (o : Option Text). IsNamed o c.in_ok-rp.rp) c.option_of.ensures c.in_ok-rp.ensures in
+    let named = subst (λ (o : Option Text). ReadsAddressOption o c.in_ok-rp.rp) c.option_of.ensures c.in_ok-rp.ensures in
     let p = err_from_is_err_and c.from_residual-in_err-captures.result c.from_residual-in_err-captures.ensures.1 in
-    rw (p.1, p.2) (of_replay (rows_of (found_of c.args.options.now)) c.in_ok-rp.rp c.in_ok-judge_end.ensures named _ c.in_err-captures.ensures.told)
+    rw (p.1, p.2) (of_replay (rows_of (found_of c.args.options.now)) c.in_ok-rp.rp c.in_ok-judge_end.ensures named _ c.in_err-captures.ensures.reported)

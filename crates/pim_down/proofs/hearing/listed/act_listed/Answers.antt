@@ -1,4 +1,4 @@
-use Rattle.pim_down.proofs.Words.{ℕ, ◌≡◌, ◌+◌, ◌++◌, ◌∷◌, [], List, ap, sym, subst, ◌∙◌, map, take, drop, arith, Record, Event, key_of, on_own, on_rpts, act, StayButNamed, entry_named, IsAscending, each_changed, start_seen, records_seen, event_seen, is_pruned_by}
+use Rattle.pim_down.proofs.Words.{ℕ, ◌≡◌, ◌+◌, ◌++◌, ◌∷◌, [], List, ap, sym, subst, ◌∙◌, map, take, drop, arith, Record, Event, key_of, on_own, on_rpts, act, StayButListed, entry_of_event, IsAscending, each_changed, start_seen, records_seen, event_seen, is_pruned_by}
 use Rattle.pim_down.proofs.Each.{act_star, act_other}
 use Rattle.pim_down.proofs.Listing.{seen_more, none_seen}
 use Rattle.pim_down.proofs.Map.{IsAscending-changed}
@@ -21,8 +21,8 @@ returns-then-not-is_star_join-clause-last g c =
     let more = seen_more bytes_of events i behind c.args.event c.requires.last.0 c.requires.within c.requires.event in (
       omega (arith, c.requires.last.0),
       λ group is.
-          subst (λ (es : List Event). StayButNamed port (bytes_of group) es new) (sym more)
-          (subst (λ (rs : List (Record (List ℕ))). StayButNamed port (bytes_of group) (named ++ event ∷ []) rs) (sym acted)
+          subst (λ (es : List Event). StayButListed port (bytes_of group) es new) (sym more)
+          (subst (λ (rs : List (Record (List ℕ))). StayButListed port (bytes_of group) (named ++ event ∷ []) rs) (sym acted)
           (stay_more port start event seen c.requires.ascending (bytes_of group) named (c.requires.last.1 group is))),
     )
 
@@ -39,7 +39,7 @@ join_listed-requires-clause-stay g c other is =
     let event = event_seen bytes_of c.args.event in
     let named = map (event_seen bytes_of) (drop c.args.last.behind (take c.args.index c.args.events.now)) in
     let star = sym (c.is_star_join.ensures bytes_of) ∙ c.if-not-is_star_join.false in
-    rw (c.split_at-2.ensures.back, c.split_at.ensures.front) (stay_own port (bytes_of other) (λ key. is_pruned_by port (bytes_of other) (map entry_named named) key) event (on_own event.joins event.what (start_seen c.args.start)) (records_seen bytes_of c.args.records.now.items) (records_seen bytes_of c.act_on_own.new.records.items) star c.act_on_own.ensures.records (c.requires.last.1 other is))
+    rw (c.split_at-2.ensures.back, c.split_at.ensures.front) (stay_own port (bytes_of other) (λ key. is_pruned_by port (bytes_of other) (map entry_of_event named) key) event (on_own event.joins event.what (start_seen c.args.start)) (records_seen bytes_of c.args.records.now.items) (records_seen bytes_of c.act_on_own.new.records.items) star c.act_on_own.ensures.records (c.requires.last.1 other is))
 
 pub returns-clause-records : goal.returns-clause-records
 returns-clause-records g c =
@@ -61,7 +61,7 @@ returns-clause-last g c =
       omega arith,
       λ group is.
           let same : c.args.event.group ≡ group = cc in
-          subst (λ (other : List ℕ). StayButNamed port other (map (event_seen bytes_of) (drop (c.args.index + 1) (take (c.args.index + 1) c.args.events.now))) new) (ap bytes_of same)
-          (subst (λ (es : List Event). StayButNamed port event.group es new) (sym (none_seen bytes_of c.args.events.now (c.args.index + 1)))
-          (subst (λ (rs : List (Record (List ℕ))). StayButNamed port event.group [] rs) (sym acted) (stay_none port start event seen c.requires.ascending star))),
+          subst (λ (other : List ℕ). StayButListed port other (map (event_seen bytes_of) (drop (c.args.index + 1) (take (c.args.index + 1) c.args.events.now))) new) (ap bytes_of same)
+          (subst (λ (es : List Event). StayButListed port event.group es new) (sym (none_seen bytes_of c.args.events.now (c.args.index + 1)))
+          (subst (λ (rs : List (Record (List ℕ))). StayButListed port event.group [] rs) (sym acted) (stay_none port start event seen c.requires.ascending star))),
     )

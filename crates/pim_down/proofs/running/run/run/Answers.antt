@@ -18,8 +18,8 @@ returns-in-Echo-clause-runs g c ports limit =
     let ends = c.in-Some.first.ends_at in
     let first = first_end_some (records_seen bytes_of held) (deadline_seen bytes_of c.in-Some.first) c.in-Some.ensures.first.0 in
     let from = late_first c.loop-first.now ends (records_seen bytes_of held) c.loop-first.invariant.late first in
-    let told = subst (λ s. fired (shown bytes_of ends held) ≡ Some (step_seen bytes_of s, shown bytes_of ends c.fire_first-step.new.records.items)) c.in-Echo.is c.fire_first-step.ensures.fired in
-    let goes = goes_fired bytes_of ends held c.fire_first-step.new.records.items _ told ports limit c.args.moment in
+    let reported = subst (λ s. fired (shown bytes_of ends held) ≡ Some (step_seen bytes_of s, shown bytes_of ends c.fire_first-step.new.records.items)) c.in-Echo.is c.fire_first-step.ensures.fired in
+    let goes = goes_fired bytes_of ends held c.fire_first-step.new.records.items _ reported ports limit c.args.moment in
     let runs = c.loop-first.invariant.from_start ports limit _ _ 1 (arrive bytes_of ports limit c.args.moment c.args.now c.loop-first.now ends c.max-last.result ends held _ _ 1 c.loop-first.invariant.later c.max-last.ensures c.in-Some.ensures.first.1 (omega (arith, from)) first goes) in
     looking _ _ _ _ (c.loop-first.looks + 1) _ runs (omega (arith, c.in-Some.ensures.looks)) (omega (arith, c.in-Some.ensures.looks))
 
@@ -49,8 +49,8 @@ loop-first-preserved g c =
     let ends = c.in-Some.first.ends_at in
     let first = first_end_some (records_seen bytes_of held) (deadline_seen bytes_of c.in-Some.first) c.in-Some.ensures.first.0 in
     let from = late_first c.loop-first.now ends (records_seen bytes_of held) c.loop-first.invariant.late first in
-    let told = subst (λ s. fired (shown bytes_of ends held) ≡ Some (step_seen bytes_of s, shown bytes_of ends c.fire_first-step.new.records.items)) c.in-Reached.is c.fire_first-step.ensures.fired in
-    let goes = goes_fired bytes_of ends held c.fire_first-step.new.records.items _ told in
+    let reported = subst (λ s. fired (shown bytes_of ends held) ≡ Some (step_seen bytes_of s, shown bytes_of ends c.fire_first-step.new.records.items)) c.in-Reached.is c.fire_first-step.ensures.fired in
+    let goes = goes_fired bytes_of ends held c.fire_first-step.new.records.items _ reported in
     record {
       from_start = λ ports limit answer after timers runs.
           let more = c.loop-first.invariant.from_start ports limit answer after (1 + timers) (arrive bytes_of ports limit c.args.moment c.args.now c.loop-first.now ends c.max-last.result ends held answer after (1 + timers) c.loop-first.invariant.later c.max-last.ensures c.in-Some.ensures.first.1 (omega (arith, from)) first (goes ports limit c.args.moment answer after timers runs)) in

@@ -20,7 +20,7 @@ returns-in-PendingTimer-clause-fires g c =
     let d = (element list.items i found.0.1).0 in
     let here = fires_here bytes_of list c.requires.ascending first c.requires.first c.in-Ok.place found.0 found.1 in
     let stands = subst (λ t. position (λ held. due_of t (record_after first.ends_at (record_seen bytes_of held))) list.items ≡ Some i) c.in-PendingTimer.is here.1 in
-    firing_pending bytes_of first.ends_at list.items c.fire_pending.new.records.items i _ d stands (c.fire_pending.ensures.told d) (c.fire_pending.ensures.left d)
+    firing_pending bytes_of first.ends_at list.items c.fire_pending.new.records.items i _ d stands (c.fire_pending.ensures.reported d) (c.fire_pending.ensures.left d)
 
 pub returns-in-PendingTimer-clause-late : goal.returns-in-PendingTimer-clause-late
 returns-in-PendingTimer-clause-late g c m late =
@@ -40,7 +40,7 @@ returns-in-ExpiryTimer-clause-fires g c =
     let d = (element list.items i found.0.1).0 in
     let here = fires_here bytes_of list c.requires.ascending first c.requires.first c.in-Ok.place found.0 found.1 in
     let stands = subst (λ t. position (λ held. due_of t (record_after first.ends_at (record_seen bytes_of held))) list.items ≡ Some i) c.in-ExpiryTimer.is here.1 in
-    firing_expiry bytes_of first.ends_at list.items c.fire_expiry.new.records.items i _ d (none_pending bytes_of list c.requires.ascending first c.requires.first c.in-ExpiryTimer.is) stands (c.fire_expiry.ensures.told d) c.fire_expiry.ensures.left
+    firing_expiry bytes_of first.ends_at list.items c.fire_expiry.new.records.items i _ d (none_pending bytes_of list c.requires.ascending first c.requires.first c.in-ExpiryTimer.is) stands (c.fire_expiry.ensures.reported d) c.fire_expiry.ensures.left
 
 pub returns-in-ExpiryTimer-clause-late : goal.returns-in-ExpiryTimer-clause-late
 returns-in-ExpiryTimer-clause-late g c m late =

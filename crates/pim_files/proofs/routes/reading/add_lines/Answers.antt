@@ -14,9 +14,9 @@ loop-line-preserved g c =
     let went = subst (λ (left : List (List ℕ)). Went g.F.Family.family (lines_of c.args.file.now) left c.args.routes.now c.loop-line.routes c.loop-line.number) c.in-Some.ensures.steps c.loop-line.invariant in
     one_further g.F.Family.family (lines_of c.args.file.now) c.in-Some.line.now c.next.new.self c.args.routes.now c.loop-line.routes c.add_line.new.routes c.loop-line.number went c.in_ok-add_line.ensures.ok
 
-pub returns-in_err-add_line-clause-told : goal.returns-in_err-add_line-clause-told
-returns-in_err-add_line-clause-told g c =
+pub returns-in_err-add_line-clause-reported : goal.returns-in_err-add_line-clause-reported
+returns-in_err-add_line-clause-reported g c =
     let went = subst (λ (left : List (List ℕ)). Went g.F.Family.family (lines_of c.args.file.now) left c.args.routes.now c.loop-line.routes c.loop-line.number) c.in-Some.ensures.steps c.loop-line.invariant in
     let p = err_from_is_err_and c.from_residual.result c.from_residual.ensures.1 in
     rw (p.1, p.2, c.in_err-add_line.ensures.err)
-    (stopped g.F.Family.family (lines_of c.args.file.now) c.in-Some.line.now c.next.new.self c.args.routes.now c.loop-line.routes c.loop-line.number c.in_err-add_line.field-0.0 went c.in_err-add_line.ensures.told)
+    (stopped g.F.Family.family (lines_of c.args.file.now) c.in-Some.line.now c.next.new.self c.args.routes.now c.loop-line.routes c.loop-line.number c.in_err-add_line.field-0.0 went c.in_err-add_line.ensures.reported)

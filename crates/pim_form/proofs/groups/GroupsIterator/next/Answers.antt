@@ -1,11 +1,11 @@
 use Rattle.std.proofs.Common.{◌≡◌, ◌∙◌, ℕ, List, ◌∷◌, length, sym, ap, subst}
 use Rattle.pim_addr.specs.declared.family.AddressFamily.{AddressFamily}
-use Rattle.pim_form.specs.declared.place.Place.{Place}
+use Rattle.pim_form.specs.declared.place.GroupPlace.{GroupPlace}
 use Rattle.pim_form.specs.NormalForm.{GroupForm, IsNormalGroup}
 use Rattle.pim_form.specs.Rows.{IsWithin, AreKept, place_seen, form_seen}
 use Rattle.pim_form.proofs.groups.GroupsIterator.next.Goals as goal
 
-cut : {A : Type 0} (bytes_of : A → List ℕ) (family : AddressFamily) (row : List A) (place : Place A) (others all : List (Place A)) → all ≡ place ∷ others
+cut : {A : Type 0} (bytes_of : A → List ℕ) (family : AddressFamily) (row : List A) (place : GroupPlace A) (others all : List (GroupPlace A)) → all ≡ place ∷ others
     → AreKept bytes_of family row all → (IsWithin (length row) place × IsNormalGroup family (place_seen bytes_of row place)) × AreKept bytes_of family row others
 cut bytes_of family row place others all is kept =
     let here : AreKept bytes_of family row (place ∷ others) = subst (AreKept bytes_of family row) is kept in

@@ -10,7 +10,7 @@ use Rattle.pim_hello.proofs.hello.Hello.read.Given as goal
 abbrev pub invariant-loop-rest : goal.invariant-loop-rest
 invariant-loop-rest g l = record {
   inside : length l.rest ≤ length l.body;
-  told : faults_of (parts_left l.body l.rest) ≡ faults l.body;
+  delays_heard : faults_of (parts_left l.body l.rest) ≡ faults l.body;
   said : over g.F.Family.family (hello_seen {F = g.row.F.Denot} g.F.Family.family l.hello) (parts_left l.body l.rest) ≡ hello_of g.F.Family.family l.body;
 }
 

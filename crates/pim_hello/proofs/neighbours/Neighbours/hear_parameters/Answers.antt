@@ -2,8 +2,8 @@ use Rattle.std.proofs.Common.{◌∙◌, sym, ap, refl, rules}
 use Rattle.std.specs.Prelude.{option_map}
 use Rattle.std.proofs.lemmas.Bool.{false≢true}
 use Rattle.pim_hello.specs.Kept.{parameters_seen, kept_seen}
-use Rattle.pim_hello.specs.Neighbours.{told_unless_goodbye}
-use Rattle.pim_hello.proofs.Kept.{goodbye_seen, keeps_seen, told_seen, full_seen, memory_seen, no_room_seen}
+use Rattle.pim_hello.specs.Neighbours.{heard_unless_goodbye}
+use Rattle.pim_hello.proofs.Kept.{goodbye_seen, keeps_seen, record_of_seen, full_seen, memory_seen, no_room_seen}
 use Rattle.pim_hello.proofs.neighbours.Neighbours.hear_parameters.Goals as goal
 
 pub returns-then-says_goodbye : goal.returns-then-says_goodbye
@@ -44,8 +44,8 @@ returns-in_default g c = rw (← c.self.view_is) (record {
 
 pub returns : goal.returns
 returns g c = rw (← c.self.view_is) (record {
-  answer = (c.told.ensures ∙ ap (λ o. told_unless_goodbye (option_map (kept_seen 0) o) (parameters_seen c.args.hello.now)) c.get-known.ensures
-      ∙ told_seen g.F.Addr.Ord.cmp g.F.Family.bytes_of g.met.F.Family.order_of_bytes c.self.inside.moment c.args.from c.self.inside.roster.neighbours.entries (parameters_seen c.args.hello.now)
+  answer = (c.heard_as.ensures ∙ ap (λ o. heard_unless_goodbye (option_map (kept_seen 0) o) (parameters_seen c.args.hello.now)) c.get-known.ensures
+      ∙ record_of_seen g.F.Addr.Ord.cmp g.F.Family.bytes_of g.met.F.Family.order_of_bytes c.self.inside.moment c.args.from c.self.inside.roster.neighbours.entries (parameters_seen c.args.hello.now)
       (sym c.says_goodbye.ensures ∙ c.if-says_goodbye.false));
   table = (keeps_seen g.F.Addr.Ord.cmp g.F.Family.bytes_of g.met.F.Family.order_of_bytes c.self.inside.moment c.args.now c.max-moment.result c.max-moment.ensures
       c.args.from c.args.hello.now c.end_of_time.result c.self.inside.roster.neighbours.entries _ (sym c.says_goodbye.ensures ∙ c.if-says_goodbye.false) c.end_of_time.ensures c.in-Ok.ensures.kept);

@@ -2,9 +2,9 @@ use Rattle.std.proofs.Common.{◌∙◌, ◌*◌, ◌⊎◌, List, ℕ, Option, 
 use Rattle.std.proofs.lemmas.Result.{IfOk-weaker}
 use Rattle.pim_container.specs.Choice.{choice_of, first_of}
 use Rattle.pim_container.specs.Next.{coming, IsNext, pieces_left}
-use Rattle.pim_container.specs.Told.{event_seen}
+use Rattle.pim_container.specs.EventSeen.{event_seen}
 use Rattle.pim_container.specs.Room.{Need, needs_of}
-use Rattle.pim_merge.specs.Chosen.{all_known, told_given}
+use Rattle.pim_merge.specs.Chosen.{all_known, event_given}
 use Rattle.pim_merge.specs.Source.{later_of, piece_capacity, places, read_needs, SomeExceeds, GrowsWithin}
 use Rattle.pim_merge.proofs.Needing.{within_same, memory_of, fails_memory, uncut_needs, asks_need, grows_need, asks_record, passes_given, passes_uncut, given_none, if_ok, grows_up, list_up}
 use Rattle.pim_merge.proofs.Failures.{moves}
@@ -153,7 +153,7 @@ returns-clause-needs g c =
     (λ it given none. passes_uncut self.is_cut (needs_of g.R.Feed.remaining self.reader) (needs_of g.R.Feed.remaining c.next.new.self) c.if-self.false
     (passes_given choice first c.in-Ok.event c.as_slice.result.now (needs_of g.R.Feed.remaining self.reader) (needs_of g.R.Feed.remaining c.next.new.self) (given none)
     (sym c.is_end.ensures ∙ c.if-is_end.false) c.in-Ok.ensures.ahead))
-    (given_none (told_given choice first (event_seen c.as_slice.result.now c.in-Ok.event)) c.event_of.new.buffer.items c.event_of.result c.event_of.ensures.answer)
+    (given_none (event_given choice first (event_seen c.as_slice.result.now c.in-Ok.event)) c.event_of.new.buffer.items c.event_of.result c.event_of.ensures.answer)
 
 pub returns-clause-rooms : goal.returns-clause-rooms
 returns-clause-rooms g c =

@@ -21,7 +21,7 @@ returns-clause-looked g c =
 
 pub returns-clause-fault : goal.returns-clause-fault
 returns-clause-fault g c =
-    put_back (λ old new. IfErr c.look_at_all.result (λ told. (captures : List (List Answer)) → IsComing old captures → turn (with_fault told captures) ≡ fails told.capture told.fault))
+    put_back (λ old new. IfErr c.look_at_all.result (λ reported. (captures : List (List Answer)) → IsComing old captures → turn (with_fault reported captures) ≡ fails reported.capture reported.fault))
     c.deref_mut.result.now c.args.self.now.lanes c.look_at_all.new.lanes c.self.inside.lanes.items c.self.inside.lanes.len
     (c.deref_mut.ensures.value ∙ ap (λ (m : MergeState). m.lanes) c.self.view_is) (omega (arith, c.deref_mut.ensures.len, c.look_at_all.auto.lanes)) c.look_at_all.ensures.fault
 
@@ -39,7 +39,7 @@ returns-clause-rooms g c =
 
 pub returns-clause-over : goal.returns-clause-over
 returns-clause-over g c =
-    put_back (λ old new. IfErr c.look_at_all.result (λ told. FailsAt told.capture new))
+    put_back (λ old new. IfErr c.look_at_all.result (λ reported. FailsAt reported.capture new))
     c.deref_mut.result.now c.args.self.now.lanes c.look_at_all.new.lanes c.self.inside.lanes.items c.self.inside.lanes.len
     (c.deref_mut.ensures.value ∙ ap (λ (m : MergeState). m.lanes) c.self.view_is) (omega (arith, c.deref_mut.ensures.len, c.look_at_all.auto.lanes)) c.look_at_all.ensures.over
 

@@ -18,8 +18,8 @@ invariant_of-self g c =
       stays_router seen c.args.port (g.F.Family.bytes_of c.args.src) said sound c.index_mut-table.result.now within c.index_mut-table.ensures.value c.now-now.result c.now-now.ensures c.hear-heard.result c.hear-heard.new.self c.hear-heard.ensures c.is_sound-2.ensures.limit,
     )
 
-pub returns-clause-told : goal.returns-clause-told
-returns-clause-told g c =
+pub returns-clause-reported : goal.returns-clause-reported
+returns-clause-reported g c =
     let seen : RouterState = router_seen g.F.Family.bytes_of c.self.inside.ports.now c.self.inside.routes.now c.self.inside.machines c.self.inside.neighbours.items c.self.inside.next_refresh in
     let said : Parameters = (hello_seen g.F.Family.family c.args.hello.now).parameters in
     let sound : IsRouter seen = c.self.invariant.1 in

@@ -6,4 +6,4 @@ pub returns : goal.returns
 returns g c = λ fixed limit same.
     rp_told g.F.Family.family c.args.row.now (rows_seen g.F.Family.bytes_of fixed limit c.args.self.now) same c.in-Some.ensures.within c.in-Some-of_family.ensures.within
     c.capped.result (g.F.Family.bytes_of c.in-Some.prefix) (g.F.Family.bytes_of c.in-Some-of_family.to) c.add_rp.new.self c.add_rp.result c.added.result
-    c.capped.ensures c.in-Some.ensures.same c.in-Some-of_family.ensures.same c.add_rp.ensures.ok c.add_rp.ensures.err c.add_rp.ensures.told c.added.ensures
+    c.capped.ensures c.in-Some.ensures.same c.in-Some-of_family.ensures.same c.add_rp.ensures.ok c.add_rp.ensures.err c.add_rp.ensures.reported c.added.ensures

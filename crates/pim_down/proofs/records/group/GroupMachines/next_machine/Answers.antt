@@ -4,8 +4,8 @@ use Rattle.pim_down.proofs.Passing.{behind_it}
 use Rattle.pim_down.proofs.Searched.{found_none, found_some, found_other, machines_apart, machines_near, machine_first, next_told}
 use Rattle.pim_down.proofs.records.group.GroupMachines.next_machine.Goals as goal
 
-pub returns-then-not-is_item-clause-told : goal.returns-then-not-is_item-clause-told
-returns-then-not-is_item-clause-told g c =
+pub returns-then-not-is_item-clause-reported : goal.returns-then-not-is_item-clause-reported
+returns-then-not-is_item-clause-reported g c =
     let bytes_of = g.F.Family.bytes_of in
     let left = c.self.inside in
     let bound = key_seen bytes_of left.behind in
@@ -18,10 +18,10 @@ returns-then-not-is_item-clause-told g c =
     ∙ ap next_machine c.self.view_is
 
 pub returns-then-not-is_item-clause-left : goal.returns-then-not-is_item-clause-left
-returns-then-not-is_item-clause-left g c = ap (left_behind c.args.self.now) (returns-then-not-is_item-clause-told g c)
+returns-then-not-is_item-clause-left g c = ap (left_behind c.args.self.now) (returns-then-not-is_item-clause-reported g c)
 
-pub returns-then-not-is_of_group-clause-told : goal.returns-then-not-is_of_group-clause-told
-returns-then-not-is_of_group-clause-told g c =
+pub returns-then-not-is_of_group-clause-reported : goal.returns-then-not-is_of_group-clause-reported
+returns-then-not-is_of_group-clause-reported g c =
     let bytes_of = g.F.Family.bytes_of in
     let left = c.self.inside in
     let bound = key_seen bytes_of left.behind in
@@ -33,7 +33,7 @@ returns-then-not-is_of_group-clause-told g c =
     ∙ ap next_machine c.self.view_is
 
 pub returns-then-not-is_of_group-clause-left : goal.returns-then-not-is_of_group-clause-left
-returns-then-not-is_of_group-clause-left g c = ap (left_behind c.args.self.now) (returns-then-not-is_of_group-clause-told g c)
+returns-then-not-is_of_group-clause-left g c = ap (left_behind c.args.self.now) (returns-then-not-is_of_group-clause-reported g c)
 
 pub invariant_of-self : goal.invariant_of-self
 invariant_of-self g c =
@@ -48,8 +48,8 @@ invariant_of-self g c =
       },
     )
 
-pub returns-clause-told : goal.returns-clause-told
-returns-clause-told g c =
+pub returns-clause-reported : goal.returns-clause-reported
+returns-clause-reported g c =
     let bytes_of = g.F.Family.bytes_of in
     let left = c.self.inside in
     let bound = key_seen bytes_of left.behind in
@@ -66,4 +66,4 @@ returns-clause-left g c =
     let bytes_of = g.F.Family.bytes_of in
     ap (λ (s : MachinesLeft). record { records = s.records; behind = key_seen bytes_of c.get.result.now.key }) c.self.view_is
     ∙ ap (λ r. left_behind c.args.self.now (Some r)) (sym (c.record_after.ensures bytes_of))
-    ∙ ap (left_behind c.args.self.now) (returns-clause-told g c)
+    ∙ ap (left_behind c.args.self.now) (returns-clause-reported g c)

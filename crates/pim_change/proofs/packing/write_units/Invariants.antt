@@ -1,0 +1,18 @@
+use Rattle.std.proofs.Common.{◌≤◌, ◌-◌, ◌++◌, ℕ, List, length, drop}
+use Rattle.pim_addr.specs.Routes.{rp_of}
+use Rattle.pim_change.specs.Seen.{units_seen}
+use Rattle.pim_change.specs.Written.{CarryUnits}
+use Rattle.pim_change.proofs.packing.write_units.Given as goal
+
+-- whatever messages tell what is left, with those before them tell all
+abbrev pub invariant-loop-start : goal.invariant-loop-start
+invariant-loop-start g l =
+    let bytes_of = g.F.Family.bytes_of in
+    let tell = CarryUnits g.F.Family.family l.writer (rp_of g.F.Family.family l.routes) in record {
+      within : l.start ≤ length l.units;
+      goes : (left : List (List ℕ)) → tell (units_seen bytes_of (drop l.start l.units)) left →
+          tell (units_seen bytes_of l.units) (l.messages ++ left);
+    }
+
+abbrev pub decreases-loop-start : goal.decreases-loop-start
+decreases-loop-start g l = length l.units - l.start

@@ -1,7 +1,0 @@
-use Rattle.std.proofs.Common.{drop, ap, ◌∙◌, None, Some}
-use Rattle.pim_container.specs.Told.{frame_told}
-use Rattle.pim_container.proofs.classic.tell_record.Goals as goal
-
-pub returns-clause-event : goal.returns-clause-event
-returns-clause-event c =
-    c.event_of.ensures.event ∙ ap (λ millis. frame_told millis 0 None (Some c.args.format.link) (drop 16 c.args.record.now)) c.millis_of-millis.ensures.value

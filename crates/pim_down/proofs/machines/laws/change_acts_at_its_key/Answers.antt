@@ -1,5 +1,0 @@
-use Rattle.pim_down.proofs.OneList.{at_its_key}
-use Rattle.pim_down.proofs.machines.laws.change_acts_at_its_key.Goals as goal
-
-pub returns : goal.returns
-returns c = at_its_key

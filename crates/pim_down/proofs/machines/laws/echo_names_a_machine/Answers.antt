@@ -1,5 +1,0 @@
-use Rattle.pim_down.proofs.Echo.{echo_names}
-use Rattle.pim_down.proofs.machines.laws.echo_names_a_machine.Goals as goal
-
-pub returns : goal.returns
-returns c = echo_names

@@ -1,5 +1,0 @@
-use Rattle.pim_down.proofs.Act.{IsAscending-act}
-use Rattle.pim_down.proofs.machines.laws.event_keeps_the_order.Goals as goal
-
-pub returns : goal.returns
-returns c = IsAscending-act

@@ -1,5 +1,0 @@
-use Rattle.pim_down.proofs.Hears.{sound_heard}
-use Rattle.pim_down.proofs.machines.laws.hearing_keeps_sound.Goals as goal
-
-pub returns : goal.returns
-returns c = sound_heard

@@ -1,5 +1,0 @@
-use Rattle.pim_down.proofs.Runs.{bounds}
-use Rattle.pim_down.proofs.machines.laws.run_keeps_its_bounds.Goals as goal
-
-pub returns : goal.returns
-returns c = bounds

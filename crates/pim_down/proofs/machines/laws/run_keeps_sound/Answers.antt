@@ -1,5 +1,0 @@
-use Rattle.pim_down.proofs.Kept.{sound_runs}
-use Rattle.pim_down.proofs.machines.laws.run_keeps_sound.Goals as goal
-
-pub returns : goal.returns
-returns c = sound_runs

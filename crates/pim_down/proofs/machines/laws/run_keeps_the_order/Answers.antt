@@ -1,5 +1,0 @@
-use Rattle.pim_down.proofs.Silence.{order}
-use Rattle.pim_down.proofs.machines.laws.run_keeps_the_order.Goals as goal
-
-pub returns : goal.returns
-returns c = order

@@ -1,5 +1,0 @@
-use Rattle.pim_down.proofs.Silence.{silence}
-use Rattle.pim_down.proofs.machines.laws.silence_acts_at_each_key.Goals as goal
-
-pub returns : goal.returns
-returns c = silence

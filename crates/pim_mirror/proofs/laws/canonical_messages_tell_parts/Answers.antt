@@ -1,5 +1,0 @@
-use Rattle.pim_mirror.proofs.Parts.{messages_tell}
-use Rattle.pim_mirror.proofs.laws.canonical_messages_tell_parts.Goals as goal
-
-pub returns : goal.returns
-returns c = messages_tell

@@ -1,5 +1,0 @@
-use Rattle.pim_settling.proofs.Runs.{runs_tell_the_change}
-use Rattle.pim_settling.proofs.laws.runs_tell_the_change.Goals as goal
-
-pub returns : goal.returns
-returns c = runs_tell_the_change c.keys_are_told_apart.ensures
