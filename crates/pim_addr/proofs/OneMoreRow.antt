@@ -82,9 +82,6 @@ first_of row rows true = refl
 first_of row rows false = refl
 
 module _ (family : AddressFamily) (address : List ℕ) (row : Row) (real : IsRealRow family row) where
-  test : Row → Bool
-  test = matches family address
-
   behind : (front : Row) (rows more : List Row) (t u : Bool) → (t ≡ true → u ≡ true → row.0.bits < front.0.bits) → longest more ≡ answered row t (longest rows) →
       longest (cond u (front ∷ more) more) ≡ answered row t (longest (cond u (front ∷ rows) rows))
   behind front rows more t false shorter later = later

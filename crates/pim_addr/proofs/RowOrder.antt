@@ -54,9 +54,6 @@ inserted p to d (row ∷ rows) (suc i) l above below =
 -- ---- what a search by halves says
 
 module _ {R : Type 0} (seen : R → Row) (rows : List R) (prefix : Prefix) (ascending : AreInOrder (map seen rows)) where
-  answer : R → Ordering
-  answer held = prefix_cmp (seen held).0 prefix
-
   key_at : (k : ℕ) (d : R) → k < length rows → get_or (keys_of (map seen rows)) k (seen d).0 ≡ (seen (get_or rows k d)).0
   key_at k d l = get_or_of_map (λ (row : Row). row.0) (map seen rows) k (seen d) (seen d).0 (omega (arith, length-map rows seen)) ∙ ap (λ (row : Row). row.0) (get_or_of_map seen rows k d (seen d) l)
 

@@ -4,6 +4,5 @@ pub mod Wrote
 pub mod Taken
 pub mod Runs
 pub mod Stores
-pub mod Reporting
 pub mod Makings
 pub mod OneAnswer

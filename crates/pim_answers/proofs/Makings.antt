@@ -1,5 +1,5 @@
 -- Messages that are made, and what is told of them.
-use Rattle.std.proofs.Common.{◌≡◌, ◌≢◌, ◌⊎◌, ℕ, Bool, true, false, List, [], ◌∷◌, ◌++◌, codes, Option, None, Some, Result, Ok, Err, IfOk, option_map, not, is_some, Bor, refl, sym, ap, subst, inl, inr}
+use Rattle.std.proofs.Common.{◌≡◌, ℕ, Bool, true, false, List, [], ◌∷◌, codes, Option, None, Some, Result, Ok, Err, IfOk, option_map, not, is_some, Bor, refl, sym, ap, subst, inl, inr}
 use Rattle.pim_device.specs.Device.{AppendsAll}
 use Rattle.pim_addr.specs.declared.family.AddressFamily.{AddressFamily}
 use Rattle.pim_addr.specs.declared.family.AddressFamily.TheVariants.{Ipv4, Ipv6}
@@ -14,7 +14,6 @@ use Rattle.pim_request.specs.declared.command.Writing.{Writing}
 use Rattle.pim_request.specs.declared.command.Comparison.{Comparison}
 use Rattle.pim_router.specs.Canonical.{IsDemandedBy, IsTooBig}
 use Rattle.pim_router.specs.State.{RouterState}
-use Rattle.pim_report.specs.MessageText.{messages_text}
 use Rattle.pim_answers.specs.Answered.{Wrote}
 use Rattle.pim_answers.specs.Demanding.{UnlessIf, UnlessAny, SaysMade, SaysSame, AreCompared, AnswersMessages, AnswersFound, SaysOf, IfUsable, has_other_family, writer_words, writer_of, name_words}
 use Rattle.pim_answers.specs.declared.fault.Fault.{Fault}
@@ -28,7 +27,7 @@ use Rattle.pim_answers.specs.Fault.{fault_words}
 use Rattle.pim_answers.specs.StoreSeen.{form_seen, IsFound}
 use Rattle.pim_answers.specs.Kept.{Kept, is_usable}
 use Rattle.pim_answers.specs.Families.{family_words}
-use Rattle.pim_answers.specs.Lines.{ok_line, fault_line}
+use Rattle.pim_answers.specs.Lines.{fault_line}
 
 -- messages that were made, or why they weren't
 pub made_told : {F A N : Type 0} (family : AddressFamily) (bytes_of : A → List ℕ) (AreMade : List (List ℕ) → Type 0) (IsBig : Option (List ℕ) → Type 0) (made : Result (List (List ℕ)) (FormFault F A N))

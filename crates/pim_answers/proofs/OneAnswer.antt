@@ -25,7 +25,7 @@ use Rattle.pim_text.specs.OneReading.{OneBody, LongBody}
 use Rattle.pim_text.specs.Spell.{IsLong, stated_in}
 use Rattle.pim_lines.specs.AnyAddress.{address_bytes}
 use Rattle.pim_answers.specs.declared.packets.FromText.{FromText}
-use Rattle.pim_answers.specs.Answered.{Refused, RefusedIf, RefusedBy, OrMemory, OrMemoryIf, Done}
+use Rattle.pim_answers.specs.Answered.{Refused, RefusedIf, OrMemory, OrMemoryIf}
 use Rattle.pim_answers.specs.Demanding.{UnlessIf, UnlessAny, SaysMade, too_big_words, KeepsForm, kept_now, SaysOf, IfUsable, AnswersFound, SaysChange, has_other_family, name_words, IsFirstBig, AreCompared, SaysSame, writer_of, writer_words}
 use Rattle.pim_report.specs.SameLine.{same_line}
 use Rattle.pim_answers.specs.Families.{differ_from, family_words}
@@ -42,16 +42,9 @@ module _ {S : Type 0} where
   pub one_refused : (words : List ℕ) (state : S) → OneAnswer (Refused words state)
   one_refused words state text other after end is too room more = (is.0 ∙ sym too.0, is.1 ∙ sym too.1)
 
-  pub one_done : (state : S) → OneAnswer (Done state)
-  one_done state text other after end is too room more = (is.0 ∙ sym too.0, is.1 ∙ sym too.1)
-
   pub one_if : (test : Bool) (words : List ℕ) (state : S) (Does : List ℕ → S → Type 0) → OneAnswer Does → OneAnswer (RefusedIf test words state Does)
   one_if true words state Does one = one_refused words state
   one_if false words state Does one = one
-
-  pub one_by : (faults : List (List ℕ)) (state : S) (Does : List ℕ → S → Type 0) → OneAnswer Does → OneAnswer (RefusedBy faults state Does)
-  one_by [] state Does one = one
-  one_by (first ∷ others) state Does one = one_refused first state
 
   pub with_room : (state : S) (Does : List ℕ → S → Type 0) (text : List ℕ) (after : S) → OrMemory state Does text after → text ≢ memory_line → Does text after
   with_room state Does text after (inl does) room = does

@@ -1,5 +1,5 @@
 -- Packets that a router takes.
-use Rattle.std.proofs.Common.{◌≡◌, ◌⊎◌, ℕ, ◌*◌, ◌<◌, ◌≤◌, true, false, List, [], ◌∷◌, ◌++◌, length, codes, Option, Result, refl, sym, ap, subst, inl, inr, ◌∙◌, arith}
+use Rattle.std.proofs.Common.{◌≡◌, ◌⊎◌, ℕ, ◌*◌, ◌<◌, ◌≤◌, true, false, List, [], ◌∷◌, ◌++◌, length, codes, Option, Result, refl, ap, subst, inl, inr, arith}
 use Rattle.std.proofs.lemmas.Bool.{le-leb, lt-leb}
 use Rattle.pim_device.specs.Device.{AppendsAll}
 use Rattle.pim_request.specs.declared.command.Packet.{Packet as Arrived}
@@ -12,7 +12,7 @@ use Rattle.pim_router.specs.Packets.{Packet, received}
 use Rattle.pim_router.specs.State.{RouterState}
 use Rattle.pim_report.specs.PacketLine.{verdict_line}
 use Rattle.pim_answers.specs.declared.packets.FromText.{FromText}
-use Rattle.pim_answers.specs.Answered.{RefusedIf, OrMemory, OrMemoryIf, Answered, Refused}
+use Rattle.pim_answers.specs.Answered.{RefusedIf, OrMemory, OrMemoryIf, Answered}
 use Rattle.pim_answers.specs.Families.{differ_from, family_words}
 use Rattle.pim_answers.specs.Lines.{ok_line, fault_line}
 use Rattle.pim_answers.specs.Packets.{Takes, NeedsMemory, TakesText, TakesShort, IsMessageOf, AnswersPacket, AnswersFrom, lacks_port, port_words, packet_of, packet_from, destination_of}

@@ -71,9 +71,6 @@ pub both : {A E : Type 0} (old now new : Option (List ℕ)) (r : Result A E) (fi
 both old now new (Ok x) first second p q = Appends-trans old now new first second p q
 both old now new (Err x) first second p q = front-more old now new first second p q
 
-pub stopped_first : {A E : Type 0} (old new : Option (List ℕ)) (r : Result A E) (first second : List ℕ) → IsErr r → AppendsFront old new first → AppendsAll old new r (first ++ second)
-stopped_first old new r first second e p = stopped old new r (first ++ second) e (front-longer old new first second p)
-
 -- all of the first text was written, and a front of the second of three
 pub stopped_second : {A E : Type 0} (old now new : Option (List ℕ)) (r : Result A E) (first second third : List ℕ) → IsErr r → Appends old now first → AppendsFront now new second
     → AppendsAll old new r (first ++ second ++ third)

@@ -1,16 +1,12 @@
 -- Answers for which something holds, from their texts.
 use Rattle.std.proofs.Common.{◌≡◌, ℕ, Bool, true, false, List, Option, Result, Ok, Err, codes, sym, ap, subst, inl, inr}
 use Rattle.pim_device.specs.Device.{AppendsAll}
-use Rattle.pim_answers.specs.Answered.{Refused, RefusedIf, OrMemoryIf, Answered, Wrote}
+use Rattle.pim_answers.specs.Answered.{RefusedIf, OrMemoryIf, Answered, Wrote}
 use Rattle.pim_answers.specs.Lines.{fault_line}
 
 -- a text that was written
 pub told_text : {A E : Type 0} (Says : List ℕ → Type 0) (old new : Option (List ℕ)) (r : Result A E) (text : List ℕ) → Says text → AppendsAll old new r text → Wrote Says old new r
 told_text Says old new r text says written = record { text = text; says = says; written = written }
-
--- what a told text says, said otherwise
-pub told_more : {A E : Type 0} (Says Tells : List ℕ → Type 0) (old new : Option (List ℕ)) (r : Result A E) → ((text : List ℕ) → Says text → Tells text) → Wrote Says old new r → Wrote Tells old new r
-told_more Says Tells old new r more reported = record { text = reported.text; says = more reported.text reported.says; written = reported.written }
 
 module _ {S : Type 0} where
   -- a text that was written, and the state after it

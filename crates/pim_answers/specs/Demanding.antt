@@ -14,9 +14,8 @@ use Rattle.pim_router.specs.Canonical.{demanded, IsDemandedBy, IsTooBig}
 use Rattle.pim_router.specs.Change.{IsChangeOf, IsChangeTooBig}
 use Rattle.pim_router.specs.State.{RouterState}
 use Rattle.pim_report.specs.MessageText.{messages_text}
-use Rattle.pim_lines.specs.Pieces.{line}
 use Rattle.pim_report.specs.SameLine.{same_line}
-use Rattle.pim_answers.specs.Answered.{Refused, RefusedIf, RefusedBy, OrMemory}
+use Rattle.pim_answers.specs.Answered.{RefusedIf, OrMemory}
 use Rattle.pim_lines.specs.AnyAddress.{address_bytes}
 use Rattle.pim_answers.specs.Families.{differ_from, family_words}
 use Rattle.pim_answers.specs.Answered.{Done}

@@ -1,5 +1,5 @@
 -- The last line of each answer.
-use Rattle.std.specs.Prelude.{ℕ, List, ◌++◌, codes, decimal}
+use Rattle.std.specs.Prelude.{ℕ, List, ◌++◌, codes}
 use Rattle.pim_lines.specs.Pieces.{line}
 
 -- `ok`, after the lines of a command that was done.

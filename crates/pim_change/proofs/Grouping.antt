@@ -1,7 +1,6 @@
 -- Units of one group that stand together are one set.
-use Rattle.std.proofs.Common.{◌≡◌, ◌∙◌, ℕ, zero, suc, ◌<◌, ◌≤◌, Bool, true, false, List, [], ◌∷◌, ◌++◌}
-use Rattle.std.proofs.Common.{length, map, take, drop, get_or, refl, sym, ap, subst, arith}
-use Rattle.std.proofs.lemmas.List.{length-map}
+use Rattle.std.proofs.Common.{◌≡◌, ◌∙◌, ℕ, zero, suc, ◌<◌, ◌≤◌, Bool, true, false, List, [], ◌∷◌}
+use Rattle.std.proofs.Common.{length, take, drop, get_or, refl, sym, ap, subst, arith}
 use Rattle.std.specs.List.{AllByRecursion}
 use Rattle.pim_form.specs.NormalForm.{same_address}
 use Rattle.pim_change.specs.declared.unit.Unit.{Unit as UnitOf}
@@ -57,12 +56,6 @@ module _ {A : Type 0} (bytes_of : A → List ℕ) (group : List ℕ) where
   Leaves [] = Unit {0}
   Leaves (this ∷ units) = same_address group (bytes_of this.group) ≡ false
 
-  pub one_more_of_group : (units : List (UnitOf A)) (n : ℕ) (d : UnitOf A) → n < length units → AreOfGroup (take n units)
-      → bytes_of (get_or units n d).group ≡ group → AreOfGroup (take (suc n) units)
-  one_more_of_group [] n d below all is = absurd (omega arith)
-  one_more_of_group (unit ∷ units) zero d below all is = (is, tt)
-  one_more_of_group (unit ∷ units) (suc n) d below all is = (all.0, one_more_of_group units n d (omega arith) all.1 is)
-
   pub all_of_group : (units : List (UnitOf A)) (n : ℕ) → length units ≤ n → n ≤ length units → AreOfGroup (take n units)
       → AreOfGroup (take (length units) units)
   all_of_group units n past within all =
@@ -107,12 +100,3 @@ module _ {A : Type 0} (bytes_of : A → List ℕ) (group : List ℕ) where
       (tellings_seen bytes_of (unit ∷ take n units)) (grouped (units_seen bytes_of (drop n units)))
       (units_seen bytes_of units) all.0
       (one_set (action_seen bytes_of unit.action) units n (omega arith) all.1 leaves)
-
--- a list that is seen as this one is as long
-pub short_enough : {A B : Type 0} (f : A → B) (old new : List A) (all : List B) (most : ℕ)
-    → map f new ≡ map f old ++ all
-    → old ≡ [] → length all < most → length new < most
-short_enough f old new all most is none short =
-    let as_long : length new ≡ length all =
-    sym (length-map new f) ∙ ap length (is ∙ ap (λ (l : List _). map f l ++ all) none) in
-    omega (arith, as_long, short)

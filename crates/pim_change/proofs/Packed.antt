@@ -62,9 +62,6 @@ module _ (family : AddressFamily) (writing : Writing) (rps : List ℕ → Option
         CarryUnits family writing rps (units_seen bytes_of (drop start units)) left →
         CarryUnits family writing rps (units_seen bytes_of units) (messages ++ left)
 
-    pub goes_from : Goes 0 []
-    goes_from = λ left tells. tells
-
     pub goes_on : (start n : ℕ) (left run : List (Unit A)) (messages more : List (List ℕ)) (bytes : List ℕ)
         → left ≡ drop start units → run ≡ take n left → start < length units → 0 < n
         → fits family writing.budget (weights (units_seen bytes_of (take n left))) ≡ true

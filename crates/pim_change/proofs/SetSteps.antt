@@ -28,9 +28,6 @@ module _ {A : Type 0} (bytes_of : A → List ℕ) (rps : List ℕ → Option (Li
   others : drop n behind ≡ drop (start + (n + 1)) units
   others = ap (drop n) is_behind ∙ drop-drop n (start + 1) units ∙ ap (λ (k : ℕ). drop k units) (omega arith)
 
-  this_set : GroupSet
-  this_set = written_set rps (tellings_of (bytes_of (get_or units start d).group) (tellings_seen bytes_of these))
-
   pub step : written_sets rps (units_seen bytes_of (drop start units))
       ≡ written_set rps (tellings_of (bytes_of (get_or units start d).group) (tellings_seen bytes_of these))
       ∷ written_sets rps (units_seen bytes_of (drop (start + (n + 1)) units))

@@ -223,7 +223,3 @@ module _ (family : AddressFamily) (budget : ℕ) where
       → None ≡ all
   fits_gone olds news all none fitting =
       sym (all_gone olds fitting.first) ∙ subst (λ o. too_big family budget (change olds o) ≡ all) none fitting.so_far
-
-  pub fits_left : (olds news : List GroupForm) (all : Option (List ℕ)) → olds ≡ [] → IsFitting olds news all
-      → too_big family budget (change [] news) ≡ all
-  fits_left olds news all none fitting = subst (λ o. too_big family budget (change o news) ≡ all) none fitting.so_far

@@ -1,5 +1,5 @@
 -- What `build` returns and writes, from what is built of a text.
-use Rattle.std.proofs.Common.{◌≡◌, ◌∙◌, sym, ap, refl, subst, inl, inr, ℕ, ◌≤◌, List, [], ◌∷◌, ◌++◌, Option, None, Some, Ok, Err, length, map}
+use Rattle.std.proofs.Common.{◌≡◌, ◌∙◌, sym, ap, refl, subst, inr, ℕ, ◌≤◌, List, [], ◌∷◌, ◌++◌, Option, None, Some, Ok, Err, length, map}
 use Rattle.std.specs.Prelude.{IfSome}
 use Rattle.std.specs.Io.KnownBytes.{Appends, Keeps}
 use Rattle.pim_addr.specs.Faults.{judged}
@@ -12,7 +12,6 @@ use Rattle.pim_text.specs.HelloText.{hello_text}
 use Rattle.pim_text.specs.JoinPruneText.{message_text}
 use Rattle.pim_text.specs.Building as of_bytes
 use Rattle.pim_text.specs.Building.{Value, a_hello, a_message, IsBuilt, IsReadAs, IsRefused, text_of}
-use Rattle.pim_text.specs.ReadingText.{IsReadFaultOf}
 use Rattle.pim_text.specs.declared.build.fault.BuildFault.{BuildFault}
 use Rattle.pim_text.specs.declared.build.fault.BuildFault.TheVariants as of_build
 use Rattle.pim_faults.specs.declared.fault.Fault.{Fault}
@@ -90,14 +89,6 @@ module _ (family : AddressFamily) (source destination : List ℕ) where
     not_built (of_build.Hello fault) old new kept is = (refused (of_build.Hello fault) is, kept)
     not_built (of_build.JoinPrune fault) old new kept is = (refused (of_build.JoinPrune fault) is, kept)
     not_built of_build.Memory old new kept is = kept
-
-  -- ---- a text that isn't read
-
-  pub not_read : (all : List ℕ) (fault : BuildFault) (old new : Option (List ℕ)) → Keeps old new → IsReadFaultOf all fault → Explains family source destination all old new (build_fault fault)
-  not_read all of_build.Read old new kept is = kept
-  not_read all of_build.TooLong old new kept is = (inl is, kept)
-  not_read all of_build.Memory old new kept is = kept
-  not_read all fault old new kept is = absurd is
 
   -- ---- what is returned and written of an input
 

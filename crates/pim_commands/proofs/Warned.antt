@@ -1,7 +1,6 @@
 -- Warnings that are written one after another.
-use Rattle.std.proofs.Common.{◌≡◌, inl, inr, refl, sym, ap, subst, ◌∙◌, ℕ, suc, ◌+◌, ◌≤◌, ◌<◌, Bool, true, false, cond, List, [], ◌∷◌, ◌++◌, length, take, get_or, Option, None, Some, Result, Ok, Err, IsErr, arith, append_assoc, append-nil, length-append}
-use Rattle.std.specs.Prelude.{filter}
-use Rattle.std.proofs.lemmas.List.{take-append-le, length-take, drop_all}
+use Rattle.std.proofs.Common.{◌≡◌, inl, inr, refl, sym, ap, subst, ◌∙◌, ℕ, suc, ◌+◌, ◌≤◌, ◌<◌, Bool, true, false, cond, List, [], ◌∷◌, ◌++◌, length, take, get_or, Option, None, Some, Result, Ok, Err, IsErr, arith, append_assoc, length-append}
+use Rattle.std.proofs.lemmas.List.{take-append-le, length-take}
 use Rattle.std.proofs.KnownBytes.{Appends-nil, Appends-trans}
 use Rattle.std.specs.Io.KnownBytes.{Appends}
 use Rattle.pim_addr.specs.declared.family.AddressFamily.{AddressFamily}
@@ -10,11 +9,11 @@ use Rattle.pim_device.specs.Device.{AppendsFront, AppendsAll, failures_after}
 use Rattle.pim_merge.specs.declared.tally.Tally.{Tally}
 use Rattle.pim_merge.specs.Tally.{tally_at}
 use Rattle.pim_words.specs.declared.fault.RouterSide.{RouterSide}
-use Rattle.pim_files.specs.Captures.{files_from, with_more}
+use Rattle.pim_files.specs.Captures.{with_more}
 use Rattle.pim_words.specs.declared.task.More.{More}
 use Rattle.pim_words.specs.declared.task.Port.{Port}
 use Rattle.pim_faults.specs.Ending.{IsReported}
-use Rattle.pim_commands.specs.Naming.{is_in, are_in}
+use Rattle.pim_commands.specs.Naming.{is_in}
 use Rattle.pim_commands.specs.Warnings.{port_warnings, warnings_from}
 use Rattle.pim_commands.proofs.Named.{left_from, one_port}
 
@@ -60,9 +59,6 @@ left_less old now new piece left all w p = record {
   is_all = w.is_all ∙ sym (append_assoc w.done piece left);
 }
 
-left_none : (old now : Option (List ℕ)) (all : List ℕ) → IsLeft old now [] all → Appends old now all
-left_none old now all w = subst (λ l. Appends old now l) (sym (w.is_all ∙ append-nil w.done)) w.wrote
-
 left_stopped : (old now new : Option (List ℕ)) (piece left all : List ℕ) → IsLeft old now (piece ++ left) all → AppendsFront now new piece → AppendsFront old new all
 left_stopped old now new piece left all w p =
     subst (λ l. AppendsFront old new l) (sym w.is_all) (front-more old now new w.done (piece ++ left) w.wrote (front-longer now new piece left p))
@@ -98,8 +94,3 @@ module _ {A : Type 0} (family : AddressFamily) (bytes_of : A → List ℕ) (tabl
   port_stopped old now new all is w p =
       left_stopped old now new (port_warnings family bytes_of table (with_more at further port) (tally_at number tallies)) (warnings_from family bytes_of table (suc number) (left_from side further next (place + 1) ports) tallies) all
       (subst (λ l. IsLeft old now l all) (left_at true is) w) p
-
-pub ports_warned : {A : Type 0} (family : AddressFamily) (bytes_of : A → List ℕ) (table : RouteTable) (side : Option RouterSide) (tallies : List Tally) (further : List More) (ports : List (Port A)) (at place number : ℕ) (old now : Option (List ℕ)) (all : List ℕ) → length ports ≤ place
-    → IsLeft old now (warnings_from family bytes_of table number (left_from side further at place ports) tallies) all → Appends old now all
-ports_warned family bytes_of table side tallies further ports at place number old now all over w =
-    left_none old now all (subst (λ l. IsLeft old now l all) (ap (λ l. warnings_from family bytes_of table number (filter (are_in side) (files_from at further l)) tallies) (drop_all place ports over)) w)

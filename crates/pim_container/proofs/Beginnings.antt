@@ -92,17 +92,6 @@ section_front (a ∷ b ∷ d ∷ e ∷ hs) ms l = refl
 chosen : (t t' : Bool) (x y : List Answer) → t ≡ t' → (if t then x else y) ≡ (if t' then x else y)
 chosen t t' x y e = ap (λ b. if b then x else y) e
 
--- the first section header
-pub blocks_begin : (is : List Interface) (old mid : Option (List ℕ)) (head : List ℕ) → is ≡ [] → length head ≡ 12 → is_section head ≡ true → Consumes old mid head
-    → IfSome old (λ xs. option_map (pieces most_records (Blocks Big) is) (behind head mid) ≡ Some (answers xs))
-blocks_begin is None mid head i l s e = tt
-blocks_begin is (Some xs) None head i l s e = absurd e
-blocks_begin is (Some xs) (Some ms) head i l s e =
-    let begins : is_section xs ≡ true = ap is_section e ∙ section_front head ms (omega arith) ∙ s in
-    ap (λ it. Some (pieces most_records (Blocks Big) it (head ++ ms))) i
-    ∙ ap (λ it. Some (pieces most_records (Blocks Big) [] it)) (sym e)
-    ∙ ap Some (sym (chosen (is_section xs) true (pieces most_records (Blocks Big) [] xs) (classic_answers xs) begins))
-
 is_classic : (xs head ms : List ℕ) → length head ≡ 12 → is_section head ≡ false → xs ≡ head ++ ms → answers xs ≡ classic_answers xs
 is_classic xs head ms l s e =
     chosen (is_section xs) false (pieces most_records (Blocks Big) [] xs) (classic_answers xs) (ap is_section e ∙ section_front head ms (omega arith) ∙ s)
@@ -163,19 +152,6 @@ header_known head bytes (Some xs) (Some ys) (Ok format) fills a =
     let h = header_read head bytes xs ys fills.0 fills.2 in (h.0 ∙ a, h.1)
 header_known head bytes (Some xs) (Some ys) (Err f) fills a =
     let h = header_read head bytes xs ys fills.0 fills.2 in classic_fault (head ++ xs) ys f (h.0 ∙ a)
-
-pub classic_known : (is : List Interface) (old mid new : Option (List ℕ)) (head : List ℕ) (format : ClassicFormat) → is ≡ [] → length head ≡ 12 → is_section head ≡ false → Consumes old mid head
-    → BeginsClassic (behind head mid) new (Ok format) → IsNext (option_map answers old) (Ok section) (option_map (pieces most_records (Classic format) is) new)
-classic_known is None mid new head format i l s e b = tt
-classic_known is (Some xs) None new head format i l s e b = absurd e
-classic_known is (Some xs) (Some ms) None head format i l s e b = absurd b
-classic_known is (Some xs) (Some ms) (Some ys) head format i l s e b =
-    let judged : judge_beginning xs ≡ Ok format = ap judge_beginning e ∙ b.0 in
-    let after : drop 24 xs ≡ ys = ap (drop 24) e ∙ sym b.1 in
-    is_classic xs head ms l s e
-    ∙ ap (λ r. unless_fault r (λ it. Ok section ∷ pieces most_records (Classic it) [] (drop 24 xs))) judged
-    ∙ ap (λ it. Ok section ∷ pieces most_records (Classic format) [] it) after
-    ∙ ap (λ it. Ok section ∷ pieces most_records (Classic format) it ys) (sym i)
 
 classic_at_fault : (xs head ms : List ℕ) (f : ContainerFault) → length head ≡ 12 → is_section head ≡ false → xs ≡ head ++ ms → judge_beginning (head ++ ms) ≡ Err f → answers xs ≡ Err f ∷ []
 classic_at_fault xs head ms f l s e b =

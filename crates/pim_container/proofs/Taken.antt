@@ -8,7 +8,6 @@ use Rattle.pim_container.specs.declared.fault.ContainerFault.{ContainerFault}
 use Rattle.pim_container.specs.declared.fault.ContainerFault.TheVariants as fault
 use Rattle.pim_container.specs.declared.container.Container.{Container}
 use Rattle.pim_container.specs.declared.container.Container.TheVariants.{Blocks}
-use Rattle.pim_container.specs.declared.reader.ReaderState.{ReaderState}
 use Rattle.pim_container.specs.declared.reader.ReaderState.TheVariants.{Unbegun, Pieces}
 use Rattle.pim_container.specs.declared.reader.ReaderStep.{ReaderStep}
 use Rattle.pim_container.specs.declared.piece.FoundPiece.{FoundPiece}
@@ -16,7 +15,7 @@ use Rattle.pim_addr.specs.Faults.{judged}
 use Rattle.pim_container.specs.Block.{is_section}
 use Rattle.pim_container.specs.Pieces.{head_length, piece_length, head_faults, extent_of}
 use Rattle.pim_container.specs.Next.{behind}
-use Rattle.pim_container.specs.Room.{stated_length, next_length, first_length, length_in, head_in, taken_by, Loses, Takes, TakesNext}
+use Rattle.pim_container.specs.Room.{stated_length, next_length, first_length, taken_by, Loses, Takes, TakesNext}
 use Rattle.pim_container.proofs.Named.{named_ok, named_none, next_least, first_least, next_is, first_is, classic_is}
 
 -- ---- bytes that were taken
@@ -58,12 +57,6 @@ pub head_lost : (head : List ℕ) (old : Option (List ℕ)) → Loses (length he
 head_lost head None = tt
 head_lost head (Some xs) = sym (drop_at head xs (length head) refl)
 
--- these bytes
-pub bytes_lost : (k : ℕ) (bytes : List ℕ) (old new : Option (List ℕ)) → length bytes ≡ k → Consumes old new bytes → Loses k old new
-bytes_lost k bytes None new l e = tt
-bytes_lost k bytes (Some xs) None l e = e
-bytes_lost k bytes (Some xs) (Some ys) l e = sym (ap (drop k) e ∙ drop_at bytes ys k l)
-
 -- some bytes after a head
 pub after_head : (k : ℕ) (head : List ℕ) (old new : Option (List ℕ)) → length head ≤ k → ConsumesAtMost (k - length head) old new → ConsumesAtMost k (behind head old) new
 after_head k head None new l c = tt
@@ -77,15 +70,6 @@ after_head k head (Some xs) (Some ys) l c =
       omega (arith, n, c.0, l),
       c.1 ∙ ap (drop b) (sym (drop_at head xs a refl)) ∙ drop-drop b a (head ++ xs) ∙ ap (λ j. drop j (head ++ xs)) i,
     )
-
--- fewer bytes than those after a head
-pub cut_lost : (k got : ℕ) (head rest : List ℕ) (old new : Option (List ℕ)) → length head + length rest ≤ k → got ≤ length rest → Consumes old new (take got rest) → IsAtEnd new → Loses k (behind head old) new
-cut_lost k got head rest None new b l e d = tt
-cut_lost k got head rest (Some xs) None b l e d = e
-cut_lost k got head rest (Some xs) (Some ys) b l e d =
-    let n : length xs ≡ got + length ys = ap length e ∙ length-append (take got rest) ys ∙ ap (λ m. m + length ys) (length-take-le got rest l) in
-    let none : length ys ≡ 0 = ap length d in
-    d ∙ sym (drop_all k (head ++ xs) (omega (arith, n, none, b, l, length-append head xs)))
 
 -- all bytes of a piece after its head
 pub rest_lost : (k got : ℕ) (head rest : List ℕ) (old new : Option (List ℕ)) → length head + length rest ≡ k → got ≤ length rest → length rest ≤ got → Consumes old new (take got rest) → Loses k (behind head old) new
@@ -126,10 +110,6 @@ takes_passed A B k fault.TooLong old new h = h
 takes_passed A B k fault.Block old new h = h
 takes_passed A B k fault.Time old new h = h
 takes_passed A B k fault.Failed old new h = h
-
-pub next_passed : (A B : Type 0) (state : ReaderState) (f : ContainerFault) (old new : Option (List ℕ)) → TakesNext {A = A} state (Err f) old new → TakesNext {A = B} state (Err f) old new
-next_passed A B state f None new h = tt
-next_passed A B state f (Some xs) new h = takes_passed A B (taken_by (head_in state) (length_in state xs)) f (Some xs) new h
 
 -- ---- the next piece
 

@@ -9,7 +9,6 @@ use Rattle.sorted_blocks.specs.declared.place.Place.{Place}
 use Rattle.sorted_slab.specs.Listed.{Listed, at, IsPlace as IsListPlace, IsItem}
 use Rattle.pim_down.specs.declared.machines.held.Held.{Held}
 use Rattle.pim_down.specs.declared.machines.key.Key.{Key}
-use Rattle.pim_down.specs.declared.machines.machine.State.{State}
 use Rattle.pim_down.specs.Hearing.{rpt_count_on}
 use Rattle.pim_down.specs.Records.{count_on}
 use Rattle.pim_down.specs.Places.{StandsAt, WouldStandAt}

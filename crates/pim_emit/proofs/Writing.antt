@@ -1,10 +1,9 @@
 -- Entries that are written one behind the other.
-use Rattle.std.proofs.Common.{◌≡◌, ◌∙◌, ℕ, suc, ◌+◌, ◌*◌, ◌<◌, ◌≤◌, List, [], ◌∷◌, ◌++◌, None, length, take, drop, min, get_or, refl, sym, ap, subst, arith, append_assoc, ⊎_elim, add-one}
+use Rattle.std.proofs.Common.{◌≡◌, ◌∙◌, ℕ, suc, ◌+◌, ◌*◌, ◌<◌, ◌≤◌, List, [], ◌∷◌, ◌++◌, length, take, drop, min, get_or, sym, ap, subst, arith, append_assoc, ⊎_elim, add-one}
 use Rattle.std.specs.List.{flat_map}
 use Rattle.std.proofs.lemmas.Bool.{cases_lt}
 use Rattle.std.proofs.lemmas.Grind.{flat_map-append}
 use Rattle.std.proofs.lemmas.List.{take_more, append-nil, drop_all, length-drop}
-use Rattle.pim_emit.specs.Left.{above}
 use Rattle.std.proofs.Math.Seq.{drop-cons}
 
 -- ---- a list cut behind its first so many items
@@ -61,11 +60,6 @@ pub one_fewer : (entry : List ℕ → List ℕ) (size place : ℕ) (left : List 
 one_fewer entry size place left x rest old new all is written more =
     ap (λ l. l ++ flat_map entry rest) more ∙ append_assoc (take place old) (entry x) (flat_map entry rest)
     ∙ ap (λ l. take place old ++ flat_map entry l) (sym is) ∙ written
-
--- where all are left no bound has cut any off
-pub all_unbounded : (all : List (List ℕ)) → above None all ≡ all
-all_unbounded [] = refl
-all_unbounded (x ∷ all) = ap (λ l. x ∷ l) (all_unbounded all)
 
 -- ---- the room of those that are left
 

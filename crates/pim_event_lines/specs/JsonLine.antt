@@ -1,8 +1,7 @@
 -- The line of an event as JSON (RFC 8259): one object, without spaces. No text in it needs an
 -- escape: each is a word, an address, a decimal, or the name of a port.
-use Rattle.std.specs.Prelude.{ℕ, Bool, true, false, List, [], ◌++◌, Option, None, Some, codes, decimal}
+use Rattle.std.specs.Prelude.{ℕ, Bool, true, false, List, ◌++◌, Option, None, Some, codes, decimal}
 use Rattle.pim_addr.specs.declared.family.AddressFamily.{AddressFamily}
-use Rattle.pim_capture.specs.declared.event.Why.{Why}
 use Rattle.pim_capture.specs.declared.event.Why.TheVariants.{Cut, NotIp, BadHeader, NotPim, Fragment}
 use Rattle.pim_capture.specs.declared.event.Why.TheVariants.{NoTime, LinkType, NotChosen, CutShort, NextFile}
 use Rattle.pim_down.specs.declared.machines.key.What.{What}

@@ -1,5 +1,5 @@
 -- The events of a trace as contracts see them, with each address as its list of bytes.
-use Rattle.std.specs.Prelude.{ℕ, List, Option, None, Some, option_map}
+use Rattle.std.specs.Prelude.{ℕ, List, Option, option_map}
 use Rattle.pim_down.specs.Seen.{what_seen}
 use Rattle.pim_jp.specs.Message.{Message}
 use Rattle.pim_router.specs.declared.verdict.Verdict.{Verdict}

@@ -1,5 +1,5 @@
 -- Which events are shown.
-use Rattle.std.specs.Prelude.{ℕ, Bool, true, false, not, ◌&&◌, ◌||◌, ◌==◌, nat_lt, if◌then◌else◌, List, [], ◌∷◌}
+use Rattle.std.specs.Prelude.{ℕ, Bool, true, false, not, ◌&&◌, ◌||◌, ◌==◌, nat_lt, if◌then◌else◌, List, []}
 use Rattle.std.specs.Prelude.{length, map, bytes_eq, Option, None, Some}
 use Rattle.std.specs.List.{list_any}
 use Rattle.pim_capture.specs.declared.event.Why.TheVariants.{Fragment, NoTime, CutShort}
@@ -17,11 +17,11 @@ use Rattle.pim_router.specs.declared.verdict.Verdict.{Verdict}
 use Rattle.pim_router.specs.declared.verdict.Verdict.TheVariants.{Mine, OtherType, Applied}
 use Rattle.pim_time.specs.declared.reading.Time.{Time}
 use Rattle.pim_time.specs.declared.reading.Time.TheVariants.{Moment, Epoch}
-use Rattle.pim_events.specs.Events.{Happened, Judged, Occurrence, hello_heard, packet_judged, machine_changed}
+use Rattle.pim_events.specs.Events.{Happened, Occurrence, hello_heard, packet_judged, machine_changed}
 use Rattle.pim_events.specs.Events.{join_ignored, record_skipped, timer_fired, run_ended}
 use Rattle.pim_events.specs.Parts.{state_in, pending_in}
 use Rattle.pim_events.specs.declared.event.Skip.{Skip}
-use Rattle.pim_events.specs.declared.event.Skip.TheVariants.{NoPacket, OtherFamily}
+use Rattle.pim_events.specs.declared.event.Skip.TheVariants.{NoPacket}
 use Rattle.pim_events.specs.declared.event.Transition.{Transition}
 use Rattle.pim_events.specs.declared.filter.Filter.{Filter}
 

@@ -1,5 +1,5 @@
 -- Lines whose rows are added one after another.
-use Rattle.std.proofs.Common.{◌≡◌, ◌∙◌, sym, ap, refl, subst, inl, inr, ℕ, ◌+◌, ◌<◌, ◌≤◌, true, false, List, [], ◌∷◌, ◌++◌, length, take, arith, append_assoc, append-nil, length-append, ◌==◌}
+use Rattle.std.proofs.Common.{◌≡◌, ◌∙◌, sym, ap, refl, subst, inl, inr, ℕ, ◌+◌, ◌<◌, ◌≤◌, true, false, List, [], ◌∷◌, ◌++◌, length, take, arith, append_assoc, length-append, ◌==◌}
 use Rattle.std.proofs.lemmas.List.Splits.{length-slice_split}
 use Rattle.std.proofs.lemmas.List.Sums.{count_by-le-length}
 use Rattle.std.proofs.Math.Seq.{take-append_seam}
@@ -31,9 +31,6 @@ module _ (family : AddressFamily) where
   added_then_row [] old new row are sound = (ap (λ (t : RouteTable). row_faults family row t) (sym are) ∙ sound, ap (with_file_row row) are)
   added_then_row (first ∷ rows) old new row (fine, are) sound = (fine, added_then_row rows (with_file_row first old) new row are sound)
 
-  pub adds_none : (table : RouteTable) → Adds family [] table table
-  adds_none table = ([], refl, refl)
-
   pub adds_one_more : (lines : List (List ℕ)) (line : List ℕ) (old mid new : RouteTable) → Adds family lines old mid → AddsLine family line mid new → Adds family (lines ++ line ∷ []) old new
   adds_one_more lines line old mid new (rows, are, added) (inl (over, stays)) = (rows, rows_then_none lines rows line are over, subst (AreAdded family rows old) (sym stays) added)
   adds_one_more lines line old mid new (rows, are, added) (inr (row, says, is, sound, grown)) =
@@ -48,9 +45,6 @@ module _ (family : AddressFamily) where
     pub numbered : number ≡ length front
     pub added : Adds family front old now
 
-  pub at_start : (all : List (List ℕ)) (table : RouteTable) → Went all all table table 0
-  at_start all table = record { front = []; cut = refl; numbered = refl; added = adds_none table }
-
   pub one_further : (all : List (List ℕ)) (line : List ℕ) (left : List (List ℕ)) (old mid new : RouteTable) (number : ℕ) → Went all (line ∷ left) old mid number → AddsLine family line mid new → Went all left old new (number + 1)
   one_further all line left old mid new number went adds = record {
     front = went.front ++ line ∷ [];
@@ -58,9 +52,6 @@ module _ (family : AddressFamily) where
     numbered = ap (λ n. n + 1) went.numbered ∙ sym (length-append went.front (line ∷ []));
     added = adds_one_more went.front line old mid new went.added adds;
   }
-
-  pub at_end : (all : List (List ℕ)) (old now : RouteTable) (number : ℕ) → Went all [] old now number → Adds family all old now
-  at_end all old now number went = subst (λ (lines : List (List ℕ)). Adds family lines old now) (sym (went.cut ∙ append-nil went.front)) went.added
 
   pub stopped : (all : List (List ℕ)) (line : List ℕ) (left : List (List ℕ)) (old now : RouteTable) (number : ℕ) (fault : RoutesFault) → Went all (line ∷ left) old now number → IsLineFault family line (number + 1) now fault → StopsIn family all old now fault
   stopped all line left old now number TooLong went never = absurd never

@@ -1,5 +1,5 @@
 -- All files of a command, opened one after another.
-use Rattle.std.proofs.Common.{◌≡◌, ◌∙◌, inr, sym, ap, subst, ℕ, List, ◌++◌, length, Option, None, append_assoc}
+use Rattle.std.proofs.Common.{◌≡◌, ◌∙◌, inr, sym, ap, subst, ℕ, List, ◌++◌, length, Option, append_assoc}
 use Rattle.std.specs.List.{filter}
 use Rattle.pim_addr.specs.declared.family.AddressFamily.{AddressFamily}
 use Rattle.pim_addr.specs.Routes.{RouteTable}

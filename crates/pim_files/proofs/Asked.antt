@@ -1,6 +1,5 @@
 -- Names that an opener is asked for, one after another.
-use Rattle.std.proofs.Common.{◌≡◌, ◌∙◌, sym, ap, subst, refl, ℕ, List, [], ◌++◌, take, drop, map, Option, None, Some, Result, Ok, Err, append_assoc, append-nil}
-use Rattle.std.proofs.lemmas.List.{take-append-drop, map-append}
+use Rattle.std.proofs.Common.{◌≡◌, ◌∙◌, sym, ap, subst, refl, ℕ, List, [], ◌++◌, Option, None, Some, Result, Ok, Err, append_assoc, append-nil}
 use Rattle.pim_files.specs.Files.{Known, Grows, RequestsFor, RequestsFront, RequestsAll}
 
 Grows-none : (a : Option (List (List ℕ))) → Grows a a []
@@ -31,15 +30,6 @@ all_in_front a b names p = record { front = names; others = []; cut = sym (appen
 -- it was asked for none of the names
 pub none_in_front : (a : Known) (names : List (List ℕ)) → RequestsFront a a names
 none_in_front a names = record { front = []; others = names; cut = refl; asks = asks_none a }
-
--- it was asked for the names of some first items
-pub some_in_front : {X : Type 0} (name : X → List ℕ) (a b : Known) (items : List X) (count : ℕ) → RequestsFor a b (map name (take count items)) → RequestsFront a b (map name items)
-some_in_front name a b items count p = record {
-  front = map name (take count items);
-  others = map name (drop count items);
-  cut = ap (map name) (sym (take-append-drop count items)) ∙ map-append name (take count items) (drop count items);
-  asks = p;
-}
 
 -- it was asked for nothing where there are no names
 pub asks_no_names : {X E : Type 0} (a : Known) (names : List (List ℕ)) (result : Result X E) → names ≡ [] → RequestsAll a a names result

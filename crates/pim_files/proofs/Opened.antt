@@ -1,7 +1,7 @@
 -- Captures that are opened one by one.
 use Rattle.std.proofs.Common.{◌≡◌, ◌∙◌, ◌+◌, sym, ap, subst, refl, arith, ℕ, zero, suc, ◌<◌, ◌≤◌, Bool, cond, true, false, List, [], ◌∷◌, ◌++◌, length, take, drop, get_or, map, option_map, Option, None, Some, append-nil, take-suc, drop-cons, take_all}
-use Rattle.std.specs.Prelude.{IfSome, slice_index_or}
-use Rattle.std.specs.List.{filter, flat_map, AllByRecursion}
+use Rattle.std.specs.Prelude.{slice_index_or}
+use Rattle.std.specs.List.{filter, AllByRecursion}
 use Rattle.std.proofs.lemmas.List.{take-append-drop, map-append, length-map, length-append}
 use Rattle.std.proofs.lemmas.List.Concat.{flat_map-append}
 use Rattle.std.proofs.lemmas.List.Elements.{filter-append}
@@ -17,7 +17,7 @@ use Rattle.pim_words.specs.declared.task.More.{More}
 use Rattle.pim_words.specs.declared.task.Port.{Port}
 use Rattle.pim_words.specs.Faults.{is_side, is_of}
 use Rattle.pim_files.specs.Files.{Files}
-use Rattle.pim_files.specs.Captures.{PortFiles, FileOfName, with_more, files_from, files_of, all_files, names_of, choice_of, results_by, results_of, AreReaders, HaveFiles, AreFiles, HoldFiles, are_of, of_router, one_of, AddsLane, AddsUntaken}
+use Rattle.pim_files.specs.Captures.{PortFiles, with_more, files_from, files_of, all_files, names_of, choice_of, results_by, results_of, AreReaders, HaveFiles, AreFiles, HoldFiles, are_of, of_router, one_of, AddsLane, AddsUntaken}
 
 -- ---- what was taken
 

@@ -1,11 +1,11 @@
 -- Files that are opened one after another, and their readers.
-use Rattle.std.proofs.Common.{◌≡◌, ◌∙◌, sym, ap, subst, refl, ℕ, Bool, true, false, cond, List, [], ◌∷◌, ◌++◌, map, Option, None, Some, append_assoc}
-use Rattle.std.specs.Prelude.{IsSome, IfSome}
+use Rattle.std.proofs.Common.{◌≡◌, ◌∙◌, sym, ap, subst, refl, ℕ, true, false, List, [], ◌∷◌, ◌++◌, map, Option, None, Some, append_assoc}
+use Rattle.std.specs.Prelude.{IsSome}
 use Rattle.std.proofs.lemmas.List.{map-append}
 use Rattle.std.proofs.lemmas.Bool.{false≢true}
 use Rattle.pim_files.specs.declared.fault.OpenFault.{OpenFault}
 use Rattle.pim_files.specs.Files.{Files, Known, RequestsFor, RequestsFront}
-use Rattle.pim_files.specs.Captures.{FileOfName, names_of, IsReaderOf, IsPortFault, AreContents, CanOpen, StopsAt, AreReaders, HaveFiles}
+use Rattle.pim_files.specs.Captures.{FileOfName, names_of, IsReaderOf, IsPortFault, CanOpen, StopsAt, AreReaders, HaveFiles}
 use Rattle.pim_files.proofs.Asked.{asks_more}
 
 -- ---- the names of two parts of a list

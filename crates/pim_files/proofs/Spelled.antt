@@ -36,10 +36,6 @@ module _ (family : AddressFamily) (line : List ℕ) where
       unread row (subst (λ (t : List ℕ). Leads family t row) (append_cancel_left (codes "via ") text led (sym is ∙ spelled)) leads)
   unread_via led spelled unread (Rp row) (text, is, leads) = absurd (not_both text led is spelled)
 
-  pub no_word : ((rest : List ℕ) → line ≡ codes "rp " ++ rest → ⊥) → ((rest : List ℕ) → line ≡ codes "via " ++ rest → ⊥) → IsUnreadLine
-  no_word rp via (Rp row) (text, is, leads) = absurd (rp text is)
-  no_word rp via (Via row) (text, is, leads) = absurd (via text is)
-
   pub only_rp : (led : List ℕ) (held : Row) → line ≡ codes "rp " ++ led → ((row : Row) → Leads family led row → row ≡ held) → (other : FileRow Row) → IsRow family line other → other ≡ Rp held
   only_rp led held spelled only (Rp row) (text, is, leads) =
       ap Rp (only row (subst (λ (t : List ℕ). Leads family t row) (append_cancel_left (codes "rp ") text led (sym is ∙ spelled)) leads))

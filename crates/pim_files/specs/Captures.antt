@@ -1,5 +1,5 @@
 -- The captures of ports that are opened one by one. `known` is what files hold, where it is known.
-use Rattle.std.specs.Prelude.{◌≡◌, ⊤, ℕ, suc, ◌==◌, ◌&&◌, Bool, cond, true, List, [], ◌∷◌, ◌++◌, map, filter}
+use Rattle.std.specs.Prelude.{◌≡◌, ⊤, ℕ, suc, ◌==◌, ◌&&◌, Bool, cond, List, [], ◌∷◌, ◌++◌, map, filter}
 use Rattle.std.specs.Prelude.{Option, None, Some, IsSome, IfSome, is_some, option_map}
 use Rattle.std.specs.List.{flat_map}
 use Rattle.pim_capture.specs.Capture.{Answer, answers}

@@ -21,15 +21,12 @@ use Rattle.pim_form.specs.NormalForm.{GroupForm, AreAscending, AreExceptions, Is
 use Rattle.pim_form.specs.Rows.{exceptions_of}
 use Rattle.pim_form.specs.Wants.{is_joined, is_pruned}
 use Rattle.pim_form.specs.Collect.{Takes, fresh, with_exception, star_with, sources_with, added, closed, collected_behind, collected, AreOfPort}
-use Rattle.pim_form.proofs.Addresses.{same_itself, same_is, equal_is, less_apart, less_apart_back}
+use Rattle.pim_form.proofs.Addresses.{same_itself, same_is, equal_is, less_apart_back}
 use Rattle.pim_form.proofs.Lists.{all_append}
 
 either : {X : Type 0} (P : X → Type 0) (b : Bool) (x y : X) → P x → P y → P (cond b x y)
 either P true x y p q = p
 either P false x y p q = q
-
-not_less_itself : (a : List ℕ) → slice_cmp nat_cmp a a ≡ Less → ⊥
-not_less_itself a e = absurd (false≢true (sym (less_apart a a e) ∙ same_itself a))
 
 -- ---- the order of one port's records
 
@@ -234,9 +231,6 @@ module _ (family : AddressFamily) where
   room_with Star state star = star_kept (λ now. length (exceptions_of now) ≤ suc (length (exceptions_of star))) state star (omega arith) (omega arith)
   room_with (Source source) state star = omega arith
   room_with (Rpt source) state star = either (λ now. length (exceptions_of now) ≤ suc (length (exceptions_of star))) (is_pruned (Some state)) (with_exception source star) star (longer source star) (omega arith)
-
-  IsValid : Record (List ℕ) → Type 0
-  IsValid held = IsGroupAddress family held.key.group × HasSource family held.key.what
 
   pub open_added : (form : GroupForm) (held : Record (List ℕ)) → IsOpen family form → IsGroupAddress family held.key.group × HasSource family held.key.what → Takes held.key.what form → IsOpen family (added held form)
   open_added form held is valid takes = open_with held.key.what held.machine.state form is valid.1 takes

@@ -9,7 +9,7 @@ use Rattle.pim_addr.specs.declared.family.AddressFamily.{AddressFamily}
 use Rattle.pim_form.specs.declared.place.GroupPlace.{GroupPlace}
 use Rattle.pim_form.specs.declared.tree.Tree.{Tree}
 use Rattle.pim_form.specs.NormalForm.{GroupForm, AreAscending, same_address, is_listed, groups_of, IsNormalGroup, group_wants, form_wants}
-use Rattle.pim_form.specs.Rows.{IsWithin, place_group, place_seen, form_seen, IsKept}
+use Rattle.pim_form.specs.Rows.{place_group, place_seen, form_seen, IsKept}
 use Rattle.pim_form.proofs.Addresses.{less_apart_back}
 use Rattle.pim_form.proofs.OneForm.{at_first, of_others}
 
@@ -63,9 +63,6 @@ module _ {A : Type 0} (bytes_of : A → List ℕ) (row : List A) where
   module _ (family : AddressFamily) (places : List (GroupPlace A)) (kept : IsKept bytes_of family row places) where
     pub ascending : AreAscending (map (place_group bytes_of) places)
     ascending = subst AreAscending (groups_seen places) kept.normal.ascending
-
-    pub within_at : (i : ℕ) (d : GroupPlace A) → i < length places → IsWithin (length row) (get_or places i d)
-    within_at i d below = all_at (IsWithin (length row)) places kept.within i d below
 
     pub normal_at : (i : ℕ) (d : GroupPlace A) → i < length places → IsNormalGroup family (place_seen bytes_of row (get_or places i d))
     normal_at i d below =

@@ -78,11 +78,6 @@ module _ {A : Type 0} (f : A → List ℕ) where
     pub second : AreAscending (map f other)
     pub so_far : map f row ++ common (map f one) (map f other) ≡ all
 
-  pub met_first : (row one other : List A) (all : List (List ℕ)) → length one ≡ 0 → IsMeeting row one other all → map f row ≡ all
-  met_first row one other all none meets =
-      let empty = nil_from_length one none in
-      sym (append-nil (map f row)) ∙ subst (λ o. map f row ++ common (map f o) (map f other) ≡ all) empty meets.so_far
-
   pub met_second : (row one other : List A) (all : List (List ℕ)) → length other ≡ 0 → IsMeeting row one other all → map f row ≡ all
   met_second row one other all none meets =
       let empty = nil_from_length other none in

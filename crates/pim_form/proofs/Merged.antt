@@ -15,11 +15,6 @@ use Rattle.pim_form.proofs.Lists.{all_map, all_mapped}
 
 -- ---- truth values
 
-or_none : (p q : Bool) → (p || q) ≡ ((p || q) || false)
-or_none true q = refl
-or_none false true = refl
-or_none false false = refl
-
 or_left : (p q r : Bool) → (p || (q || r)) ≡ ((p || q) || r)
 or_left true q r = refl
 or_left false q r = refl

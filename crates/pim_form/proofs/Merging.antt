@@ -7,7 +7,7 @@ use Rattle.std.specs.Cmp.Lexicographic.{slice_cmp}
 use Rattle.std.proofs.lemmas.List.{append_assoc, append-nil, nil_from_length}
 use Rattle.pim_addr.specs.declared.family.AddressFamily.{AddressFamily}
 use Rattle.pim_form.specs.declared.place.GroupPlace.{GroupPlace}
-use Rattle.pim_form.specs.NormalForm.{GroupForm, IsNormalGroup, IsNormal}
+use Rattle.pim_form.specs.NormalForm.{GroupForm, IsNormal}
 use Rattle.pim_form.specs.Rows.{IsWithin, place_seen, form_seen, AreKept, IsKept}
 use Rattle.pim_form.specs.Drafts.{IsDraft}
 use Rattle.pim_form.specs.Merge.{by_order, merged_into, merged_by, group_of, both_groups, merged}
@@ -45,9 +45,6 @@ module _ {A : Type 0} (bytes_of : A → List ℕ) where
       let draft = adds (form_seen bytes_of row places) (record { within = rest.within; seen = refl }) in
       record { within = draft.within; so_far = ap (λ (form : List GroupForm). form ++ left) draft.seen ∙ append_assoc (form_seen bytes_of row places) (this ∷ []) left ∙ rest.so_far }
 
-  pub rest_of_draft : (row : List A) (places : List (GroupPlace A)) (form left : List GroupForm) → IsDraft bytes_of row places form → IsRest row places left (form ++ left)
-  rest_of_draft row places form left draft = record { within = draft.within; so_far = ap (λ (f : List GroupForm). f ++ left) draft.seen }
-
   pub draft_of_rest : (row : List A) (places : List (GroupPlace A)) (left all : List GroupForm) → left ≡ [] → IsRest row places left all → IsDraft bytes_of row places all
   draft_of_rest row places left all none rest =
       record { within = rest.within; seen = sym (append-nil (form_seen bytes_of row places)) ∙ ap (λ (l : List GroupForm). form_seen bytes_of row places ++ l) (sym none) ∙ rest.so_far }
@@ -62,9 +59,6 @@ module _ {A : Type 0} (bytes_of : A → List ℕ) where
   module _ (family : AddressFamily) (row_one row_other : List A) where
     kept_behind : (row : List A) (left left' : List (GroupPlace A)) (a : GroupPlace A) → left ≡ a ∷ left' → AreKept bytes_of family row left → AreKept bytes_of family row left'
     kept_behind row left left' a is kept = let kept' : AreKept bytes_of family row (a ∷ left') = subst (AreKept bytes_of family row) is kept in (kept'.0.1, kept'.1.1)
-
-    pub kept_first : (row : List A) (left left' : List (GroupPlace A)) (a : GroupPlace A) → left ≡ a ∷ left' → AreKept bytes_of family row left → IsWithin (length row) a × IsNormalGroup family (place_seen bytes_of row a)
-    kept_first row left left' a is kept = let kept' : AreKept bytes_of family row (a ∷ left') = subst (AreKept bytes_of family row) is kept in (kept'.0.0, kept'.1.0)
 
     module _ (left left' right right' : List (GroupPlace A)) (a b : GroupPlace A) (row row' : List A) (places places' : List (GroupPlace A)) (all : List GroupForm) (is_left : left ≡ a ∷ left') (is_right : right ≡ b ∷ right') (merging : IsMerging family row_one row_other left right row places all) where
       opened : IsRest row places (merged (form_seen bytes_of row_one (a ∷ left')) (form_seen bytes_of row_other (b ∷ right'))) all

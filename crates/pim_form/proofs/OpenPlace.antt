@@ -120,9 +120,6 @@ module _ {A : Type 0} (bytes_of : A → List ℕ) where
           absurd (omega arith)
       by (x ∷ xs) e = refl
 
-  none_listed : (start end : ℕ) (row : List A) → end ≤ start → start ≤ end → read start end row ≡ []
-  none_listed start end row above below = let same : end ≡ start = omega arith in ap (λ n. read start n row) same ∙ ap (map bytes_of) (none_between start row)
-
   -- something is wanted of it
   pub closed_some : (row : List A) (places places' : List (GroupPlace A)) (place : GroupPlace A) (form : List GroupForm) → places' ≡ places ++ place ∷ [] → is_empty (place_seen bytes_of row place).star (place_seen bytes_of row place).sources ≡ false
       → IsLast (length row) place → IsDraft bytes_of row places form → IsDraft bytes_of row places' (form ++ closed (place_seen bytes_of row place))

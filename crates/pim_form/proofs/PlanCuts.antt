@@ -61,10 +61,6 @@ empty_by None [] long = absurd (omega arith)
 empty_by None (x ∷ xs) long = refl
 empty_by (Some exceptions) xs long = refl
 
-starred_some : (b : Bool) (exceptions xs : List (List ℕ)) → b ≡ true → is_empty (star_of b exceptions) xs ≡ false
-starred_some true exceptions xs is = refl
-starred_some false exceptions xs is = absurd (true≢false (sym is))
-
 module _ {A : Type 0} (bytes_of : A → List ℕ) (family : AddressFamily) (row : List A) (p : GroupPlace A) (within : IsWithin (length row) p) where
   abbrev exceptions : List (List ℕ)
   exceptions = map bytes_of (between p.exceptions_start p.exceptions_end row)

@@ -15,10 +15,6 @@ or_parts : (a b : Bool) → (a || b) ≡ false → (a ≡ false) × (b ≡ false
 or_parts true b h = absurd (false≢true (sym h))
 or_parts false b h = (refl, h)
 
-or_second : (a b : Bool) → b ≡ true → (a || b) ≡ true
-or_second true b h = refl
-or_second false b h = h
-
 module _ {A E : Type 0} (a b c : Bool) (x y z : E) (value : A) where
   abbrev answer : Result A E
   answer = judged (fault_if a x ++ fault_if b y ++ fault_if c z) value

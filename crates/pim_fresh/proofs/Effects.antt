@@ -45,18 +45,9 @@ and_true : (a b : Bool) → (a && b) ≡ true → (a ≡ true) × (b ≡ true)
 and_true true b e = (refl, e)
 and_true false b e = absurd (false≢true e)
 
-and_false : (a : Bool) → (a && false) ≡ false
-and_false true = refl
-and_false false = refl
-
 rpts_none : (port : ℕ) (group : List ℕ) (key : Key (List ℕ)) → on_rpts port group key None ≡ None
 unfolding on_star_join
 rpts_none port group key = elim (is_rpt_of port group key) as (λ b. cond b (on_star_join None) None ≡ None) [ true ↦ refl | false ↦ refl ]
-
-rpts_other : (port : ℕ) (group : List ℕ) (key : Key (List ℕ)) (held : Option Machine) → is_rpt key.what ≡ false → on_rpts port group key held ≡ held
-rpts_other port group key held r =
-    let none : is_rpt_of port group key ≡ false = ap (λ b. (eqb key.port port && b) && pointwise nat_eq key.group group) r ∙ ap (λ b. b && pointwise nat_eq key.group group) (and_false (eqb key.port port)) in
-    ap (λ b. cond b (on_star_join held) held) none
 
 rpts_own : (port : ℕ) (group : List ℕ) (key : Key (List ℕ)) (held : Option Machine) → key.port ≡ port → key.group ≡ group → is_rpt key.what ≡ true → on_rpts port group key held ≡ on_star_join held
 rpts_own port group key held on same r =

@@ -21,9 +21,6 @@ parts_left body rest = parts_within (length rest) (length body - length rest) re
 
 -- ---- the bound on the number of parts doesn't matter, once there is one for each byte
 
-then_same : (at : ℕ) (content : Content) (ps qs : List Part) → ps ≡ qs → part_then at content ps ≡ part_then at content qs
-then_same at content ps qs e = ap (part_then at content) e
-
 pub behind_shorter : (bytes : List ℕ) → 0 < length bytes → length (behind_option bytes) < length bytes
 behind_shorter bytes some = omega (arith, length-drop (value_length bytes) (drop 4 bytes), length-drop 4 bytes)
 

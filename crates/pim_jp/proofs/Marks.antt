@@ -6,14 +6,12 @@ use Rattle.std.proofs.lemmas.List.Folds.{list_any-append}
 use Rattle.std.proofs.lemmas.List.Sorted.{list_any-IsPermutation}
 use Rattle.std.specs.List.Sorted.{IsPermutation}
 use Rattle.std.specs.Int.{from_bool}
-use Rattle.std.specs.Cmp.Lexicographic.{pointwise}
-use Rattle.pim_addr.specs.declared.family.AddressFamily.{AddressFamily}
-use Rattle.pim_addr.specs.Address.{IsAddress, number_of}
+use Rattle.pim_addr.specs.Address.{number_of}
 use Rattle.pim_jp.specs.declared.entry.Entry.{Entry}
 use Rattle.pim_jp.specs.declared.entry.Entry.TheVariants.{Star, Source, Rpt}
-use Rattle.pim_jp.specs.Spelling.{is_star, same_source}
+use Rattle.pim_jp.specs.Spelling.{is_star}
 use Rattle.pim_jp.specs.Reading.{is_in}
-use Rattle.pim_jp.specs.Sources.{is_among, is_listed, is_marked, has_mark, HasAddress}
+use Rattle.pim_jp.specs.Sources.{is_among, is_listed, is_marked, has_mark}
 use Rattle.pim_jp.proofs.OtherWay.{star_in_none}
 
 or_false : (a : Bool) → (a || false) ≡ a
@@ -80,33 +78,6 @@ module _ {N : Type 0} (value_of : N → ℕ) where
   unmarked [] count n = refl
   unmarked (x ∷ xs) zero n = refl
   unmarked (x ∷ xs) (suc count) n = unmarked xs count n
-
-  -- ---- one entry more
-
-  pub star_marked : (before : Bool) (this : Entry (List ℕ)) (rp : List ℕ) → before ≡ (before || same_source this (Star rp))
-  star_marked before (Star address) rp = sym (or_false before)
-  star_marked before (Source address) rp = sym (or_false before)
-  star_marked before (Rpt address) rp = sym (or_false before)
-
-  pub source_marked : (family : AddressFamily) (sources rpts : List N) (old new rpt_marks : List Bool) (source : List ℕ) (value : ℕ)
-      → ((n : ℕ) → is_among value_of sources n ≡ true → is_marked value_of sources new n ≡ (is_marked value_of sources old n || nat_eq n value))
-      → ((other : List ℕ) → IsAddress family other → pointwise nat_eq other source ≡ nat_eq (number_of other) value)
-      → (this : Entry (List ℕ)) → HasAddress family this → is_listed value_of sources rpts this ≡ true
-      → has_mark value_of sources rpts new rpt_marks this ≡ (has_mark value_of sources rpts old rpt_marks this || same_source this (Source source))
-  source_marked family sources rpts old new rpt_marks source value more same (Star address) has listed = refl
-  source_marked family sources rpts old new rpt_marks source value more same (Source address) has listed =
-      more (number_of address) listed ∙ ap (λ b. is_marked value_of sources old (number_of address) || b) (sym (same address has))
-  source_marked family sources rpts old new rpt_marks source value more same (Rpt address) has listed = sym (or_false _)
-
-  pub rpt_marked : (family : AddressFamily) (sources rpts : List N) (source_marks old new : List Bool) (source : List ℕ) (value : ℕ)
-      → ((n : ℕ) → is_among value_of rpts n ≡ true → is_marked value_of rpts new n ≡ (is_marked value_of rpts old n || nat_eq n value))
-      → ((other : List ℕ) → IsAddress family other → pointwise nat_eq other source ≡ nat_eq (number_of other) value)
-      → (this : Entry (List ℕ)) → HasAddress family this → is_listed value_of sources rpts this ≡ true
-      → has_mark value_of sources rpts source_marks new this ≡ (has_mark value_of sources rpts source_marks old this || same_source this (Rpt source))
-  rpt_marked family sources rpts source_marks old new source value more same (Star address) has listed = refl
-  rpt_marked family sources rpts source_marks old new source value more same (Source address) has listed = sym (or_false _)
-  rpt_marked family sources rpts source_marks old new source value more same (Rpt address) has listed =
-      more (number_of address) listed ∙ ap (λ b. is_marked value_of rpts old (number_of address) || b) (sym (same address has))
 
   -- ---- the marked ones are copied
 
@@ -185,6 +156,3 @@ module _ {N : Type 0} (value_of : N → ℕ) where
       → all ≡ (copied || is_marked value_of (drop k xs) (drop k ms) n) → copied ≡ all
   copied_all xs ms k all copied n ends is =
       sym (is ∙ ap (λ b. copied || b) (marked_none (drop k xs) (drop k ms) n (omega (arith, length-drop k xs, ends))) ∙ or_false copied)
-
-pub entry_more : (all before here after rest : Bool) → all ≡ (before || (here || rest)) → after ≡ (before || here) → all ≡ (after || rest)
-entry_more all before here after rest is more = is ∙ sym (regroup before here rest) ∙ ap (λ b. b || rest) (sym more)

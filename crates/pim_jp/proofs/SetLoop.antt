@@ -50,15 +50,6 @@ after_length : (family : AddressFamily) (at : ℕ) (bytes : List ℕ) → set_le
 after_length family at bytes whole =
     length_behind at (group_length family) (joined_count family bytes * source_length family) (pruned_count family bytes * source_length family) bytes whole
 
-pub sets_none : (family : AddressFamily) (count start : ℕ) (bytes : List ℕ) → SetsReached family count start bytes 0 start bytes
-sets_none family count start bytes =
-    let all : count - 0 ≡ count = omega arith in
-    record {
-      fits = refl;
-      passes = rw all refl;
-      holds = rw all (λ holds. holds);
-    }
-
 sets_step : (family : AddressFamily) (count at : ℕ) (bytes : List ℕ) (end : ℕ) → Passes family (set_then family at bytes) (λ next. next end (after_set family bytes))
     → faults_of family (set_parts family (suc count) at bytes) ≡ faults_of family (set_parts family count end (after_set family bytes))
 unfolding set_parts

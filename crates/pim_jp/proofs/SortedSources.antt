@@ -227,29 +227,6 @@ place_more P count before at place below =
 
 -- ---- numbers that are looked for two at a time
 
-module _ {N : Type 0} (is : N → Bool) (xs : List N) where
-  at_place : (k : ℕ) (x d : N) → k < length xs → x ≡ get_or xs k x → is x ≡ false → is (get_or xs k d) ≡ false
-  at_place k x d within at none = sym (ap is (at ∙ get_or_default xs k x d within)) ∙ none
-
-  pub two_more : (done : ℕ) (x y : N) → 2 * done + 1 < length xs → x ≡ get_or xs (2 * done) x → y ≡ get_or xs (2 * done + 1) y → is x ≡ false → is y ≡ false
-      → ((k : ℕ) (d : N) → k < 2 * done → is (get_or xs k d) ≡ false) → (k : ℕ) (d : N) → k < 2 * (done + 1) → is (get_or xs k d) ≡ false
-  two_more done x y within first second none_x none_y before k d below =
-      ⊎_elim
-      (λ (early : k < 2 * done). before k d early)
-      (λ (late : 2 * done ≤ k). ⊎_elim
-      (λ (one : k < 2 * done + 1). let same : k ≡ 2 * done = omega arith in rw same (at_place (2 * done) x d (omega arith) first none_x))
-      (λ (two : 2 * done + 1 ≤ k). let same : k ≡ 2 * done + 1 = omega arith in rw same (at_place (2 * done + 1) y d within second none_y))
-      (cases_lt k (2 * done + 1)))
-      (cases_lt k (2 * done))
-
-  pub last_more : (done : ℕ) (x : N) → length xs ≤ 2 * done + 1 → 0 < length xs → x ≡ get_or xs (length xs - 1) x → is x ≡ false
-      → ((k : ℕ) (d : N) → k < 2 * done → is (get_or xs k d) ≡ false) → (k : ℕ) (d : N) → k < length xs → is (get_or xs k d) ≡ false
-  last_more done x most some at none before k d below =
-      ⊎_elim
-      (λ (early : k < 2 * done). before k d early)
-      (λ (late : 2 * done ≤ k). let same : k ≡ length xs - 1 = omega arith in rw same (at_place (length xs - 1) x d (omega arith) at none))
-      (cases_lt k (2 * done))
-
 module _ {N : Type 0} (value_of : N → ℕ) where
   is_first : (number : ℕ) (x : N) (rest : Bool) (test : Bool) → nat_eq number (value_of x) ≡ test → (test || rest) ≡ true → (rest ≡ true) ⊎ (number ≡ value_of x)
   is_first number x rest true is found = inr (eqb-true number (value_of x) is)

@@ -1,7 +1,6 @@
 -- The failures of several devices together.
-use Rattle.std.proofs.Common.{◌≡◌, ◌∙◌, ◌<◌, ◌+◌, min, ℕ, List, [], ◌∷◌, length, get_or, set, refl, sym, ap, subst, arith}
-use Rattle.std.proofs.lemmas.List.{length-set}
-use Rattle.std.proofs.lemmas.List.Sums.{sum_by-cons, sum_by-set}
+use Rattle.std.proofs.Common.{◌≡◌, ◌∙◌, ◌+◌, min, ℕ, List, [], ◌∷◌, sym, ap, subst, arith}
+use Rattle.std.proofs.lemmas.List.Sums.{sum_by-cons}
 use Rattle.std.specs.List.{sum_by}
 use Rattle.pim_device.specs.Device.{FailedIn, top_count}
 use Rattle.pim_merge.specs.Chosen.{all_failures}
@@ -34,22 +33,3 @@ moves failures device device' (other ∷ others) =
           ∙ ap (λ k. min (min k top_count + 1) top_count) (sym old);
       stays = λ is. ap (λ k. min k top_count) (new ∙ ap (λ k. k + rest) is ∙ sym old);
     }
-
--- ---- the device that is read changes places with another one
-
-all_of : {R : Type 0} (failures : R → ℕ) (device : R) (others : List R) → 0 < length others →
-    all_failures failures (device ∷ others) ≡ min (sum_by failures (device ∷ others)) top_count
-all_of failures device [] some = absurd (omega (arith, some))
-all_of failures device (other ∷ others) some = refl
-
-pub exchanged : {R : Type 0} (failures : R → ℕ) (device : R) (others : List R) (at : ℕ) → at < length others →
-    all_failures failures (get_or others at device ∷ set others at device) ≡ all_failures failures (device ∷ others)
-exchanged failures device others at below =
-    let size : length (set others at device) ≡ length others = length-set others at device in
-    let old = sum_by-cons failures device others in
-    let new = sum_by-cons failures (get_or others at device) (set others at device) in
-    let same = sum_by-set failures others at device device below in
-    let equal : sum_by failures (get_or others at device ∷ set others at device) ≡ sum_by failures (device ∷ others) =
-    omega (arith, old, new, same) in
-    all_of failures (get_or others at device) (set others at device) (omega (arith, size, below))
-    ∙ ap (λ k. min k top_count) equal ∙ sym (all_of failures device others (omega (arith, below)))

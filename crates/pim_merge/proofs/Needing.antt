@@ -1,5 +1,5 @@
 -- What memory is asked for up to the next record of any container.
-use Rattle.std.proofs.Common.{◌≡◌, ◌∙◌, ◌⊎◌, ◌≤◌, ◌<◌, max, ℕ, zero, suc, Bool, true, false, nat_lt, if◌then◌else◌, IfOk, IfSome, List, [], ◌∷◌, drop, length, Option, None, Some, Result, Ok, Err, is_some, unwrap_or, refl, sym, ap, subst, arith, inl, inr}
+use Rattle.std.proofs.Common.{◌≡◌, ◌∙◌, ◌⊎◌, ◌≤◌, ◌<◌, max, ℕ, zero, suc, Bool, true, false, nat_lt, if◌then◌else◌, IfOk, IfSome, List, [], ◌∷◌, drop, length, Option, None, Some, Result, Ok, Err, unwrap_or, refl, sym, ap, subst, arith, inl, inr}
 use Rattle.std.proofs.lemmas.Bool.{false≢true}
 use Rattle.std.proofs.lemmas.Grind.{common_steps}
 use Rattle.std.specs.Option.{option_map}
@@ -311,9 +311,3 @@ list_up (piece_kind.Interface name) count old new (inl g) = omega (arith, g.1)
 list_up (piece_kind.Interface name) count old new (inr g) = omega (arith, g.0, g.1)
 list_up piece_kind.Passed count old new g = omega (arith, g)
 list_up piece_kind.End count old new g = omega (arith, g)
-
--- ---- a capture whose head wasn't read
-
-pub no_head : {A B : Type 0} (head : Option A) (f : A → B) → is_some head ≡ false → option_map f head ≡ None
-no_head None f none = refl
-no_head (Some a) f none = absurd cc

@@ -17,17 +17,6 @@ use Rattle.pim_mirror.proofs.Ways.{reached_passes, then_passes, then_stops}
 
 -- ---- the message of a number
 
-pub bytes_at : (messages : List (List ℕ)) (i : ℕ) (bytes : List ℕ) → Some bytes ≡ slice_get messages i → bytes ≡ slice_index_or messages i []
-bytes_at [] i bytes e = absurd (none e)
-  where
-    none : ◌≡◌ {A = Option (List ℕ)} (Some bytes) None → ⊥
-    none f = cc
-bytes_at (m ∷ messages) zero bytes e = one e
-  where
-    one : ◌≡◌ {A = Option (List ℕ)} (Some bytes) (Some m) → bytes ≡ m
-    one f = cc
-bytes_at (m ∷ messages) (suc i) bytes e = bytes_at messages i bytes e
-
 pub no_bytes_at : (messages : List (List ℕ)) (i : ℕ) → None ≡ slice_get messages i → [] ≡ slice_index_or messages i []
 no_bytes_at [] i e = refl
 no_bytes_at (m ∷ messages) zero e = absurd (some e)
@@ -36,28 +25,12 @@ no_bytes_at (m ∷ messages) zero e = absurd (some e)
     some f = cc
 no_bytes_at (m ∷ messages) (suc i) e = no_bytes_at messages i e
 
-pub small_at : (messages : List (List ℕ)) (i : ℕ) (bytes : List ℕ) → AllByRecursion (λ (m : List ℕ). length m < 2 ^ 32) messages → Some bytes ≡ slice_get messages i → length bytes < 2 ^ 32
-small_at [] i bytes all e = absurd (none e)
-  where
-    none : ◌≡◌ {A = Option (List ℕ)} (Some bytes) None → ⊥
-    none f = cc
-small_at (m ∷ messages) zero bytes all e = subst (λ (xs : List ℕ). length xs < 2 ^ 32) (sym (one e)) all.0
-  where
-    one : ◌≡◌ {A = Option (List ℕ)} (Some bytes) (Some m) → bytes ≡ m
-    one f = cc
-small_at (m ∷ messages) (suc i) bytes all e = small_at messages i bytes all.1 e
-
 abbrev IsShort : List ℕ → Type 0
 IsShort message = length message < 2 ^ 32
 
 pub each_short : (messages : List (List ℕ)) → ((i : ℕ) → i < length messages → IsShort (slice_index_or messages i [])) → AllByRecursion IsShort messages
 each_short [] each = tt
 each_short (m ∷ messages) each = (each 0 (omega (arith)), each_short messages (λ i within. each (suc i) (omega (arith, within))))
-
-pub short_at : (messages : List (List ℕ)) (i : ℕ) → AllByRecursion IsShort messages → IsShort (slice_index_or messages i [])
-short_at [] i all = omega (arith)
-short_at (m ∷ messages) zero all = all.0
-short_at (m ∷ messages) (suc i) all = short_at messages i all.1
 
 -- ---- deliveries
 

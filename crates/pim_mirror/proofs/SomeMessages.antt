@@ -1,8 +1,7 @@
 -- A sound state has canonical messages exactly if no star of what it asks is too big.
-use Rattle.std.proofs.Common.{◌≡◌, ◌∙◌, ℕ, List, Option, None, sym, ap}
+use Rattle.std.proofs.Common.{◌≡◌, ◌∙◌, ℕ, List, None, sym, ap}
 use Rattle.pim_addr.specs.Routes.{RouteTable, rp_of}
 use Rattle.pim_addr.specs.declared.family.AddressFamily.{AddressFamily}
-use Rattle.pim_down.specs.Sound.{IsSound}
 use Rattle.pim_down.specs.Time.{Downstream}
 use Rattle.pim_form.specs.Demanded.{DemandedFormIsDemanded, demanded_form}
 use Rattle.pim_form.specs.Laws.{OneNormalForm, MessagesAreThereUnlessTooBig}

@@ -1,9 +1,9 @@
 -- The way of a router over packets and moments: its ports stay, and what it tells on the way is joined.
-use Rattle.std.proofs.Common.{◌≡◌, ◌≢◌, ◌∙◌, ℕ, zero, suc, Bool, true, false, ◌==◌, List, [], ◌∷◌, ◌++◌, Option, None, Some, Result, Ok, Err, slice_index_or, nat_lt, refl, sym, ap, subst}
+use Rattle.std.proofs.Common.{◌≡◌, ◌∙◌, ℕ, zero, suc, Bool, true, false, ◌==◌, List, [], ◌∷◌, ◌++◌, Option, None, Some, Result, Ok, Err, nat_lt, refl, sym, ap, subst}
 use Rattle.std.proofs.lemmas.List.{append-nil}
 use Rattle.std.specs.List.{list_any}
 use Rattle.pim_addr.specs.declared.family.AddressFamily.{AddressFamily}
-use Rattle.pim_frame.specs.Frame.{Content, hello, join_prune, other, content, all_routers}
+use Rattle.pim_frame.specs.Frame.{Content, hello, join_prune, other, content}
 use Rattle.pim_down.specs.Seen.{what_seen, step_seen as fires_seen}
 use Rattle.pim_down.specs.declared.machines.key.What.{What}
 use Rattle.pim_down.specs.declared.machines.machine.Record.{Record}
@@ -14,7 +14,6 @@ use Rattle.pim_router.specs.declared.step.Step.{Step}
 use Rattle.pim_router.specs.declared.step.Step.TheVariants.{Echo, Refresh, Reached}
 use Rattle.pim_router.specs.declared.verdict.Verdict.{Verdict}
 use Rattle.pim_router.specs.Course.{Input, runs_to, takes, RouterReport, echo, refresh, verdict, Reaches, IsCourse}
-use Rattle.pim_fresh.specs.Deliveries.{Delivery}
 use Rattle.pim_router.specs.Laws.{CourseGoesOn, EveryListHasACourse}
 use Rattle.pim_router.specs.Packets.{Packet, causes, body_heard, unless, received, Receives}
 use Rattle.pim_router.specs.Refreshes.{RunsPast, fires_behind}
@@ -22,7 +21,7 @@ use Rattle.pim_router.specs.State.{Port, RouterState}
 use Rattle.pim_router.specs.Time.{Outcome, rests, moves, tells, reported, has_ended, turn, turn_of_time, turn_of_refresh, turn_of_timers, run_on, run_within, Runs}
 use Rattle.pim_mirror.specs.declared.mirroring.MirrorFault.{MirrorFault}
 use Rattle.pim_mirror.specs.declared.mirroring.MirrorFault.TheVariants as fault
-use Rattle.pim_mirror.specs.Mirror.{needed_of, first_needed, or_later, IsPassed, Passes, HasReached, is_reached, needed_by, outcome_if, outcome_of, delivery_inputs}
+use Rattle.pim_mirror.specs.Mirror.{needed_of, first_needed, or_later, IsPassed, Passes, HasReached, is_reached, needed_by, outcome_if, outcome_of}
 
 -- ---- the ports stay
 
@@ -135,9 +134,6 @@ onward bytes_of fires.Reached refreshes moment state between after ends past mor
 onward bytes_of (fires.Echo port group what) refreshes moment state between after ends past more =
     past_before refreshes moment state between after (Echo port (bytes_of group) (what_seen bytes_of what)) past
     (λ earlier runs. echo_before moment port (bytes_of group) (what_seen bytes_of what) earlier between after runs more)
-
-pub isnt_reached : {A : Type 0} (step : Fires A) → is_reached step ≡ false → step ≢ fires.Reached
-isnt_reached step ends same = not_false (sym (ap is_reached same) ∙ ends)
 
 pub ended : {A : Type 0} (bytes_of : A → List ℕ) (step : Fires A) (refreshes moment : ℕ) (state after : RouterState) →
     is_reached step ≡ true → RunsPast refreshes moment state (fires_behind (fires_seen bytes_of step)) after → HasReached moment state after
@@ -266,29 +262,3 @@ taken_keeps family packet old now (Err refused) is = ap (λ (s : RouterState). s
 pub nothing_passes : (family : AddressFamily) (state : RouterState) → Passes family [] state (Ok tt) state
 unfolding IsCourse first_needed
 nothing_passes family state = record { reported = []; after = state; course = (refl, refl); passed = (refl, refl) }
-
--- a delivery, and what comes behind it
-module _ (goes_on : CourseGoesOn) (every : EveryListHasACourse) (family : AddressFamily) (messages : List (List ℕ)) (sender : List ℕ) where
-  abbrev packet_of : Delivery → Packet
-  packet_of delivery = record {
-    port = 0;
-    source = sender;
-    destination = all_routers family;
-    bytes = slice_index_or messages delivery.message [];
-  }
-
-  pub delivery_passes : (delivery : Delivery) (rest : List Input) (old between next after : RouterState) (result : Done) →
-      HasReached delivery.moment old between → Passes family (takes (packet_of delivery) ∷ []) between (Ok tt) next →
-      Passes family rest next result after → Passes family (delivery_inputs family messages sender delivery ++ rest) old result after
-  delivery_passes delivery rest old between next after result reached took more =
-      then_passes goes_on every family (runs_to delivery.moment ∷ []) (takes (packet_of delivery) ∷ rest) old between after result
-      (reached_passes family delivery.moment old between reached)
-      (then_passes goes_on every family (takes (packet_of delivery) ∷ []) rest between next after result took more)
-
-  pub delivery_stops : (delivery : Delivery) (rest : List Input) (old between next : RouterState) (reported : MirrorFault) →
-      HasReached delivery.moment old between → Passes family (takes (packet_of delivery) ∷ []) between (Err reported) next →
-      Passes family (delivery_inputs family messages sender delivery ++ rest) old (Err reported) next
-  delivery_stops delivery rest old between next reported reached took =
-      then_passes goes_on every family (runs_to delivery.moment ∷ []) (takes (packet_of delivery) ∷ rest) old between next (Err reported)
-      (reached_passes family delivery.moment old between reached)
-      (then_stops goes_on every family (takes (packet_of delivery) ∷ []) rest between next reported took)

@@ -82,9 +82,6 @@ settles this (Rpt source) state is = rpt_is this.star source state is
 -- ---- what the mirror holds
 
 module _ (exchange : Exchange) (count : ℕ) (form : List GroupForm) (deliveries : List Delivery) (moment : ℕ) (state : Downstream) (holds : HoldsTheForm exchange count form deliveries moment state) where
-  key_at : List ℕ → What (List ℕ) → Key (List ℕ)
-  key_at group what = record { port = exchange.port; group = group; what = what }
-
   not_held : (machine : Option Machine) → (is_some machine ≡ true → ⊥) → machine ≡ None
   not_held None none = refl
   not_held (Some machine) none = absurd (none refl)

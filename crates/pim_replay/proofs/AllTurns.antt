@@ -1,12 +1,11 @@
 -- The turns that a run took, as those of a replay.
-use Rattle.std.proofs.Common.{◌≡◌, ◌⊎◌, ◌≤◌, ◌+◌, ◌∙◌, ℕ, min, List, [], ◌∷◌, ◌++◌, Option, None, Ok, Err, refl, sym, ap, subst, inl, inr, arith}
+use Rattle.std.proofs.Common.{◌≡◌, ◌⊎◌, ◌≤◌, ◌+◌, ◌∙◌, ℕ, List, [], ◌∷◌, ◌++◌, Option, Err, refl, sym, ap, subst, inl, inr, arith}
 use Rattle.std.specs.Io.KnownBytes.{Appends}
 use Rattle.std.proofs.KnownBytes.{Appends-nil}
 use Rattle.pim_addr.specs.declared.family.AddressFamily.{AddressFamily}
-use Rattle.pim_device.specs.Device.{AppendsFront, top_count}
+use Rattle.pim_device.specs.Device.{top_count}
 use Rattle.pim_merge.specs.declared.end.End.{End}
-use Rattle.pim_merge.specs.declared.merge.MergeFault.{MergeFault}
-use Rattle.pim_merge.specs.Ends.{clock_of, end_moment, AreAll, AreFirst}
+use Rattle.pim_merge.specs.Ends.{clock_of, end_moment, AreFirst}
 use Rattle.pim_merge.specs.Merge.{Taken}
 use Rattle.pim_merge.specs.Next.{MergeState}
 use Rattle.pim_merge.specs.Run.{CountsAll}
@@ -14,7 +13,7 @@ use Rattle.pim_router.specs.State.{RouterState}
 use Rattle.pim_report.specs.declared.state_text.Counts.{Counts}
 use Rattle.pim_run.specs.declared.fault.RunFault.{RunFault}
 use Rattle.pim_run.specs.declared.fault.RunFault.TheVariants.{Capture, Output, Memory}
-use Rattle.pim_run.specs.Run.{AreTaken, RunsThrough, StopsAt, BreaksOff, Runs}
+use Rattle.pim_run.specs.Run.{AreTaken, RunsThrough, BreaksOff, Runs}
 use Rattle.pim_replay.specs.Events.{Event, Account, nothing, joined, counted, Follows, HasWritten, HasBegun}
 use Rattle.pim_replay.specs.Passing.{PassesTime}
 use Rattle.pim_replay.specs.Turn.{WritesTurn}

@@ -119,11 +119,6 @@ module _ (line : Event → List ℕ) where
   tells_err Part after old new counts (Ok more) e h = absurd (false≢true e)
   tells_err Part after old new counts (Err fault) e h = h
 
-  -- a part that was written, as a part of another kind
-  pub told_as : (One Two : Account → RouterState → Type 0) (after : RouterState) (old new : Option (List ℕ)) (counts counts' : Counts) → (h : HasWritten line One after old new counts counts') → Two h.account after
-      → HasWritten line Two after old new counts counts'
-  told_as One Two after old new counts counts' h two = record { account = h.account; tells = two; written = h.written; is_counted = h.is_counted }
-
   pub told_begun : (One Two : Account → RouterState → Type 0) (now : RouterState) (old new : Option (List ℕ)) (counts counts' : Counts) → (h : HasWritten line One now old new counts counts') → Two h.account now
       → HasBegun line Two old new
   told_begun One Two now old new counts counts' h two =
@@ -138,7 +133,3 @@ module _ (line : Event → List ℕ) where
 
     pub begun_then : HasBegun line (Next between) mid new → HasBegun line (Follows One Next) old new
     begun_then n = begun_more One (Follows One Next) between old mid new counts counts' h n.account n.after (both One Next h.account n.account between n.after h.tells n.tells) n.written
-
-    pub told_on : {E : Type 0} (after : RouterState) (result : Result Counts E) → Writes line (Next between) after mid new counts' result → Writes line (Follows One Next) after old new counts result
-    told_on after (Ok counts'') n = happens_then after counts'' n
-    told_on after (Err fault) n = begun_then n

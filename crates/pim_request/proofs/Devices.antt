@@ -52,7 +52,3 @@ gave_less given value old new is less = subst (λ some. LeavesLess (Ok some) old
 
 pub gave_passed : {A : Type 0} (given : Option A) (value : A) (Untouched Passed : Type 0) → given ≡ Some value → PassesOn (Ok given) Untouched Passed → Untouched ⊎ Passed
 gave_passed given value Untouched Passed is passes = subst (λ some. PassesOn (Ok some) Untouched Passed) is passes
-
-pub ended_passed : {A : Type 0} (given : Option A) (Untouched Passed : Type 0) → ((value : A) → given ≡ Some value → ⊥) → PassesOn (Ok given) Untouched Passed → Passed
-ended_passed None Untouched Passed none passes = passes
-ended_passed (Some value) Untouched Passed none passes = absurd (none value refl)

@@ -70,15 +70,6 @@ value_is d h = elim (range_of d h) [
   ]
 ]
 
-pub small_value : (d : ℕ) → InRange d → digit_value d < 16
-small_value d range = elim range [
-  | inl a ↦ omega (arith, from_0 d a.0 a.1, a.0, a.1)
-  | inr others ↦ elim others [
-    | inl b ↦ omega (arith, from_upper d b.0 (omega (arith, b.1)), b.0, b.1)
-    | inr k ↦ omega (arith, from_lower d k.0 (omega (arith, k.1)), k.0, k.1)
-  ]
-]
-
 -- ---- pairs of digits
 
 abbrev pub are_digits : List ℕ → Bool

@@ -19,7 +19,7 @@ use Rattle.pim_router.specs.declared.verdict.Verdict.TheVariants as verdict
 use Rattle.pim_router.specs.declared.verdict.Malformed.TheVariants as malformed
 use Rattle.pim_router.specs.Packets.{Packet, Receives, causes, received, unless, own_address, neighbours_on, body_causes, body_heard, may_grow, new_by, hello_causes, hello_heard, message_causes, message_heard}
 use Rattle.pim_router.specs.Reading.{Reading, hello_by, message_by, read_by, packet_read, message_refusals, read_causes, read_taken, read_received, read_may_grow, IsTakenAsRead}
-use Rattle.pim_router.specs.State.{RouterState, setup_of}
+use Rattle.pim_router.specs.State.{RouterState}
 
 module _ (family : AddressFamily) (port : ℕ) (source : List ℕ) (state : RouterState) where
   -- these causes, this end and this need of memory are those of what was read

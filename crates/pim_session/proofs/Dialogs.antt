@@ -1,6 +1,5 @@
 -- Dialogs and what was written of them, one after the other.
-use Rattle.std.proofs.Common.{◌≡◌, ℕ, ◌+◌, ◌≤◌, List, [], ◌∷◌, ◌++◌, length, take, Option, None, Some, refl, sym, ap, subst, ◌∙◌, arith, append_assoc, append-nil, length-append}
-use Rattle.std.proofs.lemmas.List.{take-append-le, take_all, length-take}
+use Rattle.std.proofs.Common.{◌≡◌, ℕ, ◌+◌, List, [], ◌∷◌, ◌++◌, length, take, Option, None, Some, refl, sym, ap, subst, ◌∙◌, arith, append_assoc, append-nil, length-append}
 use Rattle.std.proofs.KnownBytes.{Appends-trans}
 use Rattle.std.specs.Io.KnownBytes.{Appends, Keeps}
 use Rattle.pim_device.specs.Device.{AppendsFront}
@@ -10,14 +9,6 @@ use Rattle.pim_session.specs.State.{Session}
 use Rattle.pim_session.specs.Underway.{Went}
 
 -- ---- bytes
-
--- nothing behind the first piece was written
-pub front-longer : (a b : Option (List ℕ)) (bs cs : List ℕ) → AppendsFront a b bs → AppendsFront a b (bs ++ cs)
-front-longer None b bs cs p = tt
-front-longer (Some xs) None bs cs p = absurd p
-front-longer (Some xs) (Some ys) bs cs p =
-    let short : length ys ≤ length (xs ++ bs) = omega (arith, ap length p.1 ∙ length-take (length ys) (xs ++ bs)) in
-    (p.0, p.1 ∙ sym (take-append-le (length ys) (xs ++ bs) cs short) ∙ ap (take (length ys)) (append_assoc xs bs cs))
 
 -- all of the first piece was written, and a front of the second
 pub front-more : (a b c : Option (List ℕ)) (bs cs : List ℕ) → Appends a b bs → AppendsFront b c cs → AppendsFront a c (bs ++ cs)
@@ -33,15 +24,6 @@ pub keeps_nil : (old new : Option (List ℕ)) → Keeps old new → Appends old 
 keeps_nil None new keeps = tt
 keeps_nil (Some xs) None keeps = absurd keeps
 keeps_nil (Some xs) (Some ys) keeps = keeps ∙ sym (append-nil xs)
-
--- what grows by bytes grows by a front of them
-pub front_all : (old new : Option (List ℕ)) (bs : List ℕ) → Appends old new bs → AppendsFront old new bs
-front_all None new bs p = tt
-front_all (Some xs) None bs p = absurd p
-front_all (Some xs) (Some ys) bs p =
-    let long : length ys ≡ length (xs ++ bs) = ap length p in
-    let more : length (xs ++ bs) ≡ length xs + length bs = length-append xs bs in
-    (omega arith, p ∙ sym (take_all (length ys) (xs ++ bs) (omega arith)))
 
 -- ---- dialogs
 
@@ -107,24 +89,6 @@ module _ (start now : Session) (items left : List Item) (old mid new : Option (L
 
   pub went_front : Wrote (AnswersFirst now left) (AppendsFront mid new) → Wrote (AnswersFirst start items) (AppendsFront old new)
   went_front v = record { text = w.text ++ v.text; is = first_too v.text v.is; written = front-more old mid new w.text v.text w.written v.written }
-
--- none is left
-pub all_none : (now : Session) (left : List Item) (old new : Option (List ℕ)) → left ≡ [] → Keeps old new → Wrote (AnswersAll now left) (Appends old new)
-all_none now left old new none keeps = record {
-  text = [];
-  is = record { after = now; dialog = subst (λ (l : List Item). IsDialog now l [] now) (sym none) (dialog_none now) };
-  written = keeps_nil old new keeps;
-}
-
--- no more is answered
-no_more : (now : Session) (left : List Item) → AnswersFirst now left []
-no_more now left = record { done = []; left = left; are = refl; after = now; dialog = dialog_none now }
-
-pub first_none : (now : Session) (left : List Item) (old new : Option (List ℕ)) → Keeps old new → Wrote (AnswersFirst now left) (Appends old new)
-first_none now left old new keeps = record { text = []; is = no_more now left; written = keeps_nil old new keeps }
-
-pub front_none : (now : Session) (left : List Item) (old new : Option (List ℕ)) → Keeps old new → Wrote (AnswersFirst now left) (AppendsFront old new)
-front_none now left old new keeps = record { text = []; is = no_more now left; written = front_all old new [] (keeps_nil old new keeps) }
 
 -- a front of the answer to an item was written
 pub front_one : (now after : Session) (item : Item) (left : List Item) (old new : Option (List ℕ)) (text : List ℕ) → IsAnswer now item text after → AppendsFront old new text → Wrote (AnswersFirst now (item ∷ left)) (AppendsFront old new)

@@ -14,9 +14,9 @@ use Rattle.pim_answers.specs.Fault.{fault_words}
 use Rattle.pim_answers.specs.Kept.{Kept, with_kept}
 use Rattle.pim_answers.specs.Lines.{ok_line, fault_line}
 use Rattle.pim_answers.specs.StoreSeen.{any_seen}
-use Rattle.pim_session.specs.Gathering.{config_words, setup_of, StartsIn}
+use Rattle.pim_session.specs.Gathering.{setup_of, StartsIn}
 use Rattle.pim_session.specs.RouterSeen.{IsKeptFor}
-use Rattle.pim_session.specs.State.{Gathered, gathering, serving}
+use Rattle.pim_session.specs.State.{Gathered, serving}
 use Rattle.pim_session.proofs.Commanded.{answered_text}
 
 -- ---- the start
@@ -30,16 +30,6 @@ module _ (family : AddressFamily) (gathered : Gathered) where
   -- a router was made
   pub starts_made : (router : RouterState) → IsMadeUnless (config_faults family (setup_of gathered)) (new_router (setup_of gathered)) (Ok router) → StartsIn family gathered ok_line (serving family router)
   starts_made router made = started router (config_faults family (setup_of gathered)) refl made
-
-  refused : (fault : ConfigFault) (words : List ℕ) (list : List ConfigFault) → words ≡ config_words fault → config_faults family (setup_of gathered) ≡ list
-      → IsMadeUnless list (new_router (setup_of gathered)) (Err fault) → StartsIn family gathered (fault_line words) (gathering gathered)
-  refused fault words [] are none made = rw none (inr (ap fault_line (are ∙ ap config_words made), refl))
-  refused fault words (first ∷ others) are some made = let same : fault ≡ first = cc in rw some (ap fault_line (are ∙ ap config_words same), refl)
-
-  -- its configuration has a fault
-  pub starts_refused : (fault : ConfigFault) (words : List ℕ) → words ≡ config_words fault → IsMadeUnless (config_faults family (setup_of gathered)) (new_router (setup_of gathered)) (Err fault)
-      → StartsIn family gathered (fault_line words) (gathering gathered)
-  starts_refused fault words are made = refused fault words (config_faults family (setup_of gathered)) are refl made
 
 -- ---- what is kept
 

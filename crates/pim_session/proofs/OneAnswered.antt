@@ -109,9 +109,6 @@ one_serving family Answer state one text other after end (s, is, so) (t, too, al
     let same = one text other s t is too room more in
     (same.0, so ∙ (ap (λ (x : RouterState × List Kept). session_in (serving family x.0) x.1) same.1 ∙ sym also))
 
-equal : (text other words : List ℕ) → text ≡ words → other ≡ words → text ≡ other
-equal text other words is too = is ∙ sym too
-
 module _ (laws : Laws) (family : AddressFamily) where
   tells : (command : AnyCommand) (router : RouterState) (kept : List Kept) → OneText (Reports family command router kept)
   tells Now router kept text other is too room more = is ∙ sym too

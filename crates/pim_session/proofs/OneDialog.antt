@@ -1,8 +1,5 @@
 -- A session has one dialog, but that memory may be refused.
-use Rattle.std.proofs.Common.{◌∙◌, ◌≢◌, sym, ap, subst, ℕ, List, [], ◌∷◌, ◌++◌, Result, Ok, Err, codes}
-use Rattle.pim_answers.specs.Lines.{memory_line, fault_line}
-use Rattle.pim_session.specs.declared.request.Request.{Request}
-use Rattle.pim_session.specs.Answers.{Answers}
+use Rattle.std.proofs.Common.{◌∙◌, sym, subst, [], ◌∷◌, ◌++◌}
 use Rattle.pim_session.specs.Dialog.{IsDialog}
 use Rattle.pim_session.specs.OneDialog.{IsDialogWithRoom, OneAnswerToItem, OneDialog, DialogWithRoom}
 use Rattle.pim_session.specs.State.{Session}

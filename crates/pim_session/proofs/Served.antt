@@ -25,19 +25,10 @@ use Rattle.pim_session.specs.Gathering.{Starts, config_words, setup_of}
 use Rattle.pim_session.specs.Request.{Requests}
 use Rattle.pim_session.specs.State.{Gathered, Phase, Session, gathering, serving}
 use Rattle.pim_session.specs.Underway.{Configured, GoesOn, Ended, Begins, BeginsServing, IsRefused}
-use Rattle.pim_session.proofs.Underway.{on_some, at_failed_read, at_failed_flush, started, ended_after}
+use Rattle.pim_session.proofs.Underway.{on_some, started, ended_after}
 use Rattle.pim_session.proofs.Dialogs.{went_one, front_one}
 
 module _ (from old mid later coming : Option (List ℕ)) (start now : Session) (w : IfSome from (λ bytes. GoesOn start (items_of bytes) old mid coming now)) (keeps : Keeps mid later) where
-  -- the next item could not be read
-  pub ended_stopped : (s : Stopped) (left : Option (List ℕ)) (kept : List Kept) (refused : Session) → IfSome from (λ bytes. Ended start (items_of bytes) old later left kept refused (Err s))
-  ended_stopped stopped.Input left kept refused = at_failed_read from old mid later coming start now w keeps
-  ended_stopped stopped.Output left kept refused = at_failed_flush from old mid later coming start now w keeps
-
-  pub all_stopped : (s : Stopped) → IfSome from (λ bytes. Converses start bytes old later (Err s))
-  all_stopped stopped.Input = at_failed_read from old mid later coming start now w keeps
-  all_stopped stopped.Output = at_failed_flush from old mid later coming start now w keeps
-
   -- a start, after it was recognised
   pub started_so : (later' new left : Option (List ℕ)) (now' : Session) (item : Given) (reading : Reading) (requested : Result Request (List ℕ)) (kept : List Kept) (r : Result SessionEnd Stopped)
       → IfSome coming (λ bytes. GivesItem bytes (Ok (Some item)) reading) → ((some : Item) → IsItem some item reading → Requests some requested)
@@ -56,10 +47,6 @@ all_by_start from old new left start refused kept stopped.Input it = it
 all_by_start from old new left start refused kept stopped.Output it = it
 
 -- ---- what a call gave
-
-pub nothing_given : (coming : Option (List ℕ)) (found : Option Given) (reading : Reading) → ((item : Given) → found ≡ Some item → ⊥) → IfSome coming (λ bytes. GivesItem bytes (Ok found) reading) → IfSome coming (λ bytes. GivesItem bytes (Ok None) reading)
-nothing_given coming None reading never gives = gives
-nothing_given coming (Some item) reading never gives = absurd (never item refl)
 
 pub one_given : (coming : Option (List ℕ)) (found : Option Given) (item : Given) (reading : Reading) → found ≡ Some item → IfSome coming (λ bytes. GivesItem bytes (Ok found) reading) → IfSome coming (λ bytes. GivesItem bytes (Ok (Some item)) reading)
 one_given coming found item reading is gives = subst (λ (f : Option Given). IfSome coming (λ bytes. GivesItem bytes (Ok f) reading)) is gives

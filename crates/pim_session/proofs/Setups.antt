@@ -1,37 +1,17 @@
 -- Rows that are added to what is gathered.
-use Rattle.std.proofs.Common.{◌≡◌, ℕ, true, false, List, [], ◌∷◌, codes, refl, ap, inl, inr}
+use Rattle.std.proofs.Common.{◌≡◌, ℕ, true, List, [], ◌∷◌, codes, refl, ap, inl, inr}
 use Rattle.pim_addr.specs.declared.family.AddressFamily.{AddressFamily}
 use Rattle.pim_addr.specs.declared.route_fault.RouteFault.{RouteFault}
 use Rattle.pim_addr.specs.Routes.{RouteTable}
 use Rattle.pim_lines.specs.AnyAddress.{is_in}
-use Rattle.pim_request.specs.declared.command.PortRow.{PortRow}
 use Rattle.pim_request.specs.declared.command.RouteRow.{RouteRow}
-use Rattle.pim_answers.specs.Families.{family_words}
 use Rattle.pim_answers.specs.Lines.{ok_line, fault_line}
-use Rattle.pim_session.specs.Gathering.{family_with, with_port, with_routes, route_words, AddsPort, AddsRow}
+use Rattle.pim_session.specs.Gathering.{family_with, with_routes, route_words, AddsRow}
 use Rattle.pim_session.specs.State.{Gathered}
-
--- ---- ports
-
-module _ (family : AddressFamily) (row : PortRow) (gathered : Gathered) (same : family_with gathered row.address ≡ family) where
-  pub port_refused : (words : List ℕ) → is_in family row.address ≡ false → words ≡ family_words → AddsPort row gathered (fault_line words) gathered
-  port_refused words other is = rw (same, other) (ap fault_line is, refl)
-
-  pub port_added : is_in family row.address ≡ true → AddsPort row gathered ok_line (with_port family row gathered)
-  port_added within = rw (same, within) (inl (refl, refl))
-
-  pub port_unheld : (words : List ℕ) → is_in family row.address ≡ true → words ≡ codes "memory" → AddsPort row gathered (fault_line words) gathered
-  port_unheld words within is = rw (same, within) (inr (ap fault_line is, refl))
 
 -- ---- rows of the table
 
 module _ (family : AddressFamily) (row : RouteRow) (gathered : Gathered) (faults : AddressFamily → List RouteFault) (table : RouteTable) (same : family_with gathered row.prefix ≡ family) where
-  pub prefix_refused : (words : List ℕ) → is_in family row.prefix ≡ false → words ≡ family_words → AddsRow row faults table gathered (fault_line words) gathered
-  prefix_refused words other is = rw (same, other) (ap fault_line is, refl)
-
-  pub to_refused : (words : List ℕ) → is_in family row.prefix ≡ true → is_in family row.to ≡ false → words ≡ family_words → AddsRow row faults table gathered (fault_line words) gathered
-  to_refused words within other is = rw (same, within, other) (ap fault_line is, refl)
-
   pub row_added : is_in family row.prefix ≡ true → is_in family row.to ≡ true → faults family ≡ [] → AddsRow row faults table gathered ok_line (with_routes family table gathered)
   row_added within also none = rw (same, within, also, none) (inl (refl, refl))
 

@@ -17,11 +17,11 @@ use Rattle.pim_session.specs.declared.serving.SessionEnd.TheVariants.{Refused, R
 use Rattle.pim_answers.specs.Answered.{Whole, Part}
 use Rattle.pim_answers.specs.Kept.{Kept}
 use Rattle.pim_session.specs.Answers.{Answers}
-use Rattle.pim_session.specs.Dialog.{IsAnswer, AnswersFirst, AnswersAll, Wrote}
+use Rattle.pim_session.specs.Dialog.{IsAnswer, AnswersFirst, Wrote}
 use Rattle.pim_session.specs.Request.{Requests}
 use Rattle.pim_session.specs.State.{Session}
 use Rattle.pim_session.specs.Underway.{Went, GoesOn, Ended, Begins}
-use Rattle.pim_session.proofs.Dialogs.{went_none, went_one, went_on, went_all, went_first, went_front, all_none, first_none, front_none, front_one, keeps_nil}
+use Rattle.pim_session.proofs.Dialogs.{went_none, went_one, went_on, went_all, went_first, went_front, front_one, keeps_nil}
 
 -- the begin
 pub begun : (start : Session) (coming old : Option (List ℕ)) → IfSome coming (λ bytes. GoesOn start (items_of bytes) old old coming start)
@@ -92,28 +92,6 @@ module _ (start now : Session) (items : List Item) (old mid later coming : Optio
       ended_after start now items (first.first ∷ items_of first.rest) old mid later new later_coming kept now so_far keeps r ended
 
 -- ---- the same, where the input may not be known
-
--- no item is left
-pub at_end : (from old mid later coming : Option (List ℕ)) (start now : Session) (reading : Reading) → IfSome from (λ bytes. GoesOn start (items_of bytes) old mid coming now) → Keeps mid later
-    → IfSome coming (λ bytes. GivesItem bytes (Ok None) reading) → IfSome from (λ bytes. Wrote (AnswersAll start (items_of bytes)) (Appends old later))
-at_end None old mid later coming start now reading w keeps gives = tt
-at_end (Some bytes) old mid later coming start now reading w keeps gives =
-    let none : GivesItem w.rest (Ok None) reading = subst (λ (c : Option (List ℕ)). IfSome c (λ b. GivesItem b (Ok None) reading)) w.known gives in
-    went_all start now (items_of bytes) (items_of w.rest) old mid later w.went (all_none now (items_of w.rest) mid later none.0 keeps)
-
--- the reader failed
-pub at_failed_read : (from old mid later coming : Option (List ℕ)) (start now : Session) → IfSome from (λ bytes. GoesOn start (items_of bytes) old mid coming now) → Keeps mid later
-    → IfSome from (λ bytes. Wrote (AnswersFirst start (items_of bytes)) (Appends old later))
-at_failed_read None old mid later coming start now w keeps = tt
-at_failed_read (Some bytes) old mid later coming start now w keeps =
-    went_first start now (items_of bytes) (items_of w.rest) old mid later w.went (first_none now (items_of w.rest) mid later keeps)
-
--- the answers could not be passed on
-pub at_failed_flush : (from old mid later coming : Option (List ℕ)) (start now : Session) → IfSome from (λ bytes. GoesOn start (items_of bytes) old mid coming now) → Keeps mid later
-    → IfSome from (λ bytes. Wrote (AnswersFirst start (items_of bytes)) (AppendsFront old later))
-at_failed_flush None old mid later coming start now w keeps = tt
-at_failed_flush (Some bytes) old mid later coming start now w keeps =
-    went_front start now (items_of bytes) (items_of w.rest) old mid later w.went (front_none now (items_of w.rest) mid later keeps)
 
 module _ (from old mid later coming : Option (List ℕ)) (start now : Session) (item : Given) (reading : Reading) (requested : Result Request (List ℕ)) where
   -- an item was answered

@@ -56,9 +56,6 @@ module _ (now : ℕ) (start : Start) where
 
   -- ---- Prune of (*,G) and (S,G)
 
-  still_pending : (state : State) (left : ℕ) (held after : Option Machine) → after ≡ held → IsPending state left held → IsPending state left after
-  still_pending state left held after e is = record { expires_in = is.expires_in; several = is.several; is = e ∙ is.is }
-
   prunes_star : (course : Course) (held : Option Machine) → IsOn Star now course held → IsOn Star now (pruned ends course) (on_prune start held)
   unfolding on_prune
   prunes_star absent held is = ap (on_prune start) is

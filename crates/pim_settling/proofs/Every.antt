@@ -34,10 +34,6 @@ use Rattle.pim_settling.proofs.Only.{or_left, or_second, joined_of, pruned_of, a
 equal_is : (a b : List ℕ) → slice_cmp nat_cmp a b ≡ Equal → a ≡ b
 equal_is a b e = slice_cmp-IsAntisymmetric nat_cmp-IsAntisymmetric a b e
 
-or_three : (a b : Bool) → (a || b) ≡ true → (a ≡ false → b ≡ true)
-or_three true b e f = absurd (false≢true (sym f))
-or_three false b e f = e
-
 any_flat : {A B : Type 0} (p : B → Bool) (f : A → List B) (q : A → Bool) (xs : List A) → ((x : A) → q x ≡ true → list_any p (f x) ≡ true) → list_any q xs ≡ true → list_any p (flat_map f xs) ≡ true
 any_flat p f q [] each l = absurd (false≢true l)
 any_flat p f q (x ∷ xs) each l =

@@ -1,5 +1,5 @@
 -- A text that is read piece by piece.
-use Rattle.std.proofs.Common.{◌≡◌, ◌∙◌, sym, ap, refl, ℕ, ◌+◌, ◌-◌, ◌≤◌, ◌<◌, List, [], ◌++◌, Option, None, Some, Bool, false, length, drop, arith, length-append, append-nil, append_assoc}
+use Rattle.std.proofs.Common.{◌≡◌, ◌∙◌, sym, ap, refl, ℕ, ◌+◌, ◌-◌, ◌≤◌, ◌<◌, List, ◌++◌, Option, None, Some, Bool, length, drop, arith, length-append, append-nil, append_assoc}
 use Rattle.std.specs.Prelude.{IfSome}
 use Rattle.std.specs.Io.KnownBytes.{Consumes, IsAtEnd}
 use Rattle.std.proofs.Math.Seq.{drop-append-add}
@@ -16,10 +16,6 @@ consumed_also None mid new these those one two = tt
 consumed_also (Some xs) None new these those one two = absurd one
 consumed_also (Some xs) (Some ms) None these those one two = absurd two
 consumed_also (Some xs) (Some ms) (Some ys) these those one two = one ∙ (ap (λ (l : List ℕ). these ++ l) two ∙ sym (append_assoc these those ys))
-
-consumed_none : (known : Option (List ℕ)) → Consumes known known []
-consumed_none None = tt
-consumed_none (Some xs) = refl
 
 at_most_none : (known : Option (List ℕ)) → ConsumesAtMost 0 known known
 at_most_none None = tt
@@ -44,20 +40,11 @@ pub record IsSoFar (before now : Option (List ℕ)) (text : List ℕ) : Type 0 w
   pub given : Consumes before now text
   pub within : length text ≤ 8454144
 
-pub at_first : (known : Option (List ℕ)) (text : List ℕ) → text ≡ [] → IsSoFar known known text
-at_first known text none = record { given = rw none (consumed_none known); within = rw none (omega arith) }
-
 pub one_more : (before old new : Option (List ℕ)) (text text' : List ℕ) (is_end : Bool) → IsSoFar before old text → length text ≤ 8388608 → AddsPiece old new 65536 text text' is_end → IsSoFar before new text'
 one_more before old new text text' is_end so_far small adds = record {
   given = rw adds.adds (consumed_also before old new text adds.got so_far.given adds.consumes);
   within = let size : length text' ≡ length (text ++ adds.got) = ap (λ (l : List ℕ). length l) adds.adds in omega (arith, size, length-append text adds.got, small, adds.within);
 }
-
--- the text is longer than before, if the reader isn't at its end or the limit is passed
-pub grows : (old new : Option (List ℕ)) (text text' : List ℕ) (is_end : Bool) → AddsPiece old new 65536 text text' is_end → is_end ≡ false → length text < length text'
-grows old new text text' is_end adds goes_on =
-    let size : length text' ≡ length (text ++ adds.got) = ap (λ (l : List ℕ). length l) adds.adds in
-    omega (arith, size, length-append text adds.got, adds.whole goes_on)
 
 -- at most this many bytes were taken
 pub taken : (before now : Option (List ℕ)) (text : List ℕ) → IsSoFar before now text → ConsumesAtMost 8454144 before now

@@ -31,9 +31,6 @@ module _ {X : Type 0} (line : Occurrence → List ℕ) (ledger : Ledger) (ms por
       written_front old now new (text_on line ledger ms port (says item)) (told_of left) (told_of rest) whole w (told_first left rest item is)
       (subst (λ hs. AppendsFront now new (text_on line ledger ms port hs)) same p)
 
-  pub items_told : (old now : Option (List ℕ)) (left : List X) (whole : List ℕ) → IsWriting old now (told_of left) whole → left ≡ [] → Appends old now whole
-  items_told old now left whole w is = written_all old now (told_of left) whole w (ap told_of is)
-
 -- ---- machines that changed
 
 module _ (line : Occurrence → List ℕ) (packet : Cause (List ℕ)) (port neighbours : ℕ) where

@@ -26,11 +26,6 @@ all-is-front (Some xs) (Some ys) bs p = (long, rw p (sym (take_all (length (xs +
     long : length xs ≤ length ys
     long = let e : length ys ≡ length xs + length bs = ap length p ∙ length-append xs bs in omega (arith, e)
 
--- whatever was written of a text is a front of it
-pub some-is-front : {A E : Type 0} (r : Result A E) (old new : Option (List ℕ)) (bs : List ℕ) → AppendsAll old new r bs → AppendsFront old new bs
-some-is-front (Ok x) old new bs p = all-is-front old new bs p
-some-is-front (Err e) old new bs p = p
-
 -- all of the first piece was written, and whatever was of the second
 pub all-more : {A E : Type 0} (r : Result A E) (a b c : Option (List ℕ)) (bs cs : List ℕ) → Appends a b bs → AppendsAll b c r cs → AppendsAll a c r (bs ++ cs)
 all-more (Ok x) a b c bs cs p q = Appends-trans a b c bs cs p q
@@ -77,13 +72,6 @@ module _ (line : Occurrence → List ℕ) (ledger : Ledger) (ms port : ℕ) wher
       ap (λ l. line (event_on ledger ms port x) ++ l) (text-append xs ys)
       ∙ sym (append_assoc (line (event_on ledger ms port x)) (text_on line ledger ms port xs) (text_on line ledger ms port ys))
 
-  pub text-one : (x : Happened) → text_on line ledger ms port (x ∷ []) ≡ line (event_on ledger ms port x)
-  text-one x = append-nil (line (event_on ledger ms port x))
-
-  -- a call that tells one event
-  pub one-reported : {A E : Type 0} (r : Result A E) (old new : Option (List ℕ)) (x : Happened) → AppendsAll old new r (line (event_on ledger ms port x)) → AppendsAll old new r (text_on line ledger ms port (x ∷ []))
-  one-reported r old new x p = subst (λ l. AppendsAll old new r l) (sym (text-one x)) p
-
   -- the text depends on the begin of the ledger alone
   pub text-same : (other : Ledger) → other.begin ≡ ledger.begin → (xs : List Happened) → text_on line other ms port xs ≡ text_on line ledger ms port xs
   text-same other same [] = refl
@@ -91,10 +79,3 @@ module _ (line : Occurrence → List ℕ) (ledger : Ledger) (ms port : ℕ) wher
       let epochs : epoch_of ms other ≡ epoch_of ms ledger = ap (λ (b : Option ℕ). option_map (λ begin. min (begin + ms) top_count) b) same in
       let first : line (event_on other ms port x) ≡ line (event_on ledger ms port x) = ap (λ (e : Option ℕ). line (record { ms = ms; epoch = e; port = Some port; what = x })) epochs in
       ap (λ l. l ++ text_on line other ms port xs) first ∙ ap (λ l. line (event_on ledger ms port x) ++ l) (text-same other same xs)
-
-  -- a call that tells one event, which is this
-  pub event-reported : {A E : Type 0} (r : Result A E) (old new : Option (List ℕ)) (x y : Happened) → x ≡ y → AppendsAll old new r (line (event_on ledger ms port x)) → AppendsAll old new r (text_on line ledger ms port (y ∷ []))
-  event-reported r old new x y same p = subst (λ h. AppendsAll old new r (text_on line ledger ms port (h ∷ []))) same (one-reported r old new x p)
-
-  pub event-begun : (old new : Option (List ℕ)) (x y : Happened) → x ≡ y → AppendsFront old new (line (event_on ledger ms port x)) → AppendsFront old new (text_on line ledger ms port (y ∷ []))
-  event-begun old new x y same p = subst (λ h. AppendsFront old new (text_on line ledger ms port (h ∷ []))) same (subst (λ l. AppendsFront old new l) (sym (text-one x)) p)

@@ -16,17 +16,11 @@ use Rattle.pim_transitions.specs.Transitions.{number_of, state_number, same_stat
 use Rattle.pim_transitions.specs.Affected.{joins_after, kind_by}
 use Rattle.pim_transitions.proofs.Effects.{by_effect, own_plain, own_rpt, no_star, plain_some, gone_joined}
 
-none_some : (m : Machine) → ◌≡◌ {A = Option Machine} None (Some m) → ⊥
-none_some m e = false≢true (ap is_some e)
-
 same_state_is : (a b : Option Machine) → same_state a b ≡ true → state_number a ≡ state_number b
 same_state_is a b e = eqb-true (state_number a) (state_number b) e
 
 is_same_state : (a b : Option Machine) → a ≡ b → same_state a b ≡ true
 is_same_state a b e = eq-eqb (state_number a) (state_number b) (ap state_number e)
-
-pub by_state_same : (a b : Option Machine) → state_number a ≡ state_number b → by_state a ≡ by_state b
-by_state_same a b e = ap (λ n. cond (n == 1) kind.Join kind.Prune) e
 
 -- ---- one induction for all machines
 

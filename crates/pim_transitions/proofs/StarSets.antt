@@ -159,9 +159,6 @@ pub record AreMarkedTo (port : ℕ) (records : List (Record (List ℕ))) (all le
   pub stars : (key : Key (List ℕ)) → star_reaches port all records key ≡ true → (is_marked port key marks || star_reaches port left records key) ≡ true
   pub groups : AllByRecursion (HaveRptsOf port records marks) walked
 
-pub none_marked : (port : ℕ) (records : List (Record (List ℕ))) (all : List Event) → AreMarkedTo port records all all [] []
-none_marked port records all = record { within = λ test any. any; each = tt; stars = λ key any. any; groups = tt }
-
 pub marked_more : (port : ℕ) (records : List (Record (List ℕ))) (all events left old new : List Event) (walked after : List (List ℕ)) → AreMarkedTo port records all (events ++ left) old walked
     → AddStarsOf port records events old new → AllByRecursion (HaveRptsOf port records new) after → AreMarkedTo port records all left new after
 marked_more port records all events left old new walked after are adds groups = record {

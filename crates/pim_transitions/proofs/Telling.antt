@@ -112,10 +112,6 @@ same_machine_itself a b e = subst (λ c. same_machine a c ≡ true) e (option_it
 -- ---- lists
 
 module _ (after : List (Record (List ℕ))) where
-  abbrev left_of : Candidate (List ℕ) → List (Transition (List ℕ)) → List (Transition (List ℕ))
-  left_of candidate items =
-      cond (same_machine candidate.before (machine_at candidate.key after)) items (transition_to candidate (machine_at candidate.key after) ∷ items)
-
   kept_above : (key : Key (List ℕ)) (candidates : List (Candidate (List ℕ))) → AllByRecursion (λ other. key_cmp key other ≡ Less) (keys_affected candidates) → AllByRecursion (λ other. key_cmp key other ≡ Less) (keys_of_transitions (transitions_to after candidates))
   unfolding transitions_to
   kept_above key [] above = tt

@@ -1,4 +1,4 @@
-use Rattle.std.proofs.Common.{◌∙◌, sym, subst, Option, Some}
+use Rattle.std.proofs.Common.{subst, Option}
 use Rattle.pim_answers.specs.Demanding.{SaysChange}
 use Rattle.pim_answers.specs.Fault.{fault_words}
 use Rattle.pim_answers.specs.Kept.{Kept}

@@ -1,4 +1,4 @@
-use Rattle.std.proofs.Common.{◌∙◌, length, arith, ap, List, ℕ}
+use Rattle.std.proofs.Common.{◌∙◌, length, arith, ap, ℕ}
 use Rattle.pim_request.specs.Forms.{hex_bytes}
 use Rattle.pim_router.specs.Seen.{packet_seen}
 use Rattle.pim_lines.specs.AnyAddress.{address_bytes}

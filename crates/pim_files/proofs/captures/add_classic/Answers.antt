@@ -1,4 +1,4 @@
-use Rattle.std.proofs.Common.{◌≡◌, ◌<◌, ◌++◌, [], ◌∷◌, List, length, map, Option, arith, subst, vec_len}
+use Rattle.std.proofs.Common.{◌≡◌, ◌<◌, ◌++◌, [], ◌∷◌, List, length, map, Option, arith, subst}
 use Rattle.std.specs.Prelude.{IfOk}
 use Rattle.pim_capture.specs.Capture.{Answer}
 use Rattle.pim_merge.specs.Lane.{coming_on}

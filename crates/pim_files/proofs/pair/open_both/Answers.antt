@@ -1,4 +1,4 @@
-use Rattle.std.proofs.Common.{subst, ap, ◌∙◌, arith, ◌+◌, suc, [], ◌∷◌, List, length, map, take, drop}
+use Rattle.std.proofs.Common.{subst, ap, arith, ◌+◌, suc, List, length, map, take, drop}
 use Rattle.std.proofs.lemmas.Result.{err_from_is_err_and}
 use Rattle.pim_words.specs.declared.fault.RouterSide.TheVariants.{A, B}
 use Rattle.pim_files.specs.declared.fault.OpenFault.TheVariants as opening

@@ -1,4 +1,4 @@
-use Rattle.std.proofs.Common.{◌≡◌, ◌≤◌, ◌-◌, ℕ, length, drop, sym, ap, ◌∙◌, arith}
+use Rattle.std.proofs.Common.{◌≤◌, ◌-◌, length, drop, ap, ◌∙◌, arith}
 use Rattle.pim_addr.specs.Encoded.{source_length}
 use Rattle.pim_jp.specs.Message.{entries_of}
 use Rattle.pim_jp.proofs.Walks.{entries_count, entries_passed, entries_fit}
