@@ -12,6 +12,7 @@ use crate::hearing::hear::start_at;
 use crate::hearing::message::hear_message;
 use crate::machines::event::Timing;
 use crate::machines::fault::HearFault;
+use crate::machines::held::Arrival;
 use crate::machines::key::{Key, OfFamily, What};
 use crate::machines::machine::{Machine, Record, State};
 use crate::machines::step::{Firing, Step};
@@ -326,7 +327,8 @@ impl<F: Family> Ports<F> {
         message.is_legal();
         let start = start_at(message.holdtime(), timing, self.moment);
         let (records, limit) = (&mut self.records, self.limit);
-        hear_message::<F>(self.alloc, records, limit, port, start, routes, message)
+        let arrival = Arrival { port, start };
+        hear_message::<F>(self.alloc, records, limit, arrival, routes, message)
     }
 
     /// Runs to this moment, in milliseconds, at most 10^15, or to the first PruneEcho. An earlier

@@ -7,7 +7,7 @@ ghost use Rattle.pim_down.specs.Words.{start_seen, records_seen, event_seen};
 
 use crate::hearing::hear::{act_on_own, is_star_join, join_rpts};
 use crate::machines::event::Event;
-use crate::machines::held::Start;
+use crate::machines::held::Arrival;
 use crate::machines::key::{Key, OfFamily, What};
 use crate::machines::machine::on_star_join;
 use crate::records::edits::{find_place, place_of, replace_at};
@@ -20,6 +20,13 @@ use sorted_blocks::Place;
 pub(crate) struct LastStar<A> {
     group: Option<A>,
     behind: usize,
+}
+
+/// An event of the list, and its index.
+#[derive(Clone, Copy)]
+struct Numbered<A> {
+    index: usize,
+    event: Event<A>,
 }
 
 /// Applies Join(*,G) to the (S,G,rpt) machine of this source. The search begins near a place, and
@@ -108,27 +115,29 @@ fn join_listed<F: Family>(
 fn act_listed<F: Family>(
     records: &mut Store<F::Addr, OfFamily<F>>,
     near: &mut Place,
-    port: usize,
-    start: Start,
+    arrival: Arrival,
     events: &[Event<F::Addr>],
-    index: usize,
-    event: Event<F::Addr>,
+    this: Numbered<F::Addr>,
     last: LastStar<F::Addr>,
 ) -> LastStar<F::Addr>
-    requires within { index < length events.now }
-    requires event { event ≡ slice_index_or events.now index event }
+    requires within { this.index < length events.now }
+    requires event { this.event ≡ slice_index_or events.now this.index this.event }
     requires ascending { IsAscending (records_seen F.bytes_of records.old.items) }
-    requires room { length (act port (start_seen start) (event_seen F.bytes_of event)
+    requires room { length (act arrival.port (start_seen arrival.start)
+        (event_seen F.bytes_of this.event)
         (records_seen F.bytes_of records.old.items)) ≤ records.old.capacity }
-    requires last { IsLast F.bytes_of port events.now index last
+    requires last { IsLast F.bytes_of arrival.port events.now this.index last
         (records_seen F.bytes_of records.old.items) }
     ensures records { records_seen F.bytes_of records.new.items
-        ≡ act port (start_seen start) (event_seen F.bytes_of event)
+        ≡ act arrival.port (start_seen arrival.start)
+        (event_seen F.bytes_of this.event)
         (records_seen F.bytes_of records.old.items) }
     ensures capacity { records.old.capacity ≤ records.new.capacity }
-    ensures last { IsLast F.bytes_of port events.now (index
+    ensures last { IsLast F.bytes_of arrival.port events.now (this.index
         + 1) result (records_seen F.bytes_of records.new.items) }
 {
+    let Arrival { port, start } = arrival;
+    let Numbered { index, event } = this;
     act_on_own::<F>(records, near, port, start, event);
     if !is_star_join(&event) {
         return last;
@@ -149,15 +158,15 @@ fn act_listed<F: Family>(
 /// (S,G,rpt) machines of each group that has a Join(*,G).
 pub(crate) fn hear_events<F: Family>(
     records: &mut Store<F::Addr, OfFamily<F>>,
-    port: usize,
-    start: Start,
+    arrival: Arrival,
     events: &[Event<F::Addr>],
 )
     requires ascending { IsAscending (records_seen F.bytes_of records.old.items) }
-    requires room { HasRoom port (start_seen start) records.old.capacity
+    requires room { HasRoom arrival.port (start_seen arrival.start) records.old.capacity
         (map (event_seen F.bytes_of) events.now)
         (records_seen F.bytes_of records.old.items) }
-    ensures { records_seen F.bytes_of records.new.items ≡ act_all port (start_seen start)
+    ensures { records_seen F.bytes_of records.new.items
+        ≡ act_all arrival.port (start_seen arrival.start)
         (map (event_seen F.bytes_of) events.now) (records_seen F.bytes_of records.old.items) }
 {
     let mut near = Place::START;
@@ -167,6 +176,7 @@ pub(crate) fn hear_events<F: Family>(
     };
     for index in 0..events.len() {
         let event = events[index];
-        last = act_listed::<F>(records, &mut near, port, start, events, index, event, last);
+        let this = Numbered { index, event };
+        last = act_listed::<F>(records, &mut near, arrival, events, this, last);
     }
 }

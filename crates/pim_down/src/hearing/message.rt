@@ -14,9 +14,9 @@ use crate::hearing::hear::{act, event_of};
 use crate::hearing::listed::hear_events;
 use crate::hearing::ordered::{entry_count, in_key_order};
 use crate::hearing::refresh::refresh_front;
-use crate::machines::event::Event;
+use crate::machines::event::{EntryList, Event};
 use crate::machines::fault::HearFault;
-use crate::machines::held::Start;
+use crate::machines::held::Arrival;
 use crate::machines::key::{Key, OfFamily, What};
 use crate::records::edits::{find_place, place_of};
 use crate::records::store::Store;
@@ -66,15 +66,15 @@ fn count_list<F: Family>(
     near: &mut Place,
     port: usize,
     routes: &Routes<F>,
-    joins: bool,
-    group: F::Addr,
+    list: EntryList<F::Addr>,
     entries: Entries<'_, F>,
 ) -> usize
     requires { IsAscending (records_seen F.bytes_of records.now.items) }
     ensures count { result ≡ count_new port (records_seen F.bytes_of records.now.items)
-        (list_events (rp_of F.family routes.now) joins (F.bytes_of group) entries.entry) }
+        (list_events (rp_of F.family routes.now) list.joins (F.bytes_of list.group) entries.entry) }
     ensures bound { result ≤ 65535 }
 {
+    let EntryList { group, joins } = list;
     let _most = entries.count_left();
     let mut count = 0;
     for entry in entries {
@@ -92,30 +92,29 @@ fn count_list<F: Family>(
 fn hear_list<F: Family>(
     records: &mut Store<F::Addr, OfFamily<F>>,
     near: &mut Place,
-    port: usize,
-    start: Start,
+    arrival: Arrival,
     routes: &Routes<F>,
-    joins: bool,
-    group: F::Addr,
+    list: EntryList<F::Addr>,
     entries: Entries<'_, F>,
 )
     requires ascending { IsAscending (records_seen F.bytes_of records.old.items) }
-    requires room { HasRoom port (start_seen start) records.old.capacity
-        (list_events (rp_of F.family routes.now) joins (F.bytes_of group) entries)
+    requires room { HasRoom arrival.port (start_seen arrival.start) records.old.capacity
+        (list_events (rp_of F.family routes.now) list.joins (F.bytes_of list.group) entries)
         (records_seen F.bytes_of records.old.items) }
-    ensures records { records_seen F.bytes_of records.new.items ≡ act_all port (start_seen start)
-        (list_events (rp_of F.family routes.now) joins (F.bytes_of group) entries.entry)
+    ensures records { records_seen F.bytes_of records.new.items
+        ≡ act_all arrival.port (start_seen arrival.start)
+        (list_events (rp_of F.family routes.now) list.joins (F.bytes_of list.group) entries.entry)
         (records_seen F.bytes_of records.old.items) }
     ensures capacity { records.old.capacity ≤ records.new.capacity }
 {
     let mut left = entries;
     loop {
-        let _taken = refresh_front::<F>(records, near, port, start, joins, group, &mut left);
+        let _taken = refresh_front::<F>(records, near, arrival, list, &mut left);
         let Some(entry) = left.next() else {
             return;
         };
-        match event_of::<F>(routes, joins, group, entry) {
-            Some(event) => act::<F>(records, near, port, start, event),
+        match event_of::<F>(routes, list.joins, list.group, entry) {
+            Some(event) => act::<F>(records, near, arrival.port, arrival.start, event),
             None => {}
         }
     }
@@ -138,8 +137,13 @@ fn count_sets<F: Family>(
     let mut count = 0;
     for set in sets {
         let group = set.group();
-        let joined = count_list::<F>(records, &mut near, port, routes, true, group, set.joined());
-        let pruned = count_list::<F>(records, &mut near, port, routes, false, group, set.pruned());
+        let joins = EntryList { group, joins: true };
+        let joined = count_list::<F>(records, &mut near, port, routes, joins, set.joined());
+        let prunes = EntryList {
+            group,
+            joins: false,
+        };
+        let pruned = count_list::<F>(records, &mut near, port, routes, prunes, set.pruned());
         count += joined + pruned;
     }
     count
@@ -151,28 +155,29 @@ fn count_sets<F: Family>(
 /// of its Joins(*,G).
 fn hear_sets<F: Family>(
     records: &mut Store<F::Addr, OfFamily<F>>,
-    port: usize,
-    start: Start,
+    arrival: Arrival,
     routes: &Routes<F>,
     message: &JpView<'_, F>,
 )
     requires ascending { IsAscending (records_seen F.bytes_of records.old.items) }
-    requires room { HasRoom port (start_seen start) records.old.capacity
+    requires room { HasRoom arrival.port (start_seen arrival.start) records.old.capacity
         (events_of (rp_of F.family routes.now) message.now)
         (records_seen F.bytes_of records.old.items) }
-    ensures { records_seen F.bytes_of records.new.items ≡ act_all port (start_seen start)
+    ensures { records_seen F.bytes_of records.new.items
+        ≡ act_all arrival.port (start_seen arrival.start)
         (events_of (rp_of F.family routes.now) message.now)
         (records_seen F.bytes_of records.old.items) }
 {
     let mut near = Place::START;
     for set in message.sets() {
         let group = set.group();
-        let joined = set.joined();
-        hear_list::<F>(records, &mut near, port, start, routes, true, group, joined);
-        let pruned = set.pruned();
-        hear_list::<F>(
-            records, &mut near, port, start, routes, false, group, pruned,
-        );
+        let joins = EntryList { group, joins: true };
+        hear_list::<F>(records, &mut near, arrival, routes, joins, set.joined());
+        let prunes = EntryList {
+            group,
+            joins: false,
+        };
+        hear_list::<F>(records, &mut near, arrival, routes, prunes, set.pruned());
     }
 }
 
@@ -240,8 +245,7 @@ fn make_room<F: Family>(
 /// Hears the events of a message, which may be in a list of their own, and End of Message.
 fn hear_all<F: Family>(
     records: &mut Store<F::Addr, OfFamily<F>>,
-    port: usize,
-    start: Start,
+    arrival: Arrival,
     routes: &Routes<F>,
     message: &JpView<'_, F>,
     ordered: &Option<Vec<Event<F::Addr>>>,
@@ -252,20 +256,21 @@ fn hear_all<F: Family>(
         (λ events. AreAlike (map (event_seen F.bytes_of) events.items)
         (events_of (rp_of F.family routes.now) message.now)) }
     requires room { length records.old.items
-        + count_new port (records_seen F.bytes_of records.old.items)
+        + count_new arrival.port (records_seen F.bytes_of records.old.items)
         (events_of (rp_of F.family routes.now) message.now) ≤ records.old.capacity }
-    ensures { records_seen F.bytes_of records.new.items ≡ hearing port (start_seen start)
+    ensures { records_seen F.bytes_of records.new.items
+        ≡ hearing arrival.port (start_seen arrival.start)
         (events_of (rp_of F.family routes.now) message.now)
         (records_seen F.bytes_of records.old.items) }
 {
     match ordered {
         Some(events) => {
-            hear_events::<F>(records, port, start, events);
-            end_events::<F>(records, port, events);
+            hear_events::<F>(records, arrival, events);
+            end_events::<F>(records, arrival.port, events);
         }
         None => {
-            hear_sets::<F>(records, port, start, routes, message);
-            end_sets::<F>(records, port, routes, message);
+            hear_sets::<F>(records, arrival, routes, message);
+            end_sets::<F>(records, arrival.port, routes, message);
         }
     }
 }
@@ -277,31 +282,31 @@ pub(crate) fn hear_message<F: Family>(
     alloc: Global,
     records: &mut Store<F::Addr, OfFamily<F>>,
     limit: usize,
-    port: usize,
-    start: Start,
+    arrival: Arrival,
     routes: &Routes<F>,
     message: &JpView<'_, F>,
 ) -> Result<(), HearFault>
     requires ascending { IsAscending (records_seen F.bytes_of records.old.items) }
     requires settled { IsSettled (records_seen F.bytes_of records.old.items) }
-    requires port { port < 64 }
-    requires within { count_on port (records_seen F.bytes_of records.old.items) ≤ 100000 }
+    requires port { arrival.port < 64 }
+    requires within { count_on arrival.port (records_seen F.bytes_of records.old.items) ≤ 100000 }
     ensures ok { OnOk result (records_seen F.bytes_of records.new.items
-        ≡ hearing port (start_seen start)
+        ≡ hearing arrival.port (start_seen arrival.start)
         (events_of (rp_of F.family routes.now) message.now)
         (records_seen F.bytes_of records.old.items)) }
     ensures err { OnErr result (records.new.items ≡ records.old.items) }
     ensures kept { OnFull result (records.new ≡ records.old) }
-    ensures memory { MayWantMemory (count_new port (records_seen F.bytes_of records.old.items)
+    ensures memory { MayWantMemory
+        (count_new arrival.port (records_seen F.bytes_of records.old.items)
         (events_of (rp_of F.family routes.now) message.now)) result }
-    ensures room { IsWithin limit (needed port (records_seen F.bytes_of records.old.items)
+    ensures room { IsWithin limit (needed arrival.port (records_seen F.bytes_of records.old.items)
         (events_of (rp_of F.family routes.now) message.now)) result }
 {
-    let most = judge_full::<F>(records, limit, port, routes, message)?;
-    if make_room::<F>(records, port, routes, message, most).is_err() {
+    let most = judge_full::<F>(records, limit, arrival.port, routes, message)?;
+    if make_room::<F>(records, arrival.port, routes, message, most).is_err() {
         return Err(HearFault::Memory);
     }
     let ordered = in_key_order::<F>(alloc, routes, message);
-    hear_all::<F>(records, port, start, routes, message, &ordered);
+    hear_all::<F>(records, arrival, routes, message, &ordered);
     Ok(())
 }

@@ -36,3 +36,10 @@ pub(crate) struct Start {
     pub(crate) expires_at: Option<u64>,
     pub(crate) pending: Waiting,
 }
+
+/// Where a message is heard: its port, and what it gives the timers that it starts.
+#[derive(Clone, Copy)]
+pub(crate) struct Arrival {
+    pub(crate) port: usize,
+    pub(crate) start: Start,
+}

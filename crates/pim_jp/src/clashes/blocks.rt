@@ -23,6 +23,14 @@ use pim_addr::{Family, numbers_are_in_order, source_length};
 /// The number of pruned entries that are looked for together.
 pub(crate) const TOGETHER: u16 = 64;
 
+/// The numbers of some sources, each list sorted: those of (S,G) entries, and those of (S,G,rpt)
+/// entries.
+#[derive(Clone, Copy)]
+pub(crate) struct Listed<'a, N> {
+    pub sources: &'a [N],
+    pub rpts: &'a [N],
+}
+
 /// Where the numbers in a block end: those of (S,G) entries are before `front`, those of (S,G,rpt)
 /// entries from `back` on. The places between are free.
 #[derive(Clone, Copy)]
@@ -72,37 +80,35 @@ fn is_rpt<F: Family>(entry: Entry<F::Addr>) -> bool
 }
 
 /// Whether the number of the entry's source is among those of its type. Both lists are sorted.
-fn is_listed<F: Family>(sources: &[F::Number], rpts: &[F::Number], entry: Entry<F::Addr>) -> bool
-    requires sources { IsSorted F.Number.cmp sources.now }
-    requires rpts { IsSorted F.Number.cmp rpts.now }
-    ensures { result ≡ is_listed F.value_of sources.now rpts.now (entry_seen F.bytes_of entry) }
+fn is_listed<F: Family>(listed: Listed<'_, F::Number>, entry: Entry<F::Addr>) -> bool
+    requires sources { IsSorted F.Number.cmp listed.sources.now }
+    requires rpts { IsSorted F.Number.cmp listed.rpts.now }
+    ensures { result ≡ is_listed F.value_of listed.entry.sources.now listed.entry.rpts.now
+        (entry_seen F.bytes_of entry) }
 {
     match entry {
         Entry::Star(_) => false,
-        Entry::Source(source) => holds::<F>(sources, number_of_source::<F>(source)),
-        Entry::Rpt(source) => holds::<F>(rpts, number_of_source::<F>(source)),
+        Entry::Source(source) => holds::<F>(listed.sources, number_of_source::<F>(source)),
+        Entry::Rpt(source) => holds::<F>(listed.rpts, number_of_source::<F>(source)),
     }
 }
 
 /// The same as `first_listed`, with one search for each entry.
-fn first_listed_of_few<F: Family>(
-    sources: &[F::Number],
-    rpts: &[F::Number],
-    count: u16,
-    bytes: &[u8],
-) -> u16
+fn first_listed_of_few<F: Family>(listed: Listed<'_, F::Number>, count: u16, bytes: &[u8]) -> u16
     requires long { count * source_length F.family ≤ length bytes.now }
-    requires sources { IsSorted F.Number.cmp sources.now }
-    requires rpts { IsSorted F.Number.cmp rpts.now }
+    requires sources { IsSorted F.Number.cmp listed.sources.now }
+    requires rpts { IsSorted F.Number.cmp listed.rpts.now }
     ensures bound { result ≤ count }
     ensures before { (place : ℕ) → place < result
-        → is_listed F.value_of sources.now rpts.now (entry_at F.family place bytes.now) ≡ false }
+        → is_listed F.value_of listed.entry.sources.now listed.entry.rpts.now
+        (entry_at F.family place bytes.now) ≡ false }
     ensures at { result < count
-        → is_listed F.value_of sources.now rpts.now (entry_at F.family result bytes.now) ≡ true }
+        → is_listed F.value_of listed.entry.sources.now listed.entry.rpts.now
+        (entry_at F.family result bytes.now) ≡ true }
 {
     let mut rest = bytes;
     for place in 0..count {
-        if is_listed::<F>(sources, rpts, first_entry::<F>(rest)) {
+        if is_listed::<F>(listed, first_entry::<F>(rest)) {
             return place;
         }
         let (_, others) = rest.split_at(source_length::<F>());
@@ -144,100 +150,101 @@ pub(crate) fn fill<F: Family>(entries: &mut Entries<'_, F>, block: &mut [F::Numb
 /// Whether two-at-a-time searches show that no number of a block is among those of its type. Both
 /// lists are sorted. False decides nothing.
 pub(crate) fn are_numbers_unlisted<F: Family>(
-    sources: &[F::Number],
-    rpts: &[F::Number],
+    listed: Listed<'_, F::Number>,
     ends: Ends,
     block: &[F::Number],
 ) -> bool
     requires order { ends.front ≤ ends.back }
     requires bound { ends.back ≤ length block.now }
-    requires sources { IsSorted F.Number.cmp sources.now }
-    requires rpts { IsSorted F.Number.cmp rpts.now }
+    requires sources { IsSorted F.Number.cmp listed.sources.now }
+    requires rpts { IsSorted F.Number.cmp listed.rpts.now }
     ensures { result ≡ true → (this : Entry (List ℕ))
         → is_listed F.value_of (take ends.front block.now) (drop ends.back block.now) this ≡ true
-        → is_listed F.value_of sources.now rpts.now this ≡ false }
+        → is_listed F.value_of listed.entry.sources.now listed.entry.rpts.now this ≡ false }
 {
     let (before, these_rpts) = block.split_at(ends.back);
     let (these_sources, _) = before.split_at(ends.front);
-    let sources_are_missing = are_missing::<F>(sources, these_sources);
-    let rpts_are_missing = are_missing::<F>(rpts, these_rpts);
+    let sources_are_missing = are_missing::<F>(listed.sources, these_sources);
+    let rpts_are_missing = are_missing::<F>(listed.rpts, these_rpts);
     sources_are_missing & rpts_are_missing
 }
 
 /// Whether two-at-a-time searches show that none of `count` entries is listed. Both lists are
 /// sorted. False decides nothing.
 fn are_unlisted<F: Family>(
-    sources: &[F::Number],
-    rpts: &[F::Number],
+    listed: Listed<'_, F::Number>,
     count: u16,
     bytes: &[u8],
     block: &mut [F::Number],
 ) -> bool
     requires room { (0 < length block.old) × (count ≤ length block.old) }
     requires long { count * source_length F.family ≤ length bytes.now }
-    requires sources { IsSorted F.Number.cmp sources.now }
-    requires rpts { IsSorted F.Number.cmp rpts.now }
+    requires sources { IsSorted F.Number.cmp listed.sources.now }
+    requires rpts { IsSorted F.Number.cmp listed.rpts.now }
     ensures room { length block.new ≡ length block.old }
     ensures unlisted { result ≡ true → (place : ℕ) → place < count
-        → is_listed F.value_of sources.now rpts.now (entry_at F.family place bytes.now) ≡ false }
+        → is_listed F.value_of listed.entry.sources.now listed.entry.rpts.now
+        (entry_at F.family place bytes.now) ≡ false }
 {
     let mut entries = Entries::<F>::new(count, bytes);
     let ends = fill::<F>(&mut entries, block);
-    are_numbers_unlisted::<F>(sources, rpts, ends, block)
+    are_numbers_unlisted::<F>(listed, ends, block)
 }
 
 /// The same as `first_listed`, for at most as many entries as the block holds. It is faster where
 /// none is listed.
 fn first_listed_together<F: Family>(
-    sources: &[F::Number],
-    rpts: &[F::Number],
+    listed: Listed<'_, F::Number>,
     count: u16,
     bytes: &[u8],
     block: &mut [F::Number],
 ) -> u16
     requires room { (0 < length block.old) × (count ≤ length block.old) }
     requires long { count * source_length F.family ≤ length bytes.now }
-    requires sources { IsSorted F.Number.cmp sources.now }
-    requires rpts { IsSorted F.Number.cmp rpts.now }
+    requires sources { IsSorted F.Number.cmp listed.sources.now }
+    requires rpts { IsSorted F.Number.cmp listed.rpts.now }
     ensures room { length block.new ≡ length block.old }
     ensures bound { result ≤ count }
     ensures before { (place : ℕ) → place < result
-        → is_listed F.value_of sources.now rpts.now (entry_at F.family place bytes.now) ≡ false }
+        → is_listed F.value_of listed.entry.sources.now listed.entry.rpts.now
+        (entry_at F.family place bytes.now) ≡ false }
     ensures at { result < count
-        → is_listed F.value_of sources.now rpts.now (entry_at F.family result bytes.now) ≡ true }
+        → is_listed F.value_of listed.entry.sources.now listed.entry.rpts.now
+        (entry_at F.family result bytes.now) ≡ true }
 {
-    if are_unlisted::<F>(sources, rpts, count, bytes, block) {
+    if are_unlisted::<F>(listed, count, bytes, block) {
         return count;
     }
-    first_listed_of_few::<F>(sources, rpts, count, bytes)
+    first_listed_of_few::<F>(listed, count, bytes)
 }
 
 /// The index of the first of `count` entries whose number is among those of its type, or `count` if
 /// there is none. Both lists are sorted. Entries are looked for 64 together, and one by one where
 /// that doesn't show that none of them is listed.
 pub(crate) fn first_listed<F: Family>(
-    sources: &[F::Number],
-    rpts: &[F::Number],
+    listed: Listed<'_, F::Number>,
     count: u16,
     bytes: &[u8],
     block: &mut [F::Number],
 ) -> u16
     requires room { 64 ≤ length block.old }
     requires long { count * source_length F.family ≤ length bytes.now }
-    requires sources { IsSorted F.Number.cmp sources.now }
-    requires rpts { IsSorted F.Number.cmp rpts.now }
+    requires sources { IsSorted F.Number.cmp listed.sources.now }
+    requires rpts { IsSorted F.Number.cmp listed.rpts.now }
     ensures room { length block.new ≡ length block.old }
     ensures bound { result ≤ count }
     ensures before { (place : ℕ) → place < result
-        → is_listed F.value_of sources.now rpts.now (entry_at F.family place bytes.now) ≡ false }
+        → is_listed F.value_of listed.entry.sources.now listed.entry.rpts.now
+        (entry_at F.family place bytes.now) ≡ false }
     ensures at { result < count
-        → is_listed F.value_of sources.now rpts.now (entry_at F.family result bytes.now) ≡ true }
+        → is_listed F.value_of listed.entry.sources.now listed.entry.rpts.now
+        (entry_at F.family result bytes.now) ≡ true }
 {
     let mut rest = bytes;
     let mut place = 0;
     while place < count {
         let many = (count - place).min(TOGETHER);
-        let passed = first_listed_together::<F>(sources, rpts, many, rest, block);
+        let passed = first_listed_together::<F>(listed, many, rest, block);
         if passed < many {
             return place + passed;
         }
@@ -275,7 +282,7 @@ pub(crate) fn first_clash_by_blocks<F: Family>(
         let (sources, _) = before.split_at_mut(ends.front);
         sort_numbers(sources, spare);
         sort_numbers(rpts, spare);
-        end = first_listed::<F>(sources, rpts, end, bytes, together);
+        end = first_listed::<F>(Listed { sources, rpts }, end, bytes, together);
     }
     end
 }

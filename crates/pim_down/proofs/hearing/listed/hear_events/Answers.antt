@@ -10,13 +10,13 @@ act_listed-last-requires-clause-room g c =
     let events = c.args.events.now in
     let i = c.loop-index.index in
     let split = event_left bytes_of events i c.index-events-index.result c.loop-index-test.true c.index-events-index.is in
-    (room_at c.args.port (start_seen c.args.start) c.loop-index.records.capacity (event_seen bytes_of c.index-events-index.result) (seen_from bytes_of i events) (seen_from bytes_of (i + 1) events) (records_seen bytes_of c.loop-index.records.items) split c.loop-index.invariant.room).0
+    (room_at c.args.arrival.port (start_seen c.args.arrival.start) c.loop-index.records.capacity (event_seen bytes_of c.index-events-index.result) (seen_from bytes_of i events) (seen_from bytes_of (i + 1) events) (records_seen bytes_of c.loop-index.records.items) split c.loop-index.invariant.room).0
 
 pub loop-index-preserved : goal.loop-index-preserved
 loop-index-preserved g c =
     let bytes_of = g.F.Family.bytes_of in
-    let port = c.args.port in
-    let start = start_seen c.args.start in
+    let port = c.args.arrival.port in
+    let start = start_seen c.args.arrival.start in
     let events = c.args.events.now in
     let i = c.loop-index.index in
     let event = event_seen bytes_of c.index-events-index.result in
@@ -35,5 +35,5 @@ loop-index-preserved g c =
 pub returns : goal.returns
 returns g c =
     let bytes_of = g.F.Family.bytes_of in
-    sym (none_acts c.args.port (start_seen c.args.start) (seen_from bytes_of c.loop-index.index c.args.events.now) (records_seen bytes_of c.loop-index.records.items) (no_event_left bytes_of c.args.events.now c.loop-index.index (omega (arith, c.loop-index-test.false))))
+    sym (none_acts c.args.arrival.port (start_seen c.args.arrival.start) (seen_from bytes_of c.loop-index.index c.args.events.now) (records_seen bytes_of c.loop-index.records.items) (no_event_left bytes_of c.args.events.now c.loop-index.index (omega (arith, c.loop-index-test.false))))
     ∙ c.loop-index.invariant.left

@@ -6,6 +6,6 @@ use Rattle.pim_down.proofs.hearing.message.hear_sets.Given as goal
 abbrev pub invariant-loop-set : goal.invariant-loop-set
 invariant-loop-set g l = record {
   ascending : IsAscending (records_seen g.F.Family.bytes_of l.records.items);
-  room : HasRoom l.port (start_seen l.start) l.records.capacity (sets_events (rp_of g.F.Family.family l.routes) l.set-iterator) (records_seen g.F.Family.bytes_of l.records.items);
-  left : act_all l.port (start_seen l.start) (sets_events (rp_of g.F.Family.family l.routes) l.set-iterator) (records_seen g.F.Family.bytes_of l.records.items) ≡ act_all l.port (start_seen l.start) (sets_events (rp_of g.F.Family.family l.routes) l.message.sets) (records_seen g.F.Family.bytes_of l.fn.records.items);
+  room : HasRoom l.arrival.port (start_seen l.arrival.start) l.records.capacity (sets_events (rp_of g.F.Family.family l.routes) l.set-iterator) (records_seen g.F.Family.bytes_of l.records.items);
+  left : act_all l.arrival.port (start_seen l.arrival.start) (sets_events (rp_of g.F.Family.family l.routes) l.set-iterator) (records_seen g.F.Family.bytes_of l.records.items) ≡ act_all l.arrival.port (start_seen l.arrival.start) (sets_events (rp_of g.F.Family.family l.routes) l.message.sets) (records_seen g.F.Family.bytes_of l.fn.records.items);
 }

@@ -19,7 +19,7 @@ returns-clause-unlisted g c = λ plain place below.
     let none : is_in c.fill-ends.new.entries this ≡ false =
     in_none c.fill-ends.new.entries this
     (omega (arith, c.fill-ends.ensures.all (omega (arith, c.requires.room.1, ap length c.new-entries.ensures, entries_count g.F.Family.family c.args.count c.args.bytes.now)))) in
-    none_listed g.F.Family.value_of c.args.sources.now c.args.rpts.now (take c.fill-ends.result.front block) (drop c.fill-ends.result.back block) others this
+    none_listed g.F.Family.value_of c.args.listed.sources.now c.args.listed.rpts.now (take c.fill-ends.result.front block) (drop c.fill-ends.result.back block) others this
     (c.are_numbers_unlisted.ensures plain this)
     (entry_is_there g.F.Family.family c.args.count place c.args.bytes.now below)
     (listed_alone _ _ _ listed none)

@@ -9,7 +9,7 @@ invariant-loop-place g l = record {
   bound : l.place ≤ l.fn.count;
   room : length l.block ≡ length l.initial.block;
   left : l.rest ≡ drop (l.place * source_length g.F.Family.family) l.fn.bytes;
-  before : (place : ℕ) → place < l.place → is_listed g.F.Family.value_of l.fn.sources l.fn.rpts (entry_at g.F.Family.family place l.fn.bytes) ≡ false;
+  before : (place : ℕ) → place < l.place → is_listed g.F.Family.value_of l.fn.listed.sources.now l.fn.listed.rpts.now (entry_at g.F.Family.family place l.fn.bytes) ≡ false;
 }
 
 abbrev pub decreases-loop-place : goal.decreases-loop-place

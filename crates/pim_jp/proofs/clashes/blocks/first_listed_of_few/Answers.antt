@@ -11,9 +11,9 @@ pub loop-place-preserved : goal.loop-place-preserved
 loop-place-preserved g c =
     let here : entry_of (source_value g.F.Family.family c.loop-place.rest.now) ≡ entry_at g.F.Family.family c.loop-place.place c.args.bytes.now =
     ap (λ b. entry_of (source_value g.F.Family.family b)) c.loop-place.invariant.left in
-    let none : is_listed g.F.Family.value_of c.args.sources.now c.args.rpts.now (entry_at g.F.Family.family c.loop-place.place c.args.bytes.now) ≡ false =
+    let none : is_listed g.F.Family.value_of c.args.listed.sources.now c.args.listed.rpts.now (entry_at g.F.Family.family c.loop-place.place c.args.bytes.now) ≡ false =
     rw (← here, ← c.first_entry.ensures) (sym c.is_listed.ensures ∙ c.if-is_listed.false) in
     record {
       left = rw (c.split_at.ensures.back, c.source_length.ensures, c.loop-place.invariant.left) (drop_more (source_length g.F.Family.family) c.loop-place.place c.args.bytes.now);
-      before = place_more (λ (place : ℕ). is_listed g.F.Family.value_of c.args.sources.now c.args.rpts.now (entry_at g.F.Family.family place c.args.bytes.now) ≡ false) c.loop-place.place c.loop-place.invariant.before none;
+      before = place_more (λ (place : ℕ). is_listed g.F.Family.value_of c.args.listed.sources.now c.args.listed.rpts.now (entry_at g.F.Family.family place c.args.bytes.now) ≡ false) c.loop-place.place c.loop-place.invariant.before none;
     }

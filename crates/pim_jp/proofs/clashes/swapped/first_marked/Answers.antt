@@ -14,7 +14,7 @@ returns-clause-apart g c = λ place below.
     let has = entry_has_address g.F.Family.family place c.args.count c.args.bytes.now are within c.requires.long in
     let sources : c.split_at_mut-marked_sources.result.0.now ≡ take c.copy_marked-source_count.result c.copy_marked-source_count.new.copies = c.split_at_mut-marked_sources.ensures.front in
     let rpts : c.split_at_mut-marked_rpts.result.0.now ≡ take c.copy_marked-rpt_count.result c.copy_marked-rpt_count.new.copies = c.split_at_mut-marked_rpts.ensures.front in
-    let same = same_as_copies g.F.Family.value_of c.args.joined c.args.sources.now c.args.rpts.now c.mark_entries.new.source_marks c.mark_entries.new.rpt_marks g.row.N
+    let same = same_as_copies g.F.Family.value_of c.args.joined c.args.listed.sources.now c.args.listed.rpts.now c.mark_entries.new.source_marks c.mark_entries.new.rpt_marks g.row.N
     c.split_at_mut-marked_sources.result.0.now c.split_at_mut-marked_rpts.result.0.now c.sort_unstable.new.self c.sort_unstable-2.new.self
     c.sort_unstable.ensures.permutation c.sort_unstable-2.ensures.permutation
     (λ n. ap (λ xs. is_among g.F.Family.value_of xs n) sources ∙ c.copy_marked-source_count.ensures.copied n)
@@ -30,7 +30,7 @@ returns-clause-clash g c = λ below.
     let has = entry_has_address g.F.Family.family c.first_listed.result c.args.count c.args.bytes.now are within c.requires.long in
     let sources : c.split_at_mut-marked_sources.result.0.now ≡ take c.copy_marked-source_count.result c.copy_marked-source_count.new.copies = c.split_at_mut-marked_sources.ensures.front in
     let rpts : c.split_at_mut-marked_rpts.result.0.now ≡ take c.copy_marked-rpt_count.result c.copy_marked-rpt_count.new.copies = c.split_at_mut-marked_rpts.ensures.front in
-    let same = same_as_copies g.F.Family.value_of c.args.joined c.args.sources.now c.args.rpts.now c.mark_entries.new.source_marks c.mark_entries.new.rpt_marks g.row.N
+    let same = same_as_copies g.F.Family.value_of c.args.joined c.args.listed.sources.now c.args.listed.rpts.now c.mark_entries.new.source_marks c.mark_entries.new.rpt_marks g.row.N
     c.split_at_mut-marked_sources.result.0.now c.split_at_mut-marked_rpts.result.0.now c.sort_unstable.new.self c.sort_unstable-2.new.self
     c.sort_unstable.ensures.permutation c.sort_unstable-2.ensures.permutation
     (λ n. ap (λ xs. is_among g.F.Family.value_of xs n) sources ∙ c.copy_marked-source_count.ensures.copied n)
