@@ -1,4 +1,4 @@
-pub mod SomeBelow
+pub mod Below
 pub mod Addresses
 pub mod Counting
 pub mod OneForm

@@ -1,5 +1,5 @@
 -- The message of a part of a form that fits the budget: it can be spelled, and what room it takes.
-use Rattle.std.proofs.Common.{◌≡◌, ◌∙◌, ◌+◌, ◌*◌, ℕ, true, List, ◌++◌, length, map, drop, sym, ap, subst, Option}
+use Rattle.std.proofs.Common.{◌≡◌, ◌∙◌, ◌+◌, ◌*◌, ℕ, true, List, ◌++◌, length, map, drop, sym, ap, subst, arith, Option, append_assoc, length-append}
 use Rattle.std.proofs.lemmas.List.{length-map}
 use Rattle.std.proofs.Math.Seq.{drop-append_seam}
 use Rattle.pim_addr.specs.declared.family.AddressFamily.{AddressFamily}
@@ -36,22 +36,16 @@ module _ (family : AddressFamily) (writing : Writing) (rps : List ℕ → Option
       ap (λ (n : ℕ). empty_message_size family + n * empty_set_size family + run_entries (units_of part) * entry_size family) groups
       ∙ sym (head_and_sets family (length part) (run_entries (units_of part)) (canonical_sets_length family (map (written_set rps) part)) sets)
 
-  body_is : (count holdtime : ℕ) (upstream front head sets : List ℕ) → length front ≡ 4 → count ≡ length part → upstream ≡ writing.upstream → holdtime ≡ writing.holdtime
-      → head ≡ canonical_head family upstream count holdtime → sets ≡ flat_map (canonical_set family) (map (written_set rps) part)
-      → drop 4 (front ++ (head ++ sets)) ≡ canonical family (written_message writing rps part)
-  body_is count holdtime upstream front head sets long counts upstreams times is_head is_sets =
+  pub sealed_is : (count : ℕ) (front head sets bytes : List ℕ) → length front ≡ 4 → length head ≡ canonical_head_length family → count ≡ length part
+      → sets ≡ flat_map (canonical_set family) (map (written_set rps) part)
+      → IsSealed family writing.own (all_routers family) JoinPrune
+      (canonical_head family writing.upstream count writing.holdtime ++ drop (4 + canonical_head_length family) (front ++ (head ++ sets))) bytes
+      → IsSealed family writing.own (all_routers family) JoinPrune (canonical family (written_message writing rps part)) bytes
+  sealed_is count front head sets bytes long head_long counts is_sets sealed =
       let counted : count ≡ length (map (written_set rps) part) = counts ∙ sym (length-map part (written_set rps)) in
-      ap (λ (n : ℕ). drop n (front ++ (head ++ sets))) (sym long) ∙ drop-append_seam front (head ++ sets)
-      ∙ ap (λ (bytes : List ℕ). bytes ++ sets) is_head ∙ ap (λ (address : List ℕ). canonical_head family address count holdtime ++ sets) upstreams
-      ∙ ap (λ (n : ℕ). canonical_head family writing.upstream n holdtime ++ sets) counted
-      ∙ ap (λ (n : ℕ). canonical_head family writing.upstream (length (map (written_set rps) part)) n ++ sets) times
-      ∙ ap (λ (bytes : List ℕ). canonical_head family writing.upstream (length (map (written_set rps) part)) writing.holdtime ++ bytes) is_sets
-
-  pub sealed_is : (count holdtime : ℕ) (own routers upstream front head sets bytes : List ℕ) → length front ≡ 4 → count ≡ length part → upstream ≡ writing.upstream → holdtime ≡ writing.holdtime
-      → head ≡ canonical_head family upstream count holdtime → sets ≡ flat_map (canonical_set family) (map (written_set rps) part) → own ≡ writing.own → routers ≡ all_routers family
-      → IsSealed family own routers JoinPrune (drop 4 (front ++ (head ++ sets))) bytes → IsSealed family writing.own (all_routers family) JoinPrune (canonical family (written_message writing rps part)) bytes
-  sealed_is count holdtime own routers upstream front head sets bytes long counts upstreams times is_head is_sets owns alls sealed =
-      let body = body_is count holdtime upstream front head sets long counts upstreams times is_head is_sets in
-      subst (λ (address : List ℕ). IsSealed family address (all_routers family) JoinPrune (canonical family (written_message writing rps part)) bytes) owns
-      (subst (λ (address : List ℕ). IsSealed family own address JoinPrune (canonical family (written_message writing rps part)) bytes) alls
-      (subst (λ (body : List ℕ). IsSealed family own routers JoinPrune body bytes) body sealed))
+      let first : 4 + canonical_head_length family ≡ length (front ++ head) = omega (arith, long, head_long, length-append front head) in
+      let behind : drop (4 + canonical_head_length family) (front ++ (head ++ sets)) ≡ sets =
+      ap (λ (n : ℕ). drop n (front ++ (head ++ sets))) first ∙ ap (drop (length (front ++ head))) (sym (append_assoc front head sets)) ∙ drop-append_seam (front ++ head) sets in
+      let body = ap (λ (n : ℕ). canonical_head family writing.upstream n writing.holdtime ++ drop (4 + canonical_head_length family) (front ++ (head ++ sets))) counted
+      ∙ ap (λ (rest : List ℕ). canonical_head family writing.upstream (length (map (written_set rps) part)) writing.holdtime ++ rest) (behind ∙ is_sets) in
+      subst (λ (body : List ℕ). IsSealed family writing.own (all_routers family) JoinPrune body bytes) body sealed

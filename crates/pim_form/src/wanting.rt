@@ -41,7 +41,7 @@ fn wants_on<F: Family>(
     }
 }
 
-#[tactic(auto, using(crate::proofs::SomeBelow::none_more,), unfolding(crate::specs::Wants::some_below))]
+#[tactic(auto, using(crate::proofs::Below::none_more), unfolding(crate::specs::Wants::some_below))]
 /// Returns whether some port wants the traffic of this source to this group on this tree
 /// (RFC 7761, 4.1). A port wants it on the shared tree if it is in joins(*,G) and not in
 /// prunes(S,G,rpt), and on the source's tree if it is in joins(S,G).

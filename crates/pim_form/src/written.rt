@@ -197,21 +197,11 @@ pub(crate) fn write_message<F: Family>(
         bytes.new }
 {
     writer.is_writing();
+    let count = part.count_left() as u8;
     let (_, body) = bytes.split_at_mut(4);
-    let (head, sets) = body.split_at_mut(head_length::<F>());
-    put_head::<F>(
-        writer.upstream(),
-        part.count_left() as u8,
-        writer.holdtime(),
-        head,
-    );
+    let (_, sets) = body.split_at_mut(head_length::<F>());
     write_sets::<F>(routes, part, sets);
-    seal::<F>(
-        writer.own(),
-        all_routers::<F>(),
-        MessageType::JoinPrune,
-        bytes,
-    );
+    writer.seal_message(count, bytes);
 }
 
 /// The number of entries of a group: its star, its exceptions and its sources.

@@ -1,6 +1,6 @@
 use Rattle.std.proofs.Common.{◌≡◌, Bool, true, ℕ, sym, ◌<◌, arith}
 use Rattle.pim_form.specs.Wants.{wants_on}
-use Rattle.pim_form.proofs.SomeBelow.{found_below}
+use Rattle.pim_form.proofs.Below.{found_below}
 use Rattle.pim_form.proofs.wanting.wants.Goals as goal
 
 pub returns-then-wants_on : goal.returns-then-wants_on

@@ -1,4 +1,4 @@
-use Rattle.std.proofs.Common.{arith}
+use Rattle.std.proofs.Common.{◌∙◌, arith}
 use Rattle.std.proofs.lemmas.List.{length-map}
 use Rattle.pim_addr.specs.Routes.{rp_of}
 use Rattle.pim_form.specs.Messages.{written_set}
@@ -17,11 +17,10 @@ write_sets-requires-clause-sets g c =
 pub write_sets-requires-clause-length : goal.write_sets-requires-clause-length
 write_sets-requires-clause-length g c =
     let room = message_room g.F.Family.family c.args.writer.now (rp_of g.F.Family.family c.args.routes.now) c.args.part c.requires.normal c.requires.rps c.requires.fitting in
-    omega (arith, room, c.requires.length, c.split_at_mut-body.ensures.back_len, c.split_at_mut-head.ensures.back_len, c.head_length.ensures)
+    omega (arith, room, c.requires.length, c.split_at_mut-body.ensures.back_len, c.split_at_mut-sets.ensures.back_len, c.head_length.ensures)
 
 pub returns : goal.returns
 returns g c =
     sealed_is g.F.Family.family c.args.writer.now (rp_of g.F.Family.family c.args.routes.now) c.args.part c.requires.normal c.requires.rps c.requires.fitting
-    c.count_left.result c.holdtime.result _ _ _ c.split_at_mut-body.result.0.now c.put_head.new.bytes c.write_sets.new.bytes c.seal.new.bytes
-    c.split_at_mut-body.ensures.front_len c.count_left.ensures c.upstream.ensures c.holdtime.ensures c.put_head.ensures c.write_sets.ensures c.own.ensures c.all_routers.ensures
-    c.seal.ensures.sealed
+    c.count_left.result c.split_at_mut-body.result.0.now c.split_at_mut-sets.result.0.now c.write_sets.new.bytes c.seal_message.new.bytes
+    c.split_at_mut-body.ensures.front_len (c.split_at_mut-sets.ensures.front_len ∙ c.head_length.ensures) c.count_left.ensures c.write_sets.ensures c.seal_message.ensures.sealed
