@@ -22,7 +22,7 @@ use Rattle.pim_router.specs.OneList.{OneListIsDemanded, OneIsTooBig, OneListIsTh
 use Rattle.pim_router.specs.Packets.{Packet as Received}
 use Rattle.pim_router.specs.State.{RouterState}
 use Rattle.pim_text.specs.OneReading.{OneBody, LongBody}
-use Rattle.pim_text.specs.Spell.{IsLong, stated_in}
+use Rattle.pim_text.specs.Spell.{IsLong, stated_in, type_of}
 use Rattle.pim_lines.specs.AnyAddress.{address_bytes}
 use Rattle.pim_answers.specs.declared.packets.FromText.{FromText}
 use Rattle.pim_answers.specs.Answered.{Refused, RefusedIf, OrMemory, OrMemoryIf}
@@ -32,7 +32,7 @@ use Rattle.pim_answers.specs.Families.{differ_from, family_words}
 use Rattle.pim_answers.specs.Kept.{Kept, with_kept, lacks_place, is_usable}
 use Rattle.pim_answers.specs.Lines.{ok_line, fault_line, memory_line}
 use Rattle.pim_answers.specs.OneAnswer.{OneAnswer, OneText, OneRun, OnePacket, OneFrom, OneKeep, OneNext, OneWants, OneMessages, OneChange, OneSame}
-use Rattle.pim_answers.specs.Packets.{lacks_port, port_words, addresses_of, Takes, NeedsMemory, packet_of, packet_from, destination_of, type_of, IsMessageOf, TakesText, TakesShort}
+use Rattle.pim_answers.specs.Packets.{lacks_port, port_words, addresses_of, Takes, NeedsMemory, packet_of, packet_from, destination_of, IsMessageOf, TakesText, TakesShort}
 use Rattle.pim_answers.specs.Running.{Passes}
 use Rattle.pim_answers.specs.Reports.{moment_line}
 

@@ -2,12 +2,10 @@
 use Rattle.std.specs.Prelude.{◌≡◌, ◌⊎◌, ℕ, ◌≤◌, Bool, true, false, ◌||◌, not, nat_le, List, [], ◌∷◌, ◌++◌, length, codes, decimal}
 use Rattle.std.specs.Prelude.{Option, None, Some, IsTrue}
 use Rattle.pim_addr.specs.declared.family.AddressFamily.{AddressFamily}
-use Rattle.pim_frame.specs.declared.frame.MessageType.{MessageType}
-use Rattle.pim_frame.specs.declared.frame.MessageType.TheVariants.{Hello, JoinPrune}
 use Rattle.pim_frame.specs.Frame.{all_routers, content}
 use Rattle.pim_frame.specs.Seal.{IsSealed}
 use Rattle.pim_lines.specs.declared.either.AnyAddress.{AnyAddress}
-use Rattle.pim_text.specs.Spell.{IsSpelled, IsLong, stated_in}
+use Rattle.pim_text.specs.Spell.{IsSpelled, IsLong, stated_in, type_of}
 use Rattle.pim_request.specs.declared.command.Packet.{Packet}
 use Rattle.pim_request.specs.declared.command.Sender.{Sender}
 use Rattle.pim_request.specs.Forms.{hex_bytes}
@@ -76,11 +74,6 @@ addresses_of sender = addresses_with sender.source sender.destination
 abbrev pub destination_of : AddressFamily → Option AnyAddress → List ℕ
 destination_of family None = all_routers family
 destination_of family (Some destination) = address_bytes destination
-
--- The type of a message.
-abbrev pub type_of : Bool → MessageType
-type_of true = Hello
-type_of false = JoinPrune
 
 -- The bytes are the message that the text states, legal or not: its canonical spelling, of at most
 -- 65,536 bytes with the header, sealed from this source to this destination.

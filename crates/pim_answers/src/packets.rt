@@ -11,14 +11,14 @@ ghost use Rattle.pim_answers.specs.Answered.{OrMemoryIf, Answered};
 ghost use Rattle.pim_answers.specs.Families.{differ_from};
 ghost use Rattle.pim_answers.specs.Lines.{ok_line};
 ghost use Rattle.pim_answers.specs.Packets.{Takes, NeedsMemory, AnswersPacket, addresses_of};
-ghost use Rattle.pim_answers.specs.Packets.{type_of, room_limit, IsMessageOf, AnswersFrom};
+ghost use Rattle.pim_answers.specs.Packets.{room_limit, IsMessageOf, AnswersFrom};
 ghost use Rattle.pim_answers.specs.PacketsSeen.{IsPort, AreEnds, AreEndsOf, has_other_family};
 ghost use Rattle.pim_answers.specs.PacketsSeen.{IsFillFault};
 
 use crate::fault::{Fault, write_fault, write_ok};
 use crate::room::Room;
 use pim_addr::{Drain, Failed, Family};
-use pim_frame::{MessageType, all_routers};
+use pim_frame::all_routers;
 use pim_lines::{AnyAddress, of_family};
 use pim_report::write_verdict_line;
 use pim_request::{Packet, Sender};
@@ -169,17 +169,6 @@ fn ends_of_text<F: Family>(from: &FromText<'_>) -> Option<AnswerEnds<F::Addr>>
     }
 }
 
-/// The type of a spelled message.
-fn type_of(is_hello: bool) -> MessageType
-    ensures { result ≡ type_of is_hello }
-{
-    if is_hello {
-        MessageType::Hello
-    } else {
-        MessageType::JoinPrune
-    }
-}
-
 /// Fills the room with the message that a text spells.
 fn fill_spelled<F: Family>(
     alloc: Global,
@@ -195,7 +184,7 @@ fn fill_spelled<F: Family>(
 {
     match spell::<F>(alloc, from.text) {
         Ok(spelled) => {
-            let message_type = type_of(spelled.is_hello);
+            let message_type = spelled.message_type();
             room.fill_sealed::<F>(ends.source, ends.destination, message_type, &spelled.body);
             Ok(())
         }

@@ -15,11 +15,11 @@ use Rattle.pim_hello.specs.Spelling.{Fits, ReadsBack, if_there, parameters_spell
 use Rattle.pim_hello.specs.Value.{hello_of}
 use Rattle.pim_jp.specs.Faults.{faults}
 use Rattle.pim_text.specs.Read.{States}
-use Rattle.pim_text.specs.Spell.{IsSpelled}
+use Rattle.pim_text.specs.Spell.{IsSpelled, type_of}
 use Rattle.pim_text.specs.Value.{hello_in}
 use Rattle.pim_text.specs.declared.build.fault.BuildFault.{BuildFault}
 use Rattle.pim_text.specs.declared.build.fault.BuildFault.TheVariants.{Frame, Hello as of_hello, JoinPrune}
-use Rattle.pim_text.specs.Building.{Value, a_hello, a_message, stated, kind_of, is_hello, body_of, content_faults, message_faults, IsReadAs, IsBuilt, IsRefused, IsBuildFault}
+use Rattle.pim_text.specs.Building.{Value, a_hello, a_message, stated, is_hello, body_of, content_faults, message_faults, IsReadAs, IsBuilt, IsRefused, IsBuildFault}
 use Rattle.pim_text.proofs.ReadBack.{HeadReadsBack, message_back}
 use Rattle.pim_text.proofs.Sizes.{hello_sized, message_sized}
 
@@ -37,10 +37,10 @@ value_of family text true body (value, states, same) = record { value = a_hello 
 value_of family text false body (value, states, same) = record { value = a_message value; states = states; same_kind = refl; same_body = sym same }
 
 in_bytes : (family : AddressFamily) (source destination text : List ℕ) (kind : Bool) (body message : List ℕ) (v : IsValue family text kind body)
-    → IsSealed family source destination (kind_of kind) body message → IsSealed family source destination (kind_of (is_hello v.value)) (body_of family v.value) message
+    → IsSealed family source destination (type_of kind) body message → IsSealed family source destination (type_of (is_hello v.value)) (body_of family v.value) message
 in_bytes family source destination text kind body message v sealed =
-    subst (λ (k : Bool). IsSealed family source destination (kind_of k) (body_of family v.value) message) (sym v.same_kind)
-    (subst (λ (b : List ℕ). IsSealed family source destination (kind_of kind) b message) (sym v.same_body) sealed)
+    subst (λ (k : Bool). IsSealed family source destination (type_of k) (body_of family v.value) message) (sym v.same_kind)
+    (subst (λ (b : List ℕ). IsSealed family source destination (type_of kind) b message) (sym v.same_body) sealed)
 
 -- ---- a message that is refused
 
@@ -77,7 +77,7 @@ module _ (family : AddressFamily) (source destination text : List ℕ) where
   of_message [] held fault others same is = of_content held fault others same is
   of_message (first ∷ frames) held fault others same is = let here : Frame first ≡ fault = cc in subst Causes here (subst Refused (sym here) is)
 
-  pub refused : (kind : Bool) (body message : List ℕ) (fault : BuildFault) → IsSpelled family text kind body → IsSealed family source destination (kind_of kind) body message
+  pub refused : (kind : Bool) (body message : List ℕ) (fault : BuildFault) → IsSpelled family text kind body → IsSealed family source destination (type_of kind) body message
       → length message ≡ length body + 4 → length body ≤ 65532 → judged (message_faults family source destination message) (tt {0}) ≡ Err fault → Causes fault
   refused kind body message fault spelled sealed size short reported =
       let v = value_of family text kind body spelled in
@@ -112,16 +112,16 @@ module _ (family : AddressFamily) (source destination text : List ℕ) where
       (reads_back value fits).1
 
   module _ (reads_back : ReadsBack family) (head_back : HeadReadsBack) (group_back : GroupReadsBack) (source_back : SourceReadsBack) where
-    read_as : (value : Value) → States text (stated family value) → length (body_of family value) ≤ 65532 → IsReadAs family value (type_content (kind_of (is_hello value)) (body_of family value))
+    read_as : (value : Value) → States text (stated family value) → length (body_of family value) ≤ 65532 → IsReadAs family value (type_content (type_of (is_hello value)) (body_of family value))
     read_as (a_hello value) states short = hello_read reads_back value states short
     read_as (a_message value) states short = message_back family group_back source_back head_back value (message_sized family text value states)
 
-    pub built : (kind : Bool) (body message : List ℕ) → IsSpelled family text kind body → IsSealed family source destination (kind_of kind) body message
+    pub built : (kind : Bool) (body message : List ℕ) → IsSpelled family text kind body → IsSealed family source destination (type_of kind) body message
         → length message ≡ length body + 4 → length body ≤ 65532 → judged (message_faults family source destination message) (tt {0}) ≡ Ok (tt {0}) → IsBuilt family source destination text message
     built kind body message spelled sealed size short reported =
         let v = value_of family text kind body spelled in
         let bytes = in_bytes family source destination text kind body message v sealed in
-        let type = kind_of (is_hello v.value) in
+        let type = type_of (is_hello v.value) in
         let same : content message ≡ type_content type (body_of family v.value) = ap content bytes.0 ∙ content_is type (checksum message) (body_of family v.value) in
         let short' : length (body_of family v.value) ≤ 65532 = rw v.same_body short in
         record {

@@ -3,8 +3,6 @@ use Rattle.std.specs.Prelude.{◌≡◌, ◌≤◌, ℕ, Bool, true, false, List
 use Rattle.pim_addr.specs.declared.family.AddressFamily.{AddressFamily}
 use Rattle.pim_frame.specs.Frame.{Content, hello, join_prune, other, content, frame_faults}
 use Rattle.pim_frame.specs.Seal.{IsSealed}
-use Rattle.pim_frame.specs.declared.frame.MessageType.{MessageType}
-use Rattle.pim_frame.specs.declared.frame.MessageType.TheVariants as kind
 use Rattle.pim_hello.specs.Hello.{Hello}
 use Rattle.pim_hello.specs.Faults.{faults as hello_option_faults}
 use Rattle.pim_hello.specs.Spelling.{spelling_of}
@@ -15,7 +13,7 @@ use Rattle.pim_jp.specs.Message.{Message, message_of}
 use Rattle.pim_text.specs.HelloText.{hello_text}
 use Rattle.pim_text.specs.JoinPruneText.{message_text}
 use Rattle.pim_text.specs.Read.{States, IsWrongLine}
-use Rattle.pim_text.specs.Spell.{IsTextFault, IsLong, StatesOne}
+use Rattle.pim_text.specs.Spell.{IsTextFault, IsLong, StatesOne, type_of}
 use Rattle.pim_text.specs.Value.{TextValue, hello_in, message_in}
 use Rattle.pim_text.specs.declared.message.TextFault.{TextFault}
 use Rattle.pim_text.specs.declared.message.TextFault.TheVariants as of_text
@@ -33,11 +31,6 @@ pub data Value : Type 0 where
 abbrev pub stated : AddressFamily → Value → TextValue
 stated family (a_hello value) = hello_in family value
 stated family (a_message value) = message_in family value
-
--- The type of a message in its header.
-abbrev pub kind_of : Bool → MessageType
-kind_of true = kind.Hello
-kind_of false = kind.JoinPrune
 
 -- The message is a Hello.
 abbrev pub is_hello : Value → Bool
@@ -60,7 +53,7 @@ text_of family (a_message value) = message_text family value
 -- spelling, after a header with the only correct checksum below 65,535.
 abbrev pub IsInBytes : AddressFamily → List ℕ → List ℕ → Value → List ℕ → Type 0
 IsInBytes family source destination value message =
-    IsSealed family source destination (kind_of (is_hello value)) (body_of family value) message
+    IsSealed family source destination (type_of (is_hello value)) (body_of family value) message
 
 -- The faults that a receiver finds in the body of a message.
 abbrev pub content_faults : AddressFamily → Content → List BuildFault

@@ -2,6 +2,8 @@
 use Rattle.std.specs.Prelude.{◌≡◌, ◌<◌, ◌⊎◌, ℕ, Bool, true, false, List, length}
 use Rattle.pim_addr.specs.declared.family.AddressFamily.{AddressFamily}
 use Rattle.pim_addr.specs.declared.family.AddressFamily.TheVariants.{Ipv4, Ipv6}
+use Rattle.pim_frame.specs.declared.frame.MessageType.{MessageType}
+use Rattle.pim_frame.specs.declared.frame.MessageType.TheVariants as kind
 use Rattle.pim_hello.specs.Hello.{Hello}
 use Rattle.pim_hello.specs.Spelling.{spelling_of}
 use Rattle.pim_jp.specs.Message.{Message}
@@ -27,6 +29,11 @@ stated_in Ipv6 stated = stated.all_ipv6
 abbrev pub IsSpelled : AddressFamily → List ℕ → Bool → List ℕ → Type 0
 IsSpelled family text true body = (hello : Hello) × States text (hello_in family hello) × (body ≡ spelling_of family hello)
 IsSpelled family text false body = (message : Message) × States text (message_in family message) × (body ≡ canonical family message)
+
+-- The type of a message in its header: Hello if it is one, else Join/Prune.
+abbrev pub type_of : Bool → MessageType
+type_of true = kind.Hello
+type_of false = kind.JoinPrune
 
 -- The body of the message that the text states has more than 65,532 bytes.
 abbrev pub IsLong : AddressFamily → List ℕ → Type 0

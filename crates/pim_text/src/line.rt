@@ -61,7 +61,7 @@ pub enum Line {
     Prune(Entry<AnyAddress>),
 }
 
-/// What is still asked of a Join/Prune message.
+/// What is still expected of a Join/Prune message.
 #[derive(Clone, Copy, Debug, PartialEq, Eq)]
 pub struct Body {
     /// The joined entries of this set that are left.

@@ -3,7 +3,7 @@
 ghost use Rattle.std.specs.Prelude.{◌≡◌, ◌<◌, ◌≤◌, ◌^◌, length, IfOk, IfErr};
 ghost use Rattle.pim_text.specs.Spelled.{StatesMessage};
 ghost use Rattle.pim_text.specs.SpelledHello.{StatesHello};
-ghost use Rattle.pim_text.specs.Spell.{stated_in, IsSpelled, IsTextFault, reported};
+ghost use Rattle.pim_text.specs.Spell.{stated_in, IsSpelled, IsTextFault, reported, type_of};
 
 use crate::laws::stated_in_its_family;
 use crate::line::Stated;
@@ -11,6 +11,7 @@ use crate::reading::read_message_text;
 use crate::spelling::{SpellFault, spell_join_prune};
 use crate::spelling_hello::spell_hello;
 use pim_addr::{AddressFamily, Family};
+use pim_frame::MessageType;
 use std::alloc::Global;
 use thiserror::Error;
 
@@ -39,6 +40,19 @@ pub struct Spelled {
     pub is_hello: bool,
     /// The bytes after the header.
     pub body: Vec<u8>,
+}
+
+impl Spelled {
+    /// The type of the message.
+    pub fn message_type(&self) -> MessageType
+        ensures { result ≡ type_of self.now.is_hello }
+    {
+        if self.is_hello {
+            MessageType::Hello
+        } else {
+            MessageType::JoinPrune
+        }
+    }
 }
 
 /// Returns whether each address that was read is of the family.

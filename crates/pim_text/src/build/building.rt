@@ -5,28 +5,17 @@ ghost use Rattle.pim_addr.specs.Faults.{judged};
 ghost use Rattle.pim_frame.specs.Seal.{IsSealed};
 ghost use Rattle.pim_frame.specs.Seen.{content_of};
 ghost use Rattle.pim_text.specs.ReadingText.{text_limit};
-ghost use Rattle.pim_text.specs.Building.{kind_of, content_faults, message_faults, IsBuilt};
-ghost use Rattle.pim_text.specs.Building.{IsBuildFault};
+ghost use Rattle.pim_text.specs.Building.{content_faults, message_faults, IsBuilt, IsBuildFault};
+ghost use Rattle.pim_text.specs.Spell.{type_of};
 
 use crate::build::fault::{BuildFault, text_fault};
 use crate::message::{Spelled, spell};
 use pim_addr::{Family, group_reads_back, source_reads_back};
-use pim_frame::{Body, MessageType, open, seal};
+use pim_frame::{Body, open, seal};
 use pim_hello::{Hello, reads_back};
 use pim_jp::JpView;
 use pim_jp::laws::canonical_head_is_read;
 use std::alloc::{AllocError, Global};
-
-/// Returns the type of a message.
-fn kind_of(is_hello: bool) -> MessageType
-    ensures { result ≡ kind_of is_hello }
-{
-    if is_hello {
-        MessageType::Hello
-    } else {
-        MessageType::JoinPrune
-    }
-}
 
 /// Returns the message from `src` to `dst` with this body, sealed.
 fn sealed<F: Family>(
@@ -37,13 +26,13 @@ fn sealed<F: Family>(
 ) -> Result<Vec<u8>, AllocError>
     requires { length spelled.now.body.items ≤ 65532 }
     ensures sealed { IfOk result (λ m. IsSealed F.family (F.bytes_of src) (F.bytes_of dst)
-        (kind_of spelled.now.is_hello) spelled.now.body.items m.items) }
+        (type_of spelled.now.is_hello) spelled.now.body.items m.items) }
     ensures length { IfOk result (λ m. length m.items ≡ length spelled.now.body.items + 4) }
 {
     let mut message = Vec::new(alloc);
     message.extend_from_slice(&[0; 4])?;
     message.extend_from_slice(&spelled.body)?;
-    seal::<F>(src, dst, kind_of(spelled.is_hello), &mut message);
+    seal::<F>(src, dst, spelled.message_type(), &mut message);
     Ok(message)
 }
 
