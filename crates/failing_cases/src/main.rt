@@ -78,7 +78,7 @@ fn main(rt: HostRuntime) -> io::Result<ExitCode> {
     let mut tally = Tally::new(Echo);
     let files = files_below(&rt, FOLDER)?;
     tally.run_files(&rt, &files)?;
-    tally.tell(&rt)?;
+    tally.write_tally(&rt)?;
     if tally.has_failed() {
         return Ok(ExitCode::FAILURE);
     }

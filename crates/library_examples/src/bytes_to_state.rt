@@ -36,7 +36,7 @@ fn is_for(message: &JpView<'_, V4>, own: [u8; 4]) -> bool
 
 /// One port, with room for a hundred records, that has one neighbour and hears the message at the
 /// moment 0.
-pub fn tell_state(rt: &HostRuntime) -> io::Result<()> {
+pub fn write_state(rt: &HostRuntime) -> io::Result<()> {
     let Ok(Body::JoinPrune(body)) = open::<V4>(SENDER, all_routers::<V4>(), &MESSAGE) else {
         return println!(rt; "no sound Join/Prune");
     };

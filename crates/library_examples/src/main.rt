@@ -6,11 +6,11 @@ mod bytes_to_state;
 mod packets_to_messages;
 
 use anyhow::Result;
-use bytes_to_state::tell_state;
-use packets_to_messages::tell_messages;
+use bytes_to_state::write_state;
+use packets_to_messages::write_messages;
 
 /// Runs one after the other.
 fn main(rt: HostRuntime) -> Result<()> {
-    tell_state(&rt)?;
-    tell_messages(&rt)
+    write_state(&rt)?;
+    write_messages(&rt)
 }

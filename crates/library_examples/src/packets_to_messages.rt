@@ -127,7 +127,7 @@ fn hear(rt: &HostRuntime, router: &mut Router<'_, V4>, writer: &Writer<V4>) -> R
 }
 
 /// Writes what the router's machines are.
-fn tell_records(rt: &HostRuntime, router: &Router<'_, V4>) -> Result<()> {
+fn write_records(rt: &HostRuntime, router: &Router<'_, V4>) -> Result<()> {
     for held in router.ports().records() {
         println!(rt; "{:?} {:?}", held.key.what, held.machine.state)?;
     }
@@ -144,7 +144,7 @@ fn table(rt: &HostRuntime) -> Result<Routes<V4>> {
 
 /// A router that knows the RP of all groups and the way to it, with at most 1,000 records a port,
 /// hears the packets.
-pub fn tell_messages(rt: &HostRuntime) -> Result<()> {
+pub fn write_messages(rt: &HostRuntime) -> Result<()> {
     let routes = table(rt)?;
     let config = Config {
         ports: &PORTS,
@@ -154,6 +154,6 @@ pub fn tell_messages(rt: &HostRuntime) -> Result<()> {
     let mut router = Router::<V4>::new(rt.alloc(), &config)?;
     let writer = Writer::<V4>::new(UPSTREAM, OWN, 210, 1_460)?;
     hear(rt, &mut router, &writer)?;
-    tell_records(rt, &router)?;
+    write_records(rt, &router)?;
     ask_upstream(rt, &router, &writer)
 }

@@ -10,13 +10,13 @@ use Rattle.pim_form.specs.Refused.{group_too_big}
 use Rattle.pim_form.specs.Toward.{via_of, is_toward}
 use Rattle.pim_form.specs.declared.fault.FormFault.{FormFault}
 use Rattle.pim_form.specs.declared.fault.FormFault.TheVariants.{TooBig, Memory, Tables}
-use Rattle.pim_request.specs.declared.command.Writing.{Writing}
+use Rattle.pim_request.specs.declared.command.AnyWriting.{AnyWriting}
 use Rattle.pim_request.specs.declared.command.Comparison.{Comparison}
 use Rattle.pim_router.specs.Canonical.{IsDemandedBy, IsTooBig}
 use Rattle.pim_router.specs.State.{RouterState}
 use Rattle.pim_answers.specs.Answered.{Wrote}
 use Rattle.pim_answers.specs.Demanding.{UnlessIf, UnlessAny, SaysMade, SaysSame, AreCompared, AnswersMessages, AnswersFound, SaysOf, IfUsable, has_other_family, writer_words, writer_of, name_words}
-use Rattle.pim_answers.specs.declared.fault.Fault.{Fault}
+use Rattle.pim_answers.specs.declared.fault.AnswerFault.{AnswerFault}
 use Rattle.pim_answers.specs.declared.kept.FoundForm.{FoundForm}
 use Rattle.pim_answers.specs.declared.kept.FoundForm.TheVariants.{Unknown, Other, Form}
 use Rattle.pim_answers.specs.declared.kept.KeptForm.{KeptForm}
@@ -83,7 +83,7 @@ toward_here family form routes table neighbour upstream r n is =
     (subst (λ (a : List ℕ). is_toward (rp_of family routes) (via_of family routes) a form ≡ true) n is)
 
 -- `messages` by a writer without a fault
-pub messages_told : {A E : Type 0} (family : AddressFamily) (writing : Writing) (writer : Writer) (router : RouterState) (old new : Option (List ℕ)) (r : Result A E) → has_other_family family writing ≡ false
+pub messages_told : {A E : Type 0} (family : AddressFamily) (writing : AnyWriting) (writer : Writer) (router : RouterState) (old new : Option (List ℕ)) (r : Result A E) → has_other_family family writing ≡ false
     → writer_words family writing ≡ [] → writer ≡ writer_of writing → (text : List ℕ) → SaysMade family (IsDemandedBy family writer router) (IsTooBig family writer router) text → AppendsAll old new r text
     → Wrote (AnswersMessages family writing router) old new r
 messages_told family writing writer router old new r same none is text tells written = record {
@@ -165,7 +165,7 @@ module _ {A E : Type 0} (family : AddressFamily) (comparison : Comparison) (rout
         unknown None e = ap fault_line is
         unknown (Some known) e = absurd cc
 
-    pub named_badly : (fault : Fault) → true ≡ is_some kept → IsFirst (writer_words family comparison.writing) fault → AppendsAll old new r (fault_line (fault_words fault))
+    pub named_badly : (fault : AnswerFault) → true ≡ is_some kept → IsFirst (writer_words family comparison.writing) fault → AppendsAll old new r (fault_line (fault_words fault))
         → Wrote (AnswersFound family comparison router (Says (writer_of comparison.writing)) kept) old new r
     named_badly fault some first written = of_family (fault_line (fault_words fault)) (badly kept some) written
       where

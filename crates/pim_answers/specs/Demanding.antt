@@ -7,7 +7,7 @@ use Rattle.pim_form.specs.Messages.{Writing as Writer, AreCanonical}
 use Rattle.pim_form.specs.NormalForm.{GroupForm, IsFormOf}
 use Rattle.pim_form.specs.TooBig.{too_big}
 use Rattle.pim_form.specs.Writer.{writer_faults}
-use Rattle.pim_request.specs.declared.command.Writing.{Writing}
+use Rattle.pim_request.specs.declared.command.AnyWriting.{AnyWriting}
 use Rattle.pim_request.specs.declared.command.KeptWhat.{KeptWhat as Keeping}
 use Rattle.pim_request.specs.declared.command.Comparison.{Comparison}
 use Rattle.pim_router.specs.Canonical.{demanded, IsDemandedBy, IsTooBig}
@@ -26,7 +26,7 @@ use Rattle.pim_answers.specs.Kept.{Kept}
 -- ---- writers
 
 -- The writer that a command states.
-abbrev pub writer_of : Writing → Writer
+abbrev pub writer_of : AnyWriting → Writer
 writer_of writing = record {
   upstream = address_bytes writing.upstream;
   own = address_bytes writing.own;
@@ -36,11 +36,11 @@ writer_of writing = record {
 
 -- The words of a writer that there isn't: its addresses are the cause, since its holdtime and its
 -- budget are in their ranges by the words of the command.
-abbrev pub writer_words : AddressFamily → Writing → List (List ℕ)
+abbrev pub writer_words : AddressFamily → AnyWriting → List (List ℕ)
 writer_words family writing = map (λ fault. codes "writer address") (writer_faults family (writer_of writing))
 
 -- An address of the writer isn't of the family.
-abbrev pub has_other_family : AddressFamily → Writing → Bool
+abbrev pub has_other_family : AddressFamily → AnyWriting → Bool
 has_other_family family writing = differ_from family (writing.upstream ∷ writing.own ∷ [])
 
 -- A command is refused by these words and changes nothing, or it writes this.
@@ -68,7 +68,7 @@ SaysMade family AreMade IsBig text =
     ⊎ ((group : List ℕ) × IsBig (Some group) × (text ≡ fault_line (too_big_words family group)))
 
 -- `messages`: the canonical messages to the upstream neighbour.
-abbrev pub AnswersMessages : AddressFamily → Writing → RouterState → List ℕ → Type 0
+abbrev pub AnswersMessages : AddressFamily → AnyWriting → RouterState → List ℕ → Type 0
 AnswersMessages family writing router =
     UnlessIf (has_other_family family writing) family_words
     (UnlessAny (writer_words family writing)

@@ -9,12 +9,12 @@ use Rattle.pim_form.specs.declared.fault.FormFault.{FormFault}
 use Rattle.pim_form.specs.declared.fault.FormFault.TheVariants.{TooBig, Memory, Tables}
 use Rattle.pim_lines.specs.AnyAddress.{address_bytes}
 use Rattle.pim_request.specs.declared.command.KeptWhat.{KeptWhat as Keeping}
-use Rattle.pim_request.specs.declared.command.Writing.{Writing}
+use Rattle.pim_request.specs.declared.command.AnyWriting.{AnyWriting}
 use Rattle.pim_router.specs.Canonical.{demanded}
 use Rattle.pim_router.specs.State.{RouterState}
 use Rattle.pim_report.specs.MessageText.{messages_text}
 use Rattle.pim_answers.specs.declared.demanding.WriterEnds.{WriterEnds}
-use Rattle.pim_answers.specs.declared.fault.Fault.{Fault}
+use Rattle.pim_answers.specs.declared.fault.AnswerFault.{AnswerFault}
 use Rattle.pim_answers.specs.declared.kept.KeptForm.{KeptForm}
 use Rattle.pim_answers.specs.Demanding.{writer_of, writer_words, too_big_words, name_words, kept_now, IsFirstBig, IsNoneBig}
 use Rattle.pim_report.specs.SameLine.{same_line}
@@ -25,18 +25,18 @@ use Rattle.pim_answers.specs.Lines.{ok_line, fault_line, memory_line}
 use Rattle.pim_answers.specs.StoreSeen.{star_seen, form_seen}
 
 -- The addresses of a writer are these.
-abbrev pub AreEnds : {A : Type 0} → (A → List ℕ) → Writing → WriterEnds A → Type 0
+abbrev pub AreEnds : {A : Type 0} → (A → List ℕ) → AnyWriting → WriterEnds A → Type 0
 AreEnds bytes_of writing ends =
     (bytes_of ends.upstream ≡ (writer_of writing).upstream) × (bytes_of ends.own ≡ (writer_of writing).own)
 
 -- The words of the first of these faults.
-abbrev pub IsFirst : List (List ℕ) → Fault → Type 0
+abbrev pub IsFirst : List (List ℕ) → AnswerFault → Type 0
 IsFirst [] fault = ⊥
 IsFirst (first ∷ others) fault = fault_words fault ≡ first
 
 -- What `writer_of` returns: the writer that a command states, where it has no fault; else the first
 -- fault.
-abbrev pub MakesWriter : AddressFamily → Writing → Result Writer Fault → Type 0
+abbrev pub MakesWriter : AddressFamily → AnyWriting → Result Writer AnswerFault → Type 0
 MakesWriter family writing (Ok writer) = (writer_words family writing ≡ []) × (writer ≡ writer_of writing)
 MakesWriter family writing (Err fault) = IsFirst (writer_words family writing) fault
 
@@ -72,7 +72,7 @@ pub record IsDemandNow {F A N : Type 0} (family : AddressFamily) (bytes_of : A �
 -- What `keep` makes: the form of what is asked of the neighbour now, where the command has no
 -- fault; else its first fault, or memory is refused.
 abbrev pub IsKeptForm : {F A N : Type 0} → AddressFamily → (A → List ℕ) → Keeping → RouterState → List Kept →
-    Result (KeptForm F A N) Fault → Type 0
+    Result (KeptForm F A N) AnswerFault → Type 0
 IsKeptForm family bytes_of keeping router kept (Ok form) =
     (differ_from family (keeping.upstream ∷ []) ≡ false) × (lacks_place keeping.name.now kept ≡ false)
     × IsDemandNow family bytes_of (address_bytes keeping.upstream) router form

@@ -3,7 +3,7 @@
 use Rattle.std.specs.Prelude.{◌≡◌, ◌≢◌, ℕ, List}
 use Rattle.pim_addr.specs.declared.family.AddressFamily.{AddressFamily}
 use Rattle.pim_request.specs.declared.command.Packet.{Packet}
-use Rattle.pim_request.specs.declared.command.Writing.{Writing}
+use Rattle.pim_request.specs.declared.command.AnyWriting.{AnyWriting}
 use Rattle.pim_request.specs.declared.command.KeptWhat.{KeptWhat as Keeping}
 use Rattle.pim_request.specs.declared.command.Comparison.{Comparison}
 use Rattle.pim_router.specs.State.{RouterState}
@@ -53,7 +53,7 @@ OneWants = (family : AddressFamily) (router : RouterState) → OneText (AnswersW
 
 -- `messages`
 abbrev pub OneMessages : Type 0
-OneMessages = (family : AddressFamily) (writing : Writing) (router : RouterState) → OneText (AnswersMessages family writing router)
+OneMessages = (family : AddressFamily) (writing : AnyWriting) (router : RouterState) → OneText (AnswersMessages family writing router)
 
 -- `change`
 abbrev pub OneChange : Type 0

@@ -4,7 +4,7 @@ use Rattle.pim_addr.specs.declared.family.AddressFamily.{AddressFamily}
 use Rattle.pim_lines.specs.declared.either.AnyAddress.{AnyAddress}
 use Rattle.pim_text.specs.Spell.{IsLong, stated_in}
 use Rattle.pim_lines.specs.AnyAddress.{address_bytes}
-use Rattle.pim_answers.specs.declared.fault.Fault.{Fault}
+use Rattle.pim_answers.specs.declared.fault.AnswerFault.{AnswerFault}
 use Rattle.pim_answers.specs.declared.packets.AnswerEnds.{AnswerEnds}
 use Rattle.pim_answers.specs.declared.packets.FromText.{FromText}
 use Rattle.pim_answers.specs.Fault.{fault_words}
@@ -12,7 +12,7 @@ use Rattle.pim_answers.specs.Families.{differ_from}
 use Rattle.pim_answers.specs.Packets.{addresses_of, destination_of, port_words}
 
 -- The port is this one, if there are more than that, else its words are the fault.
-abbrev pub IsPort : ℕ → ℕ → Result ℕ Fault → Type 0
+abbrev pub IsPort : ℕ → ℕ → Result ℕ AnswerFault → Type 0
 IsPort port count (Ok given) = (given ≡ port) × (port < count)
 IsPort port count (Err fault) = (count ≤ port) × (fault_words fault ≡ port_words port)
 
@@ -33,6 +33,6 @@ abbrev pub has_other_family : AddressFamily → FromText → Bool
 has_other_family family from = not (stated_in family from.stated) || differ_from family (addresses_of from.sender)
 
 -- Why a text has no message: it would be too long, or memory is refused.
-abbrev pub IsFillFault : AddressFamily → List ℕ → Fault → Type 0
+abbrev pub IsFillFault : AddressFamily → List ℕ → AnswerFault → Type 0
 IsFillFault family text fault =
     IsLong family text × (fault_words fault ≡ codes "text too-long") ⊎ (fault_words fault ≡ codes "memory")

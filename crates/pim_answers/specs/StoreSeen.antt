@@ -10,7 +10,7 @@ use Rattle.pim_answers.specs.declared.kept.AnyForm.TheVariants.{Ipv4, Ipv6}
 use Rattle.pim_answers.specs.declared.kept.KeptEntry.{KeptEntry}
 use Rattle.pim_answers.specs.declared.kept.FoundForm.{FoundForm}
 use Rattle.pim_answers.specs.declared.kept.FoundForm.TheVariants.{Unknown, Other, Form}
-use Rattle.pim_answers.specs.declared.kept.Store.{Store}
+use Rattle.pim_answers.specs.declared.kept.KeptForms.{KeptForms}
 use Rattle.pim_answers.specs.Kept.{Kept}
 
 -- The group of a star, and its RP.
@@ -32,7 +32,7 @@ abbrev pub entry_seen : KeptEntry → Kept
 entry_seen entry = any_seen entry.name.items entry.form
 
 -- All that is kept.
-abbrev pub store_seen : Store → List Kept
+abbrev pub store_seen : KeptForms → List Kept
 store_seen store = map entry_seen store.entries.items
 
 -- What is found under a name is this, which is kept, if anything is.

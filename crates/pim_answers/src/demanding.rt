@@ -19,13 +19,13 @@ ghost use Rattle.pim_answers.specs.Kept.{Kept as KeptSeen};
 ghost use Rattle.pim_answers.specs.Lines.{ok_line, fault_line};
 ghost use Rattle.pim_answers.specs.StoreSeen.{form_seen, store_seen, IsFound};
 
-use crate::fault::{Fault, write_fault, write_ok};
-use crate::kept::{FoundForm, KeptForm, Store, have_their_rps, stars_of};
+use crate::fault::{AnswerFault, write_fault, write_ok};
+use crate::kept::{FoundForm, KeptForm, KeptForms, have_their_rps, stars_of};
 use pim_addr::{Drain, Failed, Family, Routes, write_all};
 use pim_form::{FormFault, Messages, NormalForm, Writer, is_toward, pack};
 use pim_lines::{Shown, of_family};
 use pim_report::{same_line, write_messages};
-use pim_request::{Comparison, KeptWhat, Writing};
+use pim_request::{AnyWriting, Comparison, KeptWhat};
 use pim_router::Router;
 use std::alloc::{AllocError, Global};
 
@@ -37,7 +37,7 @@ struct WriterEnds<A> {
 }
 
 /// The addresses of a writer in the family, if both are of it.
-fn both_of<F: Family>(writing: &Writing) -> Option<WriterEnds<F::Addr>>
+fn both_of<F: Family>(writing: &AnyWriting) -> Option<WriterEnds<F::Addr>>
     ensures ends { IfSome result (AreEnds F.bytes_of writing.now) }
     ensures same { IfSome result (λ _. has_other_family F.family writing.now ≡ false) }
     ensures other { IfNone result (has_other_family F.family writing.now ≡ true) }
@@ -51,14 +51,14 @@ fn both_of<F: Family>(writing: &Writing) -> Option<WriterEnds<F::Addr>>
 /// The writer with these addresses.
 fn writer_of<F: Family>(
     ends: WriterEnds<F::Addr>,
-    writing: &Writing,
-) -> Result<Writer<F>, Fault<'static>>
+    writing: &AnyWriting,
+) -> Result<Writer<F>, AnswerFault<'static>>
     requires { AreEnds F.bytes_of writing.now ends }
     ensures { MakesWriter F.family writing.now result }
 {
     match Writer::new(ends.upstream, ends.own, writing.holdtime, writing.budget) {
         Ok(writer) => Ok(writer),
-        Err(_) => Err(Fault::plain(b"writer address")),
+        Err(_) => Err(AnswerFault::plain(b"writer address")),
     }
 }
 
@@ -71,10 +71,10 @@ fn write_form_fault<F: Family, W: Drain>(answers: &mut W, fault: FormFault<F>) -
     match fault {
         FormFault::TooBig(group) => {
             let group = Shown::address::<F>(group);
-            write_fault(answers, &Fault::with_name(b"too big ", group.text()))
+            write_fault(answers, &AnswerFault::with_name(b"too big ", group.text()))
         }
-        FormFault::Memory => write_fault(answers, &Fault::memory()),
-        FormFault::Tables => write_fault(answers, &Fault::plain(b"tables")),
+        FormFault::Memory => write_fault(answers, &AnswerFault::memory()),
+        FormFault::Tables => write_fault(answers, &AnswerFault::plain(b"tables")),
     }
 }
 
@@ -110,7 +110,7 @@ fn write_made<F: Family, W: Drain>(
 pub fn answer_messages<F: Family, W: Drain>(
     alloc: Global,
     router: &Router<'_, F>,
-    writing: &Writing,
+    writing: &AnyWriting,
     answers: &mut W,
 ) -> Result<(), Failed>
     ensures reported { Wrote (AnswersMessages F.family writing.now router.now)
@@ -118,7 +118,7 @@ pub fn answer_messages<F: Family, W: Drain>(
     ensures count { W.failures answers.new ≡ failures_after (W.failures answers.old) result }
 {
     let Some(ends) = both_of::<F>(writing) else {
-        return write_fault(answers, &Fault::family());
+        return write_fault(answers, &AnswerFault::family());
     };
     match writer_of::<F>(ends, writing) {
         Ok(writer) => write_made::<F, W>(answers, router.canonical(alloc, &writer)),
@@ -147,20 +147,20 @@ fn demand_now<F: Family>(
 pub fn form_to_keep<'c, F: Family>(
     alloc: Global,
     router: &Router<'_, F>,
-    store: &Store,
+    store: &KeptForms,
     command: &KeptWhat<'c>,
-) -> Result<KeptForm<F>, Fault<'c>>
+) -> Result<KeptForm<F>, AnswerFault<'c>>
     ensures { IsKeptForm F.family F.bytes_of command.now router.now (store_seen store.now) result }
 {
     let Some(upstream) = of_family::<F>(command.upstream) else {
-        return Err(Fault::family());
+        return Err(AnswerFault::family());
     };
     if store.lacks_place(command.name) {
-        return Err(Fault::with_name(b"name ", command.name));
+        return Err(AnswerFault::with_name(b"name ", command.name));
     }
     match demand_now::<F>(alloc, router, upstream) {
         Ok(form) => Ok(form),
-        Err(_) => Err(Fault::memory()),
+        Err(_) => Err(AnswerFault::memory()),
     }
 }
 
@@ -192,7 +192,7 @@ fn write_tables<W: Drain>(answers: &mut W) -> Result<(), Failed>
         (fault_line (codes "tables")) }
     ensures count { W.failures answers.new ≡ failures_after (W.failures answers.old) result }
 {
-    write_fault(answers, &Fault::plain(b"tables"))
+    write_fault(answers, &AnswerFault::plain(b"tables"))
 }
 
 /// Writes the messages of the change from the kept form to what is asked now.
@@ -268,10 +268,10 @@ pub fn answer_change<F: Family, W: Drain>(
     ensures count { W.failures answers.new ≡ failures_after (W.failures answers.old) result }
 {
     let Some(ends) = both_of::<F>(&command.writing) else {
-        return write_fault(answers, &Fault::family());
+        return write_fault(answers, &AnswerFault::family());
     };
     if !is_known::<F>(found) {
-        return write_fault(answers, &Fault::with_name(b"name ", command.name));
+        return write_fault(answers, &AnswerFault::with_name(b"name ", command.name));
     }
     match writer_of::<F>(ends, &command.writing) {
         Ok(writer) => change_found::<F, W>(alloc, router, found, &writer, answers),
@@ -386,10 +386,10 @@ pub fn answer_same<F: Family, W: Drain>(
     ensures count { W.failures answers.new ≡ failures_after (W.failures answers.old) result }
 {
     let Some(ends) = both_of::<F>(&command.writing) else {
-        return write_fault(answers, &Fault::family());
+        return write_fault(answers, &AnswerFault::family());
     };
     if !is_known::<F>(found) {
-        return write_fault(answers, &Fault::with_name(b"name ", command.name));
+        return write_fault(answers, &AnswerFault::with_name(b"name ", command.name));
     }
     match writer_of::<F>(ends, &command.writing) {
         Ok(writer) => same_found::<F, W>(alloc, router, found, &writer, answers),

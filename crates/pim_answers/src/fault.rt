@@ -13,18 +13,18 @@ use pim_lines::{number_or, write_pieces};
 
 /// Why a command is refused: words, and the bytes or the number that they name.
 #[derive(Clone, Copy, Debug)]
-pub struct Fault<'a> {
+pub struct AnswerFault<'a> {
     words: &'static [u8],
     name: &'a [u8],
     number: Option<u64>,
 }
 
-impl<'a> Fault<'a> {
+impl<'a> AnswerFault<'a> {
     /// A fault of words alone.
     pub fn plain(words: &'static [u8]) -> Self
         ensures { fault_words result ≡ words.now }
     {
-        Fault {
+        AnswerFault {
             words,
             name: b"",
             number: None,
@@ -35,7 +35,7 @@ impl<'a> Fault<'a> {
     pub fn with_name(words: &'static [u8], name: &'a [u8]) -> Self
         ensures { fault_words result ≡ words.now ++ name.now }
     {
-        Fault {
+        AnswerFault {
             words,
             name,
             number: None,
@@ -46,7 +46,7 @@ impl<'a> Fault<'a> {
     pub fn numbered(words: &'static [u8], number: u64) -> Self
         ensures { fault_words result ≡ words.now ++ decimal number }
     {
-        Fault {
+        AnswerFault {
             words,
             name: b"",
             number: Some(number),
@@ -78,19 +78,19 @@ impl<'a> Fault<'a> {
     pub fn memory() -> Self
         ensures { fault_words result ≡ codes "memory" }
     {
-        Fault::plain(b"memory")
+        AnswerFault::plain(b"memory")
     }
 
     /// An address has another family than the session.
     pub fn family() -> Self
         ensures { fault_words result ≡ family_words }
     {
-        Fault::plain(b"family")
+        AnswerFault::plain(b"family")
     }
 }
 
 /// Writes the line of a fault.
-pub fn write_fault<W: Drain>(answers: &mut W, fault: &Fault<'_>) -> Result<(), Failed>
+pub fn write_fault<W: Drain>(answers: &mut W, fault: &AnswerFault<'_>) -> Result<(), Failed>
     ensures bytes { AppendsAll (W.contents answers.old) (W.contents answers.new) result
         (fault_line (fault_words fault.now)) }
     ensures count { W.failures answers.new ≡ failures_after (W.failures answers.old) result }
@@ -115,7 +115,10 @@ pub fn write_ok<W: Drain>(answers: &mut W) -> Result<(), Failed>
 }
 
 /// Writes `ok`, or the line of the fault.
-pub fn write_done<W: Drain>(answers: &mut W, done: Result<(), Fault<'_>>) -> Result<(), Failed>
+pub fn write_done<W: Drain>(
+    answers: &mut W,
+    done: Result<(), AnswerFault<'_>>,
+) -> Result<(), Failed>
     ensures bytes { AppendsAll (W.contents answers.old) (W.contents answers.new) result
         (done_text done.entry) }
     ensures count { W.failures answers.new ≡ failures_after (W.failures answers.old) result }

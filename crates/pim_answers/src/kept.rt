@@ -90,7 +90,7 @@ struct KeptEntry {
 
 /// What is kept, by name.
 #[derive(Drop)]
-pub struct Store {
+pub struct KeptForms {
     entries: Vec<KeptEntry>,
 }
 
@@ -152,12 +152,12 @@ pub fn have_their_rps<F: Family>(stars: &[StarRp<F::Addr>], routes: &Routes<F>) 
     true
 }
 
-impl Store {
+impl KeptForms {
     /// Nothing is kept.
     pub fn new(alloc: Global) -> Self
         ensures { store_seen result ≡ [] }
     {
-        Store {
+        KeptForms {
             entries: Vec::new(alloc),
         }
     }

@@ -4,11 +4,11 @@
 //! - `answer_now`, `answer_next`, `answer_state`, `answer_wants` and `answer_neighbours` report
 //!   what the router holds.
 //! - `answer_messages` writes the canonical messages to an upstream neighbour. `form_to_keep` makes
-//!   the form that a `Store` keeps; `answer_change` and `answer_same` compare the demand of now
+//!   the form that a `KeptForms` keeps; `answer_change` and `answer_same` compare the demand of now
 //!   with it.
 //!
 //! Each writes its lines and `ok`, or one line with the first fault, and a refusal changes nothing.
-//! If the device fails, a prefix of the text was written. A `Store` knows no router, so that it
+//! If the device fails, a prefix of the text was written. A `KeptForms` knows no router, so that it
 //! outlives each. By the laws, two answers of a command to one state, neither of them `memory`, are
 //! the same. Callers: `pim_session`.
 #![tactic(auto)]
@@ -24,8 +24,8 @@ mod room;
 mod running;
 
 pub use demanding::{answer_change, answer_messages, answer_same, form_to_keep};
-pub use fault::{Fault, write_done, write_fault, write_ok};
-pub use kept::{AnyForm, FoundForm, KeptForm, StarRp, Store};
+pub use fault::{AnswerFault, write_done, write_fault, write_ok};
+pub use kept::{AnyForm, FoundForm, KeptForm, KeptForms, StarRp};
 pub use packets::{FromText, answer_from, answer_packet};
 pub use reports::{answer_neighbours, answer_next, answer_now, answer_state, answer_wants};
 pub use room::Room;

@@ -15,7 +15,7 @@ ghost use Rattle.pim_answers.specs.Packets.{room_limit, IsMessageOf, AnswersFrom
 ghost use Rattle.pim_answers.specs.PacketsSeen.{IsPort, AreEnds, AreEndsOf, has_other_family};
 ghost use Rattle.pim_answers.specs.PacketsSeen.{IsFillFault};
 
-use crate::fault::{Fault, write_fault, write_ok};
+use crate::fault::{AnswerFault, write_fault, write_ok};
 use crate::room::Room;
 use pim_addr::{Drain, Failed, Family};
 use pim_frame::all_routers;
@@ -57,13 +57,13 @@ fn both_of<F: Family>(source: AnyAddress, destination: AnyAddress) -> Option<Ans
 }
 
 /// The port with this number, where there are `count` ports.
-fn port_of(port: u64, count: usize) -> Result<usize, Fault<'static>>
+fn port_of(port: u64, count: usize) -> Result<usize, AnswerFault<'static>>
     ensures { IsPort port count result }
 {
     if port < count as u64 {
         Ok(port as usize)
     } else {
-        Err(Fault::numbered(b"port ", port))
+        Err(AnswerFault::numbered(b"port ", port))
     }
 }
 
@@ -98,7 +98,7 @@ fn take<F: Family, W: Drain>(
 {
     match router.take_packet(port, ends.source, ends.destination, message) {
         Ok(verdict) => answer_verdict(answers, verdict),
-        Err(_) => write_fault(answers, &Fault::memory()),
+        Err(_) => write_fault(answers, &AnswerFault::memory()),
     }
 }
 
@@ -119,7 +119,7 @@ pub fn answer_packet<F: Family, W: Drain>(
     ensures count { W.failures answers.new ≡ failures_after (W.failures answers.old) result }
 {
     let Some(ends) = both_of::<F>(packet.source, packet.destination) else {
-        return write_fault(answers, &Fault::family());
+        return write_fault(answers, &AnswerFault::family());
     };
     let port = match port_of(packet.port, router.port_count()) {
         Ok(port) => port,
@@ -175,7 +175,7 @@ fn fill_spelled<F: Family>(
     ends: AnswerEnds<F::Addr>,
     from: &FromText<'_>,
     room: &mut Room,
-) -> Result<(), Fault<'static>>
+) -> Result<(), AnswerFault<'static>>
     requires { length from.now.text.now < 2 ^ 32 }
     ensures message { IfOk result (λ _. IsMessageOf F.family from.now.text.now
         (F.bytes_of ends.source) (F.bytes_of ends.destination) room.new) }
@@ -188,8 +188,8 @@ fn fill_spelled<F: Family>(
             room.fill_sealed::<F>(ends.source, ends.destination, message_type, &spelled.body);
             Ok(())
         }
-        Err(TextFault::TooLong) => Err(Fault::plain(b"text too-long")),
-        Err(_) => Err(Fault::memory()),
+        Err(TextFault::TooLong) => Err(AnswerFault::plain(b"text too-long")),
+        Err(_) => Err(AnswerFault::memory()),
     }
 }
 
@@ -210,7 +210,7 @@ pub fn answer_from<F: Family, W: Drain>(
     ensures count { W.failures answers.new ≡ failures_after (W.failures answers.old) result }
 {
     let Some(ends) = ends_of_text::<F>(from) else {
-        return write_fault(answers, &Fault::family());
+        return write_fault(answers, &AnswerFault::family());
     };
     let port = match port_of(from.sender.port, router.port_count()) {
         Ok(port) => port,

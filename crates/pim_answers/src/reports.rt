@@ -11,7 +11,7 @@ ghost use Rattle.pim_answers.specs.Lines.{ok_line};
 ghost use Rattle.pim_answers.specs.Neighbours.{neighbours_text};
 ghost use Rattle.pim_answers.specs.Reports.{moment_line, AnswersNext, AnswersWants};
 
-use crate::fault::{Fault, write_fault, write_ok};
+use crate::fault::{AnswerFault, write_fault, write_ok};
 use crate::neighbours::write_neighbours;
 use itoa::Buffer;
 use pim_addr::{Drain, Failed, Family, Routes};
@@ -135,7 +135,7 @@ pub fn answer_wants<F: Family, W: Drain>(
 {
     match NormalForm::of(alloc, router.ports()) {
         Ok(form) => answer_demand::<F, W>(answers, router.routes(), &form),
-        Err(_) => write_fault(answers, &Fault::memory()),
+        Err(_) => write_fault(answers, &AnswerFault::memory()),
     }
 }
 

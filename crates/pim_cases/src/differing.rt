@@ -13,7 +13,7 @@ pub struct Place<'a> {
 }
 
 /// Writes that this line was expected, and this one is there.
-pub fn tell_line(
+pub fn write_line(
     rt: &HostRuntime,
     place: Place<'_>,
     part: &str,
@@ -29,7 +29,7 @@ pub fn tell_line(
 }
 
 /// Writes the first line in which the two differ. They do differ.
-pub fn tell_difference(
+pub fn write_difference(
     rt: &HostRuntime,
     place: Place<'_>,
     part: &str,
@@ -51,5 +51,5 @@ pub fn tell_difference(
     let (wanted, _) = cut_line(left);
     let (line, _) = cut_line(rest);
     let part = format!(in rt.alloc(); "{part} line {number}: ")?;
-    tell_line(rt, place, part.as_str(), wanted, line)
+    write_line(rt, place, part.as_str(), wanted, line)
 }

@@ -1,7 +1,7 @@
 //! Runs cases, and compares what they put out.
 
 use crate::case::Case;
-use crate::differing::{Place, tell_difference};
+use crate::differing::{Place, write_difference};
 use pim_addr::ScriptedDrain;
 use std::alloc::Global;
 use std::io;
@@ -52,11 +52,11 @@ fn compare(rt: &HostRuntime, file: &str, case: &Case<'_>, ended: &Ended) -> io::
     };
     let (output, errors) = (ended.output.written(), ended.errors.written());
     if output != case.output.as_slice() {
-        tell_difference(rt, place, "output", &case.output, output)?;
+        write_difference(rt, place, "output", &case.output, output)?;
         return Ok(false);
     }
     if errors != case.errors.as_slice() {
-        tell_difference(rt, place, "errors", &case.errors, errors)?;
+        write_difference(rt, place, "errors", &case.errors, errors)?;
         return Ok(false);
     }
     let (line, expected, got) = (case.line, case.status, ended.status);

@@ -4,7 +4,7 @@
 //! lines over, as all that begin with `#`. The answer of a `from` comes after its `send`. Each
 //! command has an answer, whose last line is `ok` or begins with `fault `.
 
-use crate::differing::{Place, tell_line};
+use crate::differing::{Place, write_line};
 use crate::ending::Runner;
 use crate::lines::{cut_line, without_feed};
 use pim_addr::ScriptedDrain;
@@ -32,24 +32,24 @@ fn ends_answer(line: &[u8]) -> bool {
 
 impl Comparison<'_> {
     /// Writes that this line of an answer was expected and another one came.
-    fn tell(&self, rt: &HostRuntime, expected: &[u8], got: &[u8]) -> io::Result<bool> {
+    fn write_unexpected(&self, rt: &HostRuntime, expected: &[u8], got: &[u8]) -> io::Result<bool> {
         let place = Place {
             file: self.file,
             line: self.command,
         };
-        tell_line(rt, place, "", expected, got)?;
+        write_line(rt, place, "", expected, got)?;
         Ok(false)
     }
 
     /// Compares one line of the answer of the last command.
     fn compare(&mut self, rt: &HostRuntime, expected: &[u8]) -> io::Result<bool> {
         if self.is_complete {
-            return self.tell(rt, expected, b"");
+            return self.write_unexpected(rt, expected, b"");
         }
         let (line, rest) = cut_line(self.answers);
         let got = without_feed(line);
         if got != expected {
-            return self.tell(rt, expected, got);
+            return self.write_unexpected(rt, expected, got);
         }
         self.answers = rest;
         self.is_complete = ends_answer(got);
@@ -62,7 +62,7 @@ impl Comparison<'_> {
             return Ok(true);
         }
         let (line, _) = cut_line(self.answers);
-        self.tell(rt, b"", without_feed(line))
+        self.write_unexpected(rt, b"", without_feed(line))
     }
 
     /// Whether all answers were compared. Otherwise it writes what comes next.
@@ -71,7 +71,7 @@ impl Comparison<'_> {
             return Ok(true);
         }
         let (line, _) = cut_line(self.answers);
-        self.tell(rt, b"", without_feed(line))
+        self.write_unexpected(rt, b"", without_feed(line))
     }
 
     /// Goes on by a line of the scenario, which has this number. Returns whether all is as

@@ -103,7 +103,7 @@ impl<R: Runner + Drop> Tally<R> {
     }
 
     /// Writes the numbers.
-    pub fn tell(&self, rt: &HostRuntime) -> io::Result<()> {
+    pub fn write_tally(&self, rt: &HostRuntime) -> io::Result<()> {
         let (scenarios, cases, failed) = (self.scenarios, self.cases, self.failed);
         if self.has_failed() {
             return println!(rt; "{scenarios} scenarios, {cases} cases, {failed} failed");

@@ -5,8 +5,8 @@ use Rattle.std.specs.List.{AllByRecursion}
 use Rattle.pim_form.specs.NormalForm.{same_address}
 use Rattle.pim_change.specs.declared.unit.Unit.{Unit as UnitOf}
 use Rattle.pim_change.specs.Change.{Action, ChangeUnit, unit_of}
-use Rattle.pim_change.specs.Seen.{action_seen, tellings_seen, unit_seen, units_seen}
-use Rattle.pim_change.specs.Written.{GroupActions, tellings_of, set_in_front, in_front, grouped}
+use Rattle.pim_change.specs.Seen.{action_seen, actions_seen, unit_seen, units_seen}
+use Rattle.pim_change.specs.Written.{GroupActions, actions_of, set_in_front, in_front, grouped}
 use Rattle.pim_change.proofs.Addresses.{same_itself}
 
 -- sets whose first is of this group
@@ -20,30 +20,30 @@ set_starts : (b : Bool) (this : ChangeUnit) (first : GroupActions) (others : Lis
     → StartsWith this.group (set_in_front b this first others)
 set_starts true this first others =
     record {
-      first = tellings_of this.group (this.action ∷ first.tellings);
+      first = actions_of this.group (this.action ∷ first.actions);
       others = others;
       is = refl;
       of_group =
           refl;
     }
 set_starts false this first others =
-    record { first = tellings_of this.group (this.action ∷ []); others = first ∷ others; is = refl; of_group = refl }
+    record { first = actions_of this.group (this.action ∷ []); others = first ∷ others; is = refl; of_group = refl }
 
 pub starts : (this : ChangeUnit) (parts : List GroupActions) → StartsWith this.group (in_front this parts)
 starts this [] =
-    record { first = tellings_of this.group (this.action ∷ []); others = []; is = refl; of_group = refl }
+    record { first = actions_of this.group (this.action ∷ []); others = []; is = refl; of_group = refl }
 starts this (first ∷ others) = set_starts (same_address this.group first.group) this first others
 
 -- in front of sets that begin with another group, a unit has a set of its own
 apart : (this : ChangeUnit) (group : List ℕ) (parts : List GroupActions) → StartsWith group parts
-    → same_address this.group group ≡ false → in_front this parts ≡ tellings_of this.group (this.action ∷ []) ∷ parts
+    → same_address this.group group ≡ false → in_front this parts ≡ actions_of this.group (this.action ∷ []) ∷ parts
 apart this group parts start other =
     let is_other : same_address this.group start.first.group ≡ false =
     ap (same_address this.group) start.of_group ∙ other in
     let own : in_front this (start.first ∷ start.others)
-    ≡ tellings_of this.group (this.action ∷ []) ∷ start.first ∷ start.others =
+    ≡ actions_of this.group (this.action ∷ []) ∷ start.first ∷ start.others =
     ap (λ (b : Bool). set_in_front b this start.first start.others) is_other in
-    subst (λ (l : List GroupActions). in_front this l ≡ tellings_of this.group (this.action ∷ []) ∷ l)
+    subst (λ (l : List GroupActions). in_front this l ≡ actions_of this.group (this.action ∷ []) ∷ l)
     (sym start.is) own
 
 module _ {A : Type 0} (bytes_of : A → List ℕ) (group : List ℕ) where
@@ -73,21 +73,21 @@ module _ {A : Type 0} (bytes_of : A → List ℕ) (group : List ℕ) where
   leaves_none (unit ∷ units) zero all = absurd (omega arith)
   leaves_none (unit ∷ units) (suc n) all = leaves_none units n (omega arith)
 
-  joined_first : (action next : Action) (of : List ℕ) (tellings : List Action) (others : List GroupActions)
+  joined_first : (action next : Action) (of : List ℕ) (actions : List Action) (others : List GroupActions)
       (units : List ChangeUnit) → of ≡ group
-      → grouped (unit_of group next ∷ units) ≡ tellings_of group tellings ∷ others
-      → grouped (unit_of group action ∷ unit_of of next ∷ units) ≡ tellings_of group (action ∷ tellings) ∷ others
+      → grouped (unit_of group next ∷ units) ≡ actions_of group actions ∷ others
+      → grouped (unit_of group action ∷ unit_of of next ∷ units) ≡ actions_of group (action ∷ actions) ∷ others
   unfolding grouped
-  joined_first action next of tellings others units is set =
+  joined_first action next of actions others units is set =
       ap (λ (g : List ℕ). grouped (unit_of group action ∷ unit_of g next ∷ units)) is
       ∙ ap (in_front (unit_of group action)) set
-      ∙ ap (λ (b : Bool). set_in_front b (unit_of group action) (tellings_of group tellings) others)
+      ∙ ap (λ (b : Bool). set_in_front b (unit_of group action) (actions_of group actions) others)
       (same_itself group)
 
   -- a unit and those behind it of the same group are one set, in front of the sets of the others
   pub one_set : (action : Action) (units : List (UnitOf A)) (n : ℕ) → n ≤ length units → AreOfGroup (take n units)
       → Leaves (drop n units) → grouped (unit_of group action ∷ units_seen bytes_of units)
-      ≡ tellings_of group (action ∷ tellings_seen bytes_of (take n units)) ∷ grouped
+      ≡ actions_of group (action ∷ actions_seen bytes_of (take n units)) ∷ grouped
       (units_seen bytes_of (drop n units))
   unfolding grouped
   one_set action [] zero below all leaves = refl
@@ -97,6 +97,6 @@ module _ {A : Type 0} (bytes_of : A → List ℕ) (group : List ℕ) where
       (starts (unit_seen bytes_of unit) (grouped (units_seen bytes_of units))) leaves
   one_set action (unit ∷ units) (suc n) below all leaves =
       joined_first action (action_seen bytes_of unit.action) (bytes_of unit.group)
-      (tellings_seen bytes_of (unit ∷ take n units)) (grouped (units_seen bytes_of (drop n units)))
+      (actions_seen bytes_of (unit ∷ take n units)) (grouped (units_seen bytes_of (drop n units)))
       (units_seen bytes_of units) all.0
       (one_set (action_seen bytes_of unit.action) units n (omega arith) all.1 leaves)

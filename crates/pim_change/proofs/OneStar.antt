@@ -8,7 +8,7 @@ use Rattle.pim_form.specs.Settled.{group_in}
 use Rattle.pim_change.specs.declared.unit.ActionKind.{ActionKind}
 use Rattle.pim_change.specs.declared.unit.ActionKind.TheVariants.{JoinRpt, PruneRpt, JoinSource, PruneSource}
 use Rattle.pim_change.specs.Change.{Action, star_joined, star_pruned, of_source, lacking, star_change, sources_change, group_change, ChangeUnit, unit_of, in_order, change_at, change}
-use Rattle.pim_change.specs.Written.{rp_entry, excepted_entries, joined_entries, pruned_entries, GroupActions, tellings_of, set_in_front, in_front, grouped, written_set}
+use Rattle.pim_change.specs.Written.{rp_entry, excepted_entries, joined_entries, pruned_entries, GroupActions, actions_of, set_in_front, in_front, grouped, written_set}
 use Rattle.pim_change.proofs.Addresses.{same_itself, same_is}
 use Rattle.pim_change.proofs.Sorted.{in_order_sorted, one_if, count, count_append, count_flat, count_once}
 
@@ -55,17 +55,17 @@ and_true : (a : Bool) → (a && true) ≡ a
 and_true true = refl
 and_true false = refl
 
-of_group : (g h : List ℕ) (b : Bool) (tellings : List Action) → same_address g h ≡ b → count (of_star g) (map (unit_of h) tellings) ≡ cond b (count is_star tellings) 0
+of_group : (g h : List ℕ) (b : Bool) (actions : List Action) → same_address g h ≡ b → count (of_star g) (map (unit_of h) actions) ≡ cond b (count is_star actions) 0
 unfolding count
 of_group g h true [] s = refl
 of_group g h false [] s = refl
-of_group g h true (t ∷ tellings) s =
+of_group g h true (t ∷ actions) s =
     let here = ap (λ b. one_if (is_star t && b)) s ∙ ap one_if (and_true (is_star t)) in
-    let rest = of_group g h true tellings s in
+    let rest = of_group g h true actions s in
     omega (arith, here, rest)
-of_group g h false (t ∷ tellings) s =
+of_group g h false (t ∷ actions) s =
     let here = ap (λ b. one_if (is_star t && b)) s ∙ ap one_if (and_false (is_star t)) in
-    let rest = of_group g h false tellings s in
+    let rest = of_group g h false actions s in
     omega (arith, here, rest)
 
 at_once : (old new : List GroupForm) (g h : List ℕ) → count (of_star g) (change_at old new h) ≤ cond (same_address g h) 1 0
@@ -105,16 +105,16 @@ runs_have_one_star old new runs whole =
 -- ---- its sets
 
 abbrev Few : List ChangeUnit → GroupActions → Type 0
-Few run set = count is_star set.tellings ≤ count (of_star set.group) run
+Few run set = count is_star set.actions ≤ count (of_star set.group) run
 
 few_more : (this : ChangeUnit) (run : List ChangeUnit) (sets : List GroupActions) → AllByRecursion (Few run) sets → AllByRecursion (Few (this ∷ run)) sets
 unfolding count
 few_more this run [] few = tt
 few_more this run (set ∷ sets) few = (omega (arith, few.0), few_more this run sets few.1)
 
-own_few : (this : ChangeUnit) (run : List ChangeUnit) (tellings : List Action) → count is_star tellings ≤ count (of_star this.group) run → Few (this ∷ run) (tellings_of this.group (this.action ∷ tellings))
+own_few : (this : ChangeUnit) (run : List ChangeUnit) (actions : List Action) → count is_star actions ≤ count (of_star this.group) run → Few (this ∷ run) (actions_of this.group (this.action ∷ actions))
 unfolding count
-own_few this run tellings few =
+own_few this run actions few =
     let own : (is_star this.action && same_address this.group this.group) ≡ is_star this.action = ap (λ b. is_star this.action && b) (same_itself this.group) ∙ and_true (is_star this.action) in
     let here = ap one_if own in
     omega (arith, here, few)
@@ -124,7 +124,7 @@ unfolding count
 front_few this run [] few = (own_few this run [] (omega arith), tt)
 front_few this run (first ∷ sets) few =
     elim (same_address this.group first.group) as (λ b. same_address this.group first.group ≡ b → AllByRecursion (Few (this ∷ run)) (set_in_front b this first sets)) [
-      | true ↦ λ s. (own_few this run first.tellings (subst (λ (g : List ℕ). count is_star first.tellings ≤ count (of_star g) run) (sym (same_is this.group first.group s)) few.0), few_more this run sets few.1)
+      | true ↦ λ s. (own_few this run first.actions (subst (λ (g : List ℕ). count is_star first.actions ≤ count (of_star g) run) (sym (same_is this.group first.group s)) few.0), few_more this run sets few.1)
       | false ↦ λ s. (own_few this run [] (omega arith), few_more this run (first ∷ sets) few)
     ] refl
 
@@ -159,14 +159,14 @@ telling_few rp (of_source PruneRpt source) = omega arith
 telling_few rp (of_source JoinSource source) = omega arith
 telling_few rp (of_source PruneSource source) = omega arith
 
-tellings_few : (rp : Option (List ℕ)) (tellings : List Action) → star_count (flat_map (joined_entries rp) tellings) + star_count (flat_map (pruned_entries rp) tellings) ≤ count is_star tellings
+actions_few : (rp : Option (List ℕ)) (actions : List Action) → star_count (flat_map (joined_entries rp) actions) + star_count (flat_map (pruned_entries rp) actions) ≤ count is_star actions
 unfolding count star_count
-tellings_few rp [] = omega arith
-tellings_few rp (t ∷ tellings) =
-    let joined = stars_append (joined_entries rp t) (flat_map (joined_entries rp) tellings) in
-    let pruned = stars_append (pruned_entries rp t) (flat_map (pruned_entries rp) tellings) in
+actions_few rp [] = omega arith
+actions_few rp (t ∷ actions) =
+    let joined = stars_append (joined_entries rp t) (flat_map (joined_entries rp) actions) in
+    let pruned = stars_append (pruned_entries rp t) (flat_map (pruned_entries rp) actions) in
     let first = telling_few rp t in
-    let rest = tellings_few rp tellings in
+    let rest = actions_few rp actions in
     omega (arith, joined, pruned, first, rest)
 
 abbrev pub HasFewStars : (List ℕ → Option (List ℕ)) → GroupActions → Type 0
@@ -176,7 +176,7 @@ sets_few : (rps : List ℕ → Option (List ℕ)) (run : List ChangeUnit) (sets 
 sets_few rps run [] one few = tt
 sets_few rps run (set ∷ sets) one few =
     let both = stars_append (written_set rps set).joined (written_set rps set).pruned in
-    let most = tellings_few (rps set.group) set.tellings in
+    let most = actions_few (rps set.group) set.actions in
     let once = one set.group in
     (omega (arith, both, most, few.0, once), sets_few rps run sets one few.1)
 

@@ -28,7 +28,7 @@ module _ (family : AddressFamily) (writing : Writing) (rps : List ℕ → Option
       → StopsBefore family writing.budget (weights run) (weights left) → CarriesRun family writing rps run bytes
       → CarryUnits family writing rps left messages → CarryUnits family writing rps units (bytes ∷ messages)
   unfolding AreRuns
-  one_more units run left bytes messages is some fitting stops tells others =
+  one_more units run left bytes messages is some fitting stops carries others =
       let behind : weights left ≡ joined (map weights others.runs) =
       sym (joined_weights others.runs ∙ ap weights others.packing.whole) in
       record {
@@ -42,7 +42,7 @@ module _ (family : AddressFamily) (writing : Writing) (rps : List ℕ → Option
             others.packing.cut,
           );
         };
-        reported = (tells, others.reported);
+        reported = (carries, others.reported);
       }
 
   module _ {A : Type 0} (bytes_of : A → List ℕ) (units : List (Unit A)) where
@@ -69,12 +69,12 @@ module _ (family : AddressFamily) (writing : Writing) (rps : List ℕ → Option
         (weights (units_seen bytes_of (drop n left)))
         → CarriesRun family writing rps (units_seen bytes_of run) bytes → more ≡ messages ++ bytes ∷ []
         → Goes start messages → Goes (start + n) more
-    goes_on start n left run messages more bytes is_left is_run below some fitting stops tells is_more goes = λ others reported.
+    goes_on start n left run messages more bytes is_left is_run below some fitting stops carries is_more goes = λ others reported.
         let long : 0 < length left = omega (arith, ap length is_left, below, length-drop start units) in
         let behind : drop (start + n) units ≡ drop n left =
         sym (ap (drop n) is_left ∙ drop-drop n start units) in
         let these : CarriesRun family writing rps (units_seen bytes_of (take n left)) bytes =
-        subst (λ (l : List (Unit A)). CarriesRun family writing rps (units_seen bytes_of l) bytes) is_run tells in
+        subst (λ (l : List (Unit A)). CarriesRun family writing rps (units_seen bytes_of l) bytes) is_run carries in
         let here : CarryUnits family writing rps (units_seen bytes_of left) (bytes ∷ others) =
         one_more (units_seen bytes_of left) (units_seen bytes_of (take n left)) (units_seen bytes_of (drop n left)) bytes
         others (seen_cut n left) (nonempty n left some long) fitting stops these

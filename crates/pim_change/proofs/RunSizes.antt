@@ -17,7 +17,7 @@ use Rattle.pim_form.specs.Packing.{fits, most_groups}
 use Rattle.pim_change.specs.declared.unit.ActionKind.TheVariants.{JoinRpt, PruneRpt, JoinSource, PruneSource}
 use Rattle.pim_change.specs.Change.{Action, star_joined, star_pruned, of_source, ChangeUnit}
 use Rattle.pim_change.specs.Written.{weight_of, weights, rp_entry, joined_entries, pruned_entries, GroupActions}
-use Rattle.pim_change.specs.Written.{tellings_of, set_in_front, in_front, grouped, written_set, written_sets, IsShort}
+use Rattle.pim_change.specs.Written.{actions_of, set_in_front, in_front, grouped, written_set, written_sets, IsShort}
 use Rattle.pim_change.proofs.Addresses.{same_is}
 use Rattle.pim_change.proofs.Grouping.{StartsWith, starts}
 
@@ -47,22 +47,22 @@ total (set ∷ sets) = (length set.joined + length set.pruned) + total sets
 
 total_same : (rps : List ℕ → Option (List ℕ)) (this : ChangeUnit) (first : GroupActions) (others : List GroupActions)
     → this.group ≡ first.group
-    → total (map (written_set rps) (tellings_of this.group (this.action ∷ first.tellings) ∷ others))
+    → total (map (written_set rps) (actions_of this.group (this.action ∷ first.actions) ∷ others))
     ≡ telling_entries (rps this.group) this.action + total (map (written_set rps) (first ∷ others))
 unfolding total telling_entries
 total_same rps this first others is =
     let rp = rps this.group in
-    let joined = length-append (joined_entries rp this.action) (flat_map (joined_entries rp) first.tellings) in
-    let pruned = length-append (pruned_entries rp this.action) (flat_map (pruned_entries rp) first.tellings) in
-    let same : length (flat_map (joined_entries rp) first.tellings) + length
-    (flat_map (pruned_entries rp) first.tellings) ≡ length (written_set rps first).joined
+    let joined = length-append (joined_entries rp this.action) (flat_map (joined_entries rp) first.actions) in
+    let pruned = length-append (pruned_entries rp this.action) (flat_map (pruned_entries rp) first.actions) in
+    let same : length (flat_map (joined_entries rp) first.actions) + length
+    (flat_map (pruned_entries rp) first.actions) ≡ length (written_set rps first).joined
     + length (written_set rps first).pruned =
-    ap (λ (group : List ℕ). length (flat_map (joined_entries (rps group)) first.tellings) + length
-    (flat_map (pruned_entries (rps group)) first.tellings)) is in
+    ap (λ (group : List ℕ). length (flat_map (joined_entries (rps group)) first.actions) + length
+    (flat_map (pruned_entries (rps group)) first.actions)) is in
     omega (arith, joined, pruned, same)
 
 total_own : (rps : List ℕ → Option (List ℕ)) (this : ChangeUnit) (parts : List GroupActions)
-    → total (map (written_set rps) (tellings_of this.group (this.action ∷ []) ∷ parts))
+    → total (map (written_set rps) (actions_of this.group (this.action ∷ []) ∷ parts))
     ≡ telling_entries (rps this.group) this.action + total (map (written_set rps) parts)
 unfolding total telling_entries
 total_own rps this parts =

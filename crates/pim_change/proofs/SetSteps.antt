@@ -9,15 +9,15 @@ use Rattle.pim_jp.specs.Message.{GroupSet}
 use Rattle.pim_jp.specs.Canonical.{canonical_set, canonical_sets_length}
 use Rattle.pim_change.specs.declared.unit.Unit.{Unit}
 use Rattle.pim_change.specs.Change.{Action, unit_of}
-use Rattle.pim_change.specs.Seen.{action_seen, tellings_seen, units_seen}
-use Rattle.pim_change.specs.Written.{tellings_of, written_set, written_sets, set_size, grouped}
+use Rattle.pim_change.specs.Seen.{action_seen, actions_seen, units_seen}
+use Rattle.pim_change.specs.Written.{actions_of, written_set, written_sets, set_size, grouped}
 
 module _ {A : Type 0} (bytes_of : A → List ℕ) (rps : List ℕ → Option (List ℕ)) (units : List (Unit A)) (start n : ℕ) (d : Unit A)
     (left behind these : List (Unit A)) (below : start < length units) (is_left : left ≡ drop start units)
     (is_behind : behind ≡ drop (start + 1) units) (is_these : these ≡ take (n + 1) left)
     (cut : (action : Action)
     → grouped (unit_of (bytes_of (get_or units start d).group) action ∷ units_seen bytes_of behind)
-    ≡ tellings_of (bytes_of (get_or units start d).group) (action ∷ tellings_seen bytes_of (take n behind))
+    ≡ actions_of (bytes_of (get_or units start d).group) (action ∷ actions_seen bytes_of (take n behind))
     ∷ grouped (units_seen bytes_of (drop n behind))) where
   whole : left ≡ get_or units start d ∷ behind
   whole = is_left ∙ drop_more units start d below ∙ ap (λ (l : List (Unit A)). get_or units start d ∷ l) (sym is_behind)
@@ -29,16 +29,16 @@ module _ {A : Type 0} (bytes_of : A → List ℕ) (rps : List ℕ → Option (Li
   others = ap (drop n) is_behind ∙ drop-drop n (start + 1) units ∙ ap (λ (k : ℕ). drop k units) (omega arith)
 
   pub step : written_sets rps (units_seen bytes_of (drop start units))
-      ≡ written_set rps (tellings_of (bytes_of (get_or units start d).group) (tellings_seen bytes_of these))
+      ≡ written_set rps (actions_of (bytes_of (get_or units start d).group) (actions_seen bytes_of these))
       ∷ written_sets rps (units_seen bytes_of (drop (start + (n + 1)) units))
   step =
       let first = get_or units start d in
       ap (λ (l : List (Unit A)). written_sets rps (units_seen bytes_of l)) (sym is_left ∙ whole)
       ∙ ap (map (written_set rps)) (cut (action_seen bytes_of first.action))
-      ∙ ap (λ (l : List (Unit A)). written_set rps (tellings_of (bytes_of first.group) (tellings_seen bytes_of l))
+      ∙ ap (λ (l : List (Unit A)). written_set rps (actions_of (bytes_of first.group) (actions_seen bytes_of l))
       ∷ written_sets rps (units_seen bytes_of (drop n behind))) (sym front)
       ∙ ap (λ (l : List (Unit A)).
-      written_set rps (tellings_of (bytes_of first.group) (tellings_seen bytes_of these))
+      written_set rps (actions_of (bytes_of first.group) (actions_seen bytes_of these))
       ∷ written_sets rps (units_seen bytes_of l)) others
 
 -- ---- what the sets of a run give, one set on

@@ -124,10 +124,10 @@ module _ (seal : SomeMessageIsSealed) (packs : UnitsPackIfEachFits) (family : Ad
   told_fit : (units : List ChangeUnit) → IsWriting family writing → (messages : List (List ℕ)) × CarryUnits family writing rps units messages
       → too_big family writing.budget units ≡ None
   told_fit units is action =
-      let tells = action.1 in
+      let carries = action.1 in
       none_too_big family writing.budget is.least units
       ((packs family writing.budget (weights units)).0
-      (map weights tells.runs, record { whole = joined_weights tells.runs ∙ ap weights tells.packing.whole; cut = tells.packing.cut }))
+      (map weights carries.runs, record { whole = joined_weights carries.runs ∙ ap weights carries.packing.whole; cut = carries.packing.cut }))
 
 pub messages_unless_too_big : SomeMessageIsSealed → UnitsPackIfEachFits → ChangeHasMessagesUnlessTooBig
 messages_unless_too_big seal packs family writing rps old new is =

@@ -155,15 +155,15 @@ module _ (family : AddressFamily) (rps : List ℕ → Option (List ℕ)) where
 
     record IsFairSet (set : GroupActions) : Type 0 where
       group : IsGroupAddress family set.group
-      tellings : AllByRecursion (IsFairIn set.group) set.tellings
+      actions : AllByRecursion (IsFairIn set.group) set.actions
 
     front_fair : (this : ChangeUnit) (sets : List GroupActions) → IsFairUnit this → AllByRecursion IsFairSet sets → AllByRecursion IsFairSet (in_front this sets)
-    front_fair this [] fair all = (record { group = fair.0; tellings = (fair.1, tt) }, tt)
+    front_fair this [] fair all = (record { group = fair.0; actions = (fair.1, tt) }, tt)
     front_fair this (first ∷ sets) fair all =
         elim (same_address this.group first.group) as (λ b. same_address this.group first.group ≡ b → AllByRecursion IsFairSet (set_in_front b this first sets)) [
           | true ↦ λ s.
-              (record { group = fair.0; tellings = (fair.1, subst (λ (g : List ℕ). AllByRecursion (IsFairIn g) first.tellings) (sym (same_is this.group first.group s)) all.0.tellings) }, all.1)
-          | false ↦ λ s. (record { group = fair.0; tellings = (fair.1, tt) }, all)
+              (record { group = fair.0; actions = (fair.1, subst (λ (g : List ℕ). AllByRecursion (IsFairIn g) first.actions) (sym (same_is this.group first.group s)) all.0.actions) }, all.1)
+          | false ↦ λ s. (record { group = fair.0; actions = (fair.1, tt) }, all)
         ] refl
 
     grouped_fair : (run : List ChangeUnit) → AllByRecursion IsFairUnit run → AllByRecursion IsFairSet (grouped run)
@@ -275,13 +275,13 @@ module _ (family : AddressFamily) (rps : List ℕ → Option (List ℕ)) where
           fair.group.1,
           (
             few,
-            apart_lists wanted (written_set rps set).pruned (written_set rps set).joined (all_flat (IsPruned wanted) (IsFair rp wanted) (pruned_entries rp) set.tellings (pruned_wanted rp wanted) fair.tellings)
-                (all_flat (IsJoined wanted) (IsFair rp wanted) (joined_entries rp) set.tellings (joined_wanted rp wanted) fair.tellings),
+            apart_lists wanted (written_set rps set).pruned (written_set rps set).joined (all_flat (IsPruned wanted) (IsFair rp wanted) (pruned_entries rp) set.actions (pruned_wanted rp wanted) fair.actions)
+                (all_flat (IsJoined wanted) (IsFair rp wanted) (joined_entries rp) set.actions (joined_wanted rp wanted) fair.actions),
           ),
           short.0,
-          all_flat (IsMessageEntry family) (IsFair rp wanted) (joined_entries rp) set.tellings (joined_valid rp wanted) fair.tellings,
+          all_flat (IsMessageEntry family) (IsFair rp wanted) (joined_entries rp) set.actions (joined_valid rp wanted) fair.actions,
           short.1,
-          all_flat (IsMessageEntry family) (IsFair rp wanted) (pruned_entries rp) set.tellings (pruned_valid rp wanted) fair.tellings,
+          all_flat (IsMessageEntry family) (IsFair rp wanted) (pruned_entries rp) set.actions (pruned_valid rp wanted) fair.actions,
         )
 
     sets_spelled : (sets : List GroupActions) → AllByRecursion (IsFairSet old new) sets → AllByRecursion (HasFewStars rps) sets → AllByRecursion IsShort (map (written_set rps) sets) → AllByRecursion (IsMessageSet family) (map (written_set rps) sets)

@@ -53,18 +53,18 @@ module _ {A : Type 0} (bytes_of : A → List ℕ) where
 
   pub one_more : (units units' : List (Unit A)) (this : Unit A) (left all : List ChangeUnit)
       → units' ≡ units ++ this ∷ [] → Tells units (unit_seen bytes_of this ∷ left) all → Tells units' left all
-  one_more units units' this left all is tells =
+  one_more units units' this left all is carries =
       ap (λ (l : List ChangeUnit). l ++ left) (one_told units units' this is)
-      ∙ append_assoc (units_seen bytes_of units) (unit_seen bytes_of this ∷ []) left ∙ tells
+      ∙ append_assoc (units_seen bytes_of units) (unit_seen bytes_of this ∷ []) left ∙ carries
 
   pub some_more : (units units' : List (Unit A)) (these left all : List ChangeUnit)
       → units_seen bytes_of units' ≡ units_seen bytes_of units ++ these → Tells units (these ++ left) all
       → Tells units' left all
-  some_more units units' these left all is tells =
-      ap (λ (l : List ChangeUnit). l ++ left) is ∙ append_assoc (units_seen bytes_of units) these left ∙ tells
+  some_more units units' these left all is carries =
+      ap (λ (l : List ChangeUnit). l ++ left) is ∙ append_assoc (units_seen bytes_of units) these left ∙ carries
 
   pub all_told : (units : List (Unit A)) (all : List ChangeUnit) → Tells units [] all → units_seen bytes_of units ≡ all
-  all_told units all tells = sym (append-nil (units_seen bytes_of units)) ∙ tells
+  all_told units all carries = sym (append-nil (units_seen bytes_of units)) ∙ carries
 
   -- ---- what one list lacks of another
 
@@ -96,8 +96,8 @@ module _ {A : Type 0} (bytes_of : A → List ℕ) where
 
     by_lists : (l l' : List (List ℕ)) → l ≡ l' → Tells units (about (bytes_of group) (map (of_source kind) l)) all
         → Tells units (about (bytes_of group) (map (of_source kind) l')) all
-    by_lists l l' same tells = subst
-        (λ (m : List (List ℕ)). Tells units (about (bytes_of group) (map (of_source kind) m)) all) same tells
+    by_lists l l' same carries = subst
+        (λ (m : List (List ℕ)). Tells units (about (bytes_of group) (map (of_source kind) m)) all) same carries
 
     pub lack_less : slice_cmp nat_cmp (bytes_of x) (bytes_of y) ≡ Less
         → units' ≡ units ++ (record { group = group; action = Of kind x }) ∷ []
@@ -175,7 +175,7 @@ module _ {A : Type 0} (bytes_of : A → List ℕ) where
         (subst (λ o. Tells units (change o news) all) is_olds changing.so_far)
 
     by_change : (l l' : List ChangeUnit) → l ≡ l' → Tells units l all → Tells units l' all
-    by_change l l' same tells = subst (λ (m : List ChangeUnit). Tells units m all) same tells
+    by_change l l' same carries = subst (λ (m : List ChangeUnit). Tells units m all) same carries
 
     pub changing_less : slice_cmp nat_cmp old.group new.group ≡ Less
         → units_seen bytes_of units' ≡ units_seen bytes_of units

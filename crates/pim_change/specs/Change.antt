@@ -69,7 +69,7 @@ unit_of group action = record { group = group; action = action }
 
 -- The units of one group.
 abbrev pub about : List ℕ → List Action → List ChangeUnit
-about group tellings = map (unit_of group) tellings
+about group actions = map (unit_of group) actions
 
 -- The units for the change of one group between two forms.
 abbrev pub change_at : List GroupForm → List GroupForm → List ℕ → List ChangeUnit

@@ -6,7 +6,7 @@ use Rattle.pim_change.specs.declared.unit.Action.TheVariants.{JoinStar, PruneSta
 use Rattle.pim_change.specs.Change.{Action, star_joined, star_pruned, of_source, ChangeUnit}
 
 module _ {A : Type 0} (bytes_of : A → List ℕ) where
-  -- A `Telling` of the code, with addresses as lists of bytes.
+  -- An `Action` of the code, with addresses as lists of bytes.
   abbrev pub action_seen : ActionOf A → Action
   action_seen (JoinStar exceptions) = star_joined (map bytes_of exceptions.now)
   action_seen PruneStar = star_pruned
@@ -21,5 +21,5 @@ module _ {A : Type 0} (bytes_of : A → List ℕ) where
   units_seen units = map unit_seen units
 
   -- What units of one group say of it, with addresses as lists of bytes.
-  abbrev pub tellings_seen : List (Unit A) → List Action
-  tellings_seen units = map (λ this. action_seen this.action) units
+  abbrev pub actions_seen : List (Unit A) → List Action
+  actions_seen units = map (λ this. action_seen this.action) units

@@ -82,20 +82,20 @@ pruned_entries rp (of_source kind source) = kind_pruned kind source
 -- What one message says of a group.
 pub record GroupActions : Type 0 where
   pub group : List ℕ
-  pub tellings : List Action
+  pub actions : List Action
 
 -- A group and what one message says of it.
-abbrev pub tellings_of : List ℕ → List Action → GroupActions
-tellings_of group tellings = record { group = group; tellings = tellings }
+abbrev pub actions_of : List ℕ → List Action → GroupActions
+actions_of group actions = record { group = group; actions = actions }
 
 -- Adds a unit in front of the group sets: to the first of them, or as a set of its own.
 abbrev pub set_in_front : Bool → ChangeUnit → GroupActions → List GroupActions → List GroupActions
-set_in_front true this first others = tellings_of this.group (this.action ∷ first.tellings) ∷ others
-set_in_front false this first others = tellings_of this.group (this.action ∷ []) ∷ first ∷ others
+set_in_front true this first others = actions_of this.group (this.action ∷ first.actions) ∷ others
+set_in_front false this first others = actions_of this.group (this.action ∷ []) ∷ first ∷ others
 
 -- Adds a unit in front of the group sets. It joins the first of them if that is of the same group.
 abbrev pub in_front : ChangeUnit → List GroupActions → List GroupActions
-in_front this [] = tellings_of this.group (this.action ∷ []) ∷ []
+in_front this [] = actions_of this.group (this.action ∷ []) ∷ []
 in_front this (first ∷ others) = set_in_front (same_address this.group first.group) this first others
 
 -- Adjacent units of one group make one group set.
@@ -107,8 +107,8 @@ grouped (this ∷ units) = in_front this (grouped units)
 abbrev pub written_set : (List ℕ → Option (List ℕ)) → GroupActions → GroupSet
 written_set rps this = record {
   group = this.group;
-  joined = flat_map (joined_entries (rps this.group)) this.tellings;
-  pruned = flat_map (pruned_entries (rps this.group)) this.tellings;
+  joined = flat_map (joined_entries (rps this.group)) this.actions;
+  pruned = flat_map (pruned_entries (rps this.group)) this.actions;
 }
 
 -- The group sets of a run.

@@ -4,7 +4,7 @@ ghost use Rattle.std.specs.Prelude.{◌≡◌, ◌++◌, map, OnOk};
 ghost use Rattle.std.specs.List.{flat_map};
 ghost use Rattle.pim_addr.specs.Routes.{rp_of};
 ghost use Rattle.pim_jp.specs.Seen.{entry_seen};
-ghost use Rattle.pim_change.specs.Seen.{action_seen, tellings_seen};
+ghost use Rattle.pim_change.specs.Seen.{action_seen, actions_seen};
 ghost use Rattle.pim_change.specs.Written.{rp_entry, kind_joined, kind_pruned, excepted_entries};
 ghost use Rattle.pim_change.specs.Written.{joined_entries};
 ghost use Rattle.pim_change.specs.Written.{pruned_entries};
@@ -129,7 +129,7 @@ pub(crate) fn push_all_joined<F: Family>(
     ensures { OnOk result (map (entry_seen F.bytes_of) entries.new.items
         ≡ map (entry_seen F.bytes_of) entries.old.items
         ++ flat_map (joined_entries (rp_of F.family routes.now (F.bytes_of group)))
-        (tellings_seen F.bytes_of units.now)) }
+        (actions_seen F.bytes_of units.now)) }
 {
     for unit in units {
         push_joined::<F>(entries, routes, group, &unit.action)?;
@@ -147,7 +147,7 @@ pub(crate) fn push_all_pruned<F: Family>(
     ensures { OnOk result (map (entry_seen F.bytes_of) entries.new.items
         ≡ map (entry_seen F.bytes_of) entries.old.items
         ++ flat_map (pruned_entries (rp_of F.family routes.now (F.bytes_of group)))
-        (tellings_seen F.bytes_of units.now)) }
+        (actions_seen F.bytes_of units.now)) }
 {
     for unit in units {
         push_pruned::<F>(entries, routes, group, &unit.action)?;

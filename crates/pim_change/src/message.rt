@@ -16,9 +16,9 @@ ghost use Rattle.pim_jp.specs.Canonical.{canonical_sets_length};
 ghost use Rattle.pim_jp.specs.Canonical.{canonical_head, canonical_head_length};
 ghost use Rattle.pim_jp.specs.Seen.{set_seen};
 ghost use Rattle.pim_form.specs.Packing.{fits};
-ghost use Rattle.pim_change.specs.Seen.{tellings_seen, units_seen};
+ghost use Rattle.pim_change.specs.Seen.{actions_seen, units_seen};
 ghost use Rattle.pim_change.specs.Change.{Action, unit_of};
-ghost use Rattle.pim_change.specs.Written.{IsShort, tellings_of, written_set, written_sets};
+ghost use Rattle.pim_change.specs.Written.{IsShort, actions_of, written_set, written_sets};
 ghost use Rattle.pim_change.specs.Written.{set_size};
 ghost use Rattle.pim_change.specs.Written.{grouped, weights, CarriesRun};
 
@@ -60,13 +60,13 @@ fn append_set<F: Family>(
     bytes: &mut Vec<u8>,
 ) -> Result<(), AllocError>
     requires { IsShort (written_set (rp_of F.family routes.now)
-        (tellings_of (F.bytes_of group) (tellings_seen F.bytes_of units.now))) }
+        (actions_of (F.bytes_of group) (actions_seen F.bytes_of units.now))) }
     ensures appended { OnOk result (bytes.new.items ≡ bytes.old.items ++ canonical_set F.family
         (written_set (rp_of F.family routes.now)
-        (tellings_of (F.bytes_of group) (tellings_seen F.bytes_of units.now)))) }
+        (actions_of (F.bytes_of group) (actions_seen F.bytes_of units.now)))) }
     ensures longer { OnOk result (length bytes.new.items ≡ length bytes.old.items
         + set_size F.family (written_set (rp_of F.family routes.now)
-        (tellings_of (F.bytes_of group) (tellings_seen F.bytes_of units.now)))) }
+        (actions_of (F.bytes_of group) (actions_seen F.bytes_of units.now)))) }
 {
     let mut joined = Vec::new(alloc);
     push_all_joined::<F>(&mut joined, routes, group, units)?;
@@ -80,8 +80,8 @@ fn front_length<F: Family>(units: &[Unit<'_, F::Addr>], group: F::Addr) -> usize
     ensures within { result ≤ length units.now }
     ensures cut { (action : Action)
         → grouped (unit_of (F.bytes_of group) action ∷ units_seen F.bytes_of units.now)
-        ≡ tellings_of (F.bytes_of group) (action
-        ∷ tellings_seen F.bytes_of (take result units.now))
+        ≡ actions_of (F.bytes_of group) (action
+        ∷ actions_seen F.bytes_of (take result units.now))
         ∷ grouped (units_seen F.bytes_of (drop result units.now)) }
 {
     for (index, unit) in units.iter().enumerate() {

@@ -91,11 +91,11 @@ module _ (merges : MergeByHasOneEnd) (are_turns : RunsPastAreTurns) (goes_on : H
   pub trace_and_report : (shows_via : Bool) (end : End) (merge : MergeState) (captures : List (List Answer)) (state after other : RouterState) (events : List Occurrence) (text : List ℕ)
       → IsComing merge.lanes captures → traces.IsTrace family end merge state events after → report.IsReport family shows_via end merge state other text → after ≡ other
   trace_and_report shows_via end merge captures state after other events text coming this that =
-      let taken = this.tells.taken in
-      let one = this.tells.runs in
-      let same = (merges (last_of end) merge.clock captures taken that.tells.taken None None (this.tells.are captures coming) (that.tells.are captures coming)).0 in
+      let taken = this.wrote.taken in
+      let one = this.wrote.runs in
+      let same = (merges (last_of end) merge.clock captures taken that.wrote.taken None None (this.wrote.are captures coming) (that.wrote.are captures coming)).0 in
       let two =
-      subst (λ t. Follows (replays.WritesTurns family t state) (replays.PassesToEnd end (clock_of merge.clock t)) that.account other) (sym same) that.tells.tells in
-      let between = turns_same taken (traces.ledger_for state) one.ledger_then one.turns two.first state state one.between two.between refl one.tells two.begins in
+      subst (λ t. Follows (replays.WritesTurns family t state) (replays.PassesToEnd end (clock_of merge.clock t)) that.account other) (sym same) that.wrote.wrote in
+      let between = turns_same taken (traces.ledger_for state) one.ledger_then one.turns two.first state state one.between two.between refl one.wrote two.begins in
       time_same (end_moment end (clock_of merge.clock taken) one.between.machines.moment) one.ledger_then this.ledger one.way two.second one.between two.between after other between one.passes
       (subst (λ s. replay.PassesTime (end_moment end (clock_of merge.clock taken) s.machines.moment) two.between two.second other) (sym between) two.goes_on)

@@ -35,9 +35,9 @@ least_by c head (f ∷ faults) e = omega arith
 pub taken_least : (c : Container) (head : List ℕ) → head_length c ≤ taken_by (head_length c) (stated_length c head)
 taken_least c head = least_by c head (head_faults c head) refl
 
-if_least : (b : Bool) (n : ℕ) (named : Option ℕ) → n ≤ taken_by n named → n ≤ taken_by n (if b then None else named)
-if_least true n named h = omega arith
-if_least false n named h = h
+if_least : (b : Bool) (n : ℕ) (length_ahead : Option ℕ) → n ≤ taken_by n length_ahead → n ≤ taken_by n (if b then None else length_ahead)
+if_least true n length_ahead h = omega arith
+if_least false n length_ahead h = h
 
 either_least : (b : Bool) (n : ℕ) (one other : Option ℕ) → n ≤ taken_by n one → n ≤ taken_by n other → n ≤ taken_by n (if b then one else other)
 either_least true n one other h k = h
@@ -104,7 +104,7 @@ grows_classic head (Some xs) None capacity capacity' l s e g = absurd e
 grows_classic head (Some xs) (Some ms) capacity capacity' l s e g =
     subst (λ it. GrowsBy it capacity capacity') (sym (classic_is head ms xs l s e)) g
 
-pub grows_not : (named : Option (Option ℕ)) (capacity : ℕ) → GrowsFor named capacity capacity
+pub grows_not : (length_ahead : Option (Option ℕ)) (capacity : ℕ) → GrowsFor length_ahead capacity capacity
 grows_not None capacity = (omega arith, omega arith)
 grows_not (Some None) capacity = refl
 grows_not (Some (Some size)) capacity = inl refl

@@ -55,8 +55,8 @@ length_in Ended bytes = None
 length_in Failed bytes = None
 
 -- The length of the next piece, if the bytes of the device are known.
-abbrev pub named : {R : Type 0} → (R → Option (List ℕ)) → Reader R → Option (Option ℕ)
-named remaining reader = option_map (length_in reader.state) (remaining reader.device)
+abbrev pub length_ahead : {R : Type 0} → (R → Option (List ℕ)) → Reader R → Option (Option ℕ)
+length_ahead remaining reader = option_map (length_in reader.state) (remaining reader.device)
 
 -- ---- the bytes that are taken
 

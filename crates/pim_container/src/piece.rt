@@ -99,7 +99,7 @@ pub fn take_piece<R: Feed>(
         (vec_capacity buffer.new) }
     ensures taken { Takes (taken_by (length head.now) (stated_length container head.now)) result
         (behind head.now (R.remaining device.old)) (R.remaining device.new) }
-    ensures asked { OnMemory result
+    ensures lacking { OnMemory result
         (LacksRoom (vec_capacity buffer.old) (Some (stated_length container head.now))
         ⊎ ((vec_capacity interfaces.old ≤ vec_len interfaces.old)
         × IfSome (behind head.now (R.remaining device.old)) (DescribesFirst container))) }

@@ -11,7 +11,7 @@ ghost use Rattle.pim_container.specs.Next.{CountsReads};
 ghost use Rattle.pim_container.specs.Next.{pieces_left, IsRepeated, StaysOver, Reads, behind};
 ghost use Rattle.pim_container.specs.Next.{BeginsClassic, OnMemory, NeedsMemory, NeedsToBegin};
 ghost use Rattle.pim_container.specs.Next.{NeedsNext};
-ghost use Rattle.pim_container.specs.Room.{stated_length, next_length, first_length, named};
+ghost use Rattle.pim_container.specs.Room.{stated_length, next_length, first_length, length_ahead};
 ghost use Rattle.pim_container.specs.Room.{taken_by};
 ghost use Rattle.pim_container.specs.Room.{Takes, TakesNext, IsUnread, GrowsBy, GrowsFor};
 ghost use Rattle.pim_container.specs.Room.{LacksRoom, LacksPlace, GrowsList, CountsList, list_room};
@@ -96,7 +96,7 @@ fn go_on<R: Feed>(
         (vec_capacity buffer.new) }
     ensures taken { Takes (taken_by (length head.now) (stated_length container head.now)) result
         (behind head.now (R.remaining device.old)) (R.remaining device.new) }
-    ensures asked { OnMemory result
+    ensures lacking { OnMemory result
         (LacksRoom (vec_capacity buffer.old) (Some (stated_length container head.now))
         ⊎ ((vec_capacity interfaces.old ≤ vec_len interfaces.old)
         × IfSome (behind head.now (R.remaining device.old)) (DescribesFirst container))) }
@@ -165,7 +165,7 @@ fn begin<R: Feed>(
     ensures grows { GrowsFor (option_map first_length (R.remaining device.old))
         (vec_capacity buffer.old) (vec_capacity buffer.new) }
     ensures taken { TakesNext Unbegun result (R.remaining device.old) (R.remaining device.new) }
-    ensures asked { OnMemory result (LacksRoom (vec_capacity buffer.old)
+    ensures lacking { OnMemory result (LacksRoom (vec_capacity buffer.old)
         (option_map first_length (R.remaining device.old))
         ⊎ ((vec_capacity interfaces.old ≤ 0)
         × IfSome (R.remaining device.old) (DescribesNext Unbegun))) }
@@ -225,7 +225,7 @@ fn next_piece<R: Feed>(
         (vec_capacity buffer.old) (vec_capacity buffer.new) }
     ensures taken { TakesNext (Pieces container left) result (R.remaining device.old)
         (R.remaining device.new) }
-    ensures asked { OnMemory result (LacksRoom (vec_capacity buffer.old)
+    ensures lacking { OnMemory result (LacksRoom (vec_capacity buffer.old)
         (option_map (next_length left container) (R.remaining device.old))
         ⊎ ((vec_capacity interfaces.old ≤ vec_len interfaces.old)
         × IfSome (R.remaining device.old) (DescribesNext (Pieces container left)))) }
@@ -315,7 +315,7 @@ impl<R: Feed> Reader<R> {
         ensures length { vec_len buffer.new ≤ max (vec_len buffer.old) most_block }
         ensures capacity { vec_capacity buffer.new ≤ max (vec_capacity buffer.old) most_block }
         // The capacity stays, or grows to exactly the length of the next piece.
-        ensures grows { GrowsFor (named R.remaining self.old) (vec_capacity buffer.old)
+        ensures grows { GrowsFor (length_ahead R.remaining self.old) (vec_capacity buffer.old)
             (vec_capacity buffer.new) }
         // The next piece is taken. Of one that its head refuses, only the head is.
         ensures taken { TakesNext (state_of self.old) result (R.remaining (device_of self.old))
@@ -323,8 +323,8 @@ impl<R: Feed> Reader<R> {
         ensures unread { IsUnread (state_of self.old) (device_of self.old) (device_of self.new) }
         // Memory is refused only if the buffer has less room than the next piece needs, or if that
         // describes an interface for which the list has no room.
-        ensures asked { OnMemory result (LacksRoom (vec_capacity buffer.old)
-            (named R.remaining self.old) ⊎ LacksPlace R.remaining self.old) }
+        ensures lacking { OnMemory result (LacksRoom (vec_capacity buffer.old)
+            (length_ahead R.remaining self.old) ⊎ LacksPlace R.remaining self.old) }
         ensures list { IfOk result (λ event. GrowsList event (described_by self.old)
             (list_room self.old) (list_room self.new)) }
         ensures counted { IfOk result (λ event. CountsList event (described_by self.old)
@@ -362,7 +362,7 @@ impl<R: Feed> Reader<R> {
         ensures coming { coming R.remaining self.new ≡ coming R.remaining self.old }
         ensures failures { R.failures (device_of self.new) ≡ R.failures (device_of self.old) }
         ensures state { state_of self.new ≡ state_of self.old }
-        ensures named { named R.remaining self.new ≡ named R.remaining self.old }
+        ensures next { length_ahead R.remaining self.new ≡ length_ahead R.remaining self.old }
         ensures described { described_by self.new ≡ described_by self.old }
         ensures ahead { needs_of R.remaining self.new ≡ needs_of R.remaining self.old }
         ensures list { list_room self.new ≡ list_room self.old }

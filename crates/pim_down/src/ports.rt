@@ -20,7 +20,7 @@ use crate::records::after::first_of_groups_after;
 use crate::records::edits::machine_near;
 use crate::records::group::GroupMachines;
 use crate::records::near::Near;
-use crate::records::store::Store;
+use crate::records::store::RecordStore;
 use crate::records::walk::{Records, count_on, machine_after, on_port};
 use crate::running::run::{Halt, Stop, run, run_to_firing};
 use crate::running::timers::next_end;
@@ -37,7 +37,7 @@ pub struct Ports<F: Family> {
     limit: usize,
     moment: u64,
     /// In key order. No timer ends before the present moment.
-    records: Store<F::Addr, OfFamily<F>>,
+    records: RecordStore<F::Addr, OfFamily<F>>,
     /// For the list into which `hear` may sort the events of a message.
     alloc: Global,
     family: PhantomData<F>,
@@ -73,7 +73,7 @@ impl<F: Family> Ports<F> {
             ports,
             limit,
             moment: 0,
-            records: Store::new(alloc),
+            records: RecordStore::new(alloc),
             alloc,
             family: PhantomData,
         }

@@ -30,10 +30,10 @@ module _ (family : AddressFamily) (writing : Writing) (rps : List ℕ → Option
   alone : (run : List WantUnit) (bytes : List ℕ) (part : List GroupForm) → units_of part ≡ run → IsNonempty run → fits family writing.budget run ≡ true → CarriesRun family writing rps run bytes
       → AreCanonical family writing rps part (bytes ∷ [])
   unfolding AreRuns
-  alone run bytes part is some fitting tells = record {
+  alone run bytes part is some fitting carries = record {
     runs = run ∷ [];
     packing = record { whole = append-nil run ∙ sym is; cut = (some, fitting, tt, tt) };
-    reported = (tells, tt);
+    reported = (carries, tt);
   }
 
   one_message : OneListOfMessages → (run : List WantUnit) (one other : List ℕ) → IsNonempty run → fits family writing.budget run ≡ true → CarriesRun family writing rps run one → CarriesRun family writing rps run other → one ≡ other
@@ -59,14 +59,14 @@ module _ (family : AddressFamily) (writing : Writing) (demand_seen : DemandSeen)
       whole = ap (λ l. is.run ++ l) others.packing.whole ∙ sym is.units;
       cut = (is.some, is.fitting, subst (StopsBefore family writing.budget is.run) (sym others.packing.whole) is.stops, others.packing.cut);
     };
-    reported = (is.tells, others.reported);
+    reported = (is.carries, others.reported);
   }
 
   begins : OneListOfMessages → (others : List (List WantUnit)) (messages : List (List ℕ)) → IsPacking family writing.budget (units_of (left_at to demand_seen.form)) others
       → CarryRuns family writing (rp_of family demand_seen.table) (is.run ∷ others) messages → HasRest family writing (rp_of family demand_seen.table) (bytes ∷ []) (left_at to demand_seen.form) messages
   begins law others [] packing reported = absurd reported
   begins law others (m ∷ messages) packing reported =
-      let same : m ≡ bytes = one_message family writing (rp_of family demand_seen.table) law is.run m bytes is.some is.fitting reported.0 is.tells in
+      let same : m ≡ bytes = one_message family writing (rp_of family demand_seen.table) law is.run m bytes is.some is.fitting reported.0 is.carries in
       record {
         rest = messages;
         split = ap (λ l. l ∷ messages) same;

@@ -90,7 +90,7 @@ listed_is_some bound address (first ∷ addresses) over listed =
 -- whether a source is reached, as a test of its upstream tells
 pub is_via : (family : AddressFamily) (table : RouteTable) (neighbour source : List ℕ) (upstream : Option (List ℕ)) (answer reported : Bool) → upstream ≡ via_of family table source
     → answer ≡ is_neighbour neighbour upstream → answer ≡ reported → is_neighbour neighbour (via_of family table source) ≡ reported
-is_via family table neighbour source upstream answer reported is answers tells = sym (ap (λ a. is_neighbour neighbour a) is) ∙ sym answers ∙ tells
+is_via family table neighbour source upstream answer reported is answers carries = sym (ap (λ a. is_neighbour neighbour a) is) ∙ sym answers ∙ carries
 
 module _ (apart : KeysAreDistinct) (family : AddressFamily) (table : RouteTable) (neighbour : List ℕ) (state : Downstream) (sound : IsSound family state)
     (form : List GroupForm) (demand : IsDemandedForm family table neighbour state form) (group : List ℕ) (is_group : IsGroupAddress family group) where

@@ -78,9 +78,9 @@ with_left new source = record { source = source; left = new }
 -- behind what came next on the port comes next what its machines tell
 pub goes_on : (state : Downstream) (group : List ℕ) (port : ℕ) (bound : Option (List ℕ)) (family : AddressFamily) → IsSound family state → (ahead : SourceAhead) (new : MachinesLeft) (next : Option (List ℕ)) → IsAheadOn state group bound port (Some ahead)
     → FindsNext family ahead.left new next → IsAheadOn state group (Some ahead.source) port (option_map (with_left new) next)
-goes_on state group port bound family sound ahead new None was tells = record { next = (tells state port group (Some ahead.source) sound was.left).0; left = tt }
-goes_on state group port bound family sound ahead new (Some source) was tells =
-    let reported = tells state port group (Some ahead.source) sound was.left in
+goes_on state group port bound family sound ahead new None was carries = record { next = (carries state port group (Some ahead.source) sound was.left).0; left = tt }
+goes_on state group port bound family sound ahead new (Some source) was carries =
+    let reported = carries state port group (Some ahead.source) sound was.left in
     record { next = reported.0; left = reported.1 }
 
 -- where it comes next on one port alone, what comes next on the others comes next behind it

@@ -84,7 +84,7 @@ record IsKind (records : List (Record (List ℕ))) (port : ℕ) (group : List �
   order : (a b : List ℕ) → what_cmp (kind a) (kind b) ≡ address_cmp a b
   over : (a : List ℕ) → is_lt (what_cmp what (kind a)) ≡ is_above bound a
   holds : (a : List ℕ) (machine : Machine) → machine_at (key_of port group (kind a)) records ≡ Some machine → test a ≡ true
-  tells : (a : List ℕ) → test a ≡ true → (machine : Machine) × (machine_at (key_of port group (kind a)) records ≡ Some machine)
+  carries : (a : List ℕ) → test a ≡ true → (machine : Machine) × (machine_at (key_of port group (kind a)) records ≡ Some machine)
   beyond : (this : What (List ℕ)) → ((a : List ℕ) → this ≡ kind a → ⊥) → is_lt (what_cmp what this) ≡ true → (a : List ℕ) → is_le (what_cmp this (kind a)) ≡ false
 
 module _ (apart : KeysAreDistinct) {records : List (Record (List ℕ))} {port : ℕ} {group : List ℕ} {what : What (List ℕ)} {bound : Option (List ℕ)} {kind : List ℕ → What (List ℕ)} {test : List ℕ → Bool}
@@ -97,7 +97,7 @@ module _ (apart : KeysAreDistinct) {records : List (Record (List ℕ))} {port : 
       by_test (is_above bound a && test a)
       (λ e.
       let parts = and_parts (is_above bound a) (test a) e in
-      let held = is.tells a parts.1 in
+      let held = is.carries a parts.1 in
       absurd (false≢true (sym (none_at apart (after port group what) (key_of port group (kind a)) held.0 records none held.1)
       ∙ after_of port group what (kind a) ∙ is.over a ∙ parts.0)))
       (λ e. e)
@@ -106,7 +106,7 @@ module _ (apart : KeysAreDistinct) {records : List (Record (List ℕ))} {port : 
   first_of_kind : (found : Record (List ℕ)) → next_in_group port group what records ≡ Some found → (a : List ℕ) → over_bound a ≡ true → is_le (what_cmp found.key.what (kind a)) ≡ true
   first_of_kind found next a passes =
       let parts = and_parts (is_above bound a) (test a) passes in
-      let held = is.tells a parts.1 in
+      let held = is.carries a parts.1 in
       let first = found_is_first apart (after port group what) records found (key_of port group (kind a)) held.0 up next held.1 (after_of port group what (kind a) ∙ is.over a ∙ parts.0) in
       let same = same_key_of port group what found.key (found_passes apart (after port group what) records found next) in
       sym (ap is_le (by_what port group found.key.what (kind a))) ∙ subst (λ (k : Key (List ℕ)). is_le (key_cmp k (key_of port group (kind a))) ≡ true) same first
@@ -172,7 +172,7 @@ module _ (apart : KeysAreDistinct) (family : AddressFamily) (state : Downstream)
     order = sources_order;
     over = sources_over bound;
     holds = source_is_joined;
-    tells = λ a e. told_state (machine_at (key_of port group (Source a)) state.records) (joined_is_some (state_on state.records port group (Source a)) e);
+    carries = λ a e. told_state (machine_at (key_of port group (Source a)) state.records) (joined_is_some (state_on state.records port group (Source a)) e);
     beyond = after_sources bound;
   }
 
@@ -226,7 +226,7 @@ module _ (apart : KeysAreDistinct) (family : AddressFamily) (state : Downstream)
     order = rpts_order;
     over = rpts_over bound;
     holds = λ a machine held. ap (λ m. is_some (state_of_machine m)) held;
-    tells = λ a e. told_state (machine_at (key_of port group (Rpt a)) state.records) e;
+    carries = λ a e. told_state (machine_at (key_of port group (Rpt a)) state.records) e;
     beyond = after_rpts bound;
   }
 

@@ -145,7 +145,7 @@ message_made family writing demand_seen begun draft bytes sealed sets counted is
       some = nonempty is.part is.some (λ none. some (is.groups ∙ none));
       fitting = fits_by counted family writing.budget is.part is.ascending is.some (omega (arith, is.end, is.within), omega (arith, is.groups, is.few));
       stops = is.stops full;
-      tells = record { part = is.part; units = refl; ascending = is.ascending; some = is.some; sealed = subst (λ b. IsSealed family writing.own (all_routers family) JoinPrune b sealed) body seal };
+      carries = record { part = is.part; units = refl; ascending = is.ascending; some = is.some; sealed = subst (λ b. IsSealed family writing.own (all_routers family) JoinPrune b sealed) body seal };
       position = is.position;
     }
 

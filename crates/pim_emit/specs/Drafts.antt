@@ -78,7 +78,7 @@ module _ (family : AddressFamily) (writing : Writing) (demand_seen : DemandSeen)
     pub some : IsNonempty run
     pub fitting : fits family writing.budget run ≡ true
     pub stops : StopsBefore family writing.budget run (units_of (left_at to demand_seen.form))
-    pub tells : CarriesRun family writing (rp_of family demand_seen.table) run bytes
+    pub carries : CarriesRun family writing (rp_of family demand_seen.table) run bytes
     pub position : IsPosition family to
 
   -- The message is at the front of the bytes, with this length; `None` if no unit is left.

@@ -12,7 +12,7 @@ use Rattle.pim_events.specs.declared.event.OwnRestart.{OwnRestart}
 use Rattle.pim_events.specs.declared.event.Skipping.{Skipping}
 use Rattle.pim_events.specs.declared.event.SkipCounts.{SkipCounts}
 use Rattle.pim_events.specs.declared.event.TimeOut.{TimeOut}
-use Rattle.pim_events.specs.declared.event.Transition.{Transition}
+use Rattle.pim_events.specs.declared.event.TransitionEvent.{TransitionEvent}
 use Rattle.pim_event_lines.specs.Counts.{joined_in, pruned_in}
 use Rattle.pim_event_lines.specs.JsonLine.{quoted, number_json, by_word, kind_word, timer_word, skip_word, meaning_word, bool_json, expiry_json, pending_json, sender_json, message_json, hello_json, entry_json, restart_json, skipped_json, change_json, outcome_json, timer_json, effect_json, time_out_json, held_json, counts_json}
 use Rattle.pim_event_lines.specs.TextLine.{state_text}
@@ -99,7 +99,7 @@ abbrev change_of : List ℕ → List ℕ → List ℕ → List ℕ → List ℕ 
 change_of frame from word kind of =
     part (codes "transition") ⊕ sender_of frame from ⋄ codes ",\"by\":" ⊕ string_of word ⊕ machine_of kind of
 
-pub change_members : (family : AddressFamily) (change : Transition (List ℕ)) (frame from word kind of : List ℕ) → frame ≡ decimal change.frame → from ≡ short_text family change.from → word ≡ by_word change.by → kind ≡ kind_word change.what → of ≡ short_text family change.group
+pub change_members : (family : AddressFamily) (change : TransitionEvent (List ℕ)) (frame from word kind of : List ℕ) → frame ≡ decimal change.frame → from ≡ short_text family change.from → word ≡ by_word change.by → kind ≡ kind_word change.what → of ≡ short_text family change.group
     → spread (change_of frame from word kind of) [] ≡ change_json family change
 change_members family change frame from word kind of p0 p1 p2 p3 p4 =
     in_parts (change_of frame from word kind of) ∙ rw (p0, p1, p2, p3, p4) (refl {a = change_json family change})
@@ -109,7 +109,7 @@ outcome_of was new et ppt count over =
     states_of was new ⋄ codes ",\"et\":" ⋄ et ⋄ codes ",\"ppt\":" ⋄ ppt ⋄ codes ",\"neighbours\":" ⋄ count
     ⋄ codes ",\"overrides\":" ⋄ over ⋄ codes "}" ⋄ (10 ∷ [])
 
-pub outcome_members : (change : Transition (List ℕ)) (was new et ppt count over : List ℕ) → was ≡ state_text change.before → new ≡ state_text (state_in change.after) → et ≡ expiry_json change.after → ppt ≡ pending_json change.after → count ≡ decimal change.neighbours → over ≡ number_json change.overrides
+pub outcome_members : (change : TransitionEvent (List ℕ)) (was new et ppt count over : List ℕ) → was ≡ state_text change.before → new ≡ state_text (state_in change.after) → et ≡ expiry_json change.after → ppt ≡ pending_json change.after → count ≡ decimal change.neighbours → over ≡ number_json change.overrides
     → spread (outcome_of was new et ppt count over) [] ≡ outcome_json change
 outcome_members change was new et ppt count over p0 p1 p2 p3 p4 p5 =
     in_parts (outcome_of was new et ppt count over) ∙ rw (p0, p1, p2, p3, p4, p5) (refl {a = outcome_json change})

@@ -12,7 +12,7 @@ use Rattle.pim_events.specs.declared.event.Ignored.{Ignored}
 use Rattle.pim_events.specs.declared.event.OwnRestart.{OwnRestart}
 use Rattle.pim_events.specs.declared.event.SkipCounts.{SkipCounts}
 use Rattle.pim_events.specs.declared.event.TimeOut.{TimeOut}
-use Rattle.pim_events.specs.declared.event.Transition.{Transition}
+use Rattle.pim_events.specs.declared.event.TransitionEvent.{TransitionEvent}
 use Rattle.pim_event_lines.specs.TextLine.{generation_text, generation_part, restarted_part, restart_line, counts_text, held_text, overrides_part, by_words, timer_words, cause_words, echo_text, source_words, state_text, sender_text, greeting_text, entry_text, time_out_line, change_text, effect_text, cause_line}
 use Rattle.pim_event_lines.proofs.Nested.{Text, part, ◌⋄◌, ◌⊕◌, spread, in_parts}
 
@@ -92,7 +92,7 @@ machine_of kind source gap of = part kind ⊕ (part source ⋄ gap) ⋄ of
 abbrev change_of : List ℕ → List ℕ → List ℕ → Text → Text → Text
 change_of frame from word machine states = sender_of frame from ⋄ word ⊕ machine ⋄ codes ": " ⊕ states
 
-pub change_pieces : (family : AddressFamily) (change : Transition (List ℕ)) (frame from word kind source gap of was new : List ℕ) → frame ≡ decimal change.frame → from ≡ short_text family change.from → word ≡ by_words change.by
+pub change_pieces : (family : AddressFamily) (change : TransitionEvent (List ℕ)) (frame from word kind source gap of was new : List ℕ) → frame ≡ decimal change.frame → from ≡ short_text family change.from → word ≡ by_words change.by
     → kind ≡ kind_of change.what → source ++ gap ≡ source_words family change.what → of ≡ short_text family change.group → was ≡ state_text change.before → new ≡ state_text (state_in change.after)
     → spread (change_of frame from word (machine_of kind source gap of) (states_of was new)) [] ≡ change_text family change
 change_pieces family change frame from word kind source gap of was new p0 p1 p2 p3 p4 p5 p6 p7 =

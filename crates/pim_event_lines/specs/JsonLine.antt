@@ -36,7 +36,7 @@ use Rattle.pim_events.specs.declared.event.SkipCounts.{SkipCounts}
 use Rattle.pim_events.specs.declared.event.TimeOut.{TimeOut}
 use Rattle.pim_down.specs.declared.machines.step.Timer.{Timer}
 use Rattle.pim_down.specs.declared.machines.step.Timer.TheVariants.{PrunePending, Expiry}
-use Rattle.pim_events.specs.declared.event.Transition.{Transition}
+use Rattle.pim_events.specs.declared.event.TransitionEvent.{TransitionEvent}
 
 -- ---- values
 
@@ -159,7 +159,7 @@ states_json before after = codes ",\"was\":" ++ quoted (state_text before) ++ co
 
 -- The states before and after a message, the timers after it, the neighbours of the port, and what
 -- the message overrides.
-abbrev pub outcome_json : Transition (List ℕ) → List ℕ
+abbrev pub outcome_json : TransitionEvent (List ℕ) → List ℕ
 outcome_json change = line (states_json change.before (state_in change.after) ++ codes ",\"et\":"
     ++ expiry_json change.after ++ codes ",\"ppt\":" ++ pending_json change.after ++ codes ",\"neighbours\":"
     ++ decimal change.neighbours ++ codes ",\"overrides\":" ++ number_json change.overrides ++ codes "}")
@@ -202,12 +202,12 @@ module _ (family : AddressFamily) where
   judged_json packet = verdict_json packet ++ line (codes "\"" ++ message_json packet.message ++ codes "}")
 
   -- By what a message changed which machine, up to its source.
-  abbrev pub change_json : Transition (List ℕ) → List ℕ
+  abbrev pub change_json : TransitionEvent (List ℕ) → List ℕ
   change_json change = codes "transition" ++ sender_json change.frame change.from ++ codes ",\"by\":"
       ++ quoted (by_word change.by) ++ machine_json change.group change.what
 
   -- `transition`.
-  abbrev pub transition_json : Transition (List ℕ) → List ℕ
+  abbrev pub transition_json : TransitionEvent (List ℕ) → List ℕ
   transition_json change = change_json change ++ (source_json change.what ++ outcome_json change)
 
   -- A Join(*,G) that is ignored, up to the RP of its group.

@@ -36,7 +36,7 @@ use Rattle.pim_events.specs.declared.event.SkipCounts.{SkipCounts}
 use Rattle.pim_events.specs.declared.event.TimeOut.{TimeOut}
 use Rattle.pim_down.specs.declared.machines.step.Timer.{Timer}
 use Rattle.pim_down.specs.declared.machines.step.Timer.TheVariants.{PrunePending, Expiry}
-use Rattle.pim_events.specs.declared.event.Transition.{Transition}
+use Rattle.pim_events.specs.declared.event.TransitionEvent.{TransitionEvent}
 use Rattle.pim_time.specs.declared.form.TimeForm.{TimeForm}
 
 -- ---- words
@@ -104,7 +104,7 @@ echo_part true = codes ", echo"
 -- ---- the lines without the moment and the port
 
 -- The timers of the machine after a message, and what the message overrides.
-abbrev pub timers_line : Transition (List ℕ) → List ℕ
+abbrev pub timers_line : TransitionEvent (List ℕ) → List ℕ
 timers_line change = expiry_part change.after
     ++ (waiting_part change.neighbours (pending_in change.after) ++ line (overrides_part change.overrides))
 
@@ -201,12 +201,12 @@ module _ (family : AddressFamily) where
   judged_line packet = verdict_text packet ++ line (message_part packet.message)
 
   -- What a message does to a machine, and the states before and after it.
-  abbrev pub change_text : Transition (List ℕ) → List ℕ
+  abbrev pub change_text : TransitionEvent (List ℕ) → List ℕ
   change_text change = sender_text change.frame change.from ++ by_words change.by
       ++ machine_text change.group change.what ++ codes ": " ++ states_text change.before (state_in change.after)
 
   -- A machine that a message changed.
-  abbrev pub transition_line : Transition (List ℕ) → List ℕ
+  abbrev pub transition_line : TransitionEvent (List ℕ) → List ℕ
   transition_line change = change_text change ++ timers_line change
 
   -- The RP of the group, if it has one.

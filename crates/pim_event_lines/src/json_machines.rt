@@ -16,7 +16,7 @@ use crate::words::{
 use itoa::Buffer;
 use pim_addr::{Drain, Failed, Family, write_all};
 use pim_down::What;
-use pim_events::{EndOfTrace, Fired, SkipCounts, TimeOut, Transition, state_in};
+use pim_events::{EndOfTrace, Fired, SkipCounts, TimeOut, TransitionEvent, state_in};
 use pim_lines::{ShortText, number_or, write_pieces};
 
 /// Writes the source of a machine, or `null`.
@@ -38,7 +38,7 @@ fn write_source<F: Family, W: Drain>(writer: &mut W, what: What<F::Addr>) -> Res
 /// Writes by what a message changed which machine, up to its source.
 fn write_change<F: Family, W: Drain>(
     writer: &mut W,
-    change: &Transition<F::Addr>,
+    change: &TransitionEvent<F::Addr>,
 ) -> Result<(), Failed>
     ensures bytes { AppendsAll (W.contents writer.old) (W.contents writer.new) result
         (change_json F.family (transition_seen F.bytes_of change.now)) }
@@ -68,7 +68,7 @@ fn write_change<F: Family, W: Drain>(
 /// Writes the states before and after a message, and the timers after it.
 fn write_outcome<F: Family, W: Drain>(
     writer: &mut W,
-    change: &Transition<F::Addr>,
+    change: &TransitionEvent<F::Addr>,
 ) -> Result<(), Failed>
     ensures bytes { AppendsAll (W.contents writer.old) (W.contents writer.new) result
         (outcome_json (transition_seen F.bytes_of change.now)) }
@@ -101,7 +101,7 @@ fn write_outcome<F: Family, W: Drain>(
 /// Writes the source of a machine, and what a message changed.
 fn write_changed<F: Family, W: Drain>(
     writer: &mut W,
-    change: &Transition<F::Addr>,
+    change: &TransitionEvent<F::Addr>,
 ) -> Result<(), Failed>
     ensures bytes { AppendsAll (W.contents writer.old) (W.contents writer.new) result
         (source_json F.family (what_seen F.bytes_of change.now.what)
@@ -115,7 +115,7 @@ fn write_changed<F: Family, W: Drain>(
 /// Writes the members of a machine that a message changed.
 pub(crate) fn write_transition_json<F: Family, W: Drain>(
     writer: &mut W,
-    change: &Transition<F::Addr>,
+    change: &TransitionEvent<F::Addr>,
 ) -> Result<(), Failed>
     ensures bytes { AppendsAll (W.contents writer.old) (W.contents writer.new) result
         (transition_json F.family (transition_seen F.bytes_of change.now)) }

@@ -15,7 +15,7 @@ use crate::words::{by_words, cause_words, echo_text, show_what, state_text, time
 use itoa::Buffer;
 use pim_addr::{Drain, Failed, Family, write_all};
 use pim_down::{Machine, Pending};
-use pim_events::{EndOfTrace, Fired, SkipCounts, TimeOut, Transition, pending_in, state_in};
+use pim_events::{EndOfTrace, Fired, SkipCounts, TimeOut, TransitionEvent, pending_in, state_in};
 use pim_lines::{ShortText, number_or, write_pieces};
 
 /// Writes the time left on the Expiry Timer of a machine that is held.
@@ -103,7 +103,7 @@ fn write_pending<W: Drain>(
 /// Writes the timers of a machine after a message, and the packet that is overridden.
 fn write_timers<F: Family, W: Drain>(
     writer: &mut W,
-    change: &Transition<F::Addr>,
+    change: &TransitionEvent<F::Addr>,
 ) -> Result<(), Failed>
     ensures bytes { AppendsAll (W.contents writer.old) (W.contents writer.new) result
         (timers_line (transition_seen F.bytes_of change.now)) }
@@ -117,7 +117,7 @@ fn write_timers<F: Family, W: Drain>(
 /// Writes what a message does to a machine, and the states before and after it.
 fn write_change<F: Family, W: Drain>(
     writer: &mut W,
-    change: &Transition<F::Addr>,
+    change: &TransitionEvent<F::Addr>,
 ) -> Result<(), Failed>
     ensures bytes { AppendsAll (W.contents writer.old) (W.contents writer.new) result
         (change_text F.family (transition_seen F.bytes_of change.now)) }
@@ -151,7 +151,7 @@ fn write_change<F: Family, W: Drain>(
 /// Writes the line of a machine that a message changed.
 pub(crate) fn write_transition_line<F: Family, W: Drain>(
     writer: &mut W,
-    change: &Transition<F::Addr>,
+    change: &TransitionEvent<F::Addr>,
 ) -> Result<(), Failed>
     ensures bytes { AppendsAll (W.contents writer.old) (W.contents writer.new) result
         (transition_line F.family (transition_seen F.bytes_of change.now)) }

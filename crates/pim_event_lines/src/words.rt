@@ -203,7 +203,7 @@ pub(crate) fn kind_word<F: Family>(what: What<F::Addr>) -> Word
 
 /// The kind of a machine and its source, in text.
 #[derive(Drop)]
-pub(crate) struct ShownWhat {
+pub(crate) struct ShortWhat {
     /// `star`, `source` or `rpt`, and a space.
     kind: &'static [u8],
     /// The source, or nothing.
@@ -212,7 +212,7 @@ pub(crate) struct ShownWhat {
     gap: &'static [u8],
 }
 
-impl ShownWhat {
+impl ShortWhat {
     /// `star`, `source` or `rpt`, and a space.
     pub fn kind(&self) -> &[u8]
         ensures { result.now ≡ self.now.kind.now }
@@ -236,23 +236,23 @@ impl ShownWhat {
 }
 
 /// The kind of a machine and its source, in text.
-pub(crate) fn show_what<F: Family>(what: What<F::Addr>) -> ShownWhat
+pub(crate) fn show_what<F: Family>(what: What<F::Addr>) -> ShortWhat
     ensures kind { result.kind.now ≡ kind_of (what_seen F.bytes_of what) }
     ensures source { result.source ++ result.gap.now
         ≡ source_words F.family (what_seen F.bytes_of what) }
 {
     match what {
-        What::Star => ShownWhat {
+        What::Star => ShortWhat {
             kind: b"star ",
             source: ShortText::maybe::<F>(None),
             gap: b"",
         },
-        What::Source(source) => ShownWhat {
+        What::Source(source) => ShortWhat {
             kind: b"source ",
             source: ShortText::of::<F>(source),
             gap: b" ",
         },
-        What::Rpt(source) => ShownWhat {
+        What::Rpt(source) => ShortWhat {
             kind: b"rpt ",
             source: ShortText::of::<F>(source),
             gap: b" ",

@@ -15,7 +15,7 @@ use Rattle.pim_events.specs.declared.event.Judgment.{Judgment}
 use Rattle.pim_events.specs.declared.event.OwnRestart.{OwnRestart}
 use Rattle.pim_events.specs.declared.event.Skipping.{Skipping}
 use Rattle.pim_events.specs.declared.event.TimeOut.{TimeOut}
-use Rattle.pim_events.specs.declared.event.Transition.{Transition}
+use Rattle.pim_events.specs.declared.event.TransitionEvent.{TransitionEvent}
 
 -- A packet with the verdict on it. `message` is there if it reads as a Join/Prune (RFC 7761,
 -- 4.9.5).
@@ -29,7 +29,7 @@ pub record Judged : Type 0 where
 pub data Happened : Type 0 where
   hello_heard : Greeting (List ℕ) → Happened
   packet_judged : Judged → Happened
-  machine_changed : Transition (List ℕ) → Happened
+  machine_changed : TransitionEvent (List ℕ) → Happened
   join_ignored : Ignored (List ℕ) → Happened
   own_restart : OwnRestart → Happened
   record_skipped : Skipping → Happened
@@ -66,7 +66,7 @@ module _ {A : Type 0} (bytes_of : A → List ℕ) where
     message = packet.message;
   }
 
-  abbrev pub transition_seen : Transition A → Transition (List ℕ)
+  abbrev pub transition_seen : TransitionEvent A → TransitionEvent (List ℕ)
   transition_seen change = record {
     frame = change.frame;
     from = bytes_of change.from;

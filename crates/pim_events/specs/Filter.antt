@@ -22,7 +22,7 @@ use Rattle.pim_events.specs.Events.{join_ignored, record_skipped, timer_fired, r
 use Rattle.pim_events.specs.Parts.{state_in, pending_in}
 use Rattle.pim_events.specs.declared.event.Skip.{Skip}
 use Rattle.pim_events.specs.declared.event.Skip.TheVariants.{NoPacket}
-use Rattle.pim_events.specs.declared.event.Transition.{Transition}
+use Rattle.pim_events.specs.declared.event.TransitionEvent.{TransitionEvent}
 use Rattle.pim_events.specs.declared.filter.Filter.{Filter}
 
 -- What a user wants to see: everything, or what changes something (`--all`); groups and sources,
@@ -69,7 +69,7 @@ state_number (Some state.PruneTmp) = 4
 state_number (Some state.PrunePendingTmp) = 5
 
 -- The state after a message is the state before it.
-abbrev pub keeps_state : Transition (List ℕ) → Bool
+abbrev pub keeps_state : TransitionEvent (List ℕ) → Bool
 keeps_state change = state_number change.before == state_number (state_in change.after)
 
 -- A Prune-Pending Timer that runs ends in this millisecond. Its firing then names the packet.

@@ -31,7 +31,7 @@ pub enum Happening<'a, F: Family> {
     /// Another packet got a verdict.
     Packet(Judgment<'a, F>),
     /// A Join/Prune message changed a machine.
-    Transition(Transition<F::Addr>),
+    Transition(TransitionEvent<F::Addr>),
     /// A Join(*,G) was ignored, because its RP is not that of the group.
     Ignored(Ignored<F::Addr>),
     /// The port's own router restarted.
@@ -76,7 +76,7 @@ pub struct Judgment<'a, F: Family> {
 
 /// A change of a machine by a Join/Prune message (RFC 7761, 4.5.1 to 4.5.3).
 #[derive(Clone, Copy, Debug, PartialEq, Eq)]
-pub struct Transition<A> {
+pub struct TransitionEvent<A> {
     /// The number of the record in its file, from 1.
     pub frame: u64,
     /// The sender of the message.

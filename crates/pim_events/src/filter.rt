@@ -15,7 +15,7 @@ ghost use Rattle.pim_events.specs.Filter.{has_wanted_entry, is_wanted_set, is_wa
 ghost use Rattle.pim_events.specs.Filter.{is_wanted_packet};
 ghost use Rattle.pim_events.specs.Filter.{is_chosen, is_early, is_epoch_before, is_end, is_shown};
 
-use crate::event::{Happening, Skip, TraceEvent, Transition};
+use crate::event::{Happening, Skip, TraceEvent, TransitionEvent};
 use crate::parts::{pending_in, state_in};
 use pim_addr::Family;
 use pim_capture::Why;
@@ -83,7 +83,7 @@ fn is_over(pending: Option<Pending>) -> bool
 }
 
 /// Whether a transition is shown without `--all`.
-fn is_news_of_machine<F: Family>(change: &Transition<F::Addr>) -> bool
+fn is_news_of_machine<F: Family>(change: &TransitionEvent<F::Addr>) -> bool
     ensures { result ≡ (not (keeps_state (transition_seen F.bytes_of change.now))
         && not (is_over (pending_in change.now.after))) }
 {

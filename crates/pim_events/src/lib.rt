@@ -16,7 +16,7 @@ mod parts;
 
 pub use event::{
     Cause, EndOfTrace, Fired, Greeting, Happening, Ignored, Judgment, OwnRestart, Skip, SkipCounts,
-    Skipping, TimeOut, TraceEvent, Transition,
+    Skipping, TimeOut, TraceEvent, TransitionEvent,
 };
 pub use event_writer::EventWriter;
 pub use filter::{Filter, is_shown};

@@ -163,12 +163,12 @@ all_short most small (message ∷ messages) all = (omega (arith, all.0, small), 
 module _ (family : AddressFamily) (table : RouteTable) (writing : Writing) (limit : ℕ) (messages : List (List ℕ)) where
   told_once : (sent : AreSent family table writing messages) (result : Result RouterState MirrorFault)
       → CarriesTheForm family table writing sent.demanded.form messages (fresh_of table writing limit messages) result → Mirrored family table writing limit messages result
-  told_once sent (Ok router) tells = (
-    tells.answers.room,
-    record { form = sent.demanded.form; fitting = sent.fitting; routes = tells.answers.at_first.routes; asks = tells.answers.at_first.asks },
+  told_once sent (Ok router) wrote = (
+    wrote.answers.room,
+    record { form = sent.demanded.form; fitting = sent.fitting; routes = wrote.answers.at_first.routes; demanding = wrote.answers.at_first.demanding },
   )
-  told_once sent (Err (fault.Full needed)) tells = record { over = tells.answers.0; first = tells.answers.1 }
-  told_once sent (Err fault.Memory) tells = tt
+  told_once sent (Err (fault.Full needed)) wrote = record { over = wrote.answers.0; first = wrote.answers.1 }
+  told_once sent (Err fault.Memory) wrote = tt
 
   -- the course of the fresh router determines the meaning of the result
   pub tells_once : MirrorAnswersForTheForm → IsRouteTable family table → IsWriting family writing → 1 ≤ limit → limit ≤ 100000 → (sent : AreSent family table writing messages) (fresh : Fresh)
@@ -187,14 +187,14 @@ module _ (family : AddressFamily) (table : RouteTable) (writing : Writing) (limi
 
 module _ (family : AddressFamily) (table : RouteTable) (writing : Writing) (messages : List (List ℕ)) (router : RouterState) (again : IsAgain family table writing messages router) where
   pub same_again : (others : List (List ℕ)) → IsDemandedBy family writing router others → others ≡ messages
-  same_again others demanded = again.asks.same_messages demanded.form others
+  same_again others demanded = again.demanding.same_messages demanded.form others
       (subst (λ t. IsFormOf family (demand_toward family t writing.upstream router.machines) demanded.form) again.routes demanded.is)
       (subst (λ t. AreCanonical family writing (rp_of family t) demanded.form others) again.routes demanded.reported)
 
   pub fits_again : IsTooBig family writing router None
   fits_again = record {
     form = again.form;
-    is = subst (λ t. IsFormOf family (demand_toward family t writing.upstream router.machines) again.form) (sym again.routes) again.asks.is_form;
+    is = subst (λ t. IsFormOf family (demand_toward family t writing.upstream router.machines) again.form) (sym again.routes) again.demanding.is_form;
     least = again.fitting;
   }
 

@@ -117,7 +117,7 @@ pub record Laws : Type 0 where
 
 module _ (laws : Laws) (family : AddressFamily) (table : RouteTable) (writing : Writing) (limit : ℕ) (before change wanted : List (List ℕ))
     (sound : IsRouteTable family table) (is_writing : IsWriting family writing) (reported : AreCarried family table writing before change wanted) (router : RouterState)
-    (tells : CarriesTheForm family table writing reported.was.demanded.form before (fresh_of table writing limit before) (Ok router)) where
+    (wrote : CarriesTheForm family table writing reported.was.demanded.form before (fresh_of table writing limit before) (Ok router)) where
   abbrev its : Fresh
   its = fresh_of table writing limit before
 
@@ -125,7 +125,7 @@ module _ (laws : Laws) (family : AddressFamily) (table : RouteTable) (writing : 
   last = router.machines.moment + fresh_interval
 
   moment_is : router.machines.moment ≡ end_of its
-  moment_is = tells.answers.at_first.moment_is
+  moment_is = wrote.answers.at_first.moment_is
 
   pub is_early : router.machines.moment ≤ 3000
   is_early = omega (arith, moment_is, end_early family table writing limit before)
@@ -137,24 +137,24 @@ module _ (laws : Laws) (family : AddressFamily) (table : RouteTable) (writing : 
   no_expiry = lasts writing.holdtime is_writing.long last (omega (arith, is_early))
 
   pub one_port : router.machines.ports ≡ 1
-  one_port = (tells.answers.knows last later tt).one_port
+  one_port = (wrote.answers.knows last later tt).one_port
 
   all_alive : AreAlive (expiry_of writing.holdtime) last (newest_first its)
   all_alive = subst (λ (deliveries : List Delivery). AreAlive (expiry_of writing.holdtime) last deliveries) (sym (newest_of family table writing limit before)) (alive (expiry_of writing.holdtime) last (length before) no_expiry)
 
   settled : IsSettledAt 0 reported.was.demanded.form router.machines.records × NoneExpires last router.machines
-  settled = laws.mirrors family table writing reported.was.demanded.form before its (end_of its) last [] router reported.was.demanded.is.normal (omega arith) later all_alive tells.answers.at_first
+  settled = laws.mirrors family table writing reported.was.demanded.form before its (end_of its) last [] router reported.was.demanded.is.normal (omega arith) later all_alive wrote.answers.at_first
 
   module _ (machines : IsSound family router.machines) where
     stands : StandsAt family reported.was.demanded.form router
     stands = record { one_port = one_port; sound = machines; settled = settled.0 }
 
     routes : router.routes ≡ table
-    routes = tells.answers.at_first.routes
+    routes = wrote.answers.at_first.routes
 
     knows_until : KnowsUntil family table writing (timing_of its) last router
     knows_until =
-        let knows = tells.answers.knows last later tt in
+        let knows = wrote.answers.knows last later tt in
         record { hears = knows.hears; same_rps = λ group is. ap (λ (t : RouteTable). rp_of family t group) routes; neighbours = knows.lasts }
 
     toward_was : IsFormToward family table writing.upstream reported.was.demanded.form
@@ -195,8 +195,8 @@ module _ (laws : Laws) (family : AddressFamily) (table : RouteTable) (writing : 
       moved : HasMoved family table writing reported.is.demanded.form last router after
       moved = laws.moves family table writing (timing_of its) reported.was.demanded.form reported.is.demanded.form change deliveries last router after sound is_writing toward_was toward_is reported.reported stands knows_until given
 
-      asks : IsFormOf family (demand_toward family table writing.upstream after.machines) reported.is.demanded.form
-      asks = moved.asks
+      demanding : IsFormOf family (demand_toward family table writing.upstream after.machines) reported.is.demanded.form
+      demanding = moved.demanding
 
       routes_then : after.routes ≡ table
       routes_then = moved.routes ∙ routes
@@ -204,7 +204,7 @@ module _ (laws : Laws) (family : AddressFamily) (table : RouteTable) (writing : 
       pub fits_then : IsTooBig family writing after None
       fits_then = record {
         form = reported.is.demanded.form;
-        is = subst (λ (t : RouteTable). IsFormOf family (demand_toward family t writing.upstream after.machines) reported.is.demanded.form) (sym routes_then) asks;
+        is = subst (λ (t : RouteTable). IsFormOf family (demand_toward family t writing.upstream after.machines) reported.is.demanded.form) (sym routes_then) demanding;
         least = reported.is.fitting;
       }
 
@@ -213,12 +213,12 @@ module _ (laws : Laws) (family : AddressFamily) (table : RouteTable) (writing : 
           (laws.same family table writing after.machines reported.is.state demanded.form reported.is.demanded.form others wanted sound is_writing
           (subst (λ (t : RouteTable). IsFormOf family (demand_toward family t writing.upstream after.machines) demanded.form) routes_then demanded.is) reported.is.demanded.is
           (subst (λ (t : RouteTable). AreCanonical family writing (rp_of family t) demanded.form others) routes_then demanded.reported) reported.is.demanded.reported).1
-          (λ source group tree valid of_group. asks.wants source group tree valid of_group ∙ sym (reported.is.demanded.is.wants source group tree valid of_group))
+          (λ source group tree valid of_group. demanding.wants source group tree valid of_group ∙ sym (reported.is.demanded.is.wants source group tree valid of_group))
 
       hears_both : HearsBoth family table writing limit before change None
       hears_both = record {
         mirror = router;
-        heard = tells.course;
+        heard = wrote.course;
         reported = passes.reported;
         after = passes.after;
         course = passes.course;
@@ -235,7 +235,7 @@ module _ (laws : Laws) (family : AddressFamily) (table : RouteTable) (writing : 
       → MovedAgain family table writing limit before change wanted (Err why)
   not_moved (fault.Full needed) after passes = inr (record {
     mirror = router;
-    heard = tells.course;
+    heard = wrote.course;
     reported = passes.reported;
     after = passes.after;
     course = passes.course;

@@ -72,7 +72,7 @@ module _ (family : AddressFamily) (table : RouteTable) (writing : Writing) where
     pub form : List GroupForm
     pub fitting : too_big family writing.budget form ≡ None
     pub routes : router.routes ≡ table
-    pub asks : DemandsAgain family table writing form messages router.machines
+    pub demanding : DemandsAgain family table writing form messages router.machines
 
   -- ---- what private steps return
 

@@ -72,7 +72,7 @@ pub(crate) fn mirror_once<'a, F: Family>(
     requires most { fresh.now.limit ≤ 100000 }
     ensures mirrored { Mirrored F.family fresh.now.routes.now by.now fresh.now.limit messages.now
         result }
-    ensures tells { (sent : AreSent F.family fresh.now.routes.now by.now messages.now) →
+    ensures wrote { (sent : AreSent F.family fresh.now.routes.now by.now messages.now) →
         CarriesTheForm F.family fresh.now.routes.now by.now sent.demanded.form messages.now
         (fresh_of fresh.now.routes.now by.now fresh.now.limit messages.now) result }
 {

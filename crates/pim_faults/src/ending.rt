@@ -75,7 +75,7 @@ fn write_fault_text<D: Drain>(fault: &Fault<'_>, device: &mut D) -> Result<(), F
 /// version go to `output`. If that fails, the line `pimtree: output` goes to `errors`, and the
 /// status is 2. Every other fault goes to `errors`; a failure of that device is ignored.
 pub fn report_fault<W: Drain, E: Drain>(fault: &Fault<'_>, output: &mut W, errors: &mut E) -> u8
-    ensures asked { is_help fault.now ≡ true → IsAnswered result (written_text fault.now)
+    ensures help_asked { is_help fault.now ≡ true → IsAnswered result (written_text fault.now)
         (W.contents output.old) (W.contents output.new) (W.failures output.old)
         (W.failures output.new) }
     ensures no_error { is_help fault.now ≡ true → result ≡ 0 → errors.new ≡ errors.old }

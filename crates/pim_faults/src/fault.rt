@@ -324,7 +324,7 @@ fn write_word<W: Drain>(writer: &mut W, words: &[u8], word: &str) -> Result<(), 
 }
 
 /// Writes words, the name of a file and more words, and ends the line.
-fn write_named<W: Drain>(
+fn write_with_name<W: Drain>(
     writer: &mut W,
     words: &[u8],
     file: &str,
@@ -405,7 +405,7 @@ fn write_words<W: Drain>(fault: &Fault<'_>, writer: &mut W) -> Result<(), Failed
         Fault::Words(fault) => write_plan_words(fault, writer),
         Fault::File(word) => write_word(writer, b"file ", word),
         Fault::Unopened { file, cause } => {
-            write_named(writer, b"file ", file, file_words(*cause))
+            write_with_name(writer, b"file ", file, file_words(*cause))
         }
         Fault::RoutesTooLong => write_plain(writer, b"routes too-long"),
         Fault::RoutesRead => write_plain(writer, b"routes read"),

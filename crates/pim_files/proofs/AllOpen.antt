@@ -23,7 +23,7 @@ front_of_more a b xs ys p = record {
   front = p.front;
   others = p.others ++ ys;
   cut = ap (λ l. l ++ ys) p.cut ∙ append_assoc p.front p.others ys;
-  asks = p.asks;
+  requests = p.requests;
 }
 
 pub front_after : (a b c : Known) (xs ys : List (List ℕ)) → RequestsFor a b xs → RequestsFront b c ys → RequestsFront a c (xs ++ ys)
@@ -31,7 +31,7 @@ front_after a b c xs ys p q = record {
   front = xs ++ q.front;
   others = q.others;
   cut = ap (λ l. xs ++ l) q.cut ∙ sym (append_assoc xs q.front q.others);
-  asks = asks_more a b c xs q.front p q.asks;
+  requests = asks_more a b c xs q.front p q.requests;
 }
 
 -- the same ports and further files

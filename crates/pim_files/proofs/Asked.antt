@@ -25,11 +25,11 @@ asks_more a b c xs ys p q = record {
 
 -- all names are a front of themselves
 pub all_in_front : (a b : Known) (names : List (List ℕ)) → RequestsFor a b names → RequestsFront a b names
-all_in_front a b names p = record { front = names; others = []; cut = sym (append-nil names); asks = p }
+all_in_front a b names p = record { front = names; others = []; cut = sym (append-nil names); requests = p }
 
 -- it was asked for none of the names
 pub none_in_front : (a : Known) (names : List (List ℕ)) → RequestsFront a a names
-none_in_front a names = record { front = []; others = names; cut = refl; asks = asks_none a }
+none_in_front a names = record { front = []; others = names; cut = refl; requests = asks_none a }
 
 -- it was asked for nothing where there are no names
 pub asks_no_names : {X E : Type 0} (a : Known) (names : List (List ℕ)) (result : Result X E) → names ≡ [] → RequestsAll a a names result

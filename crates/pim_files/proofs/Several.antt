@@ -25,12 +25,12 @@ front_within a b c xs ys zs all whole p q = record {
   cut = ap names_of whole ∙ names-append xs (ys ++ zs)
       ∙ ap (λ l. names_of xs ++ l) (names-append ys zs ∙ ap (λ l. l ++ names_of zs) q.cut ∙ append_assoc q.front q.others (names_of zs))
       ∙ sym (append_assoc (names_of xs) q.front (q.others ++ names_of zs));
-  asks = asks_more a b c (names_of xs) q.front p q.asks;
+  requests = asks_more a b c (names_of xs) q.front p q.requests;
 }
 
 -- the first of all was asked for
 pub front_of_first : (a b : Known) (file : FileOfName) (others : List FileOfName) → RequestsFor a b (file.name ∷ []) → RequestsFront a b (names_of (file ∷ others))
-front_of_first a b file others p = record { front = file.name ∷ []; others = names_of others; cut = refl; asks = p }
+front_of_first a b file others p = record { front = file.name ∷ []; others = names_of others; cut = refl; requests = p }
 
 -- ---- files that can be opened
 

@@ -37,7 +37,7 @@ pub record RequestsFront (old new : Known) (names : List (List ℕ)) : Type 0 wh
   pub front : List (List ℕ)
   pub others : List (List ℕ)
   pub cut : names ≡ front ++ others
-  pub asks : RequestsFor old new front
+  pub requests : RequestsFor old new front
 
 -- At Ok the opener was asked for all these names, at Err for some first ones.
 abbrev pub RequestsAll : {A E : Type 0} → Known → Known → List (List ℕ) → Result A E → Type 0

@@ -22,7 +22,7 @@ use Rattle.pim_form.specs.Rows.{exceptions_of}
 use Rattle.pim_form.specs.Wants.{is_joined, is_pruned}
 use Rattle.pim_form.specs.Collect.{Takes, wants_at, fresh, with_exception, star_with, sources_with, added, closed, collected_behind, collected, of_port}
 use Rattle.pim_form.proofs.Addresses.{same_is, less_apart}
-use Rattle.pim_form.proofs.PortDemand.{same_what, tells, some_tell, told_wants, port_wants, are_of_port}
+use Rattle.pim_form.proofs.PortDemand.{same_what, carries, some_tell, told_wants, port_wants, are_of_port}
 use Rattle.pim_form.proofs.Collected.{Precedes, IsRun, is_run, IsNext, takes_fresh, all_next, all_first, later, taken, all_rising, collected_normal}
 
 -- ---- truth values
@@ -141,7 +141,7 @@ no_star group t held (next ∷ records) is behind same = rw (one behind.0) (no_s
     here : group ≡ held.key.group
     here = same_is group held.key.group same
 
-    one : Precedes held next → tells is_joined group Star next ≡ false
+    one : Precedes held next → carries is_joined group Star next ≡ false
     one (inl less) = rw (subst (λ g. same_address g next.key.group ≡ false) (sym here) (less_apart held.key.group next.key.group less)) refl
     one (inr both) =
         ap (λ b. same_address group next.key.group && b) (not_star t next.key.what next.machine.state (subst (λ w. what_cmp w next.key.what ≡ Less) is both.1)) ∙ and_nothing (same_address group next.key.group)

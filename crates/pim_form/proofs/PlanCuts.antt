@@ -520,10 +520,10 @@ module _ {A : Type 0} (bytes_of : A → List ℕ) (family : AddressFamily) (budg
         long ((fit (star_entries p + place_sources p) (some_units bytes_of family budget next.row next.places p next.left filled next.filling p.starred refl)).1 has)
 
   -- what is left of a group is told whole
-  pub tells : (before p : GroupPlace A) (first filled new : Filled A)
+  pub carries : (before p : GroupPlace A) (first filled new : Filled A)
       → ((row : List A) (places left : List (GroupPlace A)) → IsFilling bytes_of family budget row places (before ∷ left) first → IsFilling bytes_of family budget row places (p ∷ left) filled)
       → HasRoom family budget (filled.groups + 1) (filled.entries + (star_entries p + place_sources p))
       → new ≡ record { pieces = filled.pieces ++ p ∷ []; ends = filled.ends; groups = filled.groups + 1; entries = filled.entries + (star_entries p + place_sources p) }
       → (row : List A) (places left : List (GroupPlace A)) → IsFilling bytes_of family budget row places (before ∷ left) first → IsFilling bytes_of family budget row places left new
-  tells before p first filled new goes room is row places left filling =
+  carries before p first filled new goes room is row places left filling =
       subst (IsFilling bytes_of family budget row places left) (sym is) (goes_on bytes_of family budget row places p left filled (goes row places left filling) room)

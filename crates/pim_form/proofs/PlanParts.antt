@@ -52,10 +52,10 @@ module _ {A : Type 0} (pieces : List (GroupPlace A)) (start end : ℕ) (left oth
         → next ≡ messages ++ message ∷ [] → CarriesRun family writing rps (run (between start end pieces)) message
         → ((behind : List (List ℕ)) → CarryRuns family writing rps (map run (parts_from start left pieces)) behind → CarryRuns family writing rps runs (messages ++ behind))
         → (behind : List (List ℕ)) → CarryRuns family writing rps (map run (parts_from end others pieces)) behind → CarryRuns family writing rps runs (next ++ behind)
-    one_more_told writing rps runs messages next message is_next tells reported behind tell =
+    one_more_told writing rps runs messages next message is_next carries reported behind tell =
         let runs_left : map run (parts_from start left pieces) ≡ run (between start end pieces) ∷ map run (parts_from end others pieces) = ap (map run) these_parts in
         let all : CarryRuns family writing rps runs (messages ++ message ∷ behind) =
-        reported (message ∷ behind) (subst (λ (these : List (List WantUnit)). CarryRuns family writing rps these (message ∷ behind)) (sym runs_left) (tells, tell)) in
+        reported (message ∷ behind) (subst (λ (these : List (List WantUnit)). CarryRuns family writing rps these (message ∷ behind)) (sym runs_left) (carries, tell)) in
         subst (CarryRuns family writing rps runs) (sym (ap (λ (front : List (List ℕ)). front ++ behind) is_next ∙ append_assoc messages (message ∷ []) behind)) all
 
 module _ {A : Type 0} (pieces : List (GroupPlace A)) (items ends : List ℕ) (i start : ℕ) (is : items ≡ ends) (below : i < length items) where
@@ -90,10 +90,10 @@ module _ {A : Type 0} (pieces : List (GroupPlace A)) (start : ℕ) (left : List 
 -- the message of a part tells its run
 pub part_tells : {A : Type 0} (bytes_of : A → List ℕ) (family : AddressFamily) (writing : Writing) (rps : List ℕ → Option (List ℕ)) (row : List A) (part : List (GroupPlace A)) (message : List ℕ)
     → IsKept bytes_of family row part → CarriesPart family writing rps (form_seen bytes_of row part) message → CarriesRun family writing rps (run_of bytes_of row part) message
-part_tells bytes_of family writing rps row part message kept tells = record {
+part_tells bytes_of family writing rps row part message kept carries = record {
   part = form_seen bytes_of row part;
   units = refl;
   ascending = kept.normal.ascending;
   some = groups_some family (form_seen bytes_of row part) kept.normal.groups;
-  sealed = tells;
+  sealed = carries;
 }

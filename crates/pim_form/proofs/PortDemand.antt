@@ -31,11 +31,11 @@ same_what (Rpt s) (Rpt t) = same_address s t
 same_what _ _ = false
 
 -- the record is of this machine, and its state passes the test
-abbrev pub tells : (Option State → Bool) → List ℕ → What (List ℕ) → Record (List ℕ) → Bool
-tells good group what held = same_address group held.key.group && (same_what what held.key.what && good (Some held.machine.state))
+abbrev pub carries : (Option State → Bool) → List ℕ → What (List ℕ) → Record (List ℕ) → Bool
+carries good group what held = same_address group held.key.group && (same_what what held.key.what && good (Some held.machine.state))
 
 abbrev pub some_tell : (Option State → Bool) → List ℕ → What (List ℕ) → List (Record (List ℕ)) → Bool
-some_tell good group what records = list_any (tells good group what) records
+some_tell good group what records = list_any (carries good group what) records
 
 abbrev pub told_wants : List (Record (List ℕ)) → List ℕ → List ℕ → Tree → Bool
 told_wants records source group Shared = some_tell is_joined group Star records && not (some_tell is_pruned group (Rpt source) records)

@@ -105,12 +105,12 @@ module _ (family : AddressFamily) (writing : Writing) (rps : List ℕ → Option
       (parts_valid family rps a part_a.some part_a.valid) (parts_valid family rps b part_b.some part_b.valid)
       (ap (λ (message : Message). message.sets) messages)
 
-  part_of : (run : List WantUnit) (bytes : List ℕ) → (tells : CarriesRun family writing rps run bytes) → AllByRecursion (IsValidUnit family rps) run → fits family writing.budget run ≡ true → IsPart family writing rps tells.part
-  part_of run bytes tells valid fitting = record {
-    ascending = tells.ascending;
-    some = tells.some;
-    valid = subst (AllByRecursion (IsValidUnit family rps)) (sym tells.units) valid;
-    fitting = subst (λ (run : List WantUnit). fits family writing.budget run ≡ true) (sym tells.units) fitting;
+  part_of : (run : List WantUnit) (bytes : List ℕ) → (carries : CarriesRun family writing rps run bytes) → AllByRecursion (IsValidUnit family rps) run → fits family writing.budget run ≡ true → IsPart family writing rps carries.part
+  part_of run bytes carries valid fitting = record {
+    ascending = carries.ascending;
+    some = carries.some;
+    valid = subst (AllByRecursion (IsValidUnit family rps)) (sym carries.units) valid;
+    fitting = subst (λ (run : List WantUnit). fits family writing.budget run ≡ true) (sym carries.units) fitting;
   }
 
   one_run : (r q : List WantUnit) (bytes : List ℕ) → CarriesRun family writing rps r bytes → CarriesRun family writing rps q bytes

@@ -19,10 +19,10 @@ module _ (family : AddressFamily) (writing : Writing) (rps : List ℕ → Option
   pub record IsAppended (before after : List ℕ) : Type 0 where
     pub message : List ℕ
     pub more : after ≡ before ++ message
-    pub tells : CarriesPart message
+    pub carries : CarriesPart message
 
   -- The list grew at its end by one message, the message of the part.
   pub record IsAdded (before after : List (List ℕ)) : Type 0 where
     pub message : List ℕ
     pub more : after ≡ before ++ message ∷ []
-    pub tells : CarriesPart message
+    pub carries : CarriesPart message

@@ -111,7 +111,7 @@ module _ (keys : KeysAreDistinct) where
         distinct_append port (event ∷ before) events more units.3 distinct (λ key has_unit. others key (ap (λ b. same_key (key_of port event) key || b) has_unit ∙ or_true (same_key (key_of port event) key))),
       )
 
-  module _ (exchange : Exchange) (tells : HasUnitsOnce exchange) where
+  module _ (exchange : Exchange) (carries : HasUnitsOnce exchange) where
     -- what is named by a message that didn't come has no span
     no_span_yet : (message : ℕ) (deliveries : List Delivery) (key : Key (List ℕ)) → is_delivered message deliveries ≡ false → has_unit_of exchange.port key (exchange.messages message) ≡ true → is_some (span_of exchange key deliveries) ≡ false
     no_span_yet message deliveries key d has_unit = by (span_of exchange key deliveries) refl
@@ -120,7 +120,7 @@ module _ (keys : KeysAreDistinct) where
         by None e = refl
         by (Some span) e =
             let that = comes exchange key deliveries span e in
-            let same = tells.once that.message message key that.has_unit has_unit in
+            let same = carries.once that.message message key that.has_unit has_unit in
             absurd (false≢true (sym d ∙ subst (λ (i : ℕ). is_delivered i deliveries ≡ true) same (last_delivered that.message span.last deliveries that.last)))
 
     named_units : (key : Key (List ℕ)) (deliveries : List Delivery) → has_unit_of exchange.port key (units_of exchange deliveries) ≡ is_some (span_of exchange key deliveries)
@@ -144,7 +144,7 @@ module _ (keys : KeysAreDistinct) where
     distinct_units (delivery ∷ earlier) =
         elim (is_delivered delivery.message earlier) as (λ d. is_delivered delivery.message earlier ≡ d → IsDistinct same_key (map (key_of exchange.port) (cond d [] (exchange.messages delivery.message) ++ units_of exchange earlier))) [
           | true ↦ λ d. distinct_units earlier
-          | false ↦ λ d. distinct_append exchange.port [] (exchange.messages delivery.message) (units_of exchange earlier) (tells.units delivery.message) (distinct_units earlier)
+          | false ↦ λ d. distinct_append exchange.port [] (exchange.messages delivery.message) (units_of exchange earlier) (carries.units delivery.message) (distinct_units earlier)
               (λ key has_unit. named_units key earlier ∙ no_span_yet delivery.message earlier key d has_unit)
         ] refl
 
@@ -158,7 +158,7 @@ module _ (keys : KeysAreDistinct) where
         by true = refl
         by false = refl
 
-    module _ (laws : Machines) (ports limit : ℕ) (deliveries : List Delivery) (moment : ℕ) (state : Downstream) (is : IsExpected laws exchange tells ports limit deliveries moment state) where
+    module _ (laws : Machines) (ports limit : ℕ) (deliveries : List Delivery) (moment : ℕ) (state : Downstream) (is : IsExpected laws exchange carries ports limit deliveries moment state) where
       held_named : (key : Key (List ℕ)) → is_some (machine_at key state.records) ≡ is_some (span_of exchange key deliveries)
       held_named key = ap is_some (is.machines key) ∙ some_unit moment key.what (span_of exchange key deliveries)
 
@@ -216,9 +216,9 @@ module _ (keys : KeysAreDistinct) (port : ℕ) (records : List (Record (List ℕ
       and_false true = refl
       and_false false = refl
 
-module _ (laws : Machines) (exchange : Exchange) (tells : HasUnitsOnce exchange) (ports limit : ℕ) (delivery : Delivery) (earlier : List Delivery) (before : Downstream) (is : IsExpected laws exchange tells ports limit earlier delivery.moment before) where
+module _ (laws : Machines) (exchange : Exchange) (carries : HasUnitsOnce exchange) (ports limit : ℕ) (delivery : Delivery) (earlier : List Delivery) (before : Downstream) (is : IsExpected laws exchange carries ports limit earlier delivery.moment before) where
   spanned : (key : Key (List ℕ)) → is_some (machine_at key before.records) ≡ is_some (span_of exchange key earlier)
-  spanned key = held_named laws.keys exchange tells laws ports limit earlier delivery.moment before is key
+  spanned key = held_named laws.keys exchange carries laws ports limit earlier delivery.moment before is key
 
   span_on : (key : Key (List ℕ)) (o : Option Span) → span_of exchange key earlier ≡ o → is_some o ≡ true → key.port ≡ exchange.port
   span_on key None e some = absurd (false≢true some)
@@ -229,7 +229,7 @@ module _ (laws : Machines) (exchange : Exchange) (tells : HasUnitsOnce exchange)
   held_count : count_on exchange.port before.records ≡ length (units_of exchange earlier)
   held_count =
       all_on exchange.port before.records laws.keys (λ key e. span_on key (span_of exchange key earlier) refl (sym (spanned key) ∙ e))
-      ∙ counted laws.keys exchange tells laws ports limit earlier delivery.moment before is
+      ∙ counted laws.keys exchange carries laws ports limit earlier delivery.moment before is
 
   pub needs : needed exchange.port before.records (exchange.messages delivery.message) ≡ length (units_of exchange (delivery ∷ earlier))
   unfolding units_of
@@ -244,14 +244,14 @@ module _ (laws : Machines) (exchange : Exchange) (tells : HasUnitsOnce exchange)
           let none = none_new laws.keys exchange.port before.records (exchange.messages delivery.message) (λ key has_unit. spanned key ∙ was_named exchange key delivery.message earlier d has_unit) in
           omega arith
       by false d =
-          let all = all_new laws.keys exchange.port before.records [] (exchange.messages delivery.message) (tells.units delivery.message) (λ key has_unit. spanned key ∙ no_span_yet laws.keys exchange tells delivery.message earlier key d has_unit) in
+          let all = all_new laws.keys exchange.port before.records [] (exchange.messages delivery.message) (carries.units delivery.message) (λ key has_unit. spanned key ∙ no_span_yet laws.keys exchange carries delivery.message earlier key d has_unit) in
           let both = length-append (exchange.messages delivery.message) (units_of exchange earlier) in
           omega arith
 
 pub needs_the_units : Machines → NeedsTheUnits
-needs_the_units laws exchange ports limit delivery earlier before tells timely leaves =
-    needs laws exchange tells ports limit delivery earlier before (is_expected laws exchange tells ports limit earlier delivery.moment before timely leaves)
+needs_the_units laws exchange ports limit delivery earlier before carries timely leaves =
+    needs laws exchange carries ports limit delivery earlier before (is_expected laws exchange carries ports limit earlier delivery.moment before timely leaves)
 
 pub holds_the_units : Machines → HoldsTheUnits
-holds_the_units laws exchange ports limit deliveries moment after tells timely leaves =
-    counted laws.keys exchange tells laws ports limit deliveries moment after (is_expected laws exchange tells ports limit deliveries moment after timely leaves)
+holds_the_units laws exchange ports limit deliveries moment after carries timely leaves =
+    counted laws.keys exchange carries laws ports limit deliveries moment after (is_expected laws exchange carries ports limit deliveries moment after timely leaves)

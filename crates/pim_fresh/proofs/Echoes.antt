@@ -53,23 +53,23 @@ fresh_mute : (ports limit : ℕ) → IsMute (fresh ports limit)
 unfolding IsMute machine_at
 fresh_mute ports limit key r = refl
 
-module _ (laws : Machines) (echo : EchoNamesAMachine) (exchange : Exchange) (tells : HasUnitsOnce exchange) (ports limit : ℕ) where
-  pub expected_mute : (deliveries : List Delivery) (moment : ℕ) (state : Downstream) → IsExpected laws exchange tells ports limit deliveries moment state → IsMute state
+module _ (laws : Machines) (echo : EchoNamesAMachine) (exchange : Exchange) (carries : HasUnitsOnce exchange) (ports limit : ℕ) where
+  pub expected_mute : (deliveries : List Delivery) (moment : ℕ) (state : Downstream) → IsExpected laws exchange carries ports limit deliveries moment state → IsMute state
   unfolding IsMute
   expected_mute deliveries moment state is key r = ap timer_of (is.machines key) ∙ mute_unit exchange key.what moment (span_of exchange key deliveries) r
 
-  middle_mute : (delivery : Delivery) (earlier : List Delivery) (before : Downstream) → IsExpected laws exchange tells ports limit earlier delivery.moment before → IsMute (after_message exchange delivery.message before)
+  middle_mute : (delivery : Delivery) (earlier : List Delivery) (before : Downstream) → IsExpected laws exchange carries ports limit earlier delivery.moment before → IsMute (after_message exchange delivery.message before)
   unfolding IsMute
   middle_mute delivery earlier before is key r =
-      ap timer_of (middle_at laws exchange tells ports limit delivery earlier before is key ∙ message_star laws.keys exchange tells key delivery earlier r)
+      ap timer_of (middle_at laws exchange carries ports limit delivery earlier before is key ∙ message_star laws.keys exchange carries key delivery earlier r)
       ∙ mute_unit exchange key.what delivery.moment (span_of exchange key (delivery ∷ earlier)) r
 
   pub quiet_delivery : (delivery : Delivery) (earlier : List Delivery) (moment : ℕ) (before after : Downstream) (answer : Step (List ℕ)) → IsTimely (starts exchange).expires_in moment (delivery ∷ earlier) → Leaves exchange ports limit earlier delivery.moment before → Runs moment (after_message exchange delivery.message before) answer after → answer ≡ Reached
   unfolding IsTimely
   quiet_delivery delivery earlier moment before after answer timely leaves runs =
-      let is = is_expected laws exchange tells ports limit earlier delivery.moment before timely.2 leaves in
+      let is = is_expected laws exchange carries ports limit earlier delivery.moment before timely.2 leaves in
       reaches echo moment (after_message exchange delivery.message before) after answer
-      (middle_order laws exchange tells ports limit delivery.message before is.ascending)
+      (middle_order laws exchange carries ports limit delivery.message before is.ascending)
       (middle_mute delivery earlier before is)
       runs
 
@@ -90,8 +90,8 @@ module _ (laws : Machines) (echo : EchoNamesAMachine) (exchange : Exchange) (tel
       record { after = run.after; leaves = record { before = left.after; was = left.leaves; runs = reached moment middle run.after run.answer answer run.runs } }
 
 pub no_echo : Machines → EchoNamesAMachine → NoEchoIsDue
-no_echo laws echo exchange ports limit delivery earlier moment before after answer tells timely leaves runs =
-    quiet_delivery laws echo exchange tells ports limit delivery earlier moment before after answer timely leaves runs
+no_echo laws echo exchange ports limit delivery earlier moment before after answer carries timely leaves runs =
+    quiet_delivery laws echo exchange carries ports limit delivery earlier moment before after answer timely leaves runs
 
 pub every_hearing : Machines → EchoNamesAMachine → EveryStateHasARun → EveryHearingReaches
-every_hearing laws echo has_run exchange ports limit deliveries moment tells timely = every laws echo exchange tells ports limit has_run deliveries moment timely
+every_hearing laws echo has_run exchange ports limit deliveries moment carries timely = every laws echo exchange carries ports limit has_run deliveries moment timely

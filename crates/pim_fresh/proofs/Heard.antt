@@ -143,7 +143,7 @@ module _ (exchange : Exchange) where
 
 -- ---- a delivery
 
-module _ (keys : KeysAreDistinct) (exchange : Exchange) (tells : HasUnitsOnce exchange) where
+module _ (keys : KeysAreDistinct) (exchange : Exchange) (carries : HasUnitsOnce exchange) where
   abbrev pub message_at : ℕ → Key (List ℕ) → Option Machine → Option Machine
   message_at message key held = heard_at exchange.port (starts exchange) (exchange.messages message) key held
 
@@ -155,8 +155,8 @@ module _ (keys : KeysAreDistinct) (exchange : Exchange) (tells : HasUnitsOnce ex
       by false s = refl
       by true s =
           let that = comes exchange key earlier span e in
-          let star = star_is_named keys exchange.port key [] (exchange.messages that.message) (tells.units that.message) r that.has_unit in
-          let same = tells.once that.message delivery.message (star_at exchange.port key.group) star s in
+          let star = star_is_named keys exchange.port key [] (exchange.messages that.message) (carries.units that.message) r that.has_unit in
+          let same = carries.once that.message delivery.message (star_at exchange.port key.group) star s in
           absurd (false≢true (sym has_unit ∙ subst (λ (i : ℕ). has_unit_of exchange.port key (exchange.messages i) ≡ true) same that.has_unit))
 
   -- a message that doesn't name a machine leaves it
@@ -173,7 +173,7 @@ module _ (keys : KeysAreDistinct) (exchange : Exchange) (tells : HasUnitsOnce ex
   pub message_joins : (key : Key (List ℕ)) (message now : ℕ) (o : Option Span) → is_rpt key.what ≡ false → has_unit_of exchange.port key (exchange.messages message) ≡ true → message_at message key (unit_of exchange now key.what o) ≡ unit_at exchange now key.what (up_to now o)
   message_joins key message now o r has_unit =
       end_star exchange.port key (effects exchange.port (starts exchange) (exchange.messages message) key (unit_of exchange now key.what o)) r
-      ∙ joined keys exchange.port (starts exchange) key [] (exchange.messages message) (unit_of exchange now key.what o) (tells.units message) r has_unit
+      ∙ joined keys exchange.port (starts exchange) key [] (exchange.messages message) (unit_of exchange now key.what o) (carries.units message) r has_unit
       ∙ join_renews exchange key.what now o r
 
   -- so the (*,G) and (S,G) machines are as expected before any time passes
@@ -189,7 +189,7 @@ module _ (keys : KeysAreDistinct) (exchange : Exchange) (tells : HasUnitsOnce ex
   message_prunes key source message now o what has_unit =
       let r : is_rpt key.what ≡ true = ap is_rpt what in
       let on = named_port keys exchange.port key (exchange.messages message) has_unit in
-      let value = starred keys exchange.port (starts exchange) key [] (exchange.messages message) (unit_of exchange now (Rpt source) o) (tells.units message) on r refl has_unit ∙ prune_renews exchange source now o in
+      let value = starred keys exchange.port (starts exchange) key [] (exchange.messages message) (unit_of exchange now (Rpt source) o) (carries.units message) on r refl has_unit ∙ prune_renews exchange source now o in
       ap (at_end exchange.port key) value ∙ end_stays exchange.port key (raw exchange now o) (raw_stays exchange now o)
 
   -- ---- the silence behind a delivery

@@ -21,7 +21,7 @@ pub record Machines : Type 0 where
   pub bounds : RunKeepsItsBounds
   pub silence : SilenceActsAtEachKey
 
-module _ (laws : Machines) (exchange : Exchange) (tells : HasUnitsOnce exchange) (ports limit : ℕ) where
+module _ (laws : Machines) (exchange : Exchange) (carries : HasUnitsOnce exchange) (ports limit : ℕ) where
   -- at this moment the machines stand in key order and are as expected
   pub record IsExpected (deliveries : List Delivery) (moment : ℕ) (state : Downstream) : Type 0 where
     pub moment_is : state.moment ≡ moment
@@ -43,10 +43,10 @@ module _ (laws : Machines) (exchange : Exchange) (tells : HasUnitsOnce exchange)
   middle_order message before ascending = laws.order exchange.port (starts exchange) (exchange.messages message) before.records ascending
 
   -- what the message leaves at a key, before any timer fires
-  pub middle_at : (delivery : Delivery) (earlier : List Delivery) (before : Downstream) → IsExpected earlier delivery.moment before → (key : Key (List ℕ)) → machine_at key (after_message exchange delivery.message before).records ≡ message_at laws.keys exchange tells delivery.message key (expected exchange earlier delivery.moment key)
+  pub middle_at : (delivery : Delivery) (earlier : List Delivery) (before : Downstream) → IsExpected earlier delivery.moment before → (key : Key (List ℕ)) → machine_at key (after_message exchange delivery.message before).records ≡ message_at laws.keys exchange carries delivery.message key (expected exchange earlier delivery.moment key)
   middle_at delivery earlier before is key =
       laws.hears exchange.port (starts exchange) (exchange.messages delivery.message) before.records is.ascending key
-      ∙ ap (message_at laws.keys exchange tells delivery.message key) (is.machines key)
+      ∙ ap (message_at laws.keys exchange carries delivery.message key) (is.machines key)
 
   next : (delivery : Delivery) (earlier : List Delivery) (moment : ℕ) (before after : Downstream) → IsTimely (starts exchange).expires_in moment (delivery ∷ earlier) → IsExpected earlier delivery.moment before → Runs moment (after_message exchange delivery.message before) Reached after → IsExpected (delivery ∷ earlier) moment after
   unfolding IsTimely
@@ -66,7 +66,7 @@ module _ (laws : Machines) (exchange : Exchange) (tells : HasUnitsOnce exchange)
             laws.silence moment middle after ascending runs key
             ∙ ap (λ n. after_silence n key (machine_at key middle.records)) passed
             ∙ ap (after_silence (moment - delivery.moment) key) (middle_at delivery earlier before is key)
-            ∙ delivered laws.keys exchange tells delivery earlier moment timely key;
+            ∙ delivered laws.keys exchange carries delivery earlier moment timely key;
       }
 
   pub is_expected : (deliveries : List Delivery) (moment : ℕ) (after : Downstream) → IsTimely (starts exchange).expires_in moment deliveries → Leaves exchange ports limit deliveries moment after → IsExpected deliveries moment after
@@ -76,6 +76,6 @@ module _ (laws : Machines) (exchange : Exchange) (tells : HasUnitsOnce exchange)
       next delivery earlier moment leaves.before after timely (is_expected earlier delivery.moment leaves.before timely.2 leaves.was) leaves.runs
 
 pub fresh_hearing : Machines → FreshHearing
-fresh_hearing laws exchange ports limit deliveries moment after tells timely leaves =
-    let is = is_expected laws exchange tells ports limit deliveries moment after timely leaves in
+fresh_hearing laws exchange ports limit deliveries moment after carries timely leaves =
+    let is = is_expected laws exchange carries ports limit deliveries moment after timely leaves in
     (is.moment_is, is.machines)

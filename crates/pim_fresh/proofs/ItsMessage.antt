@@ -29,7 +29,7 @@ or_nothing : (o : Option ℕ) → earlier_or o None ≡ o
 or_nothing None = refl
 or_nothing (Some first) = refl
 
-module _ (exchange : Exchange) (tells : HasUnitsOnce exchange) (message : ℕ) (key : Key (List ℕ)) (has_unit : has_unit_of exchange.port key (exchange.messages message) ≡ true) where
+module _ (exchange : Exchange) (carries : HasUnitsOnce exchange) (message : ℕ) (key : Key (List ℕ)) (has_unit : has_unit_of exchange.port key (exchange.messages message) ≡ true) where
   IsIts : List Delivery → Type 0
   IsIts deliveries = (option_map first_in (span_of exchange key deliveries) ≡ first_of message deliveries) × (option_map last_in (span_of exchange key deliveries) ≡ last_of message deliveries)
 
@@ -38,7 +38,7 @@ module _ (exchange : Exchange) (tells : HasUnitsOnce exchange) (message : ℕ) (
     where
       by : (b : Bool) → names exchange key delivery ≡ b → b ≡ false
       by false n = refl
-      by true n = absurd (false≢true (sym e ∙ eq-eqb delivery.message message (tells.once delivery.message message key n has_unit)))
+      by true n = absurd (false≢true (sym e ∙ eq-eqb delivery.message message (carries.once delivery.message message key n has_unit)))
 
   is_named_by : (delivery : Delivery) → eqb delivery.message message ≡ true → names exchange key delivery ≡ true
   is_named_by delivery e = subst (λ (i : ℕ). has_unit_of exchange.port key (exchange.messages i) ≡ true) (sym (eqb-true delivery.message message e)) has_unit
@@ -70,4 +70,4 @@ module _ (exchange : Exchange) (tells : HasUnitsOnce exchange) (message : ℕ) (
 
 pub its_message : SpanIsOfItsMessage
 unfolding IsIts first_in last_in
-its_message exchange message key deliveries tells has_unit = its exchange tells message key has_unit deliveries
+its_message exchange message key deliveries carries has_unit = its exchange carries message key has_unit deliveries

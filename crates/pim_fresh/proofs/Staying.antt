@@ -111,7 +111,7 @@ same_state exchange moment later what (Some span) = refl
 
 -- ---- the run
 
-module _ (laws : Machines) (echo : EchoNamesAMachine) (goes_on : RunGoesOn) (exchange : Exchange) (tells : HasUnitsOnce exchange) (ports limit : ℕ) where
+module _ (laws : Machines) (echo : EchoNamesAMachine) (goes_on : RunGoesOn) (exchange : Exchange) (carries : HasUnitsOnce exchange) (ports limit : ℕ) where
   leaves_later : (deliveries : List Delivery) (moment later : ℕ) (state after : Downstream) → moment ≤ later → Leaves exchange ports limit deliveries moment state → Runs later state Reached after → Leaves exchange ports limit deliveries later after
   unfolding Leaves
   leaves_later [] moment later state after before leaves runs = goes_on moment later (fresh ports limit) state after Reached before leaves runs
@@ -121,22 +121,22 @@ module _ (laws : Machines) (echo : EchoNamesAMachine) (goes_on : RunGoesOn) (exc
     runs = goes_on moment later (after_message exchange delivery.message leaves.before) state after Reached before leaves.runs runs;
   }
 
-  asked_at : (deliveries : List Delivery) (moment : ℕ) (state : Downstream) → final_moment exchange.timing.override_ms deliveries ≤ moment → IsExpected laws exchange tells ports limit deliveries moment state → (key : Key (List ℕ)) → machine_at key state.records ≡ machine_wanted exchange moment key.what (span_of exchange key deliveries)
+  asked_at : (deliveries : List Delivery) (moment : ℕ) (state : Downstream) → final_moment exchange.timing.override_ms deliveries ≤ moment → IsExpected laws exchange carries ports limit deliveries moment state → (key : Key (List ℕ)) → machine_at key state.records ≡ machine_wanted exchange moment key.what (span_of exchange key deliveries)
   asked_at deliveries moment state over is key =
       is.machines key ∙ unit_asked exchange moment key.what (span_of exchange key deliveries) (λ span e. let first = first_over exchange key deliveries span e in omega arith)
 
   pub stays : (deliveries : List Delivery) (moment later : ℕ) (state after : Downstream) (answer : Step (List ℕ)) → final_moment exchange.timing.override_ms deliveries ≤ moment → moment ≤ later → IsTimely (starts exchange).expires_in later deliveries → Leaves exchange ports limit deliveries moment state → Runs later state answer after → Stays exchange deliveries moment later state answer after
   stays deliveries moment later state after answer over before timely leaves runs =
       let timely_now = timely_before (starts exchange).expires_in exchange.timing.override_ms moment later deliveries over before timely in
-      let now = is_expected laws exchange tells ports limit deliveries moment state timely_now leaves in
-      let reached = reaches echo later state after answer now.ascending (expected_mute laws echo exchange tells ports limit deliveries moment state now) runs in
+      let now = is_expected laws exchange carries ports limit deliveries moment state timely_now leaves in
+      let reached = reaches echo later state after answer now.ascending (expected_mute laws echo exchange carries ports limit deliveries moment state now) runs in
       let runs_on : Runs later state Reached after = subst (λ (a : Step (List ℕ)). Runs later state a after) reached runs in
-      let then = is_expected laws exchange tells ports limit deliveries later after timely (leaves_later deliveries moment later state after before leaves runs_on) in
+      let then = is_expected laws exchange carries ports limit deliveries later after timely (leaves_later deliveries moment later state after before leaves runs_on) in
       let over_later : final_moment exchange.timing.override_ms deliveries ≤ later = omega arith in
       record {
         reached = reached;
         moment_is = then.moment_is;
-        asked = asked_at deliveries later after over_later then;
+        as_wanted = asked_at deliveries later after over_later then;
         waited = λ key.
             asked_at deliveries later after over_later then key
             ∙ asked_later exchange moment later key.what (span_of exchange key deliveries) before (λ span e. (in_order exchange key (starts exchange).expires_in moment deliveries span timely_now e).last)
@@ -148,5 +148,5 @@ module _ (laws : Machines) (echo : EchoNamesAMachine) (goes_on : RunGoesOn) (exc
       }
 
 pub stays_as_wanted : Machines → EchoNamesAMachine → RunGoesOn → StaysAsWanted
-stays_as_wanted laws echo goes_on exchange ports limit deliveries moment later state after answer tells over before timely leaves runs =
-    stays laws echo goes_on exchange tells ports limit deliveries moment later state after answer over before timely leaves runs
+stays_as_wanted laws echo goes_on exchange ports limit deliveries moment later state after answer carries over before timely leaves runs =
+    stays laws echo goes_on exchange carries ports limit deliveries moment later state after answer over before timely leaves runs

@@ -47,7 +47,7 @@ pub record Stays (exchange : Exchange) (deliveries : List Delivery) (moment late
     (answer : Step (List ℕ)) (after : Downstream) : Type 0 where
   pub reached : answer ≡ Reached
   pub moment_is : after.moment ≡ later
-  pub asked : IsAsWanted exchange deliveries later after
+  pub as_wanted : IsAsWanted exchange deliveries later after
   pub waited : (key : Key (List ℕ)) →
       machine_at key after.records ≡ option_map (machine_after (later - moment)) (machine_at key state.records)
   pub state_stays : (key : Key (List ℕ)) → state_of key after.records ≡ state_of key state.records

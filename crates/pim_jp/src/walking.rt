@@ -36,7 +36,7 @@ impl EntryTypes {
 
 /// The index of the first entry with a fault other than BothLists, and the kind of that fault.
 #[derive(Clone, Copy)]
-pub(crate) struct Stop {
+pub(crate) struct EntryFault {
     pub place: u16,
     pub kind: JpKind,
 }
@@ -143,7 +143,7 @@ pub(crate) fn check_entries<F: Family>(
     count: u16,
     bytes: &[u8],
     has_star: bool,
-) -> Result<EntryTypes, Stop>
+) -> Result<EntryTypes, EntryFault>
     ensures clean { IfOk result (λ _. AreClean F.family has_star count bytes.now) }
     ensures star { IfOk result (λ types. types.star
         ≡ (has_star || list_any is_star (entries_of F.family count bytes.now))) }
@@ -163,7 +163,7 @@ pub(crate) fn check_entries<F: Family>(
     for place in 0..count {
         let types = match check_entry::<F>(rest, star) {
             Ok(types) => types,
-            Err(kind) => return Err(Stop { place, kind }),
+            Err(kind) => return Err(EntryFault { place, kind }),
         };
         star |= types.star;
         source |= types.source;

@@ -2,8 +2,8 @@
 
 ghost use Rattle.pim_files.specs.Files.{nothing_known};
 
-use crate::progress::{Line, RunProgress, Watched};
-use crate::source::Source;
+use crate::progress::{ProgressLine, RunProgress, Watched};
+use crate::source::CountedInput;
 use pim_files::{FileCause, Opener, Unopened};
 use std::alloc::Global;
 use std::fs::{File, metadata};
@@ -24,7 +24,7 @@ fn cause_of(kind: ErrorKind) -> FileCause {
 pub struct SystemFiles<'r> {
     rt: &'r HostRuntime,
     /// Where the progress of large captures is shown.
-    line: &'r Line,
+    line: &'r ProgressLine,
     /// Whether captures are of any container.
     reads_any: bool,
     /// The name of the file of routes.
@@ -36,7 +36,7 @@ impl<'r> SystemFiles<'r> {
     /// shown on a line.
     pub fn new(
         rt: &'r HostRuntime,
-        line: &'r Line,
+        line: &'r ProgressLine,
         reads_any: bool,
         routes: Option<&'r str>,
     ) -> Self {
@@ -75,7 +75,7 @@ impl<'r> Opener for SystemFiles<'r> {
 
     fn open(&mut self, alloc: Global, name: &str) -> Result<Self::Reader, Unopened> {
         let source = match self.file(name) {
-            Ok(file) => Source::of_file(file),
+            Ok(file) => CountedInput::of_file(file),
             Err(cause) => return Err(Unopened::File(cause)),
         };
         let progress = RunProgress::of(self.rt, self.line, name, source.size());
@@ -110,7 +110,7 @@ impl<'r> Opener for SystemInput<'r> {
             return Err(Unopened::File(FileCause::Other));
         }
         self.is_lent = true;
-        match BufReader::new(alloc, Source::of_input(self.rt.stdin())) {
+        match BufReader::new(alloc, CountedInput::of_input(self.rt.stdin())) {
             Ok(reader) => Ok(Watched::new(reader, None)),
             Err(_) => Err(Unopened::Memory),
         }

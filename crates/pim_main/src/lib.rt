@@ -26,7 +26,7 @@ ghost use Rattle.pim_words.specs.Plan.{IsInRange};
 
 use crate::files::{SystemFiles, SystemInput};
 use crate::output::{is_live, routes_of};
-use crate::progress::{Clearing, Line};
+use crate::progress::{Clearing, ProgressLine};
 pub use inputs::WithInput;
 pub use output::{Output, task_reads_any};
 use pim_addr::{Counted, Family, V4, V6};
@@ -59,7 +59,7 @@ fn run_on_system<'a, F: Family>(
 ) -> Result<u8, Fault<'a>>
     requires { IsInRange task.now }
 {
-    let line = Line::new();
+    let line = ProgressLine::new();
     let shared = rt.stdout().is_terminal().then_some(&line);
     let writer = Clearing::new(rt, shared, io::writer(rt));
     let Ok(mut output) = Output::new(rt.alloc(), writer, is_live(rt, task)) else {

@@ -7,7 +7,7 @@
 ghost use Rattle.std.specs.Prelude.{None};
 ghost use Rattle.pim_device.specs.Device.{counted_failures};
 
-use crate::source::Source;
+use crate::source::CountedInput;
 use pim_addr::{Counted, Failed, Feed};
 use std::cell::Cell;
 use std::io::{self, BufReader, IsTerminal, Write};
@@ -21,15 +21,15 @@ const RECORDS_A_LOOK: u64 = 256;
 
 /// The last line of the terminal, as far as it shows a progress.
 #[derive(Drop)]
-pub struct Line {
+pub struct ProgressLine {
     /// The number of its columns; 0 if it shows none.
     width: Cell<usize>,
 }
 
-impl Line {
+impl ProgressLine {
     /// Returns a line that shows nothing.
     pub fn new() -> Self {
-        Line {
+        ProgressLine {
             width: Cell::new(0),
         }
     }
@@ -56,13 +56,13 @@ impl Line {
 #[derive(Drop)]
 pub struct Clearing<'r, W> {
     rt: &'r HostRuntime,
-    line: Option<&'r Line>,
+    line: Option<&'r ProgressLine>,
     inner: W,
 }
 
 impl<'r, W> Clearing<'r, W> {
     /// Returns such a writer over another one.
-    pub fn new(rt: &'r HostRuntime, line: Option<&'r Line>, inner: W) -> Self {
+    pub fn new(rt: &'r HostRuntime, line: Option<&'r ProgressLine>, inner: W) -> Self {
         Clearing { rt, line, inner }
     }
 }
@@ -84,7 +84,7 @@ impl<W: Write> Write for Clearing<'_, W> {
 #[derive(Drop)]
 pub struct RunProgress<'r> {
     rt: &'r HostRuntime,
-    line: &'r Line,
+    line: &'r ProgressLine,
     /// The name of the file.
     name: String,
     /// The length of the file in bytes.
@@ -98,7 +98,7 @@ pub struct RunProgress<'r> {
 impl<'r> RunProgress<'r> {
     /// Returns the progress of a file of this length, if it is to be shown. Where memory or the
     /// clock is refused, it isn't.
-    pub fn of(rt: &'r HostRuntime, line: &'r Line, name: &str, size: u64) -> Option<Self> {
+    pub fn of(rt: &'r HostRuntime, line: &'r ProgressLine, name: &str, size: u64) -> Option<Self> {
         if size <= LARGE || !rt.stderr().is_terminal() {
             return None;
         }
@@ -143,7 +143,7 @@ impl<'r> RunProgress<'r> {
 /// A reader of the system, with its progress if that is shown. No contract can say what it holds.
 #[derive(Drop)]
 pub struct Watched<'r> {
-    device: Counted<BufReader<Source>>,
+    device: Counted<BufReader<CountedInput>>,
     /// The number of records that were passed on.
     records: u64,
     progress: Option<RunProgress<'r>>,
@@ -151,7 +151,7 @@ pub struct Watched<'r> {
 
 impl<'r> Watched<'r> {
     /// Returns a device over a reader that has not failed.
-    pub fn new(reader: BufReader<Source>, progress: Option<RunProgress<'r>>) -> Self {
+    pub fn new(reader: BufReader<CountedInput>, progress: Option<RunProgress<'r>>) -> Self {
         Watched {
             device: Counted::new(reader),
             records: 0,

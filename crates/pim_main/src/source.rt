@@ -21,15 +21,15 @@ impl Read for InputOrigin {
 
 /// What a capture is read from, with the number of bytes that were read.
 #[derive(Drop)]
-pub struct Source {
+pub struct CountedInput {
     origin: InputOrigin,
     bytes: u64,
 }
 
-impl Source {
+impl CountedInput {
     /// Returns a file of the system, of which nothing was read.
     pub fn of_file(file: File) -> Self {
-        Source {
+        CountedInput {
             origin: InputOrigin::File(file),
             bytes: 0,
         }
@@ -37,7 +37,7 @@ impl Source {
 
     /// Returns standard input.
     pub fn of_input(input: Stdin) -> Self {
-        Source {
+        CountedInput {
             origin: InputOrigin::Input(input),
             bytes: 0,
         }
@@ -61,7 +61,7 @@ impl Source {
     }
 }
 
-impl Read for Source {
+impl Read for CountedInput {
     fn read(&mut self, buffer: &mut [u8]) -> io::Result<usize> {
         let given = self.origin.read(buffer)?;
         self.bytes = self.bytes.saturating_add(given as u64);

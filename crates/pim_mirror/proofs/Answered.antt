@@ -35,16 +35,16 @@ module _ (law : MirrorAnswersForTheForm) (family : AddressFamily) (writing : Wri
   demand (Ok router) course = λ state demanded.
       let is = law family fresh.routes writing state messages fresh (Ok router) sound is_writing demanded fits course in
       record {
-        at_first = λ source group tree valid of_group. demanded.is.wants source group tree valid of_group ∙ sym (is.at_first.asks.wanted source group tree);
+        at_first = λ source group tree valid of_group. demanded.is.wants source group tree valid of_group ∙ sym (is.at_first.demanding.wanted source group tree);
         later = λ moment later window at source group tree valid of_group.
-            demanded.is.wants source group tree valid of_group ∙ sym ((is.later moment later window at).asks.wanted source group tree);
+            demanded.is.wants source group tree valid of_group ∙ sym ((is.later moment later window at).demanding.wanted source group tree);
       }
   demand (Err why) course = λ state demanded. tt
 
   pub writes : (result : Result RouterState MirrorFault) → Mirrors family messages fresh result → WritesTheMessages family writing messages fresh result
   writes (Ok router) course = λ state demanded.
       let is = law family fresh.routes writing state messages fresh (Ok router) sound is_writing demanded fits course in
-      record { at_first = is.at_first.asks; later = λ moment later window at. (is.later moment later window at).asks }
+      record { at_first = is.at_first.demanding; later = λ moment later window at. (is.later moment later window at).demanding }
   writes (Err why) course = λ state demanded. tt
 
   pub no_echo : (result : Result RouterState MirrorFault) → Mirrors family messages fresh result → HasNoEcho family writing messages fresh result

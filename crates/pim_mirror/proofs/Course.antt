@@ -56,7 +56,7 @@ fresh_quiet reaching one_end exchange limit once machines nothing moment answer 
     let left = reaching exchange 1 limit [] moment once tt in
     (one_end moment (fresh 1 limit) end left.after answer Reached (subst (λ (m : Downstream). Runs moment m answer end) nothing runs) left.leaves).0
 
-module _ (tells : CanonicalMessagesCarryForm) (heard : CanonicalPacketIsHeard) (needs : NeedsTheUnits) (bounds : RunKeepsItsBounds)
+module _ (carries : CanonicalMessagesCarryForm) (heard : CanonicalPacketIsHeard) (needs : NeedsTheUnits) (bounds : RunKeepsItsBounds)
     (family : AddressFamily) (writing : Writing) (form : List GroupForm) (messages : List (List ℕ)) (timing : Timing) (limit : ℕ) (routes : RouteTable)
     (is_writing : IsWriting family writing) (is : IsNormal family form) (have : HaveRps family (rp_of family routes) form) (are : AreCanonical family writing (rp_of family routes) form messages) where
   abbrev exchange : Exchange
@@ -75,7 +75,7 @@ module _ (tells : CanonicalMessagesCarryForm) (heard : CanonicalPacketIsHeard) (
   taken delivery earlier before same within hears timely leaves =
       let here = packet_heard delivery.message before same within hears in
       let count : needed 0 before.machines.records (exchange.messages delivery.message) ≡ length (units_of exchange (delivery ∷ earlier)) =
-      needs exchange 1 limit delivery earlier before.machines (tells family writing (rp_of family routes) form messages 0 timing is_writing is have are).once timely leaves in
+      needs exchange 1 limit delivery earlier before.machines (carries family writing (rp_of family routes) form messages 0 timing is_writing is have are).once timely leaves in
       let room : before.machines.limit ≡ limit = (leaves_bounds bounds exchange 1 limit earlier delivery.moment before.machines leaves).1 in
       record {
         applied = λ few. here.applied (omega (arith, count, room, few));
@@ -88,7 +88,7 @@ module _ (tells : CanonicalMessagesCarryForm) (heard : CanonicalPacketIsHeard) (
         → Leaves exchange 1 limit deliveries moment after.machines × (after.routes ≡ routes)
     unfolding HearsAll Leaves
     hears_leaves [] moment after of timely few all =
-        let ends = reaches_as moment all.0 start after (fresh_quiet reaching one_end exchange limit (tells family writing (rp_of family routes) form messages 0 timing is_writing is have are).once start.machines nothing moment) all.1 in
+        let ends = reaches_as moment all.0 start after (fresh_quiet reaching one_end exchange limit (carries family writing (rp_of family routes) form messages 0 timing is_writing is have are).once start.machines nothing moment) all.1 in
         (subst (λ (machines : Downstream). Runs moment machines Reached after.machines) nothing ends.0, ends.1 ∙ begins)
     hears_leaves (delivery ∷ earlier) moment after of timely few all =
         let before = hears_leaves earlier delivery.moment all.before of.1 (timely_before (start_of writing.holdtime timing).expires_in delivery earlier moment timely) (fewer_units exchange limit delivery earlier few) all.was in
@@ -97,14 +97,14 @@ module _ (tells : CanonicalMessagesCarryForm) (heard : CanonicalPacketIsHeard) (
         subst (λ (end : Verdict × RouterState). Reaches moment all.reported end.1 after) applied all.reaches in
         let ends = reaches_as moment all.reported (with_machines all.before (after_message exchange delivery.message all.before.machines)) after
         (λ answer end runs. quiet exchange 1 limit delivery earlier moment all.before.machines end answer
-        (tells family writing (rp_of family routes) form messages 0 timing is_writing is have are).once timely before.0 runs) reaches in
+        (carries family writing (rp_of family routes) form messages 0 timing is_writing is have are).once timely before.0 runs) reaches in
         (record { before = all.before.machines; was = before.0; runs = ends.0 }, ends.1 ∙ before.1)
 
 pub leaves_its_port : CanonicalMessagesCarryForm → CanonicalPacketIsHeard → NoEchoIsDue → EveryHearingReaches → NeedsTheUnits → RunKeepsItsBounds → RunHasOneEnd → RouterLeavesItsPort
-leaves_its_port tells heard quiet reaching needs bounds one_end family writing form messages timing limit start deliveries moment after is_writing is have are nothing of timely few all =
-    hears_leaves tells heard needs bounds family writing form messages timing limit start.routes is_writing is have are quiet reaching one_end start refl nothing deliveries moment after of timely few all
+leaves_its_port carries heard quiet reaching needs bounds one_end family writing form messages timing limit start deliveries moment after is_writing is have are nothing of timely few all =
+    hears_leaves carries heard needs bounds family writing form messages timing limit start.routes is_writing is have are quiet reaching one_end start refl nothing deliveries moment after of timely few all
 
 pub one_more_taken : RouterLeavesItsPort → CanonicalMessagesCarryForm → CanonicalPacketIsHeard → NeedsTheUnits → RunKeepsItsBounds → DeliveryIsTaken
-one_more_taken leaves tells heard needs bounds family writing form messages timing limit start delivery earlier before is_writing is have are nothing of timely few all hears =
+one_more_taken leaves carries heard needs bounds family writing form messages timing limit start delivery earlier before is_writing is have are nothing of timely few all hears =
     let behind = leaves family writing form messages timing limit start earlier delivery.moment before is_writing is have are nothing of.1 timely few all in
-    taken tells heard needs bounds family writing form messages timing limit start.routes is_writing is have are delivery earlier before behind.1 of.0 hears timely behind.0
+    taken carries heard needs bounds family writing form messages timing limit start.routes is_writing is have are delivery earlier before behind.1 of.0 hears timely behind.0

@@ -67,9 +67,9 @@ module _ (exchange : Exchange) (moment : ℕ) (what : What (List ℕ)) where
 
 pub holds_the_form : SpanIsOfItsMessage → (exchange : Exchange) (count : ℕ) (form : List GroupForm) (deliveries : List Delivery) (moment : ℕ) (state : Downstream)
     → CarriesForm exchange count form → AllCame count deliveries → IsAsWanted exchange deliveries moment state → HoldsTheForm exchange count form deliveries moment state
-holds_the_form span_is exchange count form deliveries moment state tells came demanded = record {
+holds_the_form span_is exchange count form deliveries moment state carries came demanded = record {
   held = λ key on listed.
-      let reported : IsCarried exchange count key = tells.all key on listed in
+      let reported : IsCarried exchange count key = carries.all key on listed in
       let last = came_last reported.message deliveries (came reported.message reported.within) in
       record {
         message = reported.message;
@@ -77,10 +77,10 @@ holds_the_form span_is exchange count form deliveries moment state tells came de
         listed = reported.listed;
         last = last.last;
         came = last.is;
-        is = demanded key ∙ asked_by exchange moment key.what last.last (span_of exchange key deliveries) ((span_is exchange reported.message key deliveries tells.once reported.listed).1 ∙ last.is);
+        is = demanded key ∙ asked_by exchange moment key.what last.last (span_of exchange key deliveries) ((span_is exchange reported.message key deliveries carries.once reported.listed).1 ∙ last.is);
       };
   no_others = λ key some.
       let by = names_it exchange key deliveries (held_span exchange moment key.what (span_of exchange key deliveries) (sym (ap (λ (o : Option Machine). is_some o) (demanded key)) ∙ some)) in
-      let of_form = tells.no_others by.message key by.listed in
+      let of_form = carries.no_others by.message key by.listed in
       (of_form.port, of_form.listed);
 }

@@ -81,8 +81,8 @@ module _ (laws : Laws) (family : AddressFamily) (table : RouteTable) (writing : 
   room_here : length (units_of (exchange_in family (rp_of family first.start.routes) writing 0 (timing_of fresh) messages) deliveries) ≤ fresh.limit
   room_here = subst (λ (t : RouteTable). length (units_of (exchange_in family (rp_of family t) writing 0 (timing_of fresh) messages) deliveries) ≤ fresh.limit) (sym first.routes) room
 
-  tells : CarriesForm exchange (length messages) demanded.form
-  tells = laws.tell family writing (rp_of family table) demanded.form messages 0 (timing_of fresh) is_writing demanded.is.normal (laws.stars family table writing.upstream state demanded.form sound demanded.is) demanded.reported
+  carries : CarriesForm exchange (length messages) demanded.form
+  carries = laws.tell family writing (rp_of family table) demanded.form messages 0 (timing_of fresh) is_writing demanded.is.normal (laws.stars family table writing.upstream state demanded.form sound demanded.is) demanded.reported
 
   -- at the final moment it is a port that has heard the deliveries
   record Left : Type 0 where
@@ -127,8 +127,8 @@ module _ (laws : Laws) (family : AddressFamily) (table : RouteTable) (writing : 
       record {
         moment_is = both.0.moment_is;
         routes = ends.1 ∙ left.routes;
-        holds = holds_the_form span_is exchange (length messages) demanded.form deliveries moment later.machines tells hears.fits.delivered both.0.asked;
-        asks = both.1;
+        holds = holds_the_form span_is exchange (length messages) demanded.form deliveries moment later.machines carries hears.fits.delivered both.0.as_wanted;
+        demanding = both.1;
         no_echo = reaches_quietly moment at.reported router later end at.reaches;
       }
 
@@ -155,9 +155,9 @@ headline same_asked once mirror family table writing sound is_writing = record {
   fresh_router_does_the_same = λ state messages fresh router later moment demanded hears window at.
       let mirrored = mirror family table writing state messages fresh router later moment sound is_writing demanded hears window at in
       record {
-        traffic = λ source group tree valid is_group. demanded.is.wants source group tree valid is_group ∙ sym (mirrored.asks.is_form.wants source group tree valid is_group);
-        no_more = λ source group tree valid is_group. demanded.is.wants source group tree valid is_group ∙ sym (mirrored.asks.wanted source group tree);
-        bytes = record { form = demanded.form; is = mirrored.asks.is_form; reported = demanded.reported };
-        no_others = λ others of_later. mirrored.asks.same_messages of_later.form others of_later.is of_later.reported;
+        traffic = λ source group tree valid is_group. demanded.is.wants source group tree valid is_group ∙ sym (mirrored.demanding.is_form.wants source group tree valid is_group);
+        no_more = λ source group tree valid is_group. demanded.is.wants source group tree valid is_group ∙ sym (mirrored.demanding.wanted source group tree);
+        bytes = record { form = demanded.form; is = mirrored.demanding.is_form; reported = demanded.reported };
+        no_others = λ others of_later. mirrored.demanding.same_messages of_later.form others of_later.is of_later.reported;
       };
 }

@@ -20,7 +20,7 @@ use Rattle.pim_router.specs.declared.verdict.Malformed.TheVariants as malformed
 use Rattle.pim_router.specs.declared.verdict.Store.TheVariants as store
 use Rattle.pim_router.specs.declared.verdict.Verdict.{Verdict}
 use Rattle.pim_router.specs.declared.verdict.Verdict.TheVariants as verdict
-use Rattle.pim_router.specs.Course.{takes, verdict as tells, IsCourse}
+use Rattle.pim_router.specs.Course.{takes, verdict as carries, IsCourse}
 use Rattle.pim_router.specs.Laws.{CourseGoesOn, EveryListHasACourse}
 use Rattle.pim_router.specs.Packets.{Packet, neighbours_on, own_address, body_causes, body_heard, unless, received}
 use Rattle.pim_router.specs.State.{Port, Setup, RouterState, new_router}
@@ -117,10 +117,10 @@ hello_passes family neighbour packet old now given body is_hello holds same = re
   packet = packet;
   is_hello = is_hello;
   passes = record {
-    reported = tells (received family packet old).0 ∷ [];
+    reported = carries (received family packet old).0 ∷ [];
     after = (received family packet old).1;
     course = record {
-      before = tells (received family packet old).0 ∷ [];
+      before = carries (received family packet old).0 ∷ [];
       behind = [];
       between = (received family packet old).1;
       joined = refl;

@@ -68,20 +68,20 @@ module _ (exchange : Exchange) (key : Key (List ℕ)) where
       by true e = refl
       by false e = e
 
-  module _ (count : ℕ) (form : List GroupForm) (tells : CarriesForm exchange count form) where
+  module _ (count : ℕ) (form : List GroupForm) (carries : CarriesForm exchange count form) where
     named_of_form : (deliveries : List Delivery) → was_named deliveries ≡ true → form_names form key.group key.what ≡ true
     unfolding was_named
     named_of_form [] listed = absurd (false≢true listed)
     named_of_form (delivery ∷ earlier) listed =
         elim (has_unit_of exchange.port key (exchange.messages delivery.message)) as
         (λ b. has_unit_of exchange.port key (exchange.messages delivery.message) ≡ b → (b || was_named earlier) ≡ true → form_names form key.group key.what ≡ true) [
-          | true ↦ λ e f. (tells.no_others delivery.message key e).listed
+          | true ↦ λ e f. (carries.no_others delivery.message key e).listed
           | false ↦ λ e f. named_of_form earlier f
         ] refl listed
 
     form_is_named : (deliveries : List Delivery) → AllCame count deliveries → key.port ≡ exchange.port → form_names form key.group key.what ≡ true → was_named deliveries ≡ true
     form_is_named deliveries came on listed =
-        let reported : IsCarried exchange count key = tells.all key on listed in
+        let reported : IsCarried exchange count key = carries.all key on listed in
         came_named reported.message deliveries (came reported.message reported.within) reported.listed
 
     abbrev asked_if : Bool → Option State
@@ -108,10 +108,10 @@ pruned_if : (b : Bool) → is_pruned (if b then Some Prune else None) ≡ b
 pruned_if true = refl
 pruned_if false = refl
 
-module _ (exchange : Exchange) (first : exchange.port ≡ 0) (count : ℕ) (form : List GroupForm) (tells : CarriesForm exchange count form) (deliveries : List Delivery) (moment : ℕ) (state : Downstream)
+module _ (exchange : Exchange) (first : exchange.port ≡ 0) (count : ℕ) (form : List GroupForm) (carries : CarriesForm exchange count form) (deliveries : List Delivery) (moment : ℕ) (state : Downstream)
     (came : AllCame count deliveries) (demanded : IsAsWanted exchange deliveries moment state) where
   state_is : (group : List ℕ) (what : What (List ℕ)) → state_on state.records 0 group what ≡ (if form_names form group what then Some (state_wanted what) else None)
-  state_is group what = state_asked exchange (record { port = 0; group = group; what = what }) count form tells deliveries moment state came demanded (sym first)
+  state_is group what = state_asked exchange (record { port = 0; group = group; what = what }) count form carries deliveries moment state came demanded (sym first)
 
   wanted_here : AreAscending (groups_of form) → (source group : List ℕ) (tree : Tree) → wants_on state.records source group tree 0 ≡ form_wants form source group tree
   wanted_here up source group Shared =
@@ -144,14 +144,14 @@ and_known false b h = refl
 module _ (family : AddressFamily) (table : RouteTable) (writing : Writing) (sender : Downstream) (form : List GroupForm) (messages : List (List ℕ)) (state : Downstream)
     (is : IsFormOf family (demand_toward family table writing.upstream sender) form)
     (wanted : (source group : List ℕ) (tree : Tree) → wants state source group tree ≡ form_wants form source group tree) where
-  abbrev asks : List ℕ → List ℕ → Tree → Bool
-  asks source group tree = is_neighbour writing.upstream (rpf_neighbour (rp_of family table) (via_of family table) source group tree)
+  abbrev demanding : List ℕ → List ℕ → Tree → Bool
+  demanding source group tree = is_neighbour writing.upstream (rpf_neighbour (rp_of family table) (via_of family table) source group tree)
 
   agrees : Agree family (demand_toward family table writing.upstream state) (form_wants form)
   agrees source group tree valid is_group =
-      ap (λ b. b && asks source group tree) (wanted source group tree)
-      ∙ and_known (form_wants form source group tree) (asks source group tree)
-      (λ some. second_true (wants sender source group tree) (asks source group tree) (is.wants source group tree valid is_group ∙ some))
+      ap (λ b. b && demanding source group tree) (wanted source group tree)
+      ∙ and_known (form_wants form source group tree) (demanding source group tree)
+      (λ some. second_true (wants sender source group tree) (demanding source group tree) (is.wants source group tree valid is_group ∙ some))
 
   asks_again : OneNormalForm → OneListOfMessages → AreCanonical family writing (rp_of family table) form messages → DemandsAgain family table writing form messages state
   asks_again one_normal one_list reported = record {
@@ -171,10 +171,10 @@ pub asked_again : CanonicalMessagesCarryForm → DemandedStarsHaveRps → StaysA
 asked_again tell_form stars stays bounds one_normal one_list family table writing sender form messages timing limit deliveries moment later state after answer sound is_writing is reported came final order timely leaves runs =
     let rps = rp_of family table in
     let exchange : Exchange = exchange_in family rps writing 0 timing messages in
-    let tells : CarriesForm exchange (length messages) form = tell_form family writing rps form messages 0 timing is_writing is.normal (stars family table writing.upstream sender form sound is) reported in
-    let stayed = stays exchange 1 limit deliveries moment later state after answer tells.once final order timely leaves runs in
+    let carries : CarriesForm exchange (length messages) form = tell_form family writing rps form messages 0 timing is_writing is.normal (stars family table writing.upstream sender form sound is) reported in
+    let stayed = stays exchange 1 limit deliveries moment later state after answer carries.once final order timely leaves runs in
     let ports : after.ports ≡ 1 = (bounds later state after answer runs).0 ∙ leaves_ports bounds exchange 1 limit deliveries moment state leaves in (
       stayed,
       asks_again family table writing sender form messages after is
-          (wanted_by exchange refl (length messages) form tells deliveries later after came stayed.asked is.normal.ascending ports) one_normal one_list reported,
+          (wanted_by exchange refl (length messages) form carries deliveries later after came stayed.as_wanted is.normal.ascending ports) one_normal one_list reported,
     )

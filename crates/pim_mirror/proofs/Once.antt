@@ -119,9 +119,9 @@ module _ (family : AddressFamily) (writing : Writing) (rps : List ℕ → Option
     listed = at key found.number ∙ both (port == key.port) (form_names (get_or parts found.number []) key.group key.what) (eq-eqb port key.port (sym on)) found.listed;
   }
 
-  tells : DemandingHasUnits → CarriesForm exchange (length parts) form
+  carries : DemandingHasUnits → CarriesForm exchange (length parts) form
   unfolding exchange
-  tells asking = record {
+  carries asking = record {
     once = record {
       units = λ i. units_at family writing rps port asking parts i are.normal are.have;
       once = λ i j key listed again. one_part key.group key.what parts (subst AreOrdered (sym are.whole) (in_order family form is)) i j (here key i listed) (here key j again);
@@ -136,4 +136,4 @@ module _ (family : AddressFamily) (writing : Writing) (rps : List ℕ → Option
 
 pub parts_tell : DemandingHasUnits → PartsHaveUnitsOnce
 unfolding exchange
-parts_tell asking family writing rps form messages parts port timing is are = tells family writing rps form messages parts port timing is are asking
+parts_tell asking family writing rps form messages parts port timing is are = carries family writing rps form messages parts port timing is are asking

@@ -102,16 +102,16 @@ module _ (family : AddressFamily) (rps : List ℕ → Option (List ℕ)) where
     one_more : (run : List WantUnit) (runs : List (List WantUnit)) (bytes : List ℕ) (messages : List (List ℕ)) → CarriesRun family writing rps run bytes → fits family writing.budget run ≡ true
         → AllByRecursion IsValidUnit run → AreOrdered run → HaveParts runs messages → HaveParts (run ∷ runs) (bytes ∷ messages)
     unfolding CarryParts
-    one_more run runs bytes messages tells fitting valid ordered others =
-        let valid_units = subst (AllByRecursion IsValidUnit) (sym tells.units) valid in
-        let ordered_units = subst AreOrdered (sym tells.units) ordered in
+    one_more run runs bytes messages carries fitting valid ordered others =
+        let valid_units = subst (AllByRecursion IsValidUnit) (sym carries.units) valid in
+        let ordered_units = subst AreOrdered (sym carries.units) ordered in
         record {
-          parts = tells.part ∷ others.parts;
-          normal = (record { ascending = tells.ascending; groups = normal_groups tells.part tells.some valid_units ordered_units }, others.normal);
-          have = (have_rps tells.part valid_units, others.have);
-          fitting = (subst (λ (units : List WantUnit). fits family writing.budget units ≡ true) (sym tells.units) fitting, others.fitting);
-          whole = ap (λ (units : List WantUnit). units ++ flat_map units_of others.parts) tells.units ∙ ap (λ (units : List WantUnit). run ++ units) others.whole;
-          reported = (tells.sealed, others.reported);
+          parts = carries.part ∷ others.parts;
+          normal = (record { ascending = carries.ascending; groups = normal_groups carries.part carries.some valid_units ordered_units }, others.normal);
+          have = (have_rps carries.part valid_units, others.have);
+          fitting = (subst (λ (units : List WantUnit). fits family writing.budget units ≡ true) (sym carries.units) fitting, others.fitting);
+          whole = ap (λ (units : List WantUnit). units ++ flat_map units_of others.parts) carries.units ∙ ap (λ (units : List WantUnit). run ++ units) others.whole;
+          reported = (carries.sealed, others.reported);
         }
 
     cut : (runs : List (List WantUnit)) (messages : List (List ℕ)) → CarryRuns family writing rps runs messages → AreRuns family writing.budget runs

@@ -16,7 +16,7 @@ use Rattle.pim_mirror.specs.Headline.{is_echo}
 use Rattle.pim_mirror.specs.Laws.{RouterRunsAsItsMachines}
 use Rattle.pim_mirror.specs.MachineRuns.{MachinesArrive}
 use Rattle.pim_mirror.proofs.Ways.{runs_keep}
-use Rattle.pim_router.specs.Time.{has_ended, tick, reported, moves, rests, tells, turn_of_time, turn_of_refresh, turn_of_timers, turn, run_on, run_within, Runs}
+use Rattle.pim_router.specs.Time.{has_ended, tick, reported, moves, rests, stops_with, turn_of_time, turn_of_refresh, turn_of_timers, turn, run_on, run_within, Runs}
 
 -- ---- one turn of the machines
 
@@ -64,7 +64,7 @@ module _ (moment : ℕ) where
       → EndsAs moment state.machines state.routes (run_on (turn_of_refresh moment state) state (run_within turns moment))
   unfolding EndsAs Ends machine_turn
   timeless turns later state none =
-      elim (state.refresh == 0) as (λ b. EndsAs moment state.machines state.routes (run_on (if b then tells Refresh (with_refresh state refresh_period) else turn_of_time moment state) state (run_within turns moment))) [
+      elim (state.refresh == 0) as (λ b. EndsAs moment state.machines state.routes (run_on (if b then stops_with Refresh (with_refresh state refresh_period) else turn_of_time moment state) state (run_within turns moment))) [
         | true ↦ (λ answer end runs. runs, refl)
         | false ↦
             elim (nat_lt state.machines.moment moment) as (λ b. nat_lt state.machines.moment moment ≡ b
@@ -109,8 +109,8 @@ module _ (moment : ℕ) where
   no_echo port group what e = cc
 
   -- where the machines tell no echo, the router's runs through refreshes are one run of them
-  pub reaches_as : (tellings : List RouterReport) (state after : RouterState) → ((answer : Fires (List ℕ)) (end : Downstream) → MachineRuns moment state.machines answer end → answer ≡ fires.Reached)
-      → Reaches moment tellings state after → MachineRuns moment state.machines fires.Reached after.machines × (after.routes ≡ state.routes)
+  pub reaches_as : (actions : List RouterReport) (state after : RouterState) → ((answer : Fires (List ℕ)) (end : Downstream) → MachineRuns moment state.machines answer end → answer ≡ fires.Reached)
+      → Reaches moment actions state after → MachineRuns moment state.machines fires.Reached after.machines × (after.routes ≡ state.routes)
   unfolding Reaches Ends
   reaches_as [] state after quiet reaches = run_ends state after Reached reaches
   reaches_as (echo port group what ∷ more) state after quiet reaches =
@@ -122,8 +122,8 @@ module _ (moment : ℕ) where
   reaches_as (verdict reported ∷ more) state after quiet reaches = absurd reaches
 
   -- and they tell no echo
-  pub reaches_quietly : (tellings : List RouterReport) (state after : RouterState) → ((answer : Fires (List ℕ)) (end : Downstream) → MachineRuns moment state.machines answer end → answer ≡ fires.Reached)
-      → Reaches moment tellings state after → list_any is_echo tellings ≡ false
+  pub reaches_quietly : (actions : List RouterReport) (state after : RouterState) → ((answer : Fires (List ℕ)) (end : Downstream) → MachineRuns moment state.machines answer end → answer ≡ fires.Reached)
+      → Reaches moment actions state after → list_any is_echo actions ≡ false
   unfolding Reaches Ends
   reaches_quietly [] state after quiet reaches = refl
   reaches_quietly (echo port group what ∷ more) state after quiet reaches =

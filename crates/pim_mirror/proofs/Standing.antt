@@ -126,7 +126,7 @@ module _ (every : EveryListHasACourse) (one_end : RunHasOneEnd) (goes_on : RunGo
       record {
         room = (room family table writing state messages fresh None router sound is_writing demanded fits course).1.0 refl;
         window = window;
-        at_first = record { moment_is = here.moment_is; routes = here.routes; holds = here.holds; asks = here.asks; no_echo = refl };
+        at_first = record { moment_is = here.moment_is; routes = here.routes; holds = here.holds; demanding = here.demanding; no_echo = refl };
         later = λ moment later window at. mirrors family table writing state messages fresh router later moment sound is_writing demanded hears window at;
         no_echo = quiet family table writing state messages fresh router sound is_writing demanded hears;
         knows = λ last end others. knows family table writing state messages fresh router last sound is_writing demanded hears end others;

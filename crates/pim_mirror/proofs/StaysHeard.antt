@@ -16,7 +16,7 @@ use Rattle.pim_router.specs.declared.step.Step.{Step}
 use Rattle.pim_router.specs.declared.step.Step.TheVariants.{Echo, Refresh, Reached}
 use Rattle.pim_router.specs.Course.{RouterReport, echo, refresh, verdict, Reaches}
 use Rattle.pim_router.specs.State.{RouterState, with_machines, with_refresh, refresh_period, port_at}
-use Rattle.pim_router.specs.Time.{has_ended, tick, moves, rests, tells, turn_of_time, turn_of_refresh, turn_of_timers, turn, run_on, run_within, Runs}
+use Rattle.pim_router.specs.Time.{has_ended, tick, moves, rests, stops_with, turn_of_time, turn_of_refresh, turn_of_timers, turn, run_on, run_within, Runs}
 use Rattle.pim_mirror.specs.CanonicalCourse.{Lasts}
 use Rattle.pim_mirror.specs.CanonicalPackets.{HearsWriter}
 use Rattle.pim_mirror.specs.Laws.{WriterStaysHeard}
@@ -195,7 +195,7 @@ module _ (writing : Writing) (port : ℕ) (timing : Timing) (moment last : ℕ) 
       → EndKeeps (run_on (turn_of_refresh moment state) state (run_within turns moment))
   unfolding EndKeeps
   timeless turns further state keeps =
-      elim (state.refresh == 0) as (λ b. EndKeeps (run_on (if b then tells Refresh (with_refresh state refresh_period) else turn_of_time moment state) state (run_within turns moment))) [
+      elim (state.refresh == 0) as (λ b. EndKeeps (run_on (if b then stops_with Refresh (with_refresh state refresh_period) else turn_of_time moment state) state (run_within turns moment))) [
         | true ↦ refreshed state keeps
         | false ↦
             elim (nat_lt state.machines.moment moment) as (λ b. nat_lt state.machines.moment moment ≡ b → EndKeeps (run_on (if b then moves (tick state) else rests) state (run_within turns moment))) [
@@ -221,7 +221,7 @@ module _ (writing : Writing) (port : ℕ) (timing : Timing) (moment last : ℕ) 
   unfolding EndKeeps
   end_keeps state after answer keeps runs = subst EndKeeps runs.within (run_keeps runs.turns state keeps)
 
-  reaches_keeps : (tellings : List RouterReport) (state after : RouterState) → Keeps state → Reaches moment tellings state after → Keeps after
+  reaches_keeps : (actions : List RouterReport) (state after : RouterState) → Keeps state → Reaches moment actions state after → Keeps after
   unfolding Reaches
   reaches_keeps [] state after keeps reaches = end_keeps state after Reached keeps reaches
   reaches_keeps (echo p group what ∷ more) state after keeps reaches = reaches_keeps more reaches.0 after (end_keeps state reaches.0 (Echo p group what) keeps reaches.1) reaches.2
@@ -229,6 +229,6 @@ module _ (writing : Writing) (port : ℕ) (timing : Timing) (moment last : ℕ) 
   reaches_keeps (verdict said ∷ more) state after keeps reaches = absurd reaches
 
 pub stays_heard : WriterStaysHeard
-stays_heard writing port timing moment last tellings state after early lasts hears reaches =
-    let kept = reaches_keeps writing port timing moment last early tellings state after (record { lasts = lasts; hears = hears }) reaches in
+stays_heard writing port timing moment last actions state after early lasts hears reaches =
+    let kept = reaches_keeps writing port timing moment last early actions state after (record { lasts = lasts; hears = hears }) reaches in
     (kept.lasts, kept.hears)

@@ -18,7 +18,7 @@ use Rattle.pim_router.specs.Laws.{CourseGoesOn, EveryListHasACourse}
 use Rattle.pim_router.specs.Packets.{Packet, causes, body_heard, unless, received, Receives}
 use Rattle.pim_router.specs.Refreshes.{RunsPast, fires_behind}
 use Rattle.pim_router.specs.State.{Port, RouterState}
-use Rattle.pim_router.specs.Time.{Outcome, rests, moves, tells, reported, has_ended, turn, turn_of_time, turn_of_refresh, turn_of_timers, run_on, run_within, Runs}
+use Rattle.pim_router.specs.Time.{Outcome, rests, moves, stops_with, reported, has_ended, turn, turn_of_time, turn_of_refresh, turn_of_timers, run_on, run_within, Runs}
 use Rattle.pim_mirror.specs.declared.mirroring.MirrorFault.{MirrorFault}
 use Rattle.pim_mirror.specs.declared.mirroring.MirrorFault.TheVariants as fault
 use Rattle.pim_mirror.specs.Mirror.{needed_of, first_needed, or_later, IsPassed, Passes, HasReached, is_reached, needed_by, outcome_if, outcome_of}
@@ -42,7 +42,7 @@ received_keeps family packet state =
 abbrev Keeps : List Port → Outcome → Type 0
 Keeps ports rests = Unit {0}
 Keeps ports (moves after) = after.ports ≡ ports
-Keeps ports (tells step after) = after.ports ≡ ports
+Keeps ports (stops_with step after) = after.ports ≡ ports
 
 time_keeps : (b : Bool) (moment : ℕ) (state : RouterState) → nat_lt state.machines.moment moment ≡ b → Keeps state.ports (turn_of_time moment state)
 time_keeps true moment state e = rw e refl
@@ -80,7 +80,7 @@ on_keeps : (ports : List Port) (o : Outcome) (state : RouterState) (more : Route
     run_on o state more ≡ Some (answer, after) → after.ports ≡ ports
 on_keeps ports rests state more answer after at kept on e = ports_of (Reached, state) (answer, after) e ∙ at
 on_keeps ports (moves next) state more answer after at kept on e = on next kept e
-on_keeps ports (tells step end) state more answer after at kept on e = ports_of (step, end) (answer, after) e ∙ kept
+on_keeps ports (stops_with step end) state more answer after at kept on e = ports_of (step, end) (answer, after) e ∙ kept
 
 within_keeps : (turns moment : ℕ) (ports : List Port) (state after : RouterState) (answer : Step (List ℕ)) → state.ports ≡ ports →
     run_within turns moment state ≡ Some (answer, after) → after.ports ≡ ports

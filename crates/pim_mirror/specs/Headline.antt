@@ -123,7 +123,7 @@ pub record MirrorsForm (family : AddressFamily) (table : RouteTable) (writing : 
   pub routes : later.routes ≡ table
   pub holds : HoldsTheForm (fresh_exchange family table writing messages fresh) (length messages) form
       (newest_first fresh) moment later.machines
-  pub asks : DemandsAgain family table writing form messages later.machines
+  pub demanding : DemandsAgain family table writing form messages later.machines
   pub no_echo : list_any is_echo reported ≡ false
 
 -- ---- the laws

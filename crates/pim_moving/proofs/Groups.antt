@@ -59,9 +59,9 @@ module _ (family : AddressFamily) where
   are_groups [] are = tt
   are_groups (this ∷ form) are = (are.0.group, are_groups form are.1)
 
-  about_group : (group : List ℕ) (tellings : List Action) → IsGroupAddress family group → AllByRecursion OfGroup (about group tellings)
+  about_group : (group : List ℕ) (actions : List Action) → IsGroupAddress family group → AllByRecursion OfGroup (about group actions)
   about_group group [] is = tt
-  about_group group (telling ∷ tellings) is = (is, about_group group tellings is)
+  about_group group (telling ∷ actions) is = (is, about_group group actions is)
 
   units_are : (old new : List GroupForm) (groups : List (List ℕ)) → AllByRecursion (IsGroupAddress family) groups → AllByRecursion OfGroup (flat_map (change_at old new) groups)
   units_are old new [] are = tt

@@ -327,5 +327,5 @@ moves laws tests reads settles wanted family table writing timing old new messag
       settled = settled.1;
       wanted = wants_it;
       routes = behind.there.routes;
-      asks = asks_for family table writing.upstream tests after.machines new of_new wants_it;
+      demanding = asks_for family table writing.upstream tests after.machines new of_new wants_it;
     }

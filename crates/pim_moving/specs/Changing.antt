@@ -93,4 +93,4 @@ pub record HasMoved (family : AddressFamily) (table : RouteTable) (writing : Wri
   pub settled : IsSettledAt 0 form after.machines.records
   pub wanted : IsFormOf family (wants after.machines) form
   pub routes : after.routes ≡ start.routes
-  pub asks : IsFormOf family (demand_toward family table writing.upstream after.machines) form
+  pub demanding : IsFormOf family (demand_toward family table writing.upstream after.machines) form

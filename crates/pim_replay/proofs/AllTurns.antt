@@ -65,7 +65,7 @@ module _ (line : Event → List ℕ) (family : AddressFamily) where
   unfolding AreTaken WritesTurns
   turns_told [] counts more state after old new small (same, stays, kept) = record {
     account = nothing;
-    tells = (refl, stays);
+    wrote = (refl, stays);
     written = subst (λ (n : Option (List ℕ)). Appends old n []) (sym kept) (Appends-nil old);
     is_counted = same ∙ same_counts _ _ _ _ (omega (arith, small.0)) (omega (arith, small.1));
   }
@@ -89,14 +89,14 @@ module _ (line : Event → List ℕ) (family : AddressFamily) where
             → Begins line family end start state old new
         by (inl (first, same)) =
             inl (subst (λ (n : Option (List ℕ)). HasBegun line (WritesFirst family end start state) old n) (sym same)
-            (told_begun line (WritesTurns family b.taken state) (WritesFirst family end start state) b.between old b.mid none_yet b.kept' reported (record { taken = b.taken; are = first; tells = reported.tells })))
+            (told_begun line (WritesTurns family b.taken state) (WritesFirst family end start state) b.between old b.mid none_yet b.kept' reported (record { taken = b.taken; are = first; wrote = reported.wrote })))
         by (inr (next, first, begun)) =
             inl (begun_more line (WritesTurns family b.taken state) (WritesFirst family end start state) b.between old b.mid new none_yet b.kept' reported begun.account begun.after
             (record {
               taken = b.taken ++ next ∷ [];
               are = first;
-              tells = tells_more family b.taken next state (joined reported.account begun.account) begun.after
-                  (both (WritesTurns family b.taken state) (WritesTurn family next) reported.account begun.account b.between begun.after reported.tells begun.tells);
+              wrote = tells_more family b.taken next state (joined reported.account begun.account) begun.after
+                  (both (WritesTurns family b.taken state) (WritesTurn family next) reported.account begun.account b.between begun.after reported.wrote begun.wrote);
             }) begun.written)
 
     -- the run stopped
@@ -109,7 +109,7 @@ module _ (line : Event → List ℕ) (family : AddressFamily) where
             account = turns.account;
             after = after;
             are = s.are;
-            tells = turns.tells;
+            wrote = turns.wrote;
             no_memory = s.no_memory;
             cause = s.cause;
             tallies = s.tallies;
@@ -130,17 +130,17 @@ module _ (line : Event → List ℕ) (family : AddressFamily) where
       ends way after passes = record {
         taken = r.taken;
         are = r.are;
-        tells = both (WritesTurns family r.taken state) (PassesToEnd end (clock_of start.clock r.taken)) all_told.account way now after all_told.tells
+        wrote = both (WritesTurns family r.taken state) (PassesToEnd end (clock_of start.clock r.taken)) all_told.account way now after all_told.wrote
             (subst (λ (m : ℕ). PassesTime m now way after) (is_end ∙ ap (λ c. end_moment end c now.machines.moment) r.clock) passes);
       }
 
       pub all_stopped : HasBegun line (PassesTime moment now) new newer → Begins line family end start state old newer
       all_stopped way =
-          inr (begun_more line (WritesTurns family r.taken state) (WritesAll family end start state) now old new newer none_yet counts all_told way.account way.after (ends way.account way.after way.tells) way.written)
+          inr (begun_more line (WritesTurns family r.taken state) (WritesAll family end start state) now old new newer none_yet counts all_told way.account way.after (ends way.account way.after way.wrote) way.written)
 
       pub all_passed : (after : RouterState) (more : Counts) → HasWritten line (PassesTime moment now) after new newer counts more
           → HasWritten line (WritesAll family end start state) after old newer none_yet more × CountsAll end start merge
       all_passed after more way = (
-        told_more line (WritesTurns family r.taken state) (WritesAll family end start state) now old new newer none_yet counts all_told way.account after more (ends way.account after way.tells) way.written way.is_counted,
+        told_more line (WritesTurns family r.taken state) (WritesAll family end start state) now old new newer none_yet counts all_told way.account after more (ends way.account after way.wrote) way.written way.is_counted,
         record { taken = r.taken; are = r.are; tallies = r.tallies },
       )

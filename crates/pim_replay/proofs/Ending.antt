@@ -47,7 +47,7 @@ module _ (family : AddressFamily) (end : End) (start : MergeState) (state : Rout
         → Reports family shows_via end start state after IsAll
     ends_with IsSo IsAll all reported = record {
       text = lines ++ text_with family shows_via after reported.form (counted none_yet h.account);
-      is_report = record { account = h.account; tells = h.tells; form = reported.form; demand = reported.demand; text_is = refl };
+      is_report = record { account = h.account; wrote = h.wrote; form = reported.form; demand = reported.demand; text_is = refl };
       written = subst (λ (c : Counts). IsAll (lines ++ text_with family shows_via after reported.form c)) h.is_counted (all (text_with family shows_via after reported.form counts) reported.written);
     }
 
@@ -62,7 +62,7 @@ module _ (family : AddressFamily) (end : End) (start : MergeState) (state : Rout
     )
     by_text merge text.Memory keeps tallied = (
       inl (inr (begun_more (event_line family) (WritesAll family end start state) (WritesAll family end start state) after old new newer none_yet counts h nothing after
-          (subst (λ (a : Account). WritesAll family end start state a after) (sym (nothing_last h.account)) h.tells) (none_is_front new newer [] keeps))),
+          (subst (λ (a : Account). WritesAll family end start state a after) (sym (nothing_last h.account)) h.wrote) (none_is_front new newer [] keeps))),
       tallied,
     )
 

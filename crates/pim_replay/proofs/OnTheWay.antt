@@ -93,7 +93,7 @@ module _ (moment : ℕ) where
     pub begin : counts.refreshes ≤ top_count → Way start old counts.refreshes
     begin small = record {
       account = nothing;
-      tells = start_goes_on start;
+      wrote = start_goes_on start;
       written = Appends-nil old;
       is_counted = same_counts _ _ _ _ (omega (arith, few)) (omega (arith, small));
     }
@@ -105,7 +105,7 @@ module _ (moment : ℕ) where
       refreshed between goes_on first rest last passes =
           subst (λ (a : Account). PassesTime moment start a last)
           (ap (joined w.account) (sym (regroup (of_refreshes refreshes) first rest)) ∙ sym (regroup w.account (joined (of_refreshes refreshes) first) rest))
-          (w.tells (joined (of_refreshes refreshes) (joined first rest)) last (goes_on (joined first rest) last passes))
+          (w.wrote (joined (of_refreshes refreshes) (joined first rest)) last (goes_on (joined first rest) last passes))
 
       more_counted : made_counts counts.skipped more ≡ made_counts (min (counts.skipped + 0) top_count) (min (count + (refreshes + 0)) top_count)
       more_counted = same_counts _ _ _ _ (omega (arith, few)) (omega (arith, is))
@@ -127,7 +127,7 @@ module _ (moment : ℕ) where
             let way = some_way law family after in
             let all = joined (of_event fallen) way.account in
             begun_more line (GoesOn start) (PassesTime moment start) now old new newer counts (made_counts counts.skipped count) w (joined (of_refreshes refreshes) all) way.after
-            (w.tells (joined (of_refreshes refreshes) all) way.after (come.goes_on all way.after (echo_first port group what come.between after come.runs way.account way.after way.passes)))
+            (w.wrote (joined (of_refreshes refreshes) all) way.after (come.goes_on all way.after (echo_first port group what come.between after come.runs way.account way.after way.passes)))
             (front-longer new newer (line fallen) (text line way.account) written)
 
       pub reached : RunsPast refreshes moment now Reached after → HasWritten line (PassesTime moment start) after old new counts (made_counts counts.skipped more)
@@ -135,4 +135,4 @@ module _ (moment : ℕ) where
           let come = comes refreshes now Reached after runs in
           let all = joined (of_refreshes refreshes) nothing in
           told_more line (GoesOn start) (PassesTime moment start) now old new new counts (made_counts counts.skipped count) w all after (made_counts counts.skipped more)
-          (w.tells all after (come.goes_on nothing after (arrived come.between after come.runs))) (Appends-nil new) more_counted
+          (w.wrote all after (come.goes_on nothing after (arrived come.between after come.runs))) (Appends-nil new) more_counted

@@ -167,12 +167,12 @@ module _ (merges : MergeByHasOneEnd) (runs : RunHasOneEnd) (forms : OneNormalFor
         let same = (merges (last_of end) merge.clock captures one.taken two.taken None None (one.are captures coming) (two.are captures coming)).0 in
         follows_one (WritesTurns family two.taken state) (PassesToEnd end (clock_of merge.clock two.taken)) (turns_one two.taken state)
         (λ between. time_one (end_moment end (clock_of merge.clock two.taken) between.machines.moment) between) a b s t
-        (subst (λ taken. Follows (WritesTurns family taken state) (PassesToEnd end (clock_of merge.clock taken)) a s) same one.tells) two.tells
+        (subst (λ taken. Follows (WritesTurns family taken state) (PassesToEnd end (clock_of merge.clock taken)) a s) same one.wrote) two.wrote
 
     pub one_report : (one other : RouterState) (text more : List ℕ) → IsReport family shows_via end merge state one text → IsReport family shows_via end merge state other more
         → (text ≡ more) × (one ≡ other)
     one_report one other text more this that =
-        let all = all_one this.account that.account one other this.tells that.tells in
+        let all = all_one this.account that.account one other this.wrote that.wrote in
         let form = form_is one other this.form that.form all.1 this.demand that.demand in (
           this.text_is
               ∙ (ap (λ (a : Account). lines_of family a.events ++ text_with family shows_via one this.form (counted none_yet a)) all.0
@@ -197,19 +197,19 @@ module _ (merges : MergeByHasOneEnd) (runs : RunHasOneEnd) (forms : OneNormalFor
     first_begin : (after : RouterState) (text : List ℕ) → IsReport family shows_via end merge state after text → (account : Account) (between : RouterState)
         → WritesFirst family end merge state account between → BeginsWith text (lines_of family account.events)
     first_begin after text this account between first =
-        let all = this.tells in
-        let turns = all.tells in
+        let all = this.wrote in
+        let turns = all.wrote in
         let g = first.are captures coming in
         let front = front_of_all (last_of end) merge.clock captures first.taken g.clock_then g.rest all.taken None g.takes_them (all.are captures coming) in
         let s = split family first.taken front.more state turns.first turns.between (subst (λ t. WritesTurns family t state turns.first turns.between) front.is turns.begins) in
-        let same = (turns_one first.taken state s.first account s.between between s.begins first.tells).0 in
+        let same = (turns_one first.taken state s.first account s.between between s.begins first.wrote).0 in
         begins after text this account (joined s.second turns.second)
         (turns.account_is ∙ (ap (λ x. joined x turns.second) (s.account_is ∙ ap (λ x. joined x s.second) same) ∙ regroup account s.second turns.second))
 
     all_begin : (after : RouterState) (text : List ℕ) → IsReport family shows_via end merge state after text → (account : Account) (between : RouterState)
         → WritesAll family end merge state account between → BeginsWith text (lines_of family account.events)
     all_begin after text this account between reported =
-        begins after text this account nothing ((all_one this.account account after between this.tells reported).0 ∙ sym (nothing_last account))
+        begins after text this account nothing ((all_one this.account account after between this.wrote reported).0 ∙ sym (nothing_last account))
 
     pub begins_so : (after : RouterState) (text : List ℕ) → IsReport family shows_via end merge state after text → BeginsWithItsLines family end merge state text
     begins_so after text this = record { first = first_begin after text this; all = all_begin after text this }

@@ -56,7 +56,7 @@ module _ (line : Event → List ℕ) (family : AddressFamily) (turn : Taken) (st
   pub none_told : (old : Option (List ℕ)) → HasBegun line Takes old old
   none_told old =
       let taken = taking family turn.capture turn.reported state in
-      record { account = taken.0; after = taken.1; tells = refl; written = none_is_front old old (text line taken.0) (keeps_same old) }
+      record { account = taken.0; after = taken.1; wrote = refl; written = none_is_front old old (text line taken.0) (keeps_same old) }
 
   module _ (holding : Holding) (is : holding ≡ content_in family turn.reported) where
     takes : (account : Account) (after : RouterState) → (account, after) ≡ taken_as family turn.capture holding state → Takes account after
@@ -67,7 +67,7 @@ module _ (line : Event → List ℕ) (family : AddressFamily) (turn : Taken) (st
         → HasWritten line Takes state old old counts (made_counts more counts.refreshes)
     skipped count skips old counts more small counts_it = record {
       account = of_skips count;
-      tells = takes (of_skips count) state (sym skips);
+      wrote = takes (of_skips count) state (sym skips);
       written = Appends-nil old;
       is_counted = same_counts _ _ _ _ counts_it (omega (arith, small));
     }
@@ -86,12 +86,12 @@ module _ (line : Event → List ℕ) (family : AddressFamily) (turn : Taken) (st
 
       pub packet_begun : AppendsFront old new (line told_of) → HasBegun line Takes old new
       packet_begun written =
-          record { account = of_event told_of; after = after; tells = packet_taken; written = subst (λ (t : List ℕ). AppendsFront old new t) (one_text line told_of) written }
+          record { account = of_event told_of; after = after; wrote = packet_taken; written = subst (λ (t : List ℕ). AppendsFront old new t) (one_text line told_of) written }
 
       pub packet_event : (counts : Counts) → counts.skipped ≤ top_count → counts.refreshes ≤ top_count → Appends old new (line told_of) → HasWritten line Takes after old new counts counts
       packet_event counts few small written = record {
         account = of_event told_of;
-        tells = packet_taken;
+        wrote = packet_taken;
         written = subst (λ (t : List ℕ). Appends old new t) (one_text line told_of) written;
         is_counted = same_counts _ _ _ _ (omega (arith, few)) (omega (arith, small));
       }

@@ -89,7 +89,7 @@ module _ (line : Event → List ℕ) where
         → HasWritten line Two after old new counts counts''
     told_more more after counts'' two written is = record {
       account = joined h.account more;
-      tells = two;
+      wrote = two;
       written = subst (λ (t : List ℕ). Appends old new t) (text_joined h.account more) (Appends-trans old mid new (text h.account) (text more) h.written written);
       is_counted = is ∙ (ap (λ (c : Counts). counted c more) h.is_counted ∙ counted_twice counts h.account more);
     }
@@ -99,7 +99,7 @@ module _ (line : Event → List ℕ) where
     begun_more more after two written = record {
       account = joined h.account more;
       after = after;
-      tells = two;
+      wrote = two;
       written = subst (λ (t : List ℕ). AppendsFront old new t) (text_joined h.account more) (front-more old mid new (text h.account) (text more) h.written written);
     }
 
@@ -109,7 +109,7 @@ module _ (line : Event → List ℕ) where
   begun_longer One Two old new h more after two = record {
     account = joined h.account more;
     after = after;
-    tells = two;
+    wrote = two;
     written = subst (λ (t : List ℕ). AppendsFront old new t) (text_joined h.account more) (front-longer old new (text h.account) (text more) h.written);
   }
 
@@ -122,14 +122,14 @@ module _ (line : Event → List ℕ) where
   pub told_begun : (One Two : Account → RouterState → Type 0) (now : RouterState) (old new : Option (List ℕ)) (counts counts' : Counts) → (h : HasWritten line One now old new counts counts') → Two h.account now
       → HasBegun line Two old new
   told_begun One Two now old new counts counts' h two =
-      record { account = h.account; after = now; tells = two; written = all_is_front old new (text h.account) h.written }
+      record { account = h.account; after = now; wrote = two; written = all_is_front old new (text h.account) h.written }
 
   module _ (One : Account → RouterState → Type 0) (Next : RouterState → Account → RouterState → Type 0) (between : RouterState) (old mid new : Option (List ℕ)) (counts counts' : Counts)
       (h : HasWritten line One between old mid counts counts') where
     -- the part after one that was written
     pub happens_then : (after : RouterState) (counts'' : Counts) → HasWritten line (Next between) after mid new counts' counts'' → HasWritten line (Follows One Next) after old new counts counts''
     happens_then after counts'' n =
-        told_more One (Follows One Next) between old mid new counts counts' h n.account after counts'' (both One Next h.account n.account between after h.tells n.tells) n.written n.is_counted
+        told_more One (Follows One Next) between old mid new counts counts' h n.account after counts'' (both One Next h.account n.account between after h.wrote n.wrote) n.written n.is_counted
 
     pub begun_then : HasBegun line (Next between) mid new → HasBegun line (Follows One Next) old new
-    begun_then n = begun_more One (Follows One Next) between old mid new counts counts' h n.account n.after (both One Next h.account n.account between n.after h.tells n.tells) n.written
+    begun_then n = begun_more One (Follows One Next) between old mid new counts counts' h n.account n.after (both One Next h.account n.account between n.after h.wrote n.wrote) n.written

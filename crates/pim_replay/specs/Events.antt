@@ -77,7 +77,7 @@ module _ (line : Event → List ℕ) (Part : Account → RouterState → Type 0)
   -- All that is written of the part's events was written, and its counts were added.
   pub record HasWritten (after : RouterState) (old new : Option (List ℕ)) (counts counts' : Counts) : Type 0 where
     pub account : Account
-    pub tells : Part account after
+    pub wrote : Part account after
     pub written : Appends old new (flat_map line account.events)
     pub is_counted : counts' ≡ counted counts account
 
@@ -85,7 +85,7 @@ module _ (line : Event → List ℕ) (Part : Account → RouterState → Type 0)
   pub record HasBegun (old new : Option (List ℕ)) : Type 0 where
     pub account : Account
     pub after : RouterState
-    pub tells : Part account after
+    pub wrote : Part account after
     pub written : AppendsFront old new (flat_map line account.events)
 
   -- What a call returns and writes that was given `counts` and leaves this router.

@@ -15,7 +15,7 @@ use Rattle.pim_replay.specs.Replay.{WritesAll, StopsAt}
 pub record RunsAll (family : AddressFamily) (end : End) (merge merge' : MergeState) (state after : RouterState)
     : Type 0 where
   pub account : Account
-  pub tells : WritesAll family end merge state account after
+  pub wrote : WritesAll family end merge state account after
   pub counted : CountsAll end merge merge'
 
 -- What `replay_quietly` returns and leaves: the router after the whole replay, or the stop at a

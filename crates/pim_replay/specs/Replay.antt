@@ -40,14 +40,14 @@ module _ (family : AddressFamily) (end : End) (merge : MergeState) (state : Rout
   pub record WritesFirst (account : Account) (after : RouterState) : Type 0 where
     pub taken : List Taken
     pub are : AreFirst end merge taken
-    pub tells : WritesTurns family taken state account after
+    pub wrote : WritesTurns family taken state account after
 
   -- All turns of the merge up to the end of the run, and the time from the last one to that end,
   -- report this account. The merge ends without a fault, and `after` is the router at the end.
   pub record WritesAll (account : Account) (after : RouterState) : Type 0 where
     pub taken : List Taken
     pub are : AreAll end merge None taken
-    pub tells : Follows (WritesTurns family taken state) (PassesToEnd end (clock_of merge.clock taken)) account after
+    pub wrote : Follows (WritesTurns family taken state) (PassesToEnd end (clock_of merge.clock taken)) account after
 
   -- A fault of a capture ends the replay after these turns. The fault is the next answer of its
   -- capture, or a read of that capture failed in the call, which leaves `merge'`. It is never a
@@ -58,7 +58,7 @@ module _ (family : AddressFamily) (end : End) (merge : MergeState) (state : Rout
     pub account : Account
     pub after : RouterState
     pub are : AreBefore end merge reported taken
-    pub tells : WritesTurns family taken state account after
+    pub wrote : WritesTurns family taken state account after
     pub no_memory : reported.fault ≢ fault.Memory
     pub cause : IsRefusal {A = ⊤} (lane_at reported.capture merge.lanes).failures
         (lane_at reported.capture merge'.lanes).failures (Err reported.fault)

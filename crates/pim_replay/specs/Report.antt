@@ -36,7 +36,7 @@ lines_of family events = flat_map (event_line family) events
 pub record IsReport (family : AddressFamily) (shows_via : Bool) (end : End) (merge : MergeState)
     (state after : RouterState) (text : List ℕ) : Type 0 where
   pub account : Account
-  pub tells : WritesAll family end merge state account after
+  pub wrote : WritesAll family end merge state account after
   pub form : List GroupForm
   pub demand : IsFormOf family (wants after.machines) form
   pub text_is : text ≡ lines_of family account.events

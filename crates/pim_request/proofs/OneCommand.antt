@@ -10,7 +10,7 @@ use Rattle.pim_request.specs.declared.command.PortRow.{PortRow}
 use Rattle.pim_request.specs.declared.command.RouteRow.{RouteRow}
 use Rattle.pim_request.specs.declared.command.Packet.{Packet}
 use Rattle.pim_request.specs.declared.command.Sender.{Sender}
-use Rattle.pim_request.specs.declared.command.Writing.{Writing}
+use Rattle.pim_request.specs.declared.command.AnyWriting.{AnyWriting}
 use Rattle.pim_request.specs.declared.command.KeptWhat.{KeptWhat}
 use Rattle.pim_request.specs.declared.command.Comparison.{Comparison}
 use Rattle.pim_request.specs.declared.command.Command.{Command}
@@ -155,7 +155,7 @@ module _ (one_name : OneName) where
       let destination = one_destination one.destination other.destination rest to (subst (IsDestination other.destination) (sym third) destination_is) in
       λ i. record { port = port i; source = sent i; destination = destination i }
 
-  one_writing : (one other : Writing) (words : List (List ℕ)) → IsWriting one words → IsWriting other words → one ≡ other
+  one_writing : (one other : AnyWriting) (words : List (List ℕ)) → IsWriting one words → IsWriting other words → one ≡ other
   one_writing one other words (upstream, own, rest, cut, up, mine, options) (u, o, left, so, ups, owns, others) =
       let both : upstream ∷ own ∷ rest ≡ u ∷ o ∷ left = sym cut ∙ so in
       let first : upstream ≡ u = cc in

@@ -5,7 +5,7 @@ use Rattle.pim_request.specs.declared.command.PortRow.{PortRow}
 use Rattle.pim_request.specs.declared.command.RouteRow.{RouteRow}
 use Rattle.pim_request.specs.declared.command.Packet.{Packet}
 use Rattle.pim_request.specs.declared.command.Sender.{Sender}
-use Rattle.pim_request.specs.declared.command.Writing.{Writing}
+use Rattle.pim_request.specs.declared.command.AnyWriting.{AnyWriting}
 use Rattle.pim_request.specs.declared.command.KeptWhat.{KeptWhat}
 use Rattle.pim_request.specs.declared.command.Comparison.{Comparison}
 use Rattle.pim_request.specs.declared.command.Command.{Command}
@@ -87,7 +87,7 @@ of_both h b front back (inr (same, low, high)) (inr (too, least, most)) =
 of_options : (h b : ℕ) (words : List (List ℕ)) → AreOptions h b words → AreOfOne option_forms words
 of_options h b words (front, back, same, first, second) = again option_forms words (front ++ back) same (of_both h b front back first second)
 
-of_writing : (writing : Writing) (words : List (List ℕ)) → IsWriting writing words → AreOfOne writing_forms words
+of_writing : (writing : AnyWriting) (words : List (List ℕ)) → IsWriting writing words → AreOfOne writing_forms words
 of_writing writing words (upstream, own, others, same, up, mine, options) =
     again writing_forms words (upstream ∷ own ∷ others) same
     (onto address upstream (writing.upstream, up) (own ∷ others) (map (λ form. address ∷ form) option_forms)

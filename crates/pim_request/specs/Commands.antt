@@ -7,7 +7,7 @@ use Rattle.pim_request.specs.declared.command.PortRow.{PortRow}
 use Rattle.pim_request.specs.declared.command.RouteRow.{RouteRow}
 use Rattle.pim_request.specs.declared.command.Packet.{Packet}
 use Rattle.pim_request.specs.declared.command.Sender.{Sender}
-use Rattle.pim_request.specs.declared.command.Writing.{Writing}
+use Rattle.pim_request.specs.declared.command.AnyWriting.{AnyWriting}
 use Rattle.pim_request.specs.declared.command.KeptWhat.{KeptWhat}
 use Rattle.pim_request.specs.declared.command.Comparison.{Comparison}
 use Rattle.pim_request.specs.declared.command.Command.{Command}
@@ -191,7 +191,7 @@ IsSender sender words =
     × (sender.port ≤ most) × Names source sender.source × IsDestination sender.destination others
 
 -- The words say that messages are written so.
-abbrev pub IsWriting : Writing → List (List ℕ) → Type 0
+abbrev pub IsWriting : AnyWriting → List (List ℕ) → Type 0
 IsWriting writing words =
     (upstream : List ℕ) × (own : List ℕ) × (others : List (List ℕ))
     × (words ≡ upstream ∷ own ∷ others) × Names upstream writing.upstream × Names own writing.own

@@ -50,7 +50,7 @@ pub struct Sender {
 
 /// How messages to an upstream neighbour are written.
 #[derive(Clone, Copy, Debug, PartialEq, Eq)]
-pub struct Writing {
+pub struct AnyWriting {
     /// The upstream neighbour.
     pub upstream: AnyAddress,
     /// The own address.
@@ -76,7 +76,7 @@ pub struct Comparison<'a> {
     /// The name, not empty.
     pub name: &'a [u8],
     /// How messages are written.
-    pub writing: Writing,
+    pub writing: AnyWriting,
 }
 
 /// A command of a session.
@@ -107,7 +107,7 @@ pub enum Command<'a> {
     /// `neighbours`
     Neighbours,
     /// `messages UPSTREAM OWN [holdtime S] [budget N]`
-    Messages(Writing),
+    Messages(AnyWriting),
     /// `keep NAME UPSTREAM`
     Keep(KeptWhat<'a>),
     /// `change NAME UPSTREAM OWN [holdtime S] [budget N]`

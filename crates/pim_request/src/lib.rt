@@ -28,7 +28,7 @@ mod words;
 
 pub use answers::Answers;
 pub use command::{
-    Command, Comparison, KeptWhat, Packet, PortRow, RouteRow, Sender, WordsFault, Writing,
+    AnyWriting, Command, Comparison, KeptWhat, Packet, PortRow, RouteRow, Sender, WordsFault,
 };
 pub use hex::decode_hex;
 pub use input::Stopped;

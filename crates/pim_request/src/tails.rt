@@ -11,7 +11,7 @@ ghost use Rattle.pim_request.specs.Commands.{address_forms, AreDelays, IsDestina
 ghost use Rattle.pim_request.specs.Commands.{AreOptions, IsNumber, IsWriting};
 ghost use Rattle.pim_request.specs.Steps.{words_left, IsFrontFault, IsHoldtime, IsHoldtimeFault};
 
-use crate::command::{WordsFault, Writing};
+use crate::command::{AnyWriting, WordsFault};
 use crate::slots::{NumberRange, line_end, next_address, next_number};
 use crate::words::{is_word, next_word};
 use pim_lines::AnyAddress;
@@ -201,13 +201,13 @@ fn last_options<'a>(command: &'a [u8], left: Option<&'a [u8]>) -> Result<Options
 pub(crate) fn last_writing<'a>(
     command: &'a [u8],
     left: Option<&'a [u8]>,
-) -> Result<Writing, WordsFault<'a>>
+) -> Result<AnyWriting, WordsFault<'a>>
     ensures read { IfOk result (λ writing. IsWriting writing (words_left left.entry)) }
     ensures fault { IfErr result (IsFault writing_forms command.now (words_left left.entry)) }
 {
     let ends = two_addresses(command, left)?;
     let options = last_options(command, ends.left)?;
-    Ok(Writing {
+    Ok(AnyWriting {
         upstream: ends.first,
         own: ends.second,
         holdtime: options.holdtime,

@@ -12,7 +12,7 @@ use Rattle.pim_router.specs.Refreshes.{RunsPast}
 use Rattle.pim_router.specs.declared.step.Step.{Step}
 use Rattle.pim_router.specs.declared.step.Step.TheVariants.{Refresh, Reached}
 use Rattle.pim_router.specs.State.{RouterState}
-use Rattle.pim_router.specs.Time.{Outcome, rests, moves, tells, has_ended, turn, turn_of_timers, turn_of_time, tick, run_within, turns_left}
+use Rattle.pim_router.specs.Time.{Outcome, rests, moves, stops_with, has_ended, turn, turn_of_timers, turn_of_time, tick, run_within, turns_left}
 use Rattle.pim_router.proofs.Runs.{pair_of as run_pair, no_run}
 use Rattle.pim_router.proofs.Turns.{is_reached, said}
 use Rattle.pim_router.proofs.Onward.{resting, moving, echoing, refreshing, onward}
@@ -177,7 +177,7 @@ module _ (moment : ℕ) where
               passes = pass_first moment state next after more.reported (ap next_of t) more.passes;
               ends = more.ends;
             }
-        | tells step end ↦ λ t.
+        | stops_with step end ↦ λ t.
             let pairs = run_pair step answer end after (rw t at e) in
             record {
               reported = at_moment state.machines.moment (happens_in state) ++ [];

@@ -15,7 +15,7 @@ use Rattle.pim_router.specs.declared.step.Step.TheVariants.{Echo, Refresh, Reach
 use Rattle.pim_router.specs.Course.{Input, runs_to, takes, RouterReport, echo, refresh, verdict, Reaches, HasCourse, IsCourse}
 use Rattle.pim_router.specs.Packets.{received}
 use Rattle.pim_router.specs.State.{RouterState, with_machines, with_tables, with_refresh, refresh_period}
-use Rattle.pim_router.specs.Time.{rests, moves, tells, has_ended, tick, turn, run_within, Runs, one_if, turns_left}
+use Rattle.pim_router.specs.Time.{rests, moves, stops_with, has_ended, tick, turn, run_within, Runs, one_if, turns_left}
 use Rattle.pim_router.proofs.Passing.{none_ended}
 use Rattle.pim_router.proofs.Runs.{pair_of, no_run, run_more, run_tells, run_rests}
 
@@ -29,9 +29,9 @@ module _ (timers : TimersRunOut) (moment : ℕ) where
   pub data Onward (state : RouterState) : Type 0 where
     resting : turn moment state ≡ rests → Onward state
     moving : (next : RouterState) → turn moment state ≡ moves next → turns_left moment next < turns_left moment state → Onward state
-    echoing : (port : ℕ) (group : List ℕ) (what : What (List ℕ)) (next : RouterState) → turn moment state ≡ tells (Echo port group what) next →
+    echoing : (port : ℕ) (group : List ℕ) (what : What (List ℕ)) (next : RouterState) → turn moment state ≡ stops_with (Echo port group what) next →
         turns_left moment next < turns_left moment state → Onward state
-    refreshing : (next : RouterState) → turn moment state ≡ tells Refresh next → turns_left moment next < turns_left moment state → Onward state
+    refreshing : (next : RouterState) → turn moment state ≡ stops_with Refresh next → turns_left moment next < turns_left moment state → Onward state
 
   module _ (state : RouterState) where
     some_go : list_any has_ended state.tables ≡ true → Onward state

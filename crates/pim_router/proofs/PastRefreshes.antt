@@ -16,7 +16,7 @@ use Rattle.pim_router.specs.declared.config.PortConfig.{PortConfig}
 use Rattle.pim_router.specs.declared.step.Step.{Step}
 use Rattle.pim_router.specs.declared.step.Step.TheVariants.{Echo, Refresh, Reached}
 use Rattle.pim_router.specs.Laws.{RunsComeNearer}
-use Rattle.pim_router.specs.Refreshes.{RunsPast, fires_behind, first_untold}
+use Rattle.pim_router.specs.Refreshes.{RunsPast, fires_behind, first_unreported}
 use Rattle.pim_router.specs.Seen.{port_seen, router_seen}
 use Rattle.pim_router.specs.Sound.{IsRouter}
 use Rattle.pim_router.specs.State.{Port, RouterState, setup_of, with_refresh}
@@ -60,17 +60,17 @@ pub seen_behind : {A : Type 0} (bytes_of : A → List ℕ) (step : Fires A) → 
 seen_behind bytes_of (fires.Echo port group what) e = cc
 seen_behind bytes_of fires.Reached e = refl
 
-untold_seen : {A : Type 0} (bytes_of : A → List ℕ) (step : Fires A) (moment : ℕ) → first_untold (fires_seen bytes_of step) moment ≡ first_untold step moment
+untold_seen : {A : Type 0} (bytes_of : A → List ℕ) (step : Fires A) (moment : ℕ) → first_unreported (fires_seen bytes_of step) moment ≡ first_unreported step moment
 untold_seen bytes_of (fires.Echo port group what) moment = refl
 untold_seen bytes_of fires.Reached moment = refl
 
 -- ---- a run of the machines
 
-at_least : (step : Fires (List ℕ)) (moment : ℕ) → moment ≤ first_untold step moment
+at_least : (step : Fires (List ℕ)) (moment : ℕ) → moment ≤ first_unreported step moment
 at_least (fires.Echo port group what) moment = omega arith
 at_least fires.Reached moment = omega arith
 
-at_most : (step : Fires (List ℕ)) (moment : ℕ) → first_untold step moment ≤ moment + 1
+at_most : (step : Fires (List ℕ)) (moment : ℕ) → first_unreported step moment ≤ moment + 1
 at_most (fires.Echo port group what) moment = omega arith
 at_most fires.Reached moment = omega arith
 
@@ -99,8 +99,8 @@ module _ (twice : ExpiringTwiceIsExpiringOnce) (ports : List Port) (routes : Rou
   record Past (next : ℕ) (machines : Downstream) (answer : Fires (List ℕ)) (after : Downstream) : Type 0 where
     refreshes : ℕ
     later : machines.moment ≤ after.moment
-    all : first_untold answer after.moment ≤ next + 60000 * refreshes
-    no_more : next + 60000 * refreshes < max (first_untold answer after.moment) next + 60000
+    all : first_unreported answer after.moment ≤ next + 60000 * refreshes
+    no_more : next + 60000 * refreshes < max (first_unreported answer after.moment) next + 60000
     runs : RunsPast refreshes moment (at next machines) (fires_behind answer) (at (next + 60000 * refreshes) after)
 
   -- ---- at a Refresh
@@ -115,7 +115,7 @@ module _ (twice : ExpiringTwiceIsExpiringOnce) (ports : List Port) (routes : Rou
       (quiet_turn twice ports routes start next moment 0 (omega arith) (omega arith) machines ∙ rw (quiet, over) refl))
 
   refreshed : (next : ℕ) (machines after : Downstream) (answer : Fires (List ℕ)) → fired machines.records ≡ None → next ≡ machines.moment →
-      next < first_untold answer after.moment → Past (next + 60000) machines answer after → Past next machines answer after
+      next < first_unreported answer after.moment → Past (next + 60000) machines answer after → Past next machines answer after
   unfolding RunsPast
   refreshed next machines after answer quiet due goes p =
       let same : next + 60000 + 60000 * p.refreshes ≡ next + 60000 * suc p.refreshes = omega arith in
@@ -262,19 +262,19 @@ module _ (twice : ExpiringTwiceIsExpiringOnce) {A : Type 0} (bytes_of : A → Li
   starts = ap (λ ts. seen machines ts next) (current_at_start machines.moment tables sound.1.current) ∙ same
 
   past_told : (answer : Fires (List ℕ)) (refreshes : ℕ) → down.Runs moment machines answer after →
-      first_untold answer after.moment ≤ next + 60000 * refreshes → next + 60000 * refreshes < max (first_untold answer after.moment) next + 60000 →
+      first_unreported answer after.moment ≤ next + 60000 * refreshes → next + 60000 * refreshes < max (first_unreported answer after.moment) next + 60000 →
       RunsPast refreshes moment now (fires_behind answer) (seen after left (next + 60000 * refreshes))
   past_told answer refreshes runs all no_more =
       let p = past_within twice (map (port_seen bytes_of) ports) routes tables moment runs.turns next machines after answer sound.0 runs.within in
-      let count = one_count (first_untold answer after.moment) next p.refreshes refreshes p.all p.no_more all no_more in
+      let count = one_count (first_unreported answer after.moment) next p.refreshes refreshes p.all p.no_more all no_more in
       subst (λ s. RunsPast refreshes moment s (fires_behind answer) (seen after left (next + 60000 * refreshes))) starts
       (subst (λ ts. RunsPast refreshes moment (seen machines (map (expired_at machines.moment) tables) next) (fires_behind answer) (seen after ts (next + 60000 * refreshes))) (sym is_left)
       (subst (λ n. RunsPast n moment (seen machines (map (expired_at machines.moment) tables) next) (fires_behind answer) (seen after (map (expired_at after.moment) tables) (next + 60000 * n))) count p.runs))
 
-  module _ (step : Fires A) (stopped end refreshes : ℕ) (is_now : stopped ≡ after.moment) (is_end : end ≡ first_untold step stopped)
+  module _ (step : Fires A) (stopped end refreshes : ℕ) (is_now : stopped ≡ after.moment) (is_end : end ≡ first_unreported step stopped)
       (all : end ≤ next + 60000 * refreshes) (no_more : next + 60000 * refreshes < max end next + 60000) where
-    ended : end ≡ first_untold (fires_seen bytes_of step) after.moment
-    ended = is_end ∙ ap (first_untold step) is_now ∙ sym (untold_seen bytes_of step after.moment)
+    ended : end ≡ first_unreported (fires_seen bytes_of step) after.moment
+    ended = is_end ∙ ap (first_unreported step) is_now ∙ sym (untold_seen bytes_of step after.moment)
 
     turned : next + 60000 * refreshes ≡ next + refreshes * 60000
     turned = omega arith

@@ -3,7 +3,7 @@ use Rattle.std.proofs.Common.{◌≡◌, ◌∙◌, ℕ, zero, suc, List, Option
 use Rattle.pim_router.specs.declared.step.Step.{Step}
 use Rattle.pim_router.specs.declared.step.Step.TheVariants.{Reached}
 use Rattle.pim_router.specs.State.{RouterState}
-use Rattle.pim_router.specs.Time.{Outcome, rests, moves, tells, turn, run_on, run_within, Runs}
+use Rattle.pim_router.specs.Time.{Outcome, rests, moves, stops_with, turn, run_on, run_within, Runs}
 
 abbrev pub Answer : Type 0
 Answer = Option (Step (List ℕ) × RouterState)
@@ -24,7 +24,7 @@ unfolding run_within
 run_more moment state next after answer t more = record { turns = suc more.turns; within = rw t more.within }
 
 pub run_tells : (moment : ℕ) (state after : RouterState) (answer : Step (List ℕ)) →
-    turn moment state ≡ tells answer after → Runs moment state answer after
+    turn moment state ≡ stops_with answer after → Runs moment state answer after
 unfolding run_within
 run_tells moment state after answer t = record { turns = 1; within = rw t refl }
 
@@ -42,7 +42,7 @@ one_on rests state f g x y more a b = pair_one x y (sym a ∙ b)
     pair_one : (x y : Step (List ℕ) × RouterState) → ◌≡◌ {A = Answer} (Some x) (Some y) → x ≡ y
     pair_one x y e = cc
 one_on (moves next) state f g x y more a b = more next x y a b
-one_on (tells step after) state f g x y more a b = pair_one x y (sym a ∙ b)
+one_on (stops_with step after) state f g x y more a b = pair_one x y (sym a ∙ b)
   where
     pair_one : (x y : Step (List ℕ) × RouterState) → ◌≡◌ {A = Answer} (Some x) (Some y) → x ≡ y
     pair_one x y e = cc

@@ -12,7 +12,7 @@ use Rattle.pim_router.specs.declared.verdict.Verdict.{Verdict}
 use Rattle.pim_router.specs.State.{RouterState, setup_of}
 use Rattle.pim_router.specs.Packets.{Receives, unless}
 use Rattle.pim_router.specs.Reading.{Reading, read_hello, read_message, read_other, read_fault, read_causes, read_taken, read_received}
-use Rattle.pim_router.specs.Time.{Outcome, rests, moves, tells, has_ended, reported, turn, turn_of_timers, turn_of_time, run_on, run_within, Runs}
+use Rattle.pim_router.specs.Time.{Outcome, rests, moves, stops_with, has_ended, reported, turn, turn_of_timers, turn_of_time, run_on, run_within, Runs}
 use Rattle.pim_router.proofs.Runs.{Answer, pair_of, no_run}
 
 -- ---- a packet
@@ -49,7 +49,7 @@ reading_keeps family port source old reading result new ends =
 abbrev Keeps : RouterState → Outcome → Type 0
 Keeps state rests = ⊤
 Keeps state (moves next) = setup_of next ≡ setup_of state
-Keeps state (tells step after) = setup_of after ≡ setup_of state
+Keeps state (stops_with step after) = setup_of after ≡ setup_of state
 
 module _ (moment : ℕ) (state : RouterState) where
   either_keeps : (test : Bool) (first second : Outcome) → Keeps state first → Keeps state second → Keeps state (if test then first else second)
@@ -81,7 +81,7 @@ on_keeps : (state after : RouterState) (answer : Step (List ℕ)) (outcome : Out
     run_on outcome state more ≡ Some (answer, after) → setup_of after ≡ setup_of state
 on_keeps state after answer rests more keeps later is = ap setup_of (ends_of _ answer state after is)
 on_keeps state after answer (moves next) more keeps later is = later next is ∙ keeps
-on_keeps state after answer (tells step end) more keeps later is = ap setup_of (ends_of step answer end after is) ∙ keeps
+on_keeps state after answer (stops_with step end) more keeps later is = ap setup_of (ends_of step answer end after is) ∙ keeps
 
 within_keeps : (turns moment : ℕ) (state after : RouterState) (answer : Step (List ℕ)) →
     run_within turns moment state ≡ Some (answer, after) → setup_of after ≡ setup_of state

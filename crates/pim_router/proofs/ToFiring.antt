@@ -24,7 +24,7 @@ use Rattle.pim_router.specs.Happening.{Happening, timer_fired, gone_of, gone_fro
 use Rattle.pim_router.specs.Seen.{port_seen, router_seen}
 use Rattle.pim_router.specs.Sound.{IsRouter}
 use Rattle.pim_router.specs.State.{Port, RouterState, setup_of, with_tables, with_refresh}
-use Rattle.pim_router.specs.Time.{rests, moves, tells, has_ended, reported, turn, turn_of_timers, tick, turns_left}
+use Rattle.pim_router.specs.Time.{rests, moves, stops_with, has_ended, reported, turn, turn_of_timers, tick, turns_left}
 use Rattle.pim_router.proofs.Passing.{none_ended, none_goes, goes, nobody_over, later_tables, ticked, quiet_turn, current_at_start}
 use Rattle.pim_router.proofs.PastRefreshes.{one_count}
 use Rattle.pim_router.proofs.RunTo.{sound_again}
@@ -148,7 +148,7 @@ module _ (twice : ExpiringTwiceIsExpiringOnce) (more_said : FiringSaysMore) (por
   refresh_passes next machines after said quiet due more =
       let zero_left : next - machines.moment ≡ 0 = omega (arith, due) in
       let later : 60000 ≡ next + 60000 - machines.moment = omega (arith, due) in
-      let turned : turn moment (at next machines) ≡ tells Refresh (with_refresh (at next machines) 60000) = turn_is next machines ∙ rw (quiet, zero_left) refl in
+      let turned : turn moment (at next machines) ≡ stops_with Refresh (with_refresh (at next machines) 60000) = turn_is next machines ∙ rw (quiet, zero_left) refl in
       pass_quietly moment (at next machines) (at (next + 60000) machines) after said
       (ap next_of turned ∙ ap (λ (refresh : ℕ). Some (with_refresh (at next machines) refresh)) later)
       (nothing next machines quiet) more

@@ -9,19 +9,19 @@ use Rattle.pim_down.specs.Time.{fired}
 use Rattle.pim_router.specs.declared.step.Step.{Step}
 use Rattle.pim_router.specs.declared.step.Step.TheVariants.{Echo, Refresh, Reached}
 use Rattle.pim_router.specs.State.{RouterState}
-use Rattle.pim_router.specs.Time.{Outcome, rests, moves, tells, has_ended, reported, turn, turn_of_timers, turn_of_time, tick, run_within, Runs}
+use Rattle.pim_router.specs.Time.{Outcome, rests, moves, stops_with, has_ended, reported, turn, turn_of_timers, turn_of_time, tick, run_within, Runs}
 use Rattle.pim_router.proofs.Runs.{pair_of, no_run, run_more}
 
 rests_moves : (next : RouterState) → rests ≡ moves next → ⊥
 rests_moves next e = cc
 
-rests_tells : (step : Step (List ℕ)) (end : RouterState) → rests ≡ tells step end → ⊥
+rests_tells : (step : Step (List ℕ)) (end : RouterState) → rests ≡ stops_with step end → ⊥
 rests_tells step end e = cc
 
-moves_tells : (next : RouterState) (step : Step (List ℕ)) (end : RouterState) → moves next ≡ tells step end → ⊥
+moves_tells : (next : RouterState) (step : Step (List ℕ)) (end : RouterState) → moves next ≡ stops_with step end → ⊥
 moves_tells next step end e = cc
 
-told_step : (step other : Step (List ℕ)) (end after : RouterState) → tells step end ≡ tells other after → step ≡ other
+told_step : (step other : Step (List ℕ)) (end after : RouterState) → stops_with step end ≡ stops_with other after → step ≡ other
 told_step step other end after e = cc
 
 abbrev pub is_reached : Step (List ℕ) → Bool
@@ -61,28 +61,28 @@ module _ (earlier later : ℕ) (le : earlier ≤ later) (state next : RouterStat
 -- ---- what is told isn't Reached
 
 module _ (moment : ℕ) (state : RouterState) (step : Step (List ℕ)) (end : RouterState) where
-  said_time : (b : Bool) (next : RouterState) → (if b then moves next else rests) ≡ tells step end → is_reached step ≡ false
+  said_time : (b : Bool) (next : RouterState) → (if b then moves next else rests) ≡ stops_with step end → is_reached step ≡ false
   said_time true next h = absurd (moves_tells next step end h)
   said_time false next h = absurd (rests_tells step end h)
 
-  said_refresh : (b : Bool) (after : RouterState) → (if b then tells Refresh after else turn_of_time moment state) ≡ tells step end →
+  said_refresh : (b : Bool) (after : RouterState) → (if b then stops_with Refresh after else turn_of_time moment state) ≡ stops_with step end →
       is_reached step ≡ false
   said_refresh true after h = ap is_reached (sym (told_step Refresh step after end h))
   said_refresh false after h = said_time (nat_lt state.machines.moment moment) _ h
 
-  said_timers : (answer : Fires (List ℕ)) (after : RouterState) → reported answer after ≡ tells step end → is_reached step ≡ false
+  said_timers : (answer : Fires (List ℕ)) (after : RouterState) → reported answer after ≡ stops_with step end → is_reached step ≡ false
   said_timers fires.Reached after h = absurd (moves_tells after step end h)
   said_timers (fires.Echo port group what) after h = ap is_reached (sym (told_step (Echo port group what) step after end h))
 
-  said_fired : (o : Option (Fires (List ℕ) × List (Record (List ℕ)))) → turn_of_timers moment state o ≡ tells step end → is_reached step ≡ false
+  said_fired : (o : Option (Fires (List ℕ) × List (Record (List ℕ)))) → turn_of_timers moment state o ≡ stops_with step end → is_reached step ≡ false
   said_fired None h = said_refresh (state.refresh == 0) _ h
   said_fired (Some fire) h = said_timers fire.0 _ h
 
-  said_all : (b : Bool) (next : RouterState) → (if b then moves next else turn_of_timers moment state (fired state.machines.records)) ≡ tells step end → is_reached step ≡ false
+  said_all : (b : Bool) (next : RouterState) → (if b then moves next else turn_of_timers moment state (fired state.machines.records)) ≡ stops_with step end → is_reached step ≡ false
   said_all true next h = absurd (moves_tells next step end h)
   said_all false next h = said_fired (fired state.machines.records) h
 
-  pub said : turn moment state ≡ tells step end → is_reached step ≡ false
+  pub said : turn moment state ≡ stops_with step end → is_reached step ≡ false
   unfolding turn
   said h = said_all (list_any has_ended state.tables) _ h
 
@@ -97,7 +97,7 @@ goes_within (suc turns) earlier later state middle after answer le e more =
       | rests ↦ λ t. subst (λ (x : Step (List ℕ) × RouterState). Runs later x.1 answer after) (sym (pair_of Reached Reached state middle (rw t at e))) more
       | moves next ↦ λ t. run_more later state next after answer (later_moves earlier later le state next t)
           (goes_within turns earlier later next middle after answer le (rw t at e) more)
-      | tells step end ↦ λ t. absurd (false≢true (sym (said earlier state step end t)
+      | stops_with step end ↦ λ t. absurd (false≢true (sym (said earlier state step end t)
           ∙ ap (λ (x : Step (List ℕ) × RouterState). is_reached x.0) (pair_of step Reached end middle (rw t at e))))
     ] refl
 

@@ -11,7 +11,7 @@ use Rattle.pim_down.specs.Firing.{firing}
 use Rattle.pim_router.specs.declared.step.Step.{Step}
 use Rattle.pim_router.specs.declared.step.Step.TheVariants.{Reached}
 use Rattle.pim_router.specs.State.{RouterState}
-use Rattle.pim_router.specs.Time.{Outcome, rests, moves, tells, has_ended, turn}
+use Rattle.pim_router.specs.Time.{Outcome, rests, moves, stops_with, has_ended, turn}
 
 -- The time of a neighbour of a port is over, or a timer of the machines fires.
 pub data Happening : Type 0 where
@@ -46,7 +46,7 @@ happens_in state =
 abbrev pub next_of : Outcome → Option RouterState
 next_of rests = None
 next_of (moves after) = Some after
-next_of (tells step after) = Some after
+next_of (stops_with step after) = Some after
 
 -- ---- turn by turn
 

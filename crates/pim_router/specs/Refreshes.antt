@@ -22,6 +22,6 @@ fires_behind fires.Reached = Reached
 -- The first moment whose refresh a run that stopped at `moment` hasn't counted. At an echo it is
 -- that moment, since an echo comes before the refresh of its millisecond; else it is the next
 -- moment.
-abbrev pub first_untold : {A : Type 0} → Fires A → ℕ → ℕ
-first_untold (fires.Echo port group what) moment = moment
-first_untold fires.Reached moment = moment + 1
+abbrev pub first_unreported : {A : Type 0} → Fires A → ℕ → ℕ
+first_unreported (fires.Echo port group what) moment = moment
+first_unreported fires.Reached moment = moment + 1

@@ -33,13 +33,13 @@ tick state = record {
 pub data Outcome : Type 0 where
   rests : Outcome
   moves : RouterState → Outcome
-  tells : Step (List ℕ) → RouterState → Outcome
+  stops_with : Step (List ℕ) → RouterState → Outcome
 
 -- The outcome where a timer of the machines fired: a PruneEcho stops the run, anything else lets it
 -- go on.
 abbrev pub reported : Fires (List ℕ) → RouterState → Outcome
 reported fires.Reached state = moves state
-reported (fires.Echo port group what) state = tells (Echo port group what) state
+reported (fires.Echo port group what) state = stops_with (Echo port group what) state
 
 -- A millisecond passes, unless the moment is reached.
 abbrev pub turn_of_time : ℕ → RouterState → Outcome
@@ -49,7 +49,7 @@ turn_of_time moment state = if nat_lt state.machines.moment moment then moves (t
 -- 7761, 4.11); else time passes.
 abbrev pub turn_of_refresh : ℕ → RouterState → Outcome
 turn_of_refresh moment state =
-    if state.refresh == 0 then tells Refresh (with_refresh state refresh_period) else turn_of_time moment state
+    if state.refresh == 0 then stops_with Refresh (with_refresh state refresh_period) else turn_of_time moment state
 
 -- The first due timer of the machines fires; without one, the refresh and time follow.
 abbrev pub turn_of_timers : ℕ → RouterState → Option (Fires (List ℕ) × List (Record (List ℕ))) → Outcome
@@ -69,7 +69,7 @@ turn moment state =
 abbrev pub run_on : Outcome → RouterState → (RouterState → Option (Step (List ℕ) × RouterState)) →
     Option (Step (List ℕ) × RouterState)
 run_on rests state more = Some (Reached, state)
-run_on (tells step after) state more = Some (step, after)
+run_on (stops_with step after) state more = Some (step, after)
 run_on (moves after) state more = more after
 
 -- The end of a run up to a moment, where at most `turns` turns lead to it; `None` where they don't.

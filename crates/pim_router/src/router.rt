@@ -24,7 +24,7 @@ ghost use Rattle.pim_router.specs.Reading.{reading_seen, message_refusals, read_
 ghost use Rattle.pim_router.specs.Reading.{read_taken, read_received, read_may_grow};
 ghost use Rattle.pim_router.specs.Seen.{setup_seen, port_seen, packet_seen, step_seen};
 ghost use Rattle.pim_router.specs.Time.{Runs, turns_left};
-ghost use Rattle.pim_router.specs.Refreshes.{RunsPast, fires_behind, first_untold};
+ghost use Rattle.pim_router.specs.Refreshes.{RunsPast, fires_behind, first_unreported};
 ghost use Rattle.pim_router.specs.Happening.{FiresTo, first_timeout, first_unpassed};
 ghost use Rattle.pim_router.specs.declared.step.Step.TheVariants.{Reached};
 ghost use Rattle.pim_down.specs.declared.machines.step.Step.TheVariants as fires;
@@ -130,9 +130,9 @@ fn message_verdict(heard: Result<(), HearFault>) -> Result<Verdict, AllocError>
 
 /// The first moment whose refresh isn't counted by a run of the machines that stopped with this
 /// step at `now`: a PruneEcho comes before the refresh of its millisecond.
-fn first_untold<A: Copy>(step: Fires<A>, now: u64) -> u64
+fn first_unreported<A: Copy>(step: Fires<A>, now: u64) -> u64
     requires { now ≤ 10 ^ 15 }
-    ensures { result ≡ first_untold step now }
+    ensures { result ≡ first_unreported step now }
 {
     match step {
         Fires::Echo { .. } => now,
@@ -606,7 +606,7 @@ impl<'a, F: Family> Router<'a, F> {
         self.machines.is_sound();
         let stopped = self.machines.now();
         expire_all(&mut self.neighbours, stopped);
-        let refreshes = refreshes_before(self.next_refresh, first_untold(step, stopped));
+        let refreshes = refreshes_before(self.next_refresh, first_unreported(step, stopped));
         self.next_refresh += refreshes * REFRESH_PERIOD;
         (step, refreshes)
     }

@@ -6,7 +6,7 @@ use Rattle.pim_addr.specs.Routes.{RouteTable, no_routes, rp_faults, via_faults, 
 use Rattle.pim_lines.specs.AnyAddress.{address_bytes}
 use Rattle.pim_request.specs.declared.command.PortRow.{PortRow}
 use Rattle.pim_request.specs.declared.command.RouteRow.{RouteRow}
-use Rattle.pim_answers.specs.declared.fault.Fault.{Fault}
+use Rattle.pim_answers.specs.declared.fault.AnswerFault.{AnswerFault}
 use Rattle.pim_answers.specs.Answered.{RefusedIf, RefusedBy, OrMemory, Done}
 use Rattle.pim_answers.specs.Families.{differ_from, family_words}
 use Rattle.pim_answers.specs.Fault.{fault_words, done_text}
@@ -68,7 +68,7 @@ module _ {F A N : Type 0} (family : AddressFamily) (bytes_of : A → List ℕ) (
   first_done old new ports routes same adds =
       λ limit. subst (λ (g : Gathered). Adds row g ok_line (rows_seen bytes_of (Some family) limit new)) (none_seen old limit ports routes) (adds None limit same)
 
-  pub first_faulty : (fault : Fault) (old new : Rows F A N) → old.ports.items ≡ [] → old.routes ≡ no_routes → family_of (first_address row) ≡ family → AddsTo family bytes_of (Adds row) (first_address row) old (Err fault) new
+  pub first_faulty : (fault : AnswerFault) (old new : Rows F A N) → old.ports.items ≡ [] → old.routes ≡ no_routes → family_of (first_address row) ≡ family → AddsTo family bytes_of (Adds row) (first_address row) old (Err fault) new
       → (limit : ℕ) → Adds row (any_seen limit Free) (fault_line (fault_words fault)) (any_seen limit Free)
   first_faulty fault old new ports routes same adds limit =
       let words : List ℕ = fault_words fault in
@@ -77,7 +77,7 @@ module _ {F A N : Type 0} (family : AddressFamily) (bytes_of : A → List ℕ) (
       subst (λ (g : Gathered). Adds row g text (rows_seen bytes_of None limit new)) (none_seen old limit ports routes) (adds None limit same) in
       subst (λ (g : Gathered). Adds row (any_seen limit Free) text g) (fault_keeps row (any_seen limit Free) (rows_seen bytes_of None limit new) words p) p
 
-  pub more_added : (old new : Rows F A N) (result : Result (Unit {0}) Fault) → AddsTo family bytes_of (Adds row) (first_address row) old result new
+  pub more_added : (old new : Rows F A N) (result : Result (Unit {0}) AnswerFault) → AddsTo family bytes_of (Adds row) (first_address row) old result new
       → (limit : ℕ) → Adds row (rows_seen bytes_of (Some family) limit old) (done_text result) (rows_seen bytes_of (Some family) limit new)
   more_added old new (Ok done) adds limit = adds (Some family) limit refl
   more_added old new (Err fault) adds limit = adds (Some family) limit refl

@@ -11,7 +11,7 @@ use Rattle.pim_addr.specs.Faults.{fault_if}
 use Rattle.pim_addr.specs.Routes.{IsRefusedBy, Prefix, RouteTable, prefix_faults, room_faults, is_group_prefix, rp_faults, via_faults, with_rp, with_via}
 use Rattle.pim_lines.specs.AnyAddress.{is_in, address_bytes}
 use Rattle.pim_request.specs.declared.command.RouteRow.{RouteRow}
-use Rattle.pim_answers.specs.declared.fault.Fault.{Fault}
+use Rattle.pim_answers.specs.declared.fault.AnswerFault.{AnswerFault}
 use Rattle.pim_answers.specs.Fault.{fault_words, done_text}
 use Rattle.pim_answers.specs.Lines.{ok_line, fault_line}
 use Rattle.pim_session.specs.Gathering.{family_with, prefix_of, with_routes, route_words, AddsRow, AddsRp, AddsVia}
@@ -76,12 +76,12 @@ both_ok (Err fault) P Q R f p q = tt
 -- ---- rows
 
 -- what is gathered where the table is then this one
-abbrev pub after : AddressFamily → Gathered → Result (Unit {0}) Fault → RouteTable → Gathered
+abbrev pub after : AddressFamily → Gathered → Result (Unit {0}) AnswerFault → RouteTable → Gathered
 after family gathered result routes =
     record { family = fixed_after gathered.family family result; ports = gathered.ports; routes = routes; limit = gathered.limit }
 
 module _ (family : AddressFamily) (row : RouteRow) (gathered : Gathered) (same : family_with gathered row.prefix ≡ family) (within : is_in family row.prefix ≡ true) (also : is_in family row.to ≡ true) where
-  by_faults : (faults : AddressFamily → List RouteFault) (table new : RouteTable) (reported : Result (Unit {0}) RouteFault) (result : Result (Unit {0}) Fault) (list : List RouteFault) → faults family ≡ list → IsRefusedBy list reported → IsAdded reported result
+  by_faults : (faults : AddressFamily → List RouteFault) (table new : RouteTable) (reported : Result (Unit {0}) RouteFault) (result : Result (Unit {0}) AnswerFault) (list : List RouteFault) → faults family ≡ list → IsRefusedBy list reported → IsAdded reported result
       → OnOk reported (new ≡ table) → OnErr reported (new ≡ gathered.routes) → AddsRow row faults table gathered (done_text result) (after family gathered result new)
   by_faults faults table new (Ok done) (Ok one) [] none refused added ok err =
       subst (λ (t : RouteTable). AddsRow row faults table gathered ok_line (with_routes family t gathered)) (sym ok) (row_added family row gathered faults table same within also none)
@@ -104,7 +104,7 @@ module _ (family : AddressFamily) (row : RouteRow) (gathered : Gathered) (same :
   via_others bits = let prefix : Prefix = record { bits = bits; address = address_bytes row.prefix } in
       fault_if (not (is_source family (address_bytes row.to))) Kind ++ room_faults prefix gathered.routes.vias
 
-  rp_at : (small : ℕ) (new : RouteTable) (reported : Result (Unit {0}) RouteFault) (result : Result (Unit {0}) Fault) → small ≡ min row.length 255
+  rp_at : (small : ℕ) (new : RouteTable) (reported : Result (Unit {0}) RouteFault) (result : Result (Unit {0}) AnswerFault) → small ≡ min row.length 255
       → OnOk reported (new ≡ with_rp (record { bits = small; address = address_bytes row.prefix }) (address_bytes row.to) gathered.routes) → OnErr reported (new ≡ gathered.routes)
       → IsRefusedBy (rp_faults family (record { bits = small; address = address_bytes row.prefix }) (address_bytes row.to) gathered.routes.rps) reported → IsAdded reported result
       → AddsRp row gathered (done_text result) (after family gathered result new)
@@ -118,7 +118,7 @@ module _ (family : AddressFamily) (row : RouteRow) (gathered : Gathered) (same :
       (rp_faults family (prefix_of row) (address_bytes row.to) gathered.routes.rps) refl said.refused added held err
 
   -- a row to an RP
-  pub rp_told : (small : ℕ) (address to : List ℕ) (new : RouteTable) (reported : Result (Unit {0}) RouteFault) (result : Result (Unit {0}) Fault) → small ≡ min row.length 255 → address ≡ address_bytes row.prefix → to ≡ address_bytes row.to
+  pub rp_told : (small : ℕ) (address to : List ℕ) (new : RouteTable) (reported : Result (Unit {0}) RouteFault) (result : Result (Unit {0}) AnswerFault) → small ≡ min row.length 255 → address ≡ address_bytes row.prefix → to ≡ address_bytes row.to
       → OnOk reported (new ≡ with_rp (record { bits = small; address = address }) to gathered.routes) → OnErr reported (new ≡ gathered.routes)
       → IsRefusedBy (rp_faults family (record { bits = small; address = address }) to gathered.routes.rps) reported → IsAdded reported result
       → AddsRp row gathered (done_text result) (after family gathered result new)
@@ -129,7 +129,7 @@ module _ (family : AddressFamily) (row : RouteRow) (gathered : Gathered) (same :
       (subst (λ (t : List ℕ). IsRefusedBy (rp_faults family (record { bits = small; address = address_bytes row.prefix }) t gathered.routes.rps) reported) onto
       (subst (λ (a : List ℕ). IsRefusedBy (rp_faults family (record { bits = small; address = a }) to gathered.routes.rps) reported) from refused)) added
 
-  via_at : (small : ℕ) (new : RouteTable) (reported : Result (Unit {0}) RouteFault) (result : Result (Unit {0}) Fault) → small ≡ min row.length 255
+  via_at : (small : ℕ) (new : RouteTable) (reported : Result (Unit {0}) RouteFault) (result : Result (Unit {0}) AnswerFault) → small ≡ min row.length 255
       → OnOk reported (new ≡ with_via (record { bits = small; address = address_bytes row.prefix }) (address_bytes row.to) gathered.routes) → OnErr reported (new ≡ gathered.routes)
       → IsRefusedBy (via_faults family (record { bits = small; address = address_bytes row.prefix }) (address_bytes row.to) gathered.routes.vias) reported → IsAdded reported result
       → AddsVia row gathered (done_text result) (after family gathered result new)
@@ -143,7 +143,7 @@ module _ (family : AddressFamily) (row : RouteRow) (gathered : Gathered) (same :
       (via_faults family (prefix_of row) (address_bytes row.to) gathered.routes.vias) refl said.refused added held err
 
   -- a row to an upstream neighbour
-  pub via_told : (small : ℕ) (address to : List ℕ) (new : RouteTable) (reported : Result (Unit {0}) RouteFault) (result : Result (Unit {0}) Fault) → small ≡ min row.length 255 → address ≡ address_bytes row.prefix → to ≡ address_bytes row.to
+  pub via_told : (small : ℕ) (address to : List ℕ) (new : RouteTable) (reported : Result (Unit {0}) RouteFault) (result : Result (Unit {0}) AnswerFault) → small ≡ min row.length 255 → address ≡ address_bytes row.prefix → to ≡ address_bytes row.to
       → OnOk reported (new ≡ with_via (record { bits = small; address = address }) to gathered.routes) → OnErr reported (new ≡ gathered.routes)
       → IsRefusedBy (via_faults family (record { bits = small; address = address }) to gathered.routes.vias) reported → IsAdded reported result
       → AddsVia row gathered (done_text result) (after family gathered result new)

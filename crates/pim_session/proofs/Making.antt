@@ -6,7 +6,7 @@ use Rattle.pim_request.specs.declared.command.KeptWhat.{KeptWhat as Keeping}
 use Rattle.pim_router.specs.declared.config.ConfigFault.{ConfigFault}
 use Rattle.pim_router.specs.Config.{config_faults, IsMadeUnless}
 use Rattle.pim_router.specs.State.{RouterState, new_router}
-use Rattle.pim_answers.specs.declared.fault.Fault.{Fault}
+use Rattle.pim_answers.specs.declared.fault.AnswerFault.{AnswerFault}
 use Rattle.pim_answers.specs.declared.kept.AnyForm.{AnyForm}
 use Rattle.pim_answers.specs.Answered.{Answered}
 use Rattle.pim_answers.specs.Demanding.{AnswersKeep}
@@ -34,7 +34,7 @@ module _ (family : AddressFamily) (gathered : Gathered) where
 -- ---- what is kept
 
 module _ (family : AddressFamily) (keeping : Keeping) (router : RouterState) (kept : List Kept) where
-  refused_text : (fault : Fault) → IsKeptFor family keeping router kept (Err fault) → AnswersKeep family keeping router kept (fault_line (fault_words fault)) kept
+  refused_text : (fault : AnswerFault) → IsKeptFor family keeping router kept (Err fault) → AnswersKeep family keeping router kept (fault_line (fault_words fault)) kept
   refused_text fault (inl (other, words)) = rw other (ap fault_line words, refl)
   refused_text fault (inr (inl (same, lacks, words))) = rw (same, lacks) (ap fault_line words, refl)
   refused_text fault (inr (inr (same, has, words))) = rw (same, has) (inr (ap fault_line words, refl))
@@ -48,7 +48,7 @@ module _ (family : AddressFamily) (keeping : Keeping) (router : RouterState) (ke
 
   module _ {A E : Type 0} (old new : Option (List ℕ)) (result : Result A E) where
     -- `keep` was refused
-    pub keep_refused : (fault : Fault) → IsKeptFor family keeping router kept (Err fault) → AppendsAll old new result (fault_line (fault_words fault))
+    pub keep_refused : (fault : AnswerFault) → IsKeptFor family keeping router kept (Err fault) → AppendsAll old new result (fault_line (fault_words fault))
         → Answered (AnswersKeep family keeping router kept) old new result (λ _. kept)
     keep_refused fault why written = answered_text (AnswersKeep family keeping router kept) old new result kept (fault_line (fault_words fault)) (refused_text fault why) written
 

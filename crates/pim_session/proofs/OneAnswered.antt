@@ -8,7 +8,7 @@ use Rattle.pim_text.specs.declared.line.Stated.{Stated}
 use Rattle.pim_request.specs.declared.command.PortRow.{PortRow}
 use Rattle.pim_request.specs.declared.command.RouteRow.{RouteRow}
 use Rattle.pim_request.specs.declared.command.Sender.{Sender}
-use Rattle.pim_request.specs.declared.command.Writing.{Writing}
+use Rattle.pim_request.specs.declared.command.AnyWriting.{AnyWriting}
 use Rattle.pim_request.specs.declared.command.Command.{Command as AnyCommand}
 use Rattle.pim_request.specs.declared.command.Command.TheVariants.{Port, Rp, Via, Limit, Start, Run, Packet, Now, Next, State, Wants, Neighbours, Messages, Keep, Change, Same, Reset}
 use Rattle.pim_request.specs.OneRequest.{SameCommand}
@@ -183,7 +183,7 @@ module _ (kept : List Kept) (text : List ℕ) (after : Session) where
   other_command phase State State same does = does
   other_command phase Wants Wants same does = does
   other_command phase Neighbours Neighbours same does = does
-  other_command phase (Messages one) (Messages other) same does = subst (λ (x : Writing). Does phase (Messages x)) (sym same) does
+  other_command phase (Messages one) (Messages other) same does = subst (λ (x : AnyWriting). Does phase (Messages x)) (sym same) does
   other_command (gathering gathered) (Keep one) (Keep other) same does = does
   other_command (serving family router) (Keep one) (Keep other) same does =
       subst (λ (x : List ℕ × AnyAddress).
@@ -191,12 +191,12 @@ module _ (kept : List Kept) (text : List ℕ) (after : Session) where
       (let n = sym same.name in let u = sym same.upstream in λ i. (n i, u i)) does
   other_command (gathering gathered) (Change one) (Change other) same does = does
   other_command (serving family router) (Change one) (Change other) same does =
-      subst (λ (x : List ℕ × Writing).
+      subst (λ (x : List ℕ × AnyWriting).
       Does (serving family router) (Change (record { name = record { ref_ptr = one.name.ref_ptr; now = x.0 }; writing = x.1 })))
       (let n = sym same.name in let w = sym same.writing in λ i. (n i, w i)) does
   other_command (gathering gathered) (Same one) (Same other) same does = does
   other_command (serving family router) (Same one) (Same other) same does =
-      subst (λ (x : List ℕ × Writing).
+      subst (λ (x : List ℕ × AnyWriting).
       Does (serving family router) (Same (record { name = record { ref_ptr = one.name.ref_ptr; now = x.0 }; writing = x.1 })))
       (let n = sym same.name in let w = sym same.writing in λ i. (n i, w i)) does
   other_command phase Reset Reset same does = does

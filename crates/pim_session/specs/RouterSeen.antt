@@ -9,7 +9,7 @@ use Rattle.pim_request.specs.declared.command.Command.TheVariants.{Change, Same}
 use Rattle.pim_request.specs.declared.command.KeptWhat.{KeptWhat as Keeping}
 use Rattle.pim_router.specs.Canonical.{demanded}
 use Rattle.pim_router.specs.State.{RouterState}
-use Rattle.pim_answers.specs.declared.fault.Fault.{Fault}
+use Rattle.pim_answers.specs.declared.fault.AnswerFault.{AnswerFault}
 use Rattle.pim_answers.specs.declared.kept.AnyForm.{AnyForm}
 use Rattle.pim_answers.specs.Demanding.{kept_now, name_words}
 use Rattle.pim_answers.specs.Families.{differ_from, family_words}
@@ -39,7 +39,7 @@ name_in (Same comparison) = comparison.name.now
 name_in other = []
 
 -- The router that `start` makes, or why there is none.
-abbrev pub StartsSo : Gathered → Result AnyRouter Fault → Type 0
+abbrev pub StartsSo : Gathered → Result AnyRouter AnswerFault → Type 0
 StartsSo gathered (Ok router) = Starts gathered.family gathered ok_line (serving (family_in router)
     (state_in router))
 StartsSo gathered (Err fault) = Starts gathered.family gathered (fault_line (fault_words fault))
@@ -47,7 +47,7 @@ StartsSo gathered (Err fault) = Starts gathered.family gathered (fault_line (fau
 
 -- What `keep` makes: the form of what is asked of the neighbour now, where the command has no
 -- fault; else its first fault, or memory is refused.
-abbrev pub IsKeptFor : AddressFamily → Keeping → RouterState → List Kept → Result AnyForm Fault →
+abbrev pub IsKeptFor : AddressFamily → Keeping → RouterState → List Kept → Result AnyForm AnswerFault →
     Type 0
 IsKeptFor family keeping router kept (Ok form) =
     (differ_from family (keeping.upstream ∷ []) ≡ false)

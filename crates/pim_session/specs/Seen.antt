@@ -6,14 +6,14 @@ use Rattle.pim_request.specs.declared.command.Command.TheVariants as of_line
 use Rattle.pim_request.specs.declared.command.Sender.{Sender}
 use Rattle.pim_request.specs.Forms.{IsHex}
 use Rattle.pim_request.specs.Items.{line_limit}
-use Rattle.pim_answers.specs.declared.fault.Fault.{Fault}
+use Rattle.pim_answers.specs.declared.fault.AnswerFault.{AnswerFault}
 use Rattle.pim_session.specs.declared.request.Request.{Request}
 use Rattle.pim_session.specs.declared.request.Request.TheVariants.{Command, From}
 use Rattle.pim_answers.specs.Fault.{fault_words}
 use Rattle.pim_session.specs.Request.{SaysWrong}
 
 -- What is asked for, or the words of its fault.
-abbrev pub request_seen : Result Request Fault → Result Request (List ℕ)
+abbrev pub request_seen : Result Request AnswerFault → Result Request (List ℕ)
 request_seen (Ok request) = Ok request
 request_seen (Err fault) = Err (fault_words fault)
 
@@ -29,7 +29,7 @@ IsFit (Command command) = IsFitCommand command
 IsFit (From from) = length from.text.now < 2 ^ 32
 
 -- The same, if there is a request.
-abbrev pub IsFitIfAny : Result Request Fault → Type 0
+abbrev pub IsFitIfAny : Result Request AnswerFault → Type 0
 IsFitIfAny (Ok request) = IsFit request
 IsFitIfAny (Err fault) = Unit {0}
 

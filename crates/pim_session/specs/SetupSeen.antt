@@ -8,7 +8,7 @@ use Rattle.pim_lines.specs.declared.either.AnyAddress.{AnyAddress}
 use Rattle.pim_request.specs.declared.command.Command.{Command}
 use Rattle.pim_request.specs.declared.command.Command.TheVariants as of_line
 use Rattle.pim_router.specs.Seen.{port_seen}
-use Rattle.pim_answers.specs.declared.fault.Fault.{Fault}
+use Rattle.pim_answers.specs.declared.fault.AnswerFault.{AnswerFault}
 use Rattle.pim_session.specs.declared.setup.Rows.{Rows}
 use Rattle.pim_session.specs.declared.setup.AnyRow.{AnyRow}
 use Rattle.pim_session.specs.declared.setup.AnyRow.TheVariants as row
@@ -56,7 +56,7 @@ Adds (row.Rp one) = AddsRp one
 Adds (row.Via one) = AddsVia one
 
 -- The family that is fixed after a row of this family: by it, unless it was refused.
-abbrev pub fixed_after : Option AddressFamily → AddressFamily → Result (Unit {0}) Fault →
+abbrev pub fixed_after : Option AddressFamily → AddressFamily → Result (Unit {0}) AnswerFault →
     Option AddressFamily
 fixed_after fixed family (Ok done) = Some family
 fixed_after fixed family (Err fault) = fixed
@@ -65,7 +65,7 @@ module _ {F A N : Type 0} (family : AddressFamily) (bytes_of : A → List ℕ) w
   -- What adding a row to the rows of a family does, whether the family was fixed before or is the
   -- one of the row's first address.
   abbrev pub AddsTo : (Gathered → List ℕ → Gathered → Type 0) → AnyAddress → Rows F A N →
-      Result (Unit {0}) Fault → Rows F A N →
+      Result (Unit {0}) AnswerFault → Rows F A N →
       Type 0
   AddsTo Does address old result new = (fixed : Option AddressFamily) (limit : ℕ) →
       unwrap_or fixed (family_of address) ≡ family →
@@ -74,17 +74,17 @@ module _ {F A N : Type 0} (family : AddressFamily) (bytes_of : A → List ℕ) w
 
 -- What is gathered after the first row, where these rows are then there; nothing but the limit
 -- after a fault.
-abbrev pub first_seen : {X : Type 0} → (ℕ → X → Gathered) → ℕ → Result X Fault → Gathered
+abbrev pub first_seen : {X : Type 0} → (ℕ → X → Gathered) → ℕ → Result X AnswerFault → Gathered
 first_seen seen limit (Ok rows) = seen limit rows
 first_seen seen limit (Err fault) = any_seen limit Free
 
 -- What adding the first row does.
-abbrev pub AddsFirst : {X : Type 0} → (ℕ → X → Gathered) → AnyRow → Result X Fault → Type 0
+abbrev pub AddsFirst : {X : Type 0} → (ℕ → X → Gathered) → AnyRow → Result X AnswerFault → Type 0
 AddsFirst seen row result = (limit : ℕ) → Adds row (any_seen limit Free) (done_text result)
     (first_seen seen limit result)
 
 -- The fault of a row that the table refuses, as one of the command.
-abbrev pub IsAdded : Result (Unit {0}) RouteFault → Result (Unit {0}) Fault → Type 0
+abbrev pub IsAdded : Result (Unit {0}) RouteFault → Result (Unit {0}) AnswerFault → Type 0
 IsAdded (Ok reported) (Ok done) = Unit {0}
 IsAdded (Ok reported) (Err fault) = ⊥
 IsAdded (Err reported) (Ok done) = ⊥
@@ -98,7 +98,7 @@ row_in (of_line.Via one) = Some (row.Via one)
 row_in other = None
 
 -- The router that `start` makes of rows of this family, or why there is none.
-abbrev pub StartsRows : AddressFamily → Gathered → Result RouterState Fault → Type 0
+abbrev pub StartsRows : AddressFamily → Gathered → Result RouterState AnswerFault → Type 0
 StartsRows family gathered (Ok router) = StartsIn family gathered ok_line (serving family router)
 StartsRows family gathered (Err fault) = StartsIn family gathered (fault_line (fault_words fault))
     (gathering gathered)

@@ -12,7 +12,7 @@ ghost use Rattle.pim_session.specs.Request.{Requests};
 ghost use Rattle.pim_session.specs.Seen.{request_seen, IsFitIfAny, RequestsFrom};
 
 use pim_addr::Feed;
-use pim_answers::{Fault, FromText};
+use pim_answers::{AnswerFault, FromText};
 use pim_request::{
     Command, InputItems, Item, Sender, TextItem, WordsFault, read_command, read_sender,
 };
@@ -28,13 +28,13 @@ pub(crate) enum Request<'a> {
 }
 
 /// The fault of the words of a line.
-fn words_fault<'a>(fault: WordsFault<'a>) -> Fault<'a>
+fn words_fault<'a>(fault: WordsFault<'a>) -> AnswerFault<'a>
     ensures { fault_words result ≡ wrong_words fault.entry }
 {
     match fault {
-        WordsFault::Word(word) => Fault::with_name(b"word ", word),
-        WordsFault::Address(word) => Fault::with_name(b"address ", word),
-        WordsFault::Hex => Fault::plain(b"hex"),
+        WordsFault::Word(word) => AnswerFault::with_name(b"word ", word),
+        WordsFault::Address(word) => AnswerFault::with_name(b"address ", word),
+        WordsFault::Hex => AnswerFault::plain(b"hex"),
     }
 }
 
@@ -66,7 +66,7 @@ fn request_of_held<'a>(
     sender: Sender,
     text: &'a [u8],
     is_sent: bool,
-) -> Result<Request<'a>, Fault<'a>>
+) -> Result<Request<'a>, AnswerFault<'a>>
     requires { length text.now ≤ text_limit }
     ensures requests { RequestsFrom sender text.now is_sent (request_seen result) }
     ensures fit { IsFitIfAny result }
@@ -77,7 +77,7 @@ fn request_of_held<'a>(
             stated,
             text,
         })),
-        Err(number) => Err(Fault::numbered(b"text line ", number as u64)),
+        Err(number) => Err(AnswerFault::numbered(b"text line ", number as u64)),
     }
 }
 
@@ -85,7 +85,7 @@ fn request_of_held<'a>(
 fn request_of_text<'a, R: Feed>(
     items: &'a InputItems<R>,
     item: TextItem,
-) -> Result<Request<'a>, Fault<'a>>
+) -> Result<Request<'a>, AnswerFault<'a>>
     ensures requests { (text : SomeText) → IsText text item items.now → has_long_line text ≡ false →
         RequestsText text (request_seen result) }
     ensures fit { IsFitIfAny result }
@@ -95,13 +95,13 @@ fn request_of_text<'a, R: Feed>(
         Err(fault) => return Err(words_fault(fault)),
     };
     if item.is_too_long {
-        return Err(Fault::plain(b"text too-long"));
+        return Err(AnswerFault::plain(b"text too-long"));
     }
     request_of_held(sender, items.text(), item.is_sent)
 }
 
 /// The command that a line states, or the fault of its words.
-fn request_of_line<'a>(line: &'a [u8]) -> Result<Request<'a>, Fault<'a>>
+fn request_of_line<'a>(line: &'a [u8]) -> Result<Request<'a>, AnswerFault<'a>>
     requires { length line.now ≤ line_limit }
     ensures requests { RequestsLine line.now (request_seen result) }
     ensures fit { IsFitIfAny result }
@@ -117,17 +117,17 @@ fn request_of_line<'a>(line: &'a [u8]) -> Result<Request<'a>, Fault<'a>>
 pub(crate) fn request_of<'a, R: Feed>(
     items: &'a InputItems<R>,
     item: Item,
-) -> Result<Request<'a>, Fault<'a>>
+) -> Result<Request<'a>, AnswerFault<'a>>
     ensures requests { (some : SomeItem) → IsItem some item items.now →
         Requests some (request_seen result) }
     ensures fit { IsFitIfAny result }
 {
     match item {
         Item::Line => request_of_line(items.line()),
-        Item::LongLine => Err(Fault::plain(b"line too-long")),
+        Item::LongLine => Err(AnswerFault::plain(b"line too-long")),
         Item::Text(text) => {
             if text.has_long_line {
-                return Err(Fault::plain(b"line too-long"));
+                return Err(AnswerFault::plain(b"line too-long"));
             }
             request_of_text(items, text)
         }

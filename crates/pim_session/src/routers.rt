@@ -18,9 +18,9 @@ ghost use Rattle.pim_session.specs.SetupSeen.{rows_seen, gathered_seen, StartsRo
 use crate::setup::{AnyRows, Rows, Setup};
 use pim_addr::{Drain, Failed, Family, V4, V6};
 use pim_answers::{
-    AnyForm, Fault, FoundForm, FromText, Room, Store, answer_change, answer_from, answer_messages,
-    answer_neighbours, answer_next, answer_now, answer_packet, answer_run, answer_same,
-    answer_state, answer_wants, form_to_keep, write_fault, write_ok,
+    AnswerFault, AnyForm, FoundForm, FromText, KeptForms, Room, answer_change, answer_from,
+    answer_messages, answer_neighbours, answer_next, answer_now, answer_packet, answer_run,
+    answer_same, answer_state, answer_wants, form_to_keep, write_fault, write_ok,
 };
 use pim_request::{Command, KeptWhat, Packet};
 use pim_router::{Config, ConfigFault, Router};
@@ -36,13 +36,13 @@ pub(crate) enum AnyRouter<'a> {
 }
 
 /// The fault of a configuration.
-fn config_fault(fault: ConfigFault) -> Fault<'static>
+fn config_fault(fault: ConfigFault) -> AnswerFault<'static>
     ensures { fault_words result ≡ config_words fault }
 {
     match fault {
-        ConfigFault::Address { .. } => Fault::plain(b"config address"),
-        ConfigFault::Memory => Fault::memory(),
-        _ => Fault::plain(b"config ports"),
+        ConfigFault::Address { .. } => AnswerFault::plain(b"config address"),
+        ConfigFault::Memory => AnswerFault::memory(),
+        _ => AnswerFault::plain(b"config ports"),
     }
 }
 
@@ -51,7 +51,7 @@ fn router_of<'a, F: Family>(
     alloc: Global,
     rows: &'a Rows<F>,
     limit: usize,
-) -> Result<Router<'a, F>, Fault<'static>>
+) -> Result<Router<'a, F>, AnswerFault<'static>>
     ensures { StartsRows F.family (rows_seen F.bytes_of (Some F.family) limit rows.now) result }
 {
     let config = Config {
@@ -69,11 +69,11 @@ fn router_of<'a, F: Family>(
 pub(crate) fn make_router<'a>(
     alloc: Global,
     setup: &'a Setup,
-) -> Result<AnyRouter<'a>, Fault<'static>>
+) -> Result<AnyRouter<'a>, AnswerFault<'static>>
     ensures { StartsSo (gathered_seen setup.now) result }
 {
     match &setup.rows {
-        AnyRows::Free => Err(Fault::plain(b"config ports")),
+        AnyRows::Free => Err(AnswerFault::plain(b"config ports")),
         AnyRows::Ipv4(rows) => match router_of::<V4>(alloc, rows, setup.limit) {
             Ok(router) => Ok(AnyRouter::Ipv4(router)),
             Err(fault) => Err(fault),
@@ -148,9 +148,9 @@ pub(crate) fn from_any<W: Drain>(
 fn form_for<'c>(
     alloc: Global,
     router: &AnyRouter<'_>,
-    store: &Store,
+    store: &KeptForms,
     command: &KeptWhat<'c>,
-) -> Result<AnyForm, Fault<'c>>
+) -> Result<AnyForm, AnswerFault<'c>>
     ensures { IsKeptFor (family_in router.now) command.now (state_in router.now)
         (store_seen store.now) result }
 {
@@ -170,7 +170,7 @@ fn form_for<'c>(
 pub(crate) fn keep_any<W: Drain>(
     alloc: Global,
     router: &AnyRouter<'_>,
-    store: &mut Store,
+    store: &mut KeptForms,
     command: &KeptWhat<'_>,
     answers: &mut W,
 ) -> Result<(), Failed>
@@ -186,7 +186,7 @@ pub(crate) fn keep_any<W: Drain>(
     };
     match store.keep(alloc, command.name, form) {
         Ok(()) => write_ok(answers),
-        Err(_) => write_fault(answers, &Fault::memory()),
+        Err(_) => write_fault(answers, &AnswerFault::memory()),
     }
 }
 
@@ -226,7 +226,7 @@ fn report<F: Family, W: Drain>(
             answer_change::<F, W>(alloc, router, found, comparison, answers)
         }
         Command::Same(comparison) => answer_same::<F, W>(alloc, router, found, comparison, answers),
-        _ => write_fault(answers, &Fault::plain(b"started")),
+        _ => write_fault(answers, &AnswerFault::plain(b"started")),
     }
 }
 
@@ -234,7 +234,7 @@ fn report<F: Family, W: Drain>(
 pub(crate) fn report_any<W: Drain>(
     alloc: Global,
     router: &AnyRouter<'_>,
-    store: &Store,
+    store: &KeptForms,
     command: &Command<'_>,
     answers: &mut W,
 ) -> Result<(), Failed>

@@ -19,7 +19,7 @@ use crate::request::{Request, request_of};
 use crate::routers::{AnyRouter, from_any, keep_any, make_router, packet_any, report_any, run_any};
 use crate::setup::Setup;
 use pim_addr::{Drain, Failed, Feed};
-use pim_answers::{Fault, Room, Store, write_fault, write_ok};
+use pim_answers::{AnswerFault, KeptForms, Room, write_fault, write_ok};
 use pim_request::{Answers, Command, InputItems, Stopped};
 use std::alloc::Global;
 
@@ -38,7 +38,7 @@ pub(crate) enum SessionEnd {
 fn answer_command<W: Drain>(
     alloc: Global,
     router: &mut AnyRouter<'_>,
-    store: &mut Store,
+    store: &mut KeptForms,
     room: &mut Room,
     command: &Command<'_>,
     answers: &mut W,
@@ -63,7 +63,7 @@ fn answer_command<W: Drain>(
 fn answer_any_command<W: Drain>(
     alloc: Global,
     router: &mut AnyRouter<'_>,
-    store: &mut Store,
+    store: &mut KeptForms,
     room: &mut Room,
     command: &Command<'_>,
     answers: &mut W,
@@ -86,7 +86,7 @@ fn answer_any_command<W: Drain>(
 fn answer_request<W: Drain>(
     alloc: Global,
     router: &mut AnyRouter<'_>,
-    store: &mut Store,
+    store: &mut KeptForms,
     room: &mut Room,
     request: &Request<'_>,
     answers: &mut W,
@@ -111,9 +111,9 @@ fn answer_request<W: Drain>(
 fn answer_or_refuse<W: Drain>(
     alloc: Global,
     router: &mut AnyRouter<'_>,
-    store: &mut Store,
+    store: &mut KeptForms,
     room: &mut Room,
-    requested: Result<Request<'_>, Fault<'_>>,
+    requested: Result<Request<'_>, AnswerFault<'_>>,
     answers: &mut W,
 ) -> Result<bool, Failed>
     requires { IsFitIfAny requested }
@@ -138,7 +138,7 @@ fn serve<R: Feed, W: Answers>(
     router: &mut AnyRouter<'_>,
     room: &mut Room,
     items: &mut InputItems<R>,
-    store: &mut Store,
+    store: &mut KeptForms,
     answers: &mut W,
 ) -> Result<SessionEnd, Stopped>
     ensures ended { (refused : Session) → IfSome items.old.coming (λ bytes. Ended
@@ -164,7 +164,7 @@ fn serve<R: Feed, W: Answers>(
 }
 
 /// Writes why there is no router.
-fn refuse<W: Drain>(answers: &mut W, fault: &Fault<'_>) -> Result<SessionEnd, Stopped>
+fn refuse<W: Drain>(answers: &mut W, fault: &AnswerFault<'_>) -> Result<SessionEnd, Stopped>
     ensures refused { IsRefused (fault_words fault.now)
         (W.contents answers.old) (W.contents answers.new) result }
     ensures count { W.failures answers.new ≡ flush_failures_after (W.failures answers.old) result }
@@ -181,7 +181,7 @@ fn begin<R: Feed, W: Answers>(
     router: &mut AnyRouter<'_>,
     room: &mut Room,
     items: &mut InputItems<R>,
-    store: &mut Store,
+    store: &mut KeptForms,
     answers: &mut W,
 ) -> Result<SessionEnd, Stopped>
     ensures begun { (start : Session) → IfSome items.old.coming (λ bytes. BeginsServing start bytes
@@ -204,7 +204,7 @@ pub(crate) fn start<R: Feed, W: Answers>(
     alloc: Global,
     setup: &Setup,
     items: &mut InputItems<R>,
-    store: &mut Store,
+    store: &mut KeptForms,
     answers: &mut W,
 ) -> Result<SessionEnd, Stopped>
     ensures begins { IfSome items.old.coming (λ bytes. Begins
@@ -222,6 +222,6 @@ pub(crate) fn start<R: Feed, W: Answers>(
     };
     match Room::new(alloc) {
         Ok(mut room) => begin(alloc, &mut router, &mut room, items, store, answers),
-        Err(_) => refuse(answers, &Fault::memory()),
+        Err(_) => refuse(answers, &AnswerFault::memory()),
     }
 }

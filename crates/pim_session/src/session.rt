@@ -17,7 +17,7 @@ use crate::request::{Request, request_of};
 use crate::serving::{SessionEnd, start};
 use crate::setup::{AnyRow, Setup};
 use pim_addr::{Drain, Failed, Feed};
-use pim_answers::{Fault, Store, write_done, write_fault, write_ok};
+use pim_answers::{AnswerFault, KeptForms, write_done, write_fault, write_ok};
 use pim_request::{Answers, Command, InputItems, Stopped};
 use std::alloc::Global;
 
@@ -49,7 +49,7 @@ fn set_up<W: Drain>(setup: &mut Setup, command: &Command<'_>, answers: &mut W) -
             setup.reset();
             write_ok(answers)
         }
-        _ => write_fault(answers, &Fault::plain(b"not started")),
+        _ => write_fault(answers, &AnswerFault::plain(b"not started")),
     }
 }
 
@@ -107,7 +107,10 @@ fn configure_by_request<W: Drain>(
 {
     match request {
         Request::Command(command) => configure_unless_start(alloc, setup, command, answers),
-        Request::From(_) => write_fault(answers, &Fault::plain(b"not started")).and(Ok(false)),
+        Request::From(_) => {
+            let fault = AnswerFault::plain(b"not started");
+            write_fault(answers, &fault).and(Ok(false))
+        }
     }
 }
 
@@ -116,7 +119,7 @@ fn configure_by_request<W: Drain>(
 fn configure_by<W: Drain>(
     alloc: Global,
     setup: &mut Setup,
-    requested: Result<Request<'_>, Fault<'_>>,
+    requested: Result<Request<'_>, AnswerFault<'_>>,
     answers: &mut W,
 ) -> Result<bool, Failed>
     ensures configured { (kept : List Kept) → Configured
@@ -135,7 +138,7 @@ fn configure_by<W: Drain>(
 fn answer_all<R: Feed, W: Answers>(
     alloc: Global,
     setup: &mut Setup,
-    store: &mut Store,
+    store: &mut KeptForms,
     items: &mut InputItems<R>,
     answers: &mut W,
 ) -> Result<(), Stopped>
@@ -186,6 +189,6 @@ pub fn session_into<R: Feed, W: Answers>(
         ≡ flush_failures_after (W.failures answers.old) result }
 {
     let mut setup = Setup::new();
-    let mut store = Store::new(alloc);
+    let mut store = KeptForms::new(alloc);
     answer_all(alloc, &mut setup, &mut store, items, answers)
 }

@@ -11,7 +11,7 @@ ghost use Rattle.pim_session.specs.SetupSeen.{AddsFirst};
 ghost use Rattle.pim_session.specs.State.{nothing_gathered};
 
 use pim_addr::{Family, RouteFault, Routes, V4, V6};
-use pim_answers::Fault;
+use pim_answers::AnswerFault;
 use pim_lines::{AnyAddress, of_family};
 use pim_request::{PortRow, RouteRow};
 use pim_router::PortConfig;
@@ -61,21 +61,21 @@ pub(crate) enum AnyRow {
 }
 
 /// The fault of a row that the route table refuses.
-fn route_fault(fault: RouteFault) -> Fault<'static>
+fn route_fault(fault: RouteFault) -> AnswerFault<'static>
     ensures { fault_words result ≡ route_words fault }
 {
     match fault {
-        RouteFault::Length => Fault::plain(b"routes length"),
-        RouteFault::Bits => Fault::plain(b"routes bits"),
-        RouteFault::Kind => Fault::plain(b"routes kind"),
-        RouteFault::Twice => Fault::plain(b"routes twice"),
-        RouteFault::Full => Fault::plain(b"routes full"),
-        RouteFault::Memory => Fault::memory(),
+        RouteFault::Length => AnswerFault::plain(b"routes length"),
+        RouteFault::Bits => AnswerFault::plain(b"routes bits"),
+        RouteFault::Kind => AnswerFault::plain(b"routes kind"),
+        RouteFault::Twice => AnswerFault::plain(b"routes twice"),
+        RouteFault::Full => AnswerFault::plain(b"routes full"),
+        RouteFault::Memory => AnswerFault::memory(),
     }
 }
 
 /// `Ok` where the table took the row, else its fault.
-fn added(reported: Result<(), RouteFault>) -> Result<(), Fault<'static>>
+fn added(reported: Result<(), RouteFault>) -> Result<(), AnswerFault<'static>>
     ensures { IsAdded reported result }
 {
     match reported {
@@ -107,12 +107,12 @@ impl<F: Family> Rows<F> {
     }
 
     /// Adds a port.
-    fn add_port(&mut self, row: &PortRow) -> Result<(), Fault<'static>>
+    fn add_port(&mut self, row: &PortRow) -> Result<(), AnswerFault<'static>>
         ensures { AddsTo F.family F.bytes_of (AddsPort row.now) row.now.address self.old result
             self.new }
     {
         let Some(address) = of_family::<F>(row.address) else {
-            return Err(Fault::family());
+            return Err(AnswerFault::family());
         };
         let port = PortConfig {
             address,
@@ -121,40 +121,40 @@ impl<F: Family> Rows<F> {
         };
         match self.ports.push(port) {
             Ok(()) => Ok(()),
-            Err(_) => Err(Fault::memory()),
+            Err(_) => Err(AnswerFault::memory()),
         }
     }
 
     /// Adds a row to an RP.
-    fn add_rp(&mut self, row: &RouteRow) -> Result<(), Fault<'static>>
+    fn add_rp(&mut self, row: &RouteRow) -> Result<(), AnswerFault<'static>>
         ensures { AddsTo F.family F.bytes_of (AddsRp row.now) row.now.prefix self.old result
             self.new }
     {
         let Some(prefix) = of_family::<F>(row.prefix) else {
-            return Err(Fault::family());
+            return Err(AnswerFault::family());
         };
         let Some(to) = of_family::<F>(row.to) else {
-            return Err(Fault::family());
+            return Err(AnswerFault::family());
         };
         added(self.routes.add_rp(prefix, capped(row.length), to))
     }
 
     /// Adds a row to an upstream neighbour.
-    fn add_via(&mut self, row: &RouteRow) -> Result<(), Fault<'static>>
+    fn add_via(&mut self, row: &RouteRow) -> Result<(), AnswerFault<'static>>
         ensures { AddsTo F.family F.bytes_of (AddsVia row.now) row.now.prefix self.old result
             self.new }
     {
         let Some(prefix) = of_family::<F>(row.prefix) else {
-            return Err(Fault::family());
+            return Err(AnswerFault::family());
         };
         let Some(to) = of_family::<F>(row.to) else {
-            return Err(Fault::family());
+            return Err(AnswerFault::family());
         };
         added(self.routes.add_via(prefix, capped(row.length), to))
     }
 
     /// Adds a row. After a fault the rows are unchanged.
-    fn add(&mut self, row: &AnyRow) -> Result<(), Fault<'static>>
+    fn add(&mut self, row: &AnyRow) -> Result<(), AnswerFault<'static>>
         ensures { AddsTo F.family F.bytes_of (Adds row.now) (first_address row.now) self.old result
             self.new }
     {
@@ -167,7 +167,7 @@ impl<F: Family> Rows<F> {
 }
 
 /// The rows with this row alone, in this family.
-fn first_row<F: Family>(alloc: Global, row: &AnyRow) -> Result<Rows<F>, Fault<'static>>
+fn first_row<F: Family>(alloc: Global, row: &AnyRow) -> Result<Rows<F>, AnswerFault<'static>>
     ensures { family_of (first_address row.now) ≡ F.family →
         AddsFirst (rows_seen F.bytes_of (Some F.family)) row.now result }
 {
@@ -187,7 +187,7 @@ fn first_address(row: &AnyRow) -> AnyAddress
 }
 
 /// The rows with this row alone, in the family of its first address.
-fn first_rows(alloc: Global, row: &AnyRow) -> Result<AnyRows, Fault<'static>>
+fn first_rows(alloc: Global, row: &AnyRow) -> Result<AnyRows, AnswerFault<'static>>
     ensures { AddsFirst any_seen row.now result }
 {
     match first_address(row) {
@@ -216,7 +216,7 @@ impl Setup {
 
     /// Adds a row. The first row that is accepted fixes the family. After a fault nothing has
     /// changed.
-    pub(crate) fn add(&mut self, alloc: Global, row: &AnyRow) -> Result<(), Fault<'static>>
+    pub(crate) fn add(&mut self, alloc: Global, row: &AnyRow) -> Result<(), AnswerFault<'static>>
         ensures { Adds row.now (gathered_seen self.old) (done_text result)
             (gathered_seen self.new) }
     {

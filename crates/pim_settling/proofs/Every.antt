@@ -264,7 +264,7 @@ module _ (keys : KeysAreDistinct) (rps : List ℕ → Option (List ℕ)) (old ne
   -- ---- the message of a run
 
   abbrev set_events_here : List ℕ → List Action → List Event
-  set_events_here g tellings = all_joined keys rps old new port g tellings ++ all_pruned keys rps old new port g tellings
+  set_events_here g actions = all_joined keys rps old new port g actions ++ all_pruned keys rps old new port g actions
 
   abbrev events_here : List GroupActions → List Event
   events_here sets = events_of_sets keys rps old new port sets
@@ -273,33 +273,33 @@ module _ (keys : KeysAreDistinct) (rps : List ℕ → Option (List ℕ)) (old ne
     abbrev names : Event → Bool
     names this = same_key (key_of port this) key
 
-    set_own : (g : List ℕ) (this : Action) (tellings : List Action) → names_unit key (unit_of g this) ≡ true → has_unit_of port key (set_events_here g (this ∷ tellings)) ≡ true
-    set_own g this tellings n =
-        elim (has_unit_of port key (joined_here g this)) as (λ b. has_unit_of port key (joined_here g this) ≡ b → (b || has_unit_of port key (pruned_here g this)) ≡ true → has_unit_of port key (set_events_here g (this ∷ tellings)) ≡ true) [
+    set_own : (g : List ℕ) (this : Action) (actions : List Action) → names_unit key (unit_of g this) ≡ true → has_unit_of port key (set_events_here g (this ∷ actions)) ≡ true
+    set_own g this actions n =
+        elim (has_unit_of port key (joined_here g this)) as (λ b. has_unit_of port key (joined_here g this) ≡ b → (b || has_unit_of port key (pruned_here g this)) ≡ true → has_unit_of port key (set_events_here g (this ∷ actions)) ≡ true) [
           | true ↦ λ s m.
-              any_left names (all_joined keys rps old new port g (this ∷ tellings)) (all_pruned keys rps old new port g (this ∷ tellings))
-              (ap (has_unit_of port key) (first_joined keys rps old new port g this tellings) ∙ any_left names (joined_here g this) (all_joined keys rps old new port g tellings) s)
+              any_left names (all_joined keys rps old new port g (this ∷ actions)) (all_pruned keys rps old new port g (this ∷ actions))
+              (ap (has_unit_of port key) (first_joined keys rps old new port g this actions) ∙ any_left names (joined_here g this) (all_joined keys rps old new port g actions) s)
           | false ↦ λ s m.
-              any_right names (all_joined keys rps old new port g (this ∷ tellings)) (all_pruned keys rps old new port g (this ∷ tellings))
-              (ap (has_unit_of port key) (first_pruned keys rps old new port g this tellings) ∙ any_left names (pruned_here g this) (all_pruned keys rps old new port g tellings) m)
+              any_right names (all_joined keys rps old new port g (this ∷ actions)) (all_pruned keys rps old new port g (this ∷ actions))
+              (ap (has_unit_of port key) (first_pruned keys rps old new port g this actions) ∙ any_left names (pruned_here g this) (all_pruned keys rps old new port g actions) m)
         ] refl n
 
-    set_more : (g : List ℕ) (this : Action) (tellings : List Action) → has_unit_of port key (set_events_here g tellings) ≡ true → has_unit_of port key (set_events_here g (this ∷ tellings)) ≡ true
-    set_more g this tellings n =
-        elim (has_unit_of port key (all_joined keys rps old new port g tellings)) as (λ b. has_unit_of port key (all_joined keys rps old new port g tellings) ≡ b → (b || has_unit_of port key (all_pruned keys rps old new port g tellings)) ≡ true → has_unit_of port key (set_events_here g (this ∷ tellings)) ≡ true) [
+    set_more : (g : List ℕ) (this : Action) (actions : List Action) → has_unit_of port key (set_events_here g actions) ≡ true → has_unit_of port key (set_events_here g (this ∷ actions)) ≡ true
+    set_more g this actions n =
+        elim (has_unit_of port key (all_joined keys rps old new port g actions)) as (λ b. has_unit_of port key (all_joined keys rps old new port g actions) ≡ b → (b || has_unit_of port key (all_pruned keys rps old new port g actions)) ≡ true → has_unit_of port key (set_events_here g (this ∷ actions)) ≡ true) [
           | true ↦ λ s m.
-              any_left names (all_joined keys rps old new port g (this ∷ tellings)) (all_pruned keys rps old new port g (this ∷ tellings))
-              (ap (has_unit_of port key) (first_joined keys rps old new port g this tellings) ∙ any_right names (joined_here g this) (all_joined keys rps old new port g tellings) s)
+              any_left names (all_joined keys rps old new port g (this ∷ actions)) (all_pruned keys rps old new port g (this ∷ actions))
+              (ap (has_unit_of port key) (first_joined keys rps old new port g this actions) ∙ any_right names (joined_here g this) (all_joined keys rps old new port g actions) s)
           | false ↦ λ s m.
-              any_right names (all_joined keys rps old new port g (this ∷ tellings)) (all_pruned keys rps old new port g (this ∷ tellings))
-              (ap (has_unit_of port key) (first_pruned keys rps old new port g this tellings) ∙ any_right names (pruned_here g this) (all_pruned keys rps old new port g tellings) m)
-        ] refl (sym (list_any-append names (all_joined keys rps old new port g tellings) (all_pruned keys rps old new port g tellings)) ∙ n)
+              any_right names (all_joined keys rps old new port g (this ∷ actions)) (all_pruned keys rps old new port g (this ∷ actions))
+              (ap (has_unit_of port key) (first_pruned keys rps old new port g this actions) ∙ any_right names (pruned_here g this) (all_pruned keys rps old new port g actions) m)
+        ] refl (sym (list_any-append names (all_joined keys rps old new port g actions) (all_pruned keys rps old new port g actions)) ∙ n)
 
     front_own : (this : ChangeUnit) (sets : List GroupActions) → names_unit key this ≡ true → has_unit_of port key (events_here (in_front this sets)) ≡ true
     front_own this [] n = any_left names (set_events_here this.group (this.action ∷ [])) [] (set_own this.group this.action [] n)
     front_own this (first ∷ sets) n =
         elim (same_address this.group first.group) as (λ b. has_unit_of port key (events_here (set_in_front b this first sets)) ≡ true) [
-          | true ↦ any_left names (set_events_here this.group (this.action ∷ first.tellings)) (events_here sets) (set_own this.group this.action first.tellings n)
+          | true ↦ any_left names (set_events_here this.group (this.action ∷ first.actions)) (events_here sets) (set_own this.group this.action first.actions n)
           | false ↦ any_left names (set_events_here this.group (this.action ∷ [])) (events_here (first ∷ sets)) (set_own this.group this.action [] n)
         ]
 
@@ -309,13 +309,13 @@ module _ (keys : KeysAreDistinct) (rps : List ℕ → Option (List ℕ)) (old ne
         elim (same_address this.group first.group) as (λ b. same_address this.group first.group ≡ b → has_unit_of port key (events_here (set_in_front b this first sets)) ≡ true) [
           | true ↦ λ s.
               let same : this.group ≡ first.group = same_text this.group first.group (sym s) in
-              elim (has_unit_of port key (set_events_here first.group first.tellings)) as (λ c. has_unit_of port key (set_events_here first.group first.tellings) ≡ c → (c || has_unit_of port key (events_here sets)) ≡ true
-              → has_unit_of port key (set_events_here this.group (this.action ∷ first.tellings) ++ events_here sets) ≡ true) [
+              elim (has_unit_of port key (set_events_here first.group first.actions)) as (λ c. has_unit_of port key (set_events_here first.group first.actions) ≡ c → (c || has_unit_of port key (events_here sets)) ≡ true
+              → has_unit_of port key (set_events_here this.group (this.action ∷ first.actions) ++ events_here sets) ≡ true) [
                 | true ↦ λ t m.
-                    any_left names (set_events_here this.group (this.action ∷ first.tellings)) (events_here sets)
-                    (set_more this.group this.action first.tellings (ap (λ g. has_unit_of port key (set_events_here g first.tellings)) same ∙ t))
-                | false ↦ λ t m. any_right names (set_events_here this.group (this.action ∷ first.tellings)) (events_here sets) m
-              ] refl (sym (list_any-append names (set_events_here first.group first.tellings) (events_here sets)) ∙ n)
+                    any_left names (set_events_here this.group (this.action ∷ first.actions)) (events_here sets)
+                    (set_more this.group this.action first.actions (ap (λ g. has_unit_of port key (set_events_here g first.actions)) same ∙ t))
+                | false ↦ λ t m. any_right names (set_events_here this.group (this.action ∷ first.actions)) (events_here sets) m
+              ] refl (sym (list_any-append names (set_events_here first.group first.actions) (events_here sets)) ∙ n)
           | false ↦ λ s. any_right names (set_events_here this.group (this.action ∷ [])) (events_here (first ∷ sets)) n
         ] refl
 

@@ -3,7 +3,7 @@ pub mod Turns
 pub mod Events
 pub mod Courses
 pub mod Messages
-pub mod Tellings
+pub mod Actions
 pub mod Settling
 pub mod Units
 pub mod Only

@@ -53,14 +53,14 @@ module _ (keys : KeysAreDistinct) (port : ℕ) (key : Key (List ℕ)) where
   -- where no event names it, none comes to it
   pub unstarred : (joins : Bool) (events : List Event) → Tells joins events → has_unit_of port key events ≡ false → is_starred events ≡ false
   unfolding Tells
-  unstarred joins [] tells unnamed = refl
-  unstarred joins (event ∷ events) tells unnamed =
+  unstarred joins [] carries unnamed = refl
+  unstarred joins (event ∷ events) carries unnamed =
       let parts = or_false (names event) (has_unit_of port key events) unnamed in
-      let rest = unstarred joins events tells.2 parts.1 in
+      let rest = unstarred joins events carries.2 parts.1 in
       elim (stars event) as (λ b. (b ≡ true → has_unit_of port key events ≡ true) → (b || is_starred events) ≡ false) [
         | true ↦ λ follow. absurd (false≢true (sym parts.1 ∙ follow refl))
         | false ↦ λ follow. rest
-      ] tells.1
+      ] carries.1
 
   module _ (ends : ℕ) where
     event_is : (event : Event) (within : Within) → after_event port ends event key within
@@ -92,22 +92,22 @@ module _ (keys : KeysAreDistinct) (port : ℕ) (key : Key (List ℕ)) where
 
     named_events : (joins : Bool) (events : List Event) (within : Within) → Tells joins events → has_unit_of port key events ≡ true → after_events port ends events key within ≡ record { course = course_of_unit joins key.what ends within.course; starred = false }
     unfolding after_events Tells
-    named_events joins [] within tells n = absurd (false≢true n)
-    named_events joins (event ∷ events) within tells n =
+    named_events joins [] within carries n = absurd (false≢true n)
+    named_events joins (event ∷ events) within carries n =
         elim (names event) as (λ b. names event ≡ b → (b || has_unit_of port key events) ≡ true → after_events port ends events key (after_event port ends event key within) ≡ record { course = course_of_unit joins key.what ends within.course; starred = false }) [
           | true ↦ λ s f.
-              ap (after_events port ends events key) (named_event joins event within s (tells.0 s))
+              ap (after_events port ends events key) (named_event joins event within s (carries.0 s))
               ∙ elim (has_unit_of port key events) as (λ c. has_unit_of port key events ≡ c → after_events port ends events key (record { course = course_of_unit joins key.what ends within.course; starred = false }) ≡ record { course = course_of_unit joins key.what ends within.course; starred = false }) [
                 | true ↦ λ t.
-                    named_events joins events (record { course = course_of_unit joins key.what ends within.course; starred = false }) tells.2 t
+                    named_events joins events (record { course = course_of_unit joins key.what ends within.course; starred = false }) carries.2 t
                     ∙ ap (λ c. record { course = c; starred = false }) (absorbs joins key.what ends ends within.course)
-                | false ↦ λ t. untouched events (record { course = course_of_unit joins key.what ends within.course; starred = false }) t (unstarred joins events tells.2 t)
+                | false ↦ λ t. untouched events (record { course = course_of_unit joins key.what ends within.course; starred = false }) t (unstarred joins events carries.2 t)
               ] refl
           | false ↦ λ s f.
               ap (after_events port ends events key) (other_event event within s)
               ∙ elim (stars event) as (λ c. after_events port ends events key (cond c (record { course = within.course; starred = true }) within) ≡ record { course = course_of_unit joins key.what ends within.course; starred = false }) [
-                | true ↦ named_events joins events (record { course = within.course; starred = true }) tells.2 f
-                | false ↦ named_events joins events within tells.2 f
+                | true ↦ named_events joins events (record { course = within.course; starred = true }) carries.2 f
+                | false ↦ named_events joins events within carries.2 f
               ]
         ] refl n
 
@@ -129,7 +129,7 @@ module _ (keys : KeysAreDistinct) (port : ℕ) (key : Key (List ℕ)) where
     -- ---- a message
 
     pub heard_named : (joins : Bool) (events : List Event) (course : Course) → Tells joins events → has_unit_of port key events ≡ true → course_heard port ends events key course ≡ course_of_unit joins key.what ends course
-    heard_named joins events course tells n = ap at_the_end (named_events joins events (record { course = course; starred = false }) tells n)
+    heard_named joins events course carries n = ap at_the_end (named_events joins events (record { course = course; starred = false }) carries n)
 
     pub heard_other : (events : List Event) (course : Course) → has_unit_of port key events ≡ false → is_starred events ≡ false → course_heard port ends events key course ≡ course
     heard_other events course n s = ap at_the_end (untouched events (record { course = course; starred = false }) n s)

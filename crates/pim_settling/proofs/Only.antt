@@ -40,16 +40,16 @@ module _ (keys : KeysAreDistinct) (rps : List ℕ → Option (List ℕ)) (old ne
   pruned_of group this = list_events rps false group (pruned_entries (rps group) this)
 
   abbrev pub all_joined : List ℕ → List Action → List Event
-  all_joined group tellings = list_events rps true group (flat_map (joined_entries (rps group)) tellings)
+  all_joined group actions = list_events rps true group (flat_map (joined_entries (rps group)) actions)
 
   abbrev pub all_pruned : List ℕ → List Action → List Event
-  all_pruned group tellings = list_events rps false group (flat_map (pruned_entries (rps group)) tellings)
+  all_pruned group actions = list_events rps false group (flat_map (pruned_entries (rps group)) actions)
 
-  pub first_joined : (group : List ℕ) (this : Action) (tellings : List Action) → all_joined group (this ∷ tellings) ≡ joined_of group this ++ all_joined group tellings
-  first_joined group this tellings = flat_map-append (entry_events rps true group) (joined_entries (rps group) this) (flat_map (joined_entries (rps group)) tellings)
+  pub first_joined : (group : List ℕ) (this : Action) (actions : List Action) → all_joined group (this ∷ actions) ≡ joined_of group this ++ all_joined group actions
+  first_joined group this actions = flat_map-append (entry_events rps true group) (joined_entries (rps group) this) (flat_map (joined_entries (rps group)) actions)
 
-  pub first_pruned : (group : List ℕ) (this : Action) (tellings : List Action) → all_pruned group (this ∷ tellings) ≡ pruned_of group this ++ all_pruned group tellings
-  first_pruned group this tellings = flat_map-append (entry_events rps false group) (pruned_entries (rps group) this) (flat_map (pruned_entries (rps group)) tellings)
+  pub first_pruned : (group : List ℕ) (this : Action) (actions : List Action) → all_pruned group (this ∷ actions) ≡ pruned_of group this ++ all_pruned group actions
+  first_pruned group this actions = flat_map-append (entry_events rps false group) (pruned_entries (rps group) this) (flat_map (pruned_entries (rps group)) actions)
 
   -- ---- each is told
 
@@ -101,15 +101,15 @@ module _ (keys : KeysAreDistinct) (rps : List ℕ → Option (List ℕ)) (old ne
   pruned_told group (of_source JoinSource source) says = tt
   pruned_told group (of_source PruneSource source) says = (says, tt)
 
-  all_joined_told : (group : List ℕ) (tellings : List Action) → AllByRecursion (Says old new group) tellings → AllTold (all_joined group tellings)
+  all_joined_told : (group : List ℕ) (actions : List Action) → AllByRecursion (Says old new group) actions → AllTold (all_joined group actions)
   all_joined_told group [] says = tt
-  all_joined_told group (this ∷ tellings) says =
-      subst AllTold (sym (first_joined group this tellings)) (all_append (IsCarried old new) (joined_of group this) (all_joined group tellings) (joined_told group this says.0) (all_joined_told group tellings says.1))
+  all_joined_told group (this ∷ actions) says =
+      subst AllTold (sym (first_joined group this actions)) (all_append (IsCarried old new) (joined_of group this) (all_joined group actions) (joined_told group this says.0) (all_joined_told group actions says.1))
 
-  all_pruned_told : (group : List ℕ) (tellings : List Action) → AllByRecursion (Says old new group) tellings → AllTold (all_pruned group tellings)
+  all_pruned_told : (group : List ℕ) (actions : List Action) → AllByRecursion (Says old new group) actions → AllTold (all_pruned group actions)
   all_pruned_told group [] says = tt
-  all_pruned_told group (this ∷ tellings) says =
-      subst AllTold (sym (first_pruned group this tellings)) (all_append (IsCarried old new) (pruned_of group this) (all_pruned group tellings) (pruned_told group this says.0) (all_pruned_told group tellings says.1))
+  all_pruned_told group (this ∷ actions) says =
+      subst AllTold (sym (first_pruned group this actions)) (all_append (IsCarried old new) (pruned_of group this) (all_pruned group actions) (pruned_told group this says.0) (all_pruned_told group actions says.1))
 
   -- ---- exceptions follow their star
 
@@ -144,20 +144,20 @@ module _ (keys : KeysAreDistinct) (rps : List ℕ → Option (List ℕ)) (old ne
   covers_own group star_pruned others = tt
   covers_own group (of_source kind source) others = tt
 
-  covers_more : (group : List ℕ) (front events : List Event) (tellings : List Action) → AllByRecursion (Covers group events) tellings → AllByRecursion (Covers group (front ++ events)) tellings
+  covers_more : (group : List ℕ) (front events : List Event) (actions : List Action) → AllByRecursion (Covers group events) actions → AllByRecursion (Covers group (front ++ events)) actions
   covers_more group front events [] all = tt
-  covers_more group front events (this ∷ tellings) all = (one this all.0, covers_more group front events tellings all.1)
+  covers_more group front events (this ∷ actions) all = (one this all.0, covers_more group front events actions all.1)
     where
       one : (this : Action) → Covers group events this → Covers group (front ++ events) this
       one (star_joined exceptions) c = λ source l. named_right (rpt_at port group source) front events (c source l)
       one star_pruned c = tt
       one (of_source kind source) c = tt
 
-  covered : (group : List ℕ) (tellings : List Action) → AllByRecursion (Covers group (all_pruned group tellings)) tellings
+  covered : (group : List ℕ) (actions : List Action) → AllByRecursion (Covers group (all_pruned group actions)) actions
   covered group [] = tt
-  covered group (this ∷ tellings) =
-      subst (λ (events : List Event). AllByRecursion (Covers group events) (this ∷ tellings)) (sym (first_pruned group this tellings))
-      (covers_own group this (all_pruned group tellings), covers_more group (pruned_of group this) (all_pruned group tellings) tellings (covered group tellings))
+  covered group (this ∷ actions) =
+      subst (λ (events : List Event). AllByRecursion (Covers group events) (this ∷ actions)) (sym (first_pruned group this actions))
+      (covers_own group this (all_pruned group actions), covers_more group (pruned_of group this) (all_pruned group actions) actions (covered group actions))
 
   Follow : List Event → Type 0
   Follow [] = Unit {0}
@@ -188,10 +188,10 @@ module _ (keys : KeysAreDistinct) (rps : List ℕ → Option (List ℕ)) (old ne
   pruned_quiet group (of_source JoinSource source) = tt
   pruned_quiet group (of_source PruneSource source) = (refl, tt)
 
-  all_pruned_quiet : (group : List ℕ) (tellings : List Action) → AllByRecursion LeadsNothing (all_pruned group tellings)
+  all_pruned_quiet : (group : List ℕ) (actions : List Action) → AllByRecursion LeadsNothing (all_pruned group actions)
   all_pruned_quiet group [] = tt
-  all_pruned_quiet group (this ∷ tellings) =
-      subst (AllByRecursion LeadsNothing) (sym (first_pruned group this tellings)) (all_append LeadsNothing (pruned_of group this) (all_pruned group tellings) (pruned_quiet group this) (all_pruned_quiet group tellings))
+  all_pruned_quiet group (this ∷ actions) =
+      subst (AllByRecursion LeadsNothing) (sym (first_pruned group this actions)) (all_append LeadsNothing (pruned_of group this) (all_pruned group actions) (pruned_quiet group this) (all_pruned_quiet group actions))
 
   -- a telling's joined entries in front of events that name what its star excepts
   follow_star : (group : List ℕ) (exceptions : List (List ℕ)) (known : Option (List ℕ)) (events : List Event) → Says old new group (star_joined exceptions)
@@ -218,15 +218,15 @@ module _ (keys : KeysAreDistinct) (rps : List ℕ → Option (List ℕ)) (old ne
   covers_behind group front events star_pruned c = tt
   covers_behind group front events (of_source kind source) c = tt
 
-  follow_all_joined : (group : List ℕ) (tellings : List Action) (events : List Event) → AllByRecursion (Says old new group) tellings → AllByRecursion (Covers group events) tellings → Follow events → Follow (all_joined group tellings ++ events)
+  follow_all_joined : (group : List ℕ) (actions : List Action) (events : List Event) → AllByRecursion (Says old new group) actions → AllByRecursion (Covers group events) actions → Follow events → Follow (all_joined group actions ++ events)
   follow_all_joined group [] events says covers f = f
-  follow_all_joined group (this ∷ tellings) events says covers f =
-      subst Follow (sym (ap (λ l. l ++ events) (first_joined group this tellings) ∙ append_assoc (joined_of group this) (all_joined group tellings) events))
-      (follow_joined group this (all_joined group tellings ++ events) says.0 (covers_behind group (all_joined group tellings) events this covers.0) (follow_all_joined group tellings events says.1 covers.1 f))
+  follow_all_joined group (this ∷ actions) events says covers f =
+      subst Follow (sym (ap (λ l. l ++ events) (first_joined group this actions) ∙ append_assoc (joined_of group this) (all_joined group actions) events))
+      (follow_joined group this (all_joined group actions ++ events) says.0 (covers_behind group (all_joined group actions) events this covers.0) (follow_all_joined group actions events says.1 covers.1 f))
 
-  covers_front : (group : List ℕ) (events others : List Event) (tellings : List Action) → AllByRecursion (Covers group events) tellings → AllByRecursion (Covers group (events ++ others)) tellings
+  covers_front : (group : List ℕ) (events others : List Event) (actions : List Action) → AllByRecursion (Covers group events) actions → AllByRecursion (Covers group (events ++ others)) actions
   covers_front group events others [] all = tt
-  covers_front group events others (this ∷ tellings) all = (one this all.0, covers_front group events others tellings all.1)
+  covers_front group events others (this ∷ actions) all = (one this all.0, covers_front group events others actions all.1)
     where
       one : (this : Action) → Covers group events this → Covers group (events ++ others) this
       one (star_joined exceptions) c = λ source l. named_left (rpt_at port group source) events others (c source l)
@@ -236,7 +236,7 @@ module _ (keys : KeysAreDistinct) (rps : List ℕ → Option (List ℕ)) (old ne
   -- ---- sets
 
   abbrev SetSays : GroupActions → Type 0
-  SetSays this = AllByRecursion (Says old new this.group) this.tellings
+  SetSays this = AllByRecursion (Says old new this.group) this.actions
 
   abbrev pub events_of_sets : List GroupActions → List Event
   events_of_sets sets = flat_map (set_events rps) (map (written_set rps) sets)
@@ -244,24 +244,24 @@ module _ (keys : KeysAreDistinct) (rps : List ℕ → Option (List ℕ)) (old ne
   sets_told : (sets : List GroupActions) → AllByRecursion SetSays sets → AllTold (events_of_sets sets)
   sets_told [] says = tt
   sets_told (this ∷ sets) says =
-      all_append (IsCarried old new) (all_joined this.group this.tellings ++ all_pruned this.group this.tellings) (events_of_sets sets)
-      (all_append (IsCarried old new) (all_joined this.group this.tellings) (all_pruned this.group this.tellings) (all_joined_told this.group this.tellings says.0) (all_pruned_told this.group this.tellings says.0))
+      all_append (IsCarried old new) (all_joined this.group this.actions ++ all_pruned this.group this.actions) (events_of_sets sets)
+      (all_append (IsCarried old new) (all_joined this.group this.actions) (all_pruned this.group this.actions) (all_joined_told this.group this.actions says.0) (all_pruned_told this.group this.actions says.0))
       (sets_told sets says.1)
 
   sets_follow : (sets : List GroupActions) → AllByRecursion SetSays sets → Follow (events_of_sets sets)
   unfolding Follow
   sets_follow [] says = tt
   sets_follow (this ∷ sets) says =
-      let rest = follow_quiet (all_pruned this.group this.tellings) (events_of_sets sets) (all_pruned_quiet this.group this.tellings) (sets_follow sets says.1) in
-      subst Follow (sym (append_assoc (all_joined this.group this.tellings) (all_pruned this.group this.tellings) (events_of_sets sets)))
-      (follow_all_joined this.group this.tellings (all_pruned this.group this.tellings ++ events_of_sets sets) says.0
-      (covers_front this.group (all_pruned this.group this.tellings) (events_of_sets sets) this.tellings (covered this.group this.tellings)) rest)
+      let rest = follow_quiet (all_pruned this.group this.actions) (events_of_sets sets) (all_pruned_quiet this.group this.actions) (sets_follow sets says.1) in
+      subst Follow (sym (append_assoc (all_joined this.group this.actions) (all_pruned this.group this.actions) (events_of_sets sets)))
+      (follow_all_joined this.group this.actions (all_pruned this.group this.actions ++ events_of_sets sets) says.0
+      (covers_front this.group (all_pruned this.group this.actions) (events_of_sets sets) this.actions (covered this.group this.actions)) rest)
 
   front_says : (this : ChangeUnit) (sets : List GroupActions) → UnitSays old new this → AllByRecursion SetSays sets → AllByRecursion SetSays (in_front this sets)
   front_says this [] says others = ((says, tt), tt)
   front_says this (first ∷ sets) says others =
       elim (same_address this.group first.group) as (λ b. same_address this.group first.group ≡ b → AllByRecursion SetSays (set_in_front b this first sets)) [
-        | true ↦ λ s. ((says, subst (λ (g : List ℕ). AllByRecursion (Says old new g) first.tellings) (sym (same_text this.group first.group (sym s))) others.0), others.1)
+        | true ↦ λ s. ((says, subst (λ (g : List ℕ). AllByRecursion (Says old new g) first.actions) (sym (same_text this.group first.group (sym s))) others.0), others.1)
         | false ↦ λ s. ((says, tt), others)
       ] refl
 

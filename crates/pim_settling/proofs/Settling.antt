@@ -29,7 +29,7 @@ use Rattle.pim_settling.specs.Carrying.{carried_if, rpt_carried, CarriesChange}
 use Rattle.pim_settling.specs.Laws.{ChangeSettles}
 use Rattle.pim_settling.proofs.Courses.{Machines, courses_are_kept}
 use Rattle.pim_settling.proofs.Messages.{is_starred}
-use Rattle.pim_settling.proofs.Tellings.{or_right, at, reported, star_comes, IsReached, comes_here, reached, left_alone, star_ends}
+use Rattle.pim_settling.proofs.Actions.{or_right, at, reported, star_comes, IsReached, comes_here, reached, left_alone, star_ends}
 
 -- ---- the course of a machine that is held
 
@@ -228,7 +228,7 @@ came_any exchange test message (delivery ∷ earlier) d n =
       | false ↦ λ s f. or_right (test delivery.message) (list_any (λ delivery. test delivery.message) earlier) (came_any exchange test message earlier f n)
     ] refl d
 
-module _ (keys : KeysAreDistinct) (exchange : Exchange) (old new : List GroupForm) (deliveries : List Delivery) (tells : CarriesChange exchange old new deliveries) (now moment : ℕ)
+module _ (keys : KeysAreDistinct) (exchange : Exchange) (old new : List GroupForm) (deliveries : List Delivery) (carries : CarriesChange exchange old new deliveries) (now moment : ℕ)
     (enough : final_moment exchange.timing.override_ms deliveries ≤ moment) (group : List ℕ) where
   abbrev before : GroupForm
   before = group_in group old
@@ -242,21 +242,21 @@ module _ (keys : KeysAreDistinct) (exchange : Exchange) (old new : List GroupFor
   abbrev heard : What (List ℕ) → Course → Course
   heard what course = course_of exchange (at keys exchange.port old new group what) course deliveries
 
-  reaches : (what : What (List ℕ)) (course : Course) (joins : Bool) → told_here what ≡ Some joins → IsReached keys exchange old new tells.only group what course joins deliveries
+  reaches : (what : What (List ℕ)) (course : Course) (joins : Bool) → told_here what ≡ Some joins → IsReached keys exchange old new carries.only group what course joins deliveries
   reaches what course joins t =
-      let came = tells.all group what joins t in
-      reached keys exchange old new tells.only group what course joins t deliveries
+      let came = carries.all group what joins t in
+      reached keys exchange old new carries.only group what course joins t deliveries
       (came_any exchange (λ message. has_unit_of exchange.port (at keys exchange.port old new group what) (exchange.messages message)) came.message deliveries came.delivered came.has_unit)
 
-  star_came : (source : List ℕ) (course : Course) → told_here Star ≡ Some true → list_any (comes_here keys exchange old new tells.only group (Rpt source) course) deliveries ≡ true
+  star_came : (source : List ℕ) (course : Course) → told_here Star ≡ Some true → list_any (comes_here keys exchange old new carries.only group (Rpt source) course) deliveries ≡ true
   star_came source course t =
-      let came = tells.all group Star true t in
+      let came = carries.all group Star true t in
       came_any exchange (λ message. is_starred keys exchange.port (at keys exchange.port old new group (Rpt source)) (exchange.messages message)) came.message deliveries came.delivered
-      (star_comes keys exchange.port old new group source (exchange.messages came.message) t (tells.only came.message) came.has_unit)
+      (star_comes keys exchange.port old new group source (exchange.messages came.message) t (carries.only came.message) came.has_unit)
 
   -- where nothing is told of it, it stays as it was
   alone : (what : What (List ℕ)) (course : Course) (held : Option Machine) → told_here what ≡ None → (told_here Star ≡ Some true → is_rpt what ≡ true → ⊥) → IsPast what moment (heard what course) held → IsPast what moment course held
-  alone what course held t star past = subst (λ (c : Course). IsPast what moment c held) (left_alone keys exchange old new tells.only group what course t deliveries star) past
+  alone what course held t star past = subst (λ (c : Course). IsPast what moment c held) (left_alone keys exchange old new carries.only group what course t deliveries star) past
 
   -- (*,G) and (S,G), by whether it was asked for and whether it is
   joined_settles : (what : What (List ℕ)) (was is : Bool) (course : Course) (held : Option Machine) → state_wanted what ≡ Join → is_rpt what ≡ false → told_here what ≡ carried_if was is → course ≡ kept_if was
@@ -340,7 +340,7 @@ module _ (keys : KeysAreDistinct) (exchange : Exchange) (old new : List GroupFor
       by : (is : Bool) → told_here (Rpt source) ≡ cond is (Some false) None → (course ≡ stays) ⊎ (course ≡ absent) → prunes_if is (state_of_machine held) ≡ true
       by false t c =
           pruned_if moment source false held
-          (subst (λ (d : Course). IsPast (Rpt source) moment d held) (star_ends keys exchange old new tells.only group (Rpt source) course t deliveries (star_came source course starred)) past)
+          (subst (λ (d : Course). IsPast (Rpt source) moment d held) (star_ends keys exchange old new carries.only group (Rpt source) course t deliveries (star_came source course starred)) past)
       by true t (inl k) =
           let here = reaches (Rpt source) course false t in
           pruned_if moment source true held (subst (λ (d : Course). IsPast (Rpt source) moment d held) (here.is ∙ ap (course_of_unit false (Rpt source) here.ends) k) past)
@@ -374,11 +374,11 @@ module _ (keys : KeysAreDistinct) (exchange : Exchange) (old new : List GroupFor
           ∙ rpt_kept source excepted exceptions (course_now now held) after b w (pruned_course now source (is_listed source excepted) held (was_is (Some excepted) b) on) past
 
 pub change_settles : Machines → ChangeSettles
-change_settles laws family exchange old new start after deliveries moment sound settled tells hears enough =
+change_settles laws family exchange old new start after deliveries moment sound settled carries hears enough =
     let on : (key : Key (List ℕ)) → IsOn key.what start.moment (course_now start.moment (machine_at key start.records)) (machine_at key start.records) = sound_on family start.ports start.moment laws.keys start.records sound.real in
     let kept = courses_are_kept laws exchange start after deliveries moment (λ key. course_now start.moment (machine_at key start.records)) sound.ascending on hears in (
       kept.0,
       λ group what.
           let key : Key (List ℕ) = record { port = exchange.port; group = group; what = what } in
-          machine_ends laws.keys exchange old new deliveries tells start.moment moment enough group what (machine_at key start.records) (machine_at key after.records) (on key) (settled group what) (kept.1 key),
+          machine_ends laws.keys exchange old new deliveries carries start.moment moment enough group what (machine_at key start.records) (machine_at key after.records) (on key) (settled group what) (kept.1 key),
     )

@@ -39,7 +39,7 @@ pub record Went (all left : List (List ℕ)) (progress : TextProgress) (number :
   pub numbered : number ≡ length front
   pub said : List Line
   pub are : AreLines said front
-  pub asks : after_all Message said ≡ Some progress.expected
+  pub expects : after_all Message said ≡ Some progress.expected
   pub only : (other : List Line) (end : Expected) → AreLines other front → after_all Message other ≡ Some end → other ≡ said
   pub ipv4 : progress.all_ipv4 ≡ all_in Ipv4 said
   pub ipv6 : progress.all_ipv6 ≡ all_in Ipv6 said
@@ -56,7 +56,7 @@ only_nothing [] are = refl
 only_nothing (line ∷ other) are = absurd are
 
 pub at_start : (all : List (List ℕ)) → Went all all (record { expected = Message; all_ipv4 = true; all_ipv6 = true }) 0
-at_start all = record { front = []; cut = refl; numbered = refl; said = []; are = tt; asks = refl; only = λ other end are _. only_nothing other are; ipv4 = refl; ipv6 = refl }
+at_start all = record { front = []; cut = refl; numbered = refl; said = []; are = tt; expects = refl; only = λ other end are _. only_nothing other are; ipv4 = refl; ipv6 = refl }
 
 -- one line more
 is_one : (two : List Line) (text : List ℕ) → AreLines two (text ∷ []) → (line : Line) × (two ≡ line ∷ []) × IsLine line text
@@ -69,15 +69,15 @@ module _ (all left : List (List ℕ)) (old : TextProgress) (number : ℕ) (text 
   pub record IsAsked (others : List Line) (line : Line) (behind : List Line) : Type 0 where
     pub before : others ≡ went.said
     pub next : Expected
-    pub asks : after old.expected line ≡ Some next
+    pub expects : after old.expected line ≡ Some next
 
   is_asked : (one : List Line) (line : Line) (behind : List Line) (end : Expected) → AreLines one went.front → after_all Message (one ++ (line ∷ behind)) ≡ Some end → IsAsked one line behind
   is_asked one line behind end are run =
       let parts = run_split one (line ∷ behind) Message end run in
       let same = went.only one parts.0 are parts.1 in
-      let mid : old.expected ≡ parts.0 = same_some old.expected parts.0 (sym went.asks ∙ (ap (after_all Message) (sym same) ∙ parts.1)) in
+      let mid : old.expected ≡ parts.0 = same_some old.expected parts.0 (sym went.expects ∙ (ap (after_all Message) (sym same) ∙ parts.1)) in
       let k = first_step parts.0 line behind end parts.2 in
-      record { before = same; next = k.0; asks = ap (λ (a : Expected). after a line) mid ∙ k.1 }
+      record { before = same; next = k.0; expects = ap (λ (a : Expected). after a line) mid ∙ k.1 }
 
   only_more : (new : TextProgress) → Advanced old text new → (other : List Line) (end : Expected) → AreLines other (went.front ++ (text ∷ [])) → after_all Message other ≡ Some end → (line : Line) → ((other : Line) (next : Expected) → after old.expected other ≡ Some next → IsLine other text → line ≡ other) → other ≡ went.said ++ (line ∷ [])
   only_more new advanced other end are run line only =
@@ -85,7 +85,7 @@ module _ (all left : List (List ℕ)) (old : TextProgress) (number : ℕ) (text 
       let last = is_one parts.two text parts.second in
       let whole : other ≡ parts.one ++ (last.0 ∷ []) = parts.cut ∙ ap (λ (l : List Line). parts.one ++ l) last.1 in
       let k = is_asked parts.one last.0 [] end parts.first (ap (after_all Message) (sym whole) ∙ run) in
-      let same = only last.0 k.next k.asks last.2 in
+      let same = only last.0 k.next k.expects last.2 in
       let before = k.before in
       whole ∙ (let back = sym same in λ i. before i ++ (back i ∷ []))
 
@@ -96,7 +96,7 @@ module _ (all left : List (List ℕ)) (old : TextProgress) (number : ℕ) (text 
     numbered = ap (λ n. n + 1) went.numbered ∙ sym (length-append went.front (text ∷ []));
     said = went.said ++ (advanced.line ∷ []);
     are = are_append went.said (advanced.line ∷ []) went.front (text ∷ []) went.are (advanced.is, tt);
-    asks = run_append went.said (advanced.line ∷ []) Message old.expected went.asks ∙ one_step old.expected new.expected advanced.line [] advanced.asks;
+    expects = run_append went.said (advanced.line ∷ []) Message old.expected went.expects ∙ one_step old.expected new.expected advanced.line [] advanced.expects;
     only = λ other end are run. only_more new advanced other end are run advanced.line advanced.only;
     ipv4 = advanced.ipv4 ∙ (ap (λ b. b && line_is_in Ipv4 advanced.line) went.ipv4 ∙ sym (all_then Ipv4 went.said advanced.line));
     ipv6 = advanced.ipv6 ∙ (ap (λ b. b && line_is_in Ipv6 advanced.line) went.ipv6 ∙ sym (all_then Ipv6 went.said advanced.line));
@@ -112,13 +112,13 @@ module _ (all left : List (List ℕ)) (old : TextProgress) (number : ℕ) (text 
       let whole : value_lines begin.value ≡ inner.one ++ (last.0 ∷ outer.two) =
       outer.cut ∙ (ap (λ (l : List Line). l ++ outer.two) (inner.cut ∙ ap (λ (l : List Line). inner.one ++ l) last.1) ∙ append_assoc inner.one (last.0 ∷ []) outer.two) in
       let k = is_asked inner.one last.0 outer.two run.0 inner.first (ap (after_all Message) (sym whole) ∙ run.1) in
-      unasked last.0 k.next k.asks last.2
+      unasked last.0 k.next k.expects last.2
 
 -- the lines in front begin a message
 begun : WrittenTextNames → (front : List (List ℕ)) (said : List Line) (expected : Expected) → AreLines said front → after_all Message said ≡ Some expected → Begin front
-begun written front said expected are asks =
+begun written front said expected are expects =
     let k = complete written expected in
-    let value = value_of_run (said ++ k.rest) k.end (run_append said k.rest Message expected asks ∙ k.run) k.whole in
+    let value = value_of_run (said ++ k.rest) k.end (run_append said k.rest Message expected expects ∙ k.run) k.whole in
     record { value = value.0; behind = k.texts; are = subst (λ (l : List Line). AreLines l (front ++ k.texts)) value.1 (are_append said k.rest front k.texts are k.are) }
 
 pub stopped : WrittenTextNames → (text : List ℕ) (line : List ℕ) (left : List (List ℕ)) (old : TextProgress) (number : ℕ) → Went (lines text) (line ∷ left) old number → IsUnexpected old.expected line → IsWrongLine text (number + 1)
@@ -131,7 +131,7 @@ stopped written text line left old number went unasked =
       before = length went.front;
       numbered = omega (arith, went.numbered);
       within = omega (arith, ap length went.cut, length-append went.front (line ∷ left));
-      begun = subst Begin (sym front) (begun written went.front went.said old.expected went.are went.asks);
+      begun = subst Begin (sym front) (begun written went.front went.said old.expected went.are went.expects);
       wrong = inl (λ begin. begins_not (lines text) left old number line went unasked (subst Begin more begin));
     }
 
@@ -144,13 +144,13 @@ module _ (text : List ℕ) (progress : TextProgress) (number : ℕ) (went : Went
   same_lines value stated =
       let run = value_runs value in
       let same = went.only (value_lines value) run.0 (subst (AreLines (value_lines value)) over stated) run.1 in
-      (same, ap is_whole (same_some progress.expected run.0 (sym went.asks ∙ (ap (after_all Message) (sym same) ∙ run.1))) ∙ run.2)
+      (same, ap is_whole (same_some progress.expected run.0 (sym went.expects ∙ (ap (after_all Message) (sym same) ∙ run.1))) ∙ run.2)
 
   pub read : is_whole progress.expected ≡ true → IsRead text (record { is_hello = expects_options progress.expected; all_ipv4 = progress.all_ipv4; all_ipv6 = progress.all_ipv6 })
   read whole =
-      let value = value_of_run went.said progress.expected went.asks whole in
+      let value = value_of_run went.said progress.expected went.expects whole in
       let run = value_runs value.0 in
-      let end : progress.expected ≡ run.0 = same_some progress.expected run.0 (sym went.asks ∙ (ap (after_all Message) value.1 ∙ run.1)) in
+      let end : progress.expected ≡ run.0 = same_some progress.expected run.0 (sym went.expects ∙ (ap (after_all Message) value.1 ∙ run.1)) in
       record {
         value = value.0;
         states = subst (λ (l : List Line). AreLines l (lines text)) value.1 (subst (AreLines went.said) (sym over) went.are);
@@ -168,7 +168,7 @@ module _ (text : List ℕ) (progress : TextProgress) (number : ℕ) (went : Went
         before = length (lines text);
         numbered = omega (arith, count);
         within = omega arith;
-        begun = subst Begin (sym front) (begun written went.front went.said progress.expected went.are went.asks);
+        begun = subst Begin (sym front) (begun written went.front went.said progress.expected went.are went.expects);
         wrong = inr (refl, λ value stated. false≢true (sym not_whole ∙ (same_lines value stated).1));
       }
 

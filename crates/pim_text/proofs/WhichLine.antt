@@ -15,27 +15,27 @@ use Rattle.pim_text.specs.Expected.{after, after_body, is_option}
 use Rattle.pim_text.proofs.FieldEnds.{same_some, not_some}
 
 pub a_join : (j p s : ℕ) (text : List ℕ) (line : Line) (next : Expected) → 0 < j → after_body j p s line ≡ Some next → IsLine line text → (e : Entry AnyAddress) × IsEntryLine (codes "join ") e text × (line ≡ Join e)
-a_join zero p s text line next some asks is = absurd (omega (arith, some))
-a_join (suc j) p s text (Join e) next some asks is = (e, is, refl)
-a_join (suc j) p s text line next some asks is = absurd (not_some next asks)
+a_join zero p s text line next some expects is = absurd (omega (arith, some))
+a_join (suc j) p s text (Join e) next some expects is = (e, is, refl)
+a_join (suc j) p s text line next some expects is = absurd (not_some next expects)
 
 pub a_prune : (j p s : ℕ) (text : List ℕ) (line : Line) (next : Expected) → j ≤ 0 → 0 < p → after_body j p s line ≡ Some next → IsLine line text → (e : Entry AnyAddress) × IsEntryLine (codes "prune ") e text × (line ≡ Prune e)
-a_prune (suc j) p s text line next none some asks is = absurd (omega (arith, none))
-a_prune zero zero s text line next none some asks is = absurd (omega (arith, some))
-a_prune zero (suc p) s text (Prune e) next none some asks is = (e, is, refl)
-a_prune zero (suc p) s text line next none some asks is = absurd (not_some next asks)
+a_prune (suc j) p s text line next none some expects is = absurd (omega (arith, none))
+a_prune zero zero s text line next none some expects is = absurd (omega (arith, some))
+a_prune zero (suc p) s text (Prune e) next none some expects is = (e, is, refl)
+a_prune zero (suc p) s text line next none some expects is = absurd (not_some next expects)
 
 pub a_set : (j p s : ℕ) (text : List ℕ) (line : Line) (next : Expected) → j ≤ 0 → p ≤ 0 → after_body j p s line ≡ Some next → IsLine line text → (x : SetLine) × IsLine (Set x) text × (line ≡ Set x)
-a_set (suc j) p s text line next none nor asks is = absurd (omega (arith, none))
-a_set zero (suc p) s text line next none nor asks is = absurd (omega (arith, nor))
-a_set zero zero zero text line next none nor asks is = absurd (not_some next asks)
-a_set zero zero (suc s) text (Set x) next none nor asks is = (x, is, refl)
-a_set zero zero (suc s) text line next none nor asks is = absurd (not_some next asks)
+a_set (suc j) p s text line next none nor expects is = absurd (omega (arith, none))
+a_set zero (suc p) s text line next none nor expects is = absurd (omega (arith, nor))
+a_set zero zero zero text line next none nor expects is = absurd (not_some next expects)
+a_set zero zero (suc s) text (Set x) next none nor expects is = (x, is, refl)
+a_set zero zero (suc s) text line next none nor expects is = absurd (not_some next expects)
 
 pub a_head : (text : List ℕ) (line : Line) (next : Expected) → (text ≡ codes "hello\n" → ⊥) → after Message line ≡ Some next → IsLine line text → (h : HeadLine) × IsLine (Head h) text × (line ≡ Head h)
-a_head text Hello next other asks is = absurd (other is)
-a_head text (Head h) next other asks is = (h, is, refl)
-a_head text line next other asks is = absurd (not_some next asks)
+a_head text Hello next other expects is = absurd (other is)
+a_head text (Head h) next other expects is = (h, is, refl)
+a_head text line next other expects is = absurd (not_some next expects)
 
 -- ---- options
 

@@ -144,7 +144,7 @@ module _ (family : AddressFamily) where
     pub first : Line
     pub next : Expected
     pub is : IsLine first line
-    pub asks : after expected first ≡ Some next
+    pub expects : after expected first ≡ Some next
     pub inside : line_is_in family first ≡ true
     pub others : WritingOf left next (bytes ++ line_bytes family first) m
 
@@ -164,25 +164,25 @@ module _ (family : AddressFamily) where
             first = first;
             next = k.0;
             is = are.0;
-            asks = k.1;
+            expects = k.1;
             inside = split.0;
             others = record { rest = rest; are = are.1; end = w.end; run = k.2; within = split.1; so_far = append_assoc bytes (line_bytes family first) (spelled rest) ∙ so_far };
           }
 
   module _ (text line : List ℕ) (left : List (List ℕ)) (expected : Expected) (bytes : List ℕ) (writing : Writing text (line ∷ left) expected bytes) where
     pub is_asked : (m : JpMessage) → States text (message_in family m) → OnlyStep expected line None → ⊥
-    is_asked m stated none = let n = next_of line left expected bytes m (writing.each m stated) in none n.first n.next n.asks n.is
+    is_asked m stated none = let n = next_of line left expected bytes m (writing.each m stated) in none n.first n.next n.expects n.is
 
     pub is_within : (m : JpMessage) → States text (message_in family m) → (found : LineStep) → OnlyStep expected line (Some found) → line_is_in family found.line ≡ true
     is_within m stated found only =
         let n = next_of line left expected bytes m (writing.each m stated) in
-        ap (line_is_in family) (only n.first n.next n.asks n.is) ∙ n.inside
+        ap (line_is_in family) (only n.first n.next n.expects n.is) ∙ n.inside
 
     further : (found : LineStep) → IsStep expected line found → OnlyStep expected line (Some found) → (m : JpMessage) → States text (message_in family m) → WritingOf left found.next (bytes ++ line_bytes family found.line) m
     further found is only m stated =
         let n = next_of line left expected bytes m (writing.each m stated) in
-        let same = only n.first n.next n.asks n.is in
-        let next : n.next ≡ found.next = same_some n.next found.next (sym n.asks ∙ (ap (after expected) (sym same) ∙ is.1)) in
+        let same = only n.first n.next n.expects n.is in
+        let next : n.next ≡ found.next = same_some n.next found.next (sym n.expects ∙ (ap (after expected) (sym same) ∙ is.1)) in
         subst (λ (b : List ℕ). WritingOf left found.next b m) (ap (λ (l : Line). bytes ++ line_bytes family l) (sym same)) (subst (λ (a : Expected). WritingOf left a (bytes ++ line_bytes family n.first) m) next n.others)
 
     pub one_further : (found : LineStep) (new : List ℕ) → IsStep expected line found → OnlyStep expected line (Some found) → new ≡ bytes ++ line_bytes family found.line → length new ≤ 65532 → Writing text left found.next new

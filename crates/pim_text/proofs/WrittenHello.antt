@@ -156,7 +156,7 @@ module _ (family : AddressFamily) where
     pub first : Line
     pub next : Expected
     pub is : IsLine first line
-    pub asks : after expected first ≡ Some next
+    pub expects : after expected first ≡ Some next
     pub inside : line_is_in family first ≡ true
     pub others : GatheringOf left next (with_line first p) (addresses ++ line_addresses first) hello
 
@@ -173,25 +173,25 @@ module _ (family : AddressFamily) where
             first = first;
             next = k.0;
             is = are.0;
-            asks = k.1;
+            expects = k.1;
             inside = split.0;
             others = record { rest = rest; are = are.1; end = w.end; run = k.2; within = split.1; options = options; names = append_assoc addresses (line_addresses first) (named rest) ∙ names };
           }
 
   module _ (text line : List ℕ) (left : List (List ℕ)) (expected : Expected) (p : Parameters) (addresses : List (List ℕ)) (gathering : Gathering text (line ∷ left) expected p addresses) where
     pub is_asked : (hello : HelloMessage) → States text (hello_in family hello) → OnlyStep expected line None → ⊥
-    is_asked hello stated none = let n = next_of line left expected p addresses hello (gathering.each hello stated) in none n.first n.next n.asks n.is
+    is_asked hello stated none = let n = next_of line left expected p addresses hello (gathering.each hello stated) in none n.first n.next n.expects n.is
 
     pub is_within : (hello : HelloMessage) → States text (hello_in family hello) → (found : LineStep) → OnlyStep expected line (Some found) → line_is_in family found.line ≡ true
     is_within hello stated found only =
         let n = next_of line left expected p addresses hello (gathering.each hello stated) in
-        ap (line_is_in family) (only n.first n.next n.asks n.is) ∙ n.inside
+        ap (line_is_in family) (only n.first n.next n.expects n.is) ∙ n.inside
 
     further : (found : LineStep) → IsStep expected line found → OnlyStep expected line (Some found) → (hello : HelloMessage) → States text (hello_in family hello) → GatheringOf left found.next (with_line found.line p) (addresses ++ line_addresses found.line) hello
     further found is only hello stated =
         let n = next_of line left expected p addresses hello (gathering.each hello stated) in
-        let same = only n.first n.next n.asks n.is in
-        let next : n.next ≡ found.next = same_some n.next found.next (sym n.asks ∙ (ap (after expected) (sym same) ∙ is.1)) in
+        let same = only n.first n.next n.expects n.is in
+        let next : n.next ≡ found.next = same_some n.next found.next (sym n.expects ∙ (ap (after expected) (sym same) ∙ is.1)) in
         subst (λ (l : Line). GatheringOf left found.next (with_line l p) (addresses ++ line_addresses l) hello) (sym same)
         (subst (λ (a : Expected). GatheringOf left a (with_line n.first p) (addresses ++ line_addresses n.first) hello) next n.others)
 

@@ -87,7 +87,7 @@ OnlyStep expected text read = (line : Line) (next : Expected) → after expected
 pub record Advanced (old : TextProgress) (text : List ℕ) (new : TextProgress) : Type 0 where
   pub line : Line
   pub is : IsLine line text
-  pub asks : after old.expected line ≡ Some new.expected
+  pub expects : after old.expected line ≡ Some new.expected
   pub only : (other : Line) (next : Expected) → after old.expected other ≡ Some next → IsLine other text → line ≡ other
   pub ipv4 : new.all_ipv4 ≡ (old.all_ipv4 && line_is_in Ipv4 line)
   pub ipv6 : new.all_ipv6 ≡ (old.all_ipv6 && line_is_in Ipv6 line)

@@ -63,7 +63,7 @@ pub enum Line {
 
 /// What is still expected of a Join/Prune message.
 #[derive(Clone, Copy, Debug, PartialEq, Eq)]
-pub struct Body {
+pub struct ExpectedBody {
     /// The joined entries of this set that are left.
     pub joined: u16,
     /// The pruned entries of this set that are left.
@@ -81,7 +81,7 @@ pub enum Expected {
     /// address.
     Options(u8),
     /// The rest of a Join/Prune message.
-    Body(Body),
+    Body(ExpectedBody),
 }
 
 /// A line that was read, and what the lines ask for after it.

@@ -7,7 +7,7 @@ ghost use Rattle.pim_text.specs.Expected.{is_option, option_after, after_option,
 ghost use Rattle.pim_text.specs.Expected.{IsStep, OnlyStep};
 
 use crate::fields::number_line;
-use crate::line::{Body, Expected, Line, LineStep};
+use crate::line::{Expected, ExpectedBody, Line, LineStep};
 use crate::reading_lines::{address_line, delays_line, entry_line, head_line, set_line};
 
 /// Returns whether a text is the first line of a Hello.
@@ -32,7 +32,7 @@ fn message_step(text: &[u8]) -> Option<LineStep>
     let head = head_line(text)?;
     Some(LineStep {
         line: Line::Head(head),
-        next: Expected::Body(Body {
+        next: Expected::Body(ExpectedBody {
             joined: 0,
             pruned: 0,
             sets: head.sets,
@@ -100,7 +100,7 @@ fn option_step(from: u8, text: &[u8]) -> Option<LineStep>
 }
 
 /// Reads a line of a Join/Prune message.
-fn body_step(body: Body, text: &[u8]) -> Option<LineStep>
+fn body_step(body: ExpectedBody, text: &[u8]) -> Option<LineStep>
     ensures read { IfSome result (IsStep (Expected.Body body) text.now) }
     ensures only { OnlyStep (Expected.Body body) text.now result }
 {
@@ -108,7 +108,7 @@ fn body_step(body: Body, text: &[u8]) -> Option<LineStep>
         let entry = entry_line(text, b"join ")?;
         return Some(LineStep {
             line: Line::Join(entry),
-            next: Expected::Body(Body {
+            next: Expected::Body(ExpectedBody {
                 joined: body.joined - 1,
                 pruned: body.pruned,
                 sets: body.sets,
@@ -119,7 +119,7 @@ fn body_step(body: Body, text: &[u8]) -> Option<LineStep>
         let entry = entry_line(text, b"prune ")?;
         return Some(LineStep {
             line: Line::Prune(entry),
-            next: Expected::Body(Body {
+            next: Expected::Body(ExpectedBody {
                 joined: 0,
                 pruned: body.pruned - 1,
                 sets: body.sets,
@@ -132,7 +132,7 @@ fn body_step(body: Body, text: &[u8]) -> Option<LineStep>
     let set = set_line(text)?;
     Some(LineStep {
         line: Line::Set(set),
-        next: Expected::Body(Body {
+        next: Expected::Body(ExpectedBody {
             joined: set.joined,
             pruned: set.pruned,
             sets: body.sets - 1,

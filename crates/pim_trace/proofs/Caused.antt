@@ -13,7 +13,7 @@ use Rattle.pim_down.specs.Records.{machine_at, state_of_machine, state_of}
 use Rattle.pim_router.specs.State.{RouterState}
 use Rattle.pim_events.specs.declared.event.Cause.{Cause}
 use Rattle.pim_events.specs.declared.event.Fired.{Fired}
-use Rattle.pim_events.specs.declared.event.Transition.{Transition}
+use Rattle.pim_events.specs.declared.event.TransitionEvent.{TransitionEvent}
 use Rattle.pim_events.specs.Events.{Happened, Occurrence, hello_heard, packet_judged, machine_changed, join_ignored}
 use Rattle.pim_events.specs.Events.{own_restart, record_skipped, neighbour_gone, timer_fired, run_ended}
 use Rattle.pim_trace.specs.declared.ledger.Causes.{Causes}
@@ -44,7 +44,7 @@ module _ (key : Key (List ℕ)) where
     ends = rw reported now;
   }
 
-  changed_state : (ms : ℕ) (change : Transition (List ℕ)) (from : Option Known) (machine : Option Machine) →
+  changed_state : (ms : ℕ) (change : TransitionEvent (List ℕ)) (from : Option Known) (machine : Option Machine) →
       state_of_machine machine ≡ state_in (changed_known ms change from machine)
   changed_state ms change from None = refl
   changed_state ms change from (Some machine) = refl
@@ -54,18 +54,18 @@ module _ (key : Key (List ℕ)) where
   fired_state firing held None = refl
   fired_state firing held (Some state) = refl
 
-  tells : (from to : Option Known) (event : Occurrence) → LeadsBy key from event to → Writes from event to
-  tells from to event (tells_nothing none same) = record {
+  wrote : (from to : Option Known) (event : Occurrence) → LeadsBy key from event to → Writes from event to
+  wrote from to event (tells_nothing none same) = record {
     begins = rw none tt;
     ends = rw none (ap state_in (sym same));
   }
-  tells from to event (tells_change c) =
+  wrote from to event (tells_change c) =
       let reported : states_shown key event ≡ Some (c.change.before, state_of_machine c.change.after) =
       ap (states_by key event.port) c.what
       ∙ ap (λ b. if b then Some (c.change.before, state_of_machine c.change.after) else None) c.affected in
       tells_states from to event c.change.before (state_of_machine c.change.after) reported c.was
       (changed_state event.ms c.change from c.change.after ∙ ap state_in (sym c.now))
-  tells from to event (tells_firing f) =
+  wrote from to event (tells_firing f) =
       let reported : states_shown key event ≡ Some (Some f.firing.before, f.firing.after) =
       ap (states_by key event.port) f.what
       ∙ ap (λ b. if b then Some (Some f.firing.before, f.firing.after) else None) f.affected in
@@ -78,7 +78,7 @@ module _ (key : Key (List ℕ)) where
   unfolding Leads IsUnbroken last_shown
   unbroken from to [] leads = (tt, ap state_in leads)
   unbroken from to (event ∷ events) (between, one, more) =
-      let t = tells from between event one in let rest = unbroken between to events more in
+      let t = wrote from between event one in let rest = unbroken between to events more in
       subst
       (λ (s : Option State).
       (BeginsIn (state_in from) (states_shown key event) × IsUnbroken key s events)
@@ -126,12 +126,12 @@ module _ (Is : Option (Cause (List ℕ)) → Cause (List ℕ) → Type 0)
   no_known a e = cc
 
   -- a transition
-  changed_end : (ms : ℕ) (change : Transition (List ℕ)) (from : Option Known) (machine : Option Machine) →
+  changed_end : (ms : ℕ) (change : TransitionEvent (List ℕ)) (from : Option Known) (machine : Option Machine) →
       end_of timer ms machine ≡ end_in timer (changed_known ms change from machine)
   changed_end ms change from None = refl
   changed_end ms change from (Some machine) = refl
 
-  changed_set : (ms : ℕ) (change : Transition (List ℕ)) (from : Option Known) (since : Option (Cause (List ℕ))) →
+  changed_set : (ms : ℕ) (change : TransitionEvent (List ℕ)) (from : Option Known) (since : Option (Cause (List ℕ))) →
       change.before ≡ state_in from → Set from since → (b : Bool) → sets timer ms (end_in timer from) change ≡ b →
       Is (last_of since (if b then Some (packet_of ms change) else None))
       (if b then packet_of ms change else by_or timer (packet_of ms change) from)
@@ -142,7 +142,7 @@ module _ (Is : Option (Cause (List ℕ)) → Cause (List ℕ) → Type 0)
       begins : sets timer ms None change ≡ true
       begins = rw was refl
 
-  change_sets : (ms : ℕ) (change : Transition (List ℕ)) (from : Option Known) (since : Option (Cause (List ℕ))) →
+  change_sets : (ms : ℕ) (change : TransitionEvent (List ℕ)) (from : Option Known) (since : Option (Cause (List ℕ))) →
       change.before ≡ state_in from → Set from since → (machine : Option Machine) →
       Set (changed_known ms change from machine)
       (last_of since (if sets timer ms (end_in timer from) change then Some (packet_of ms change) else None))
@@ -244,7 +244,7 @@ module _ (Is : Option (Cause (List ℕ)) → Cause (List ℕ) → Type 0)
   same_firing : (a b : Fired (List ℕ)) → timer_fired a ≡ timer_fired b → a ≡ b
   same_firing a b e = cc
 
-  not_changed : (change : Transition (List ℕ)) (firing : Fired (List ℕ)) → machine_changed change ≡ timer_fired firing → ⊥
+  not_changed : (change : TransitionEvent (List ℕ)) (firing : Fired (List ℕ)) → machine_changed change ≡ timer_fired firing → ⊥
   not_changed change firing e = cc
 
   no_states : (states : Option State × Option State) →
@@ -309,21 +309,21 @@ module _ (none : Cause (List ℕ)) (since : Option (Cause (List ℕ))) where
   overridden_by (Some held) before b was set =
       ap (λ (c : Cause (List ℕ)). if is_pending before && b then Some c.frame else None) (set held refl)
 
-  not_fired : (change : Transition (List ℕ)) (firing : Fired (List ℕ)) → timer_fired firing ≡ machine_changed change → ⊥
+  not_fired : (change : TransitionEvent (List ℕ)) (firing : Fired (List ℕ)) → timer_fired firing ≡ machine_changed change → ⊥
   not_fired change firing e = cc
 
-  same_change : (a b : Transition (List ℕ)) → machine_changed a ≡ machine_changed b → a ≡ b
+  same_change : (a b : TransitionEvent (List ℕ)) → machine_changed a ≡ machine_changed b → a ≡ b
   same_change a b e = cc
 
   told_none : (states : Option State × Option State) →
       ◌≡◌ {A = Option (Option State × Option State)} (Some states) None → ⊥
   told_none states e = cc
 
-  abbrev Overrides : Transition (List ℕ) → Type 0
+  abbrev Overrides : TransitionEvent (List ℕ) → Type 0
   Overrides change =
       change.overrides ≡ (if ends_pending change then Some (unwrap_or since none).frame else None)
 
-  overridden_now : (key : Key (List ℕ)) (event : Occurrence) (change : Transition (List ℕ)) →
+  overridden_now : (key : Key (List ℕ)) (event : Occurrence) (change : TransitionEvent (List ℕ)) →
       event.what ≡ machine_changed change → names key event.port change.group change.what ≡ true →
       (from to : Option Known) → SetPending from → LeadsBy key from event to → Overrides change
   overridden_now key event change what affected from to set (tells_nothing nothing same) =

@@ -52,7 +52,7 @@ module _ (line : Occurrence → List ℕ) (family : AddressFamily) (end : End) (
         turns = h.events;
         ledger_then = ledger_then;
         between = between;
-        tells = h.tells;
+        wrote = h.wrote;
         way = way;
         passes = subst (λ (m : ℕ). PassesTime m ledger_then between way ledger after) at_end passes;
         events_are = refl;
@@ -61,7 +61,7 @@ module _ (line : Occurrence → List ℕ) (family : AddressFamily) (end : End) (
 
     trace_of : (way : List Occurrence) (ledger : Ledger) (after : RouterState) → PassesTime moment ledger_then between way ledger after
         → IsTrace family end start state ((h.events ++ way) ++ ending ledger after ∷ []) after
-    trace_of way ledger after passes = record { reported = h.events ++ way; ledger = ledger; tells = all_of way ledger after passes; events_are = refl }
+    trace_of way ledger after passes = record { reported = h.events ++ way; ledger = ledger; wrote = all_of way ledger after passes; events_are = refl }
 
     -- the device failed in the time behind the last turn
     pub stopped_behind : (newer : Option (List ℕ)) → HasBegun line (PassesTime moment ledger_then between) new newer → (last : RouterState) × HasTrace line family end start state last (WroteFront line old newer)

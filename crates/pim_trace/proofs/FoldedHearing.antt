@@ -26,7 +26,7 @@ use Rattle.pim_down.specs.Laws.{KeysAreDistinct, HearingKeepsTheOrder, HearingLe
 use Rattle.pim_down.specs.Records.{IsAscending, machine_at, state_of_machine}
 use Rattle.pim_down.specs.Tables.{Start}
 use Rattle.pim_events.specs.declared.event.Cause.{Cause}
-use Rattle.pim_events.specs.declared.event.Transition.{Transition as Changed}
+use Rattle.pim_events.specs.declared.event.TransitionEvent.{TransitionEvent}
 use Rattle.pim_events.specs.Events.{Occurrence, join_ignored, own_restart}
 use Rattle.pim_transitions.specs.declared.transition.Transition.{Transition}
 use Rattle.pim_transitions.specs.Transitions.{IsTransition, has_transition, keys_of_transitions, AreTransitions}
@@ -148,7 +148,7 @@ overridden_is : (ms : ℕ) (causes : Causes (List ℕ)) (before : Option Machine
 overridden_is ms causes None b = refl
 overridden_is ms causes (Some machine) b = refl
 
-module _ (ms : ℕ) (change : Changed (List ℕ)) where
+module _ (ms : ℕ) (change : TransitionEvent (List ℕ)) where
   abbrev packet : Cause (List ℕ)
   packet = packet_of ms change
 
@@ -262,7 +262,7 @@ module _ (apart : KeysAreDistinct) (port frame : ℕ) (from : List ℕ) (ms neig
         (known_with item.key (with_changes by (item ∷ items) ledger) after)
     unfolding with_changes
     item_leads at ledger item items on is none =
-        let change : Changed (List ℕ) = change_by ledger by neighbours item in
+        let change : TransitionEvent (List ℕ) = change_by ledger by neighbours item in
         let no_packet = both_by (no_cause item.key.group) in
         let same = (apart item.key item.key).1.1 refl in
         let causes : (with_changes by items (with_change by item ledger)).causes item.key

@@ -19,7 +19,7 @@ use Rattle.pim_router.specs.Happening.{Happening, timed_out, timer_fired, gone_o
 use Rattle.pim_router.specs.Happening.{next_of, at_moment, happens_then, in_turns}
 use Rattle.pim_router.specs.declared.step.Step.TheVariants.{Refresh}
 use Rattle.pim_router.specs.State.{RouterState, with_machines, with_tables, with_refresh, refresh_period}
-use Rattle.pim_router.specs.Time.{rests, moves, tells, has_ended, tick, reported, turn, turn_of_timers, turn_of_time}
+use Rattle.pim_router.specs.Time.{rests, moves, stops_with, has_ended, tick, reported, turn, turn_of_timers, turn_of_time}
 use Rattle.pim_events.specs.Events.{Occurrence}
 use Rattle.pim_trace.specs.declared.ledger.Causes.{Causes}
 use Rattle.pim_trace.specs.Ledger.{Ledger, no_cause, both_by, causes_of, forgetting}
@@ -190,7 +190,7 @@ module _ (apart : KeysAreDistinct) (says_more : FiringSaysMore) (moment : ℕ) (
   time_leads none false e = absurd (none_next next e)
 
   refresh_leads : firing state.machines.records ≡ None → (b : Bool) →
-      next_of (if b then tells Refresh (with_refresh state refresh_period) else turn_of_time moment state)
+      next_of (if b then stops_with Refresh (with_refresh state refresh_period) else turn_of_time moment state)
       ≡ Some next → Leads'' [] next
   refresh_leads none true e = subst (Leads'' []) (same_next next (with_refresh state refresh_period) e) nothing
   refresh_leads none false e = time_leads none (nat_lt state.machines.moment moment) e

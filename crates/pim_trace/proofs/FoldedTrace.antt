@@ -109,7 +109,7 @@ module _ (given : Given) (family : AddressFamily) where
       LeadOn' (ledger_for state) state events ledger after
   run_leads taken until state after events ledger up r =
       let first = ledger_for state in
-      let turns = turns_lead taken first r.ledger_then state r.between r.turns up r.tells in
+      let turns = turns_lead taken first r.ledger_then state r.between r.turns up r.wrote in
       let moment = until r.between.machines.moment in
       let way = time_leads moment r.ledger_then ledger r.between after r.way turns.ascending r.passes in
       subst (λ (es : List Occurrence). LeadOn' first state es ledger after) (sym r.events_are)
@@ -132,8 +132,8 @@ module _ (given : Given) (family : AddressFamily) where
     pub trace_leads : (events : List Occurrence) (after : RouterState) →
         (t : IsTrace family end merge state events after) → LeadOn' first state events t.ledger after
     trace_leads events after t =
-        let until = end_moment end (clock_of merge.clock t.tells.taken) in
-        let reported = run_leads t.tells.taken until state after t.reported t.ledger up t.tells.runs in
+        let until = end_moment end (clock_of merge.clock t.wrote.taken) in
+        let reported = run_leads t.wrote.taken until state after t.reported t.ledger up t.wrote.runs in
         subst (λ (es : List Occurrence). LeadOn' first state es t.ledger after) (sym t.events_are)
         (all_on (place first state) (place t.ledger after) (place t.ledger after) t.reported
         (ending t.ledger after ∷ []) reported (ending_leads t.ledger after reported.ascending))
@@ -143,8 +143,8 @@ events_tell given family end merge state events after up is =
     leading (ledger_for state) is.ledger state after events (trace_leads given family end merge state up events after is)
 
 pub turns_tell : Given → TurnsShowTheState
-turns_tell given family turns ledger state events ledger' after up tells =
-    leading ledger ledger' state after events (turns_lead given family turns ledger ledger' state after events up tells)
+turns_tell given family turns ledger state events ledger' after up wrote =
+    leading ledger ledger' state after events (turns_lead given family turns ledger ledger' state after events up wrote)
 
 pub runs_lead : Given → RunsLeadOn
 runs_lead given family turns until state events ledger after up runs =
@@ -155,9 +155,9 @@ trace_names given family end merge state events after up is =
     naming given.apart state is.ledger after events (trace_leads given family end merge state up events after is)
 
 pub turns_name : Given → TurnsNameCauses
-turns_name given family turns state events ledger after up tells =
+turns_name given family turns state events ledger after up wrote =
     naming given.apart state ledger after events
-    (turns_lead given family turns (ledger_for state) ledger state after events up tells)
+    (turns_lead given family turns (ledger_for state) ledger state after events up wrote)
 
 pub runs_name : Given → RunsNameCauses
 runs_name given family turns until state events ledger after up runs =

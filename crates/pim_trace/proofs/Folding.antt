@@ -12,7 +12,7 @@ use Rattle.pim_down.specs.Records.{IsAscending, machine_at}
 use Rattle.pim_router.specs.State.{RouterState}
 use Rattle.pim_events.specs.declared.event.Cause.{Cause}
 use Rattle.pim_events.specs.declared.event.Fired.{Fired}
-use Rattle.pim_events.specs.declared.event.Transition.{Transition}
+use Rattle.pim_events.specs.declared.event.TransitionEvent.{TransitionEvent}
 use Rattle.pim_events.specs.Events.{Happened, Occurrence, machine_changed, timer_fired}
 use Rattle.pim_trace.specs.declared.ledger.Causes.{Causes}
 use Rattle.pim_trace.specs.Ledger.{Ledger, no_cause, both_by}
@@ -55,7 +55,7 @@ abbrev pub pending_frame : Option Known → Option ℕ
 pending_frame known = option_map (λ (k : Known). (k.by PrunePending).frame) known
 
 -- What is known after a transition at this moment.
-abbrev pub changed_known : ℕ → Transition (List ℕ) → Option Known → Option Machine → Option Known
+abbrev pub changed_known : ℕ → TransitionEvent (List ℕ) → Option Known → Option Machine → Option Known
 changed_known ms change known None = None
 changed_known ms change known (Some machine) = Some (record {
   state = machine.state;
@@ -77,7 +77,7 @@ fired_known firing known (Some state) = Some (record {
 
 -- An event is a transition of the machine.
 pub record Changes (key : Key (List ℕ)) (from : Option Known) (event : Occurrence) (to : Option Known) : Type 0 where
-  pub change : Transition (List ℕ)
+  pub change : TransitionEvent (List ℕ)
   pub what : event.what ≡ machine_changed change
   pub affected : names key event.port change.group change.what ≡ true
   pub was : change.before ≡ state_in from

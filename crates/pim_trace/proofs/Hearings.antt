@@ -118,15 +118,15 @@ module _ (family : AddressFamily) (frame : ℕ) (packet : Packet) (ledger : Ledg
     text reported = text_on line ledger state.machines.moment packet.port reported
 
     -- all of what the packet says was told, or a front of it
-    pub tells : (reported : List Happened) (remembered : Ledger) → Says reported remembered → (r : Result (Unit {0}) TurnFault) (ledger' : Ledger) (after : RouterState) (old new : Option (List ℕ))
+    pub wrote : (reported : List Happened) (remembered : Ledger) → Says reported remembered → (r : Result (Unit {0}) TurnFault) (ledger' : Ledger) (after : RouterState) (old new : Option (List ℕ))
         → OnOk r (ledger' ≡ remembered) → OnOk r (after ≡ state_is) → AppendsAll old new r (text reported) → Writes line Hears ledger' after old new r
-    tells reported remembered s (Ok done) ledger' after old new kept left written = record {
+    wrote reported remembered s (Ok done) ledger' after old new kept left written = record {
       events = map (event_on ledger state.machines.moment packet.port) reported;
       are = subst (λ (a : RouterState). Hears (map (event_on ledger state.machines.moment packet.port) reported) ledger' a) (sym left)
           (subst (λ (l : Ledger). Hears (map (event_on ledger state.machines.moment packet.port) reported) l state_is) (sym kept) (hears reported remembered s));
       written = written;
     }
-    tells reported remembered s (Err fault) ledger' after old new kept left written = record {
+    wrote reported remembered s (Err fault) ledger' after old new kept left written = record {
       events = map (event_on ledger state.machines.moment packet.port) reported;
       ledger = remembered;
       after = state_is;
@@ -388,7 +388,7 @@ module _ (family : AddressFamily) (frame : ℕ) (packet : Packet) (ledger : Ledg
           said = first_said changes ∙ ap (λ (hs : List Happened). judgment family frame packet verdict_is ∷ hs) (applied_more m e v_is changes);
           kept = ap (λ (v : Verdict). remembers family frame packet state ledger v changes) v_is;
         } in
-        tells line (judgment family frame packet verdict_is ∷ message_says family frame packet state ledger m.sets changes) (with_changes (as_cause frame packet state) changes ledger) says_all r ledger' after a c
+        wrote line (judgment family frame packet verdict_is ∷ message_says family frame packet state ledger m.sets changes) (with_changes (as_cause frame packet state) changes ledger) says_all r ledger' after a c
         (on_ok_by r ledger' (with_changes (as_cause frame packet after) (found after.machines.records) ledger) (with_changes (as_cause frame packet state) changes ledger) (ap (λ (s : RouterState). with_changes (as_cause frame packet s) (found s.machines.records) ledger) left) kept)
         (on_ok r after_is)
         (subst (λ l. AppendsAll a c r l) (sym (text-append line ledger state.machines.moment packet.port (judgment family frame packet verdict_is ∷ []) (message_says family frame packet state ledger m.sets changes)))
@@ -424,7 +424,7 @@ module _ (family : AddressFamily) (frame : ℕ) (packet : Packet) (ledger : Ledg
           → AppendsAll old new r (text_on line ledger ms packet.port (hello_heard (record { frame = frame; from = packet.source; verdict = heard; was = was; generation = generation }) ∷ []))
           → OnOk r (ledger' ≡ with_hello packet.port packet.source (sent_by frame ms heard) ledger) → Writes line HearsIt ledger' after old new r
       hello_told heard was is was_is written kept =
-          tells family frame packet ledger state line (hello_heard (record { frame = frame; from = packet.source; verdict = heard; was = was; generation = generation }) ∷ [])
+          wrote family frame packet ledger state line (hello_heard (record { frame = frame; from = packet.source; verdict = heard; was = was; generation = generation }) ∷ [])
           (with_hello packet.port packet.source (sent_by frame state.machines.moment heard) ledger)
           (greets family frame packet ledger state generation (says_hello family packet said reads) heard was (pair_is v (verdict.HelloTaken heard) after pair is) was_is)
           r ledger' after old new
@@ -436,7 +436,7 @@ module _ (family : AddressFamily) (frame : ℕ) (packet : Packet) (ledger : Ledg
           → AppendsAll old new r (text_on line ledger ms packet.port (judgment family frame packet verdict.Mine ∷ restart_of frame (slice_index_or ledger.own packet.port None) generation))
           → OnOk r (ledger' ≡ with_own packet.port generation ledger) → Writes line HearsIt ledger' after old new r
       own_told is written kept =
-          tells family frame packet ledger state line (judgment family frame packet verdict.Mine ∷ restart_of frame (slice_index_or ledger.own packet.port None) generation) (with_own packet.port generation ledger)
+          wrote family frame packet ledger state line (judgment family frame packet verdict.Mine ∷ restart_of frame (slice_index_or ledger.own packet.port None) generation) (with_own packet.port generation ledger)
           (restarts_by family frame packet ledger state generation (says_hello family packet said reads) (pair_is v verdict.Mine after pair is))
           r ledger' after old new kept (on_ok r (pair_left v after pair))
           (subst (λ m. AppendsAll old new r (text_on line ledger m packet.port (judgment family frame packet verdict.Mine ∷ restart_of frame (slice_index_or ledger.own packet.port None) generation))) now written)
@@ -444,7 +444,7 @@ module _ (family : AddressFamily) (frame : ℕ) (packet : Packet) (ledger : Ledg
       pub verdict_told : ((heard : Heard) → v ≡ verdict.HelloTaken heard → ⊥) → (v ≡ verdict.Mine → ⊥) → ledger' ≡ ledger
           → AppendsAll old new r (text_on line ledger ms packet.port (judgment family frame packet v ∷ [])) → Writes line HearsIt ledger' after old new r
       verdict_told no_hello not_mine same written =
-          tells family frame packet ledger state line (judgment family frame packet v ∷ []) ledger
+          wrote family frame packet ledger state line (judgment family frame packet v ∷ []) ledger
           (judges family frame packet ledger state generation (says_hello family packet said reads) v (pair_is v v after pair refl) no_hello not_mine)
           r ledger' after old new (on_ok r same) (on_ok r (pair_left v after pair))
           (subst (λ m. AppendsAll old new r (text_on line ledger m packet.port (judgment family frame packet v ∷ []))) now written)
@@ -457,7 +457,7 @@ module _ (family : AddressFamily) (frame : ℕ) (packet : Packet) (ledger : Ledg
     pub other_told : ((received family packet state).0 ≡ verdict.Applied → message ≡ None) → (r : Result (Unit {0}) TurnFault) (after : RouterState) (old new : Option (List ℕ))
         → OnOk r (after ≡ (received family packet state).1) → AppendsAll old new r told_first → Writes line HearsIt ledger after old new r
     other_told none r after old new left written =
-        tells family frame packet ledger state line (judgment family frame packet (received family packet state).0 ∷ []) ledger (unapplied family frame packet ledger state message read none)
+        wrote family frame packet ledger state line (judgment family frame packet (received family packet state).0 ∷ []) ledger (unapplied family frame packet ledger state message read none)
         r ledger after old new (on_ok r refl) left written
 
     -- memory was refused before the message was heard

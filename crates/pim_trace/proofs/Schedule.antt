@@ -13,7 +13,7 @@ use Rattle.pim_down.specs.Time.{fired, with_records}
 use Rattle.pim_router.specs.Happening.{Happening, timed_out, timer_fired, gone_of, gone_from, gone_within, happens_in, next_of, at_moment, happens_then, in_turns, FiresAfter}
 use Rattle.pim_router.specs.declared.step.Step.TheVariants.{Echo, Refresh}
 use Rattle.pim_router.specs.State.{RouterState, with_machines, with_tables, with_refresh, refresh_period}
-use Rattle.pim_router.specs.Time.{Outcome, rests, moves, tells, has_ended, tick, turn, turn_of_time, turn_of_timers}
+use Rattle.pim_router.specs.Time.{Outcome, rests, moves, stops_with, has_ended, tick, turn, turn_of_time, turn_of_timers}
 use Rattle.pim_trace.specs.Passing.{gone_by, time_outs}
 
 abbrev EventSeen : Type 0
@@ -34,10 +34,10 @@ none_some next e = cc
 same_state : (next other : RouterState) → ◌≡◌ {A = Option RouterState} (Some next) (Some other) → next ≡ other
 same_state next other e = cc
 
-tells_no_rest : (next : RouterState) → tells Refresh next ≡ rests → ⊥
+tells_no_rest : (next : RouterState) → stops_with Refresh next ≡ rests → ⊥
 tells_no_rest next e = cc
 
-pub echo_no_rest : (port : ℕ) (group : List ℕ) (what : What (List ℕ)) (next : RouterState) → tells (Echo port group what) next ≡ rests → ⊥
+pub echo_no_rest : (port : ℕ) (group : List ℕ) (what : What (List ℕ)) (next : RouterState) → stops_with (Echo port group what) next ≡ rests → ⊥
 echo_no_rest port group what next e = cc
 
 pub moves_no_rest : (next : RouterState) → moves next ≡ rests → ⊥
@@ -163,7 +163,7 @@ module _ (moment : ℕ) (state next : RouterState) (none : list_any has_ended st
   by_time true is h = waited none (sym (same_state (tick state) next h)) (ltb-true state.machines.moment moment is)
   by_time false is h = absurd (none_some next h)
 
-  by_refresh : (b : Bool) → next_of (if b then tells Refresh (with_refresh state refresh_period) else turn_of_time moment state) ≡ Some next → Went moment state next
+  by_refresh : (b : Bool) → next_of (if b then stops_with Refresh (with_refresh state refresh_period) else turn_of_time moment state) ≡ Some next → Went moment state next
   by_refresh true h =
       let is : with_refresh state refresh_period ≡ next = same_state (with_refresh state refresh_period) next h in
       stayed none (ap (λ (x : RouterState). x.tables) (sym is)) (ap (λ (x : RouterState). x.machines.moment) (sym is))
@@ -253,8 +253,8 @@ module _ (state : RouterState) (moment : ℕ) (less : state.machines.moment < mo
   time_passes : turn_of_time moment state ≡ moves (tick state)
   time_passes = rw (lt-ltb state.machines.moment moment less) refl
 
-  refresh_not : (b : Bool) (next : RouterState) (one : Outcome) → (if b then tells Refresh next else one) ≡ rests →
-      (if b then tells Refresh next else turn_of_time moment state) ≡ moves (tick state)
+  refresh_not : (b : Bool) (next : RouterState) (one : Outcome) → (if b then stops_with Refresh next else one) ≡ rests →
+      (if b then stops_with Refresh next else turn_of_time moment state) ≡ moves (tick state)
   refresh_not true next one h = absurd (tells_no_rest next h)
   refresh_not false next one h = time_passes
 

@@ -110,9 +110,9 @@ module _ (line : Occurrence → List ℕ) (family : AddressFamily) (port : ℕ) 
   pub content_tells : {E : Type 0} (frame : ℕ) (content : Content) (ledger : Ledger) (state : RouterState) → frame ≡ frame_of port ledger → (reported : EventSeen) → content ≡ content_in family reported
       → (ledger' : Ledger) (after : RouterState) (old new : Option (List ℕ)) (result : Result (Unit {0}) E) → Writes line (TakesContent family port frame content ledger state) ledger' after old new result
       → Writes line (TakesRecord family port reported ledger state) ledger' after old new result
-  content_tells frame content ledger state numbered reported is ledger' after old new result tells =
+  content_tells frame content ledger state numbered reported is ledger' after old new result wrote =
       subst (λ (c : Content). Writes line (TakesContent family port (frame_of port ledger) c ledger state) ledger' after old new result) is
-      (subst (λ (n : ℕ). Writes line (TakesContent family port n content ledger state) ledger' after old new result) numbered tells)
+      (subst (λ (n : ℕ). Writes line (TakesContent family port n content ledger state) ledger' after old new result) numbered wrote)
 
   -- nothing was told of what is no record
   pub rest_tells : (ledger : Ledger) (state : RouterState) (reported : EventSeen) → no_record ≡ content_in family reported → (old : Option (List ℕ)) → HasWritten line (TakesRecord family port reported ledger state) ledger state old old

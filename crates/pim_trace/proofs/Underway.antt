@@ -27,17 +27,17 @@ use Rattle.pim_trace.proofs.Pieces.{none_told, all_told, happens_then, told_begu
 tells_more : (family : AddressFamily) (taken : List Taken) (next : Taken) (events one : List Occurrence) (ledger ledger_then ledger' : Ledger) (state between after : RouterState) → WritesTurns family taken ledger state events ledger_then between
     → WritesTurn family next ledger_then between one ledger' after → WritesTurns family (taken ++ next ∷ []) ledger state (events ++ one) ledger' after
 unfolding WritesTurns
-tells_more family [] next events one ledger ledger_then ledger' state between after (none, kept, same) tells = (
+tells_more family [] next events one ledger ledger_then ledger' state between after (none, kept, same) wrote = (
   one,
   [],
   ledger',
   after,
-  subst (λ s. WritesTurn family next ledger s one ledger' after) same (subst (λ l. WritesTurn family next l between one ledger' after) kept tells),
+  subst (λ s. WritesTurn family next ledger s one ledger' after) same (subst (λ l. WritesTurn family next l between one ledger' after) kept wrote),
   (refl, refl, refl),
   ap (λ (xs : List Occurrence). xs ++ one) none ∙ sym (append-nil one),
 )
-tells_more family (first ∷ others) next events one ledger ledger_then ledger' state between after (a, b, l, s, tells_first, tells_others, is) tells =
-    (a, b ++ one, l, s, tells_first, tells_more family others next b one l ledger_then ledger' s between after tells_others tells, ap (λ (xs : List Occurrence). xs ++ one) is ∙ append_assoc a b one)
+tells_more family (first ∷ others) next events one ledger ledger_then ledger' state between after (a, b, l, s, tells_first, tells_others, is) wrote =
+    (a, b ++ one, l, s, tells_first, tells_more family others next b one l ledger_then ledger' s between after tells_others wrote, ap (λ (xs : List Occurrence). xs ++ one) is ∙ append_assoc a b one)
 
 -- no turn was taken
 pub untaken : (end : End) (start : MergeState) → IsTallied end start start
@@ -52,11 +52,11 @@ untaken end start = record {
 runs_out : (family : AddressFamily) (state : RouterState) (taken : List Taken) (turns way : List Occurrence) (ledger ledger' : Ledger) (between after : RouterState) (moment : ℕ)
     → WritesTurns family taken (ledger_for state) state turns ledger between → moment ≡ between.machines.moment → PassesTime moment ledger between way ledger' after
     → RunsOut family state taken (turns ++ way) ledger' after
-runs_out family state taken turns way ledger ledger' between after moment tells here passes = record {
+runs_out family state taken turns way ledger ledger' between after moment wrote here passes = record {
   turns = turns;
   ledger_then = ledger;
   between = between;
-  tells = tells;
+  wrote = wrote;
   way = way;
   passes = subst (λ (m : ℕ). PassesTime m ledger between way ledger' after) here passes;
   events_are = refl;
@@ -66,18 +66,18 @@ runs_out family state taken turns way ledger ledger' between after moment tells 
 pub begun_first : EveryStateGoesOn → (line : Occurrence → List ℕ) (family : AddressFamily) (end : End) (start : MergeState) (state : RouterState) (old new : Option (List ℕ)) (taken : List Taken) (turns : List Occurrence) (ledger : Ledger) (after : RouterState)
     → AreFirst end start taken → WritesTurns family taken (ledger_for state) state turns ledger after → WroteFront line old new turns
     → HasSome line family end start state old new
-begun_first goes_on line family end start state old new taken turns ledger after first tells written =
+begun_first goes_on line family end start state old new taken turns ledger after first wrote written =
     let due = goes_on after.machines.moment after in
     let way = events_in ledger due.reported in
     record {
       events = turns ++ way;
-      tells = record {
+      wrote = record {
         taken = taken;
         are = first;
         ledger = after_all ledger due.reported;
         after = due.after;
         runs =
-            runs_out family state taken turns way ledger (after_all ledger due.reported) after due.after after.machines.moment tells refl
+            runs_out family state taken turns way ledger (after_all ledger due.reported) after due.after after.machines.moment wrote refl
             (record { happened = due.reported; happens = due.happens; events_are = refl; ledger_is = refl });
       };
       written = begun_longer line old new turns way written;
@@ -101,7 +101,7 @@ module _ {K : Type 0} (seen : K → Ledger) (line : Occurrence → List ℕ) (fa
 
   record EventSeen (taken : List Taken) (ledger : Ledger) (state : RouterState) (old : Option (List ℕ)) (ledger' : Ledger) (after : RouterState) (new : Option (List ℕ)) : Type 0 where
     events : List Occurrence
-    tells : WritesTurns family taken ledger state events ledger' after
+    wrote : WritesTurns family taken ledger state events ledger' after
     written : Wrote line old new events
 
   turns_told : (taken : List Taken) (kept kept' : K) (state after : RouterState) (old new : Option (List ℕ)) → AreTaken By Only taken kept state old kept' after new
@@ -109,14 +109,14 @@ module _ {K : Type 0} (seen : K → Ledger) (line : Occurrence → List ℕ) (fa
   unfolding AreTaken WritesTurns
   turns_told [] kept kept' state after old new (same, stays, device) = record {
     events = [];
-    tells = (refl, ap seen same, stays);
+    wrote = (refl, ap seen same, stays);
     written = subst (λ (n : Option (List ℕ)). Wrote line old n []) (sym device) (none_told line old);
   }
   turns_told (turn ∷ turns) kept kept' state after old new (next, between, mid, one, rest) =
       let others = turns_told turns next kept' between after mid new rest in
       record {
         events = one.events ++ others.events;
-        tells = (one.events, others.events, seen next, between, one.are, others.tells, refl);
+        wrote = (one.events, others.events, seen next, between, one.are, others.wrote, refl);
         written = happens_then line old mid new one.events others.events one.written others.written;
       }
 
@@ -131,7 +131,7 @@ module _ {K : Type 0} (seen : K → Ledger) (line : Occurrence → List ℕ) (fa
         → HasAll line family end start state old merge (seen kept') now new
     has_all merge kept' now new r =
         let turns = from_new r.taken kept' now new r.turns in
-        record { taken = r.taken; events = turns.events; are = r.are; clock = r.clock; tallies = r.tallies; tells = turns.tells; written = turns.written }
+        record { taken = r.taken; events = turns.events; are = r.are; clock = r.clock; tallies = r.tallies; wrote = turns.wrote; written = turns.written }
 
     -- memory was refused, or the device failed
     module _ (goes_on : EveryStateGoesOn) (merge : MergeState) (new : Option (List ℕ)) (b : BreaksOff By Only end start merge kept state old new) where
@@ -146,10 +146,10 @@ module _ {K : Type 0} (seen : K → Ledger) (line : Occurrence → List ℕ) (fa
               → HasSome line family end start state old new
           by (inl (first, same)) =
               subst (λ (n : Option (List ℕ)). HasSome line family end start state old n) (sym same)
-              (begun_first goes_on line family end start state old b.mid b.taken so_far.events (seen b.kept') b.between first so_far.tells (all_told line old b.mid so_far.events so_far.written))
+              (begun_first goes_on line family end start state old b.mid b.taken so_far.events (seen b.kept') b.between first so_far.wrote (all_told line old b.mid so_far.events so_far.written))
           by (inr (next, first, begun)) =
               begun_first goes_on line family end start state old new (b.taken ++ next ∷ []) (so_far.events ++ begun.events) begun.ledger begun.after first
-              (tells_more family b.taken next so_far.events begun.events (ledger_for state) (seen b.kept') begun.ledger state b.between begun.after so_far.tells begun.are)
+              (tells_more family b.taken next so_far.events begun.events (ledger_for state) (seen b.kept') begun.ledger state b.between begun.after so_far.wrote begun.are)
               (told_begun line old b.mid new so_far.events begun.events so_far.written begun.written)
 
     pub broken_off : EveryStateGoesOn → (merge : MergeState) (kept' : K) (after : RouterState) (new : Option (List ℕ)) (fault : RunFault) → (fault ≡ Output) ⊎ (fault ≡ Memory)
@@ -173,12 +173,12 @@ module _ {K : Type 0} (seen : K → Ledger) (line : Occurrence → List ℕ) (fa
       pub failed_on_the_way : HasBegun line (PassesTime moment (seen kept') now) new newer → HasSome line family end start state old newer
       failed_on_the_way way = record {
         events = before.events ++ way.events;
-        tells = record {
+        wrote = record {
           taken = s.taken;
           are = s.first;
           ledger = way.ledger;
           after = way.after;
-          runs = runs_out family state s.taken before.events way.events (seen kept') way.ledger now way.after moment before.tells here way.are;
+          runs = runs_out family state s.taken before.events way.events (seen kept') way.ledger now way.after moment before.wrote here way.are;
         };
         written = told_begun line old new newer before.events way.events before.written way.written;
       }
@@ -190,7 +190,7 @@ module _ {K : Type 0} (seen : K → Ledger) (line : Occurrence → List ℕ) (fa
         events = before.events ++ way.events;
         ledger = ledger;
         after = after;
-        runs = runs_out family state s.taken before.events way.events (seen kept') ledger now after moment before.tells here way.are;
+        runs = runs_out family state s.taken before.events way.events (seen kept') ledger now after moment before.wrote here way.are;
         written = happens_then line old new newer before.events way.events before.written way.written;
         no_memory = s.no_memory;
         cause = s.cause;

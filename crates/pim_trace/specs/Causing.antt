@@ -17,7 +17,7 @@ use Rattle.pim_down.specs.Records.{IsAscending, machine_at, state_of_machine}
 use Rattle.pim_router.specs.State.{RouterState}
 use Rattle.pim_events.specs.declared.event.Cause.{Cause}
 use Rattle.pim_events.specs.declared.event.Fired.{Fired}
-use Rattle.pim_events.specs.declared.event.Transition.{Transition}
+use Rattle.pim_events.specs.declared.event.TransitionEvent.{TransitionEvent}
 use Rattle.pim_events.specs.Events.{Happened, Occurrence, machine_changed, timer_fired}
 use Rattle.pim_trace.specs.Ledger.{Ledger, no_cause, pending_left}
 use Rattle.pim_trace.specs.Folding.{names}
@@ -62,11 +62,11 @@ end_then timer key held event = end_by timer key held event.ms event.port event.
 -- ---- which packet set a timer
 
 -- A transition at this moment begins the machine, or gives the timer another end than `held`.
-abbrev pub sets : Timer → ℕ → Option ℕ → Transition (List ℕ) → Bool
+abbrev pub sets : Timer → ℕ → Option ℕ → TransitionEvent (List ℕ) → Bool
 sets timer ms held change = not (is_some change.before) || not (option_eq nat_eq held (end_of timer ms change.after))
 
 -- The packet of a transition at this moment.
-abbrev pub packet_of : ℕ → Transition (List ℕ) → Cause (List ℕ)
+abbrev pub packet_of : ℕ → TransitionEvent (List ℕ) → Cause (List ℕ)
 packet_of ms change = record { frame = change.frame; from = change.from; ms = ms }
 
 -- The packet of what happened on a port, if it set the timer.
@@ -112,14 +112,14 @@ FiringsNameTheirCauses state events =
     × (state.machines.records ≡ [] → last ≡ Some firing.cause)
 
 -- A transition out of Prune-Pending.
-abbrev pub ends_pending : Transition (List ℕ) → Bool
+abbrev pub ends_pending : TransitionEvent (List ℕ) → Bool
 ends_pending change = is_pending change.before && not (is_pending (state_of_machine change.after))
 
 -- A transition overrides the packet of the last event before it that set the Prune-Pending Timer,
 -- if it leads the machine out of Prune-Pending. Otherwise it overrides none.
 abbrev pub TransitionsNameTheirPrunes : RouterState → List Occurrence → Type 0
 TransitionsNameTheirPrunes state events =
-    (earlier later : List Occurrence) (event : Occurrence) (port : ℕ) (change : Transition (List ℕ)) →
+    (earlier later : List Occurrence) (event : Occurrence) (port : ℕ) (change : TransitionEvent (List ℕ)) →
     events ≡ earlier ++ event ∷ later → event.port ≡ Some port → event.what ≡ machine_changed change →
     let last : Option (Cause (List ℕ)) =
     last_setting state PrunePending (key_on port change.group change.what) earlier in

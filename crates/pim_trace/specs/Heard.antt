@@ -22,7 +22,7 @@ use Rattle.pim_router.specs.declared.verdict.Verdict.TheVariants as verdict
 use Rattle.pim_router.specs.Packets.{Packet, received, neighbours_on, timing_on}
 use Rattle.pim_router.specs.State.{RouterState}
 use Rattle.pim_events.specs.declared.event.Cause.{Cause}
-use Rattle.pim_events.specs.declared.event.Transition.{Transition as Change}
+use Rattle.pim_events.specs.declared.event.TransitionEvent.{TransitionEvent}
 use Rattle.pim_events.specs.Events.{Happened, Occurrence, hello_heard, packet_judged, machine_changed, join_ignored}
 use Rattle.pim_events.specs.Events.{own_restart}
 use Rattle.pim_transitions.specs.declared.transition.Transition.{Transition}
@@ -122,7 +122,7 @@ overridden ledger change =
     then Some (causes_of change.key ledger).pending.frame else None
 
 -- A machine that a message changed. The port has this number of neighbours.
-abbrev pub change_by : Ledger → Cause (List ℕ) → ℕ → Transition (List ℕ) → Change (List ℕ)
+abbrev pub change_by : Ledger → Cause (List ℕ) → ℕ → Transition (List ℕ) → TransitionEvent (List ℕ)
 change_by ledger packet neighbours change = record {
   frame = packet.frame;
   from = packet.from;

@@ -67,7 +67,7 @@ pub record RunsUntil (until : ℕ → ℕ) (family : AddressFamily) (state : Rou
   pub turns : List Occurrence
   pub ledger_then : Ledger
   pub between : RouterState
-  pub tells : WritesTurns family taken (ledger_for state) state turns ledger_then between
+  pub wrote : WritesTurns family taken (ledger_for state) state turns ledger_then between
   pub way : List Occurrence
   pub passes : PassesTime (until between.machines.moment) ledger_then between way ledger after
   pub events_are : events ≡ turns ++ way
@@ -96,7 +96,7 @@ module _ (family : AddressFamily) (end : End) (merge : MergeState) (state : Rout
   pub record IsTrace (events : List Occurrence) (after : RouterState) : Type 0 where
     pub reported : List Occurrence
     pub ledger : Ledger
-    pub tells : WritesAll reported ledger after
+    pub wrote : WritesAll reported ledger after
     pub events_are : events ≡ reported ++ ending ledger after ∷ []
 
 -- ---- what a trace returns and writes, where `line` is what is written of an event
@@ -133,7 +133,7 @@ module _ (line : Occurrence → List ℕ) (family : AddressFamily) (end : End) (
   -- A front of the events of some first turns, and of what was still due then, was written.
   pub record HasSome (old new : Option (List ℕ)) : Type 0 where
     pub events : List Occurrence
-    pub tells : WritesFirst family end merge state events
+    pub wrote : WritesFirst family end merge state events
     pub written : WroteFront line old new events
 
   -- All events of a trace that leads to this router were written, or as far as `IsWritten` says.

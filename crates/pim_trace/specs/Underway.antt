@@ -25,7 +25,7 @@ module _ (line : Occurrence → List ℕ) (family : AddressFamily) (end : End) (
     pub are : AreAll end merge None taken
     pub clock : merge'.clock ≡ clock_of merge.clock taken
     pub tallies : tallies_of merge'.lanes ≡ tallies_after (tallies_of merge.lanes) taken
-    pub tells : WritesTurns family taken (ledger_for state) state events ledger now
+    pub wrote : WritesTurns family taken (ledger_for state) state events ledger now
     pub written : Wrote line old new events
 
   -- What the run over all turns returns and leaves.

@@ -19,10 +19,10 @@ use crate::ledger::Ledger;
 use crate::writing_events::write_on;
 use pim_addr::Family;
 use pim_down::{Machine, State};
-use pim_events::{Cause, EventWriter, Happening, Transition};
+use pim_events::{Cause, EventWriter, Happening, TransitionEvent};
 use pim_router::Router;
 use pim_run::TurnFault;
-use pim_transitions::{Affected, Transition as Change};
+use pim_transitions::{Affected, Transition};
 
 /// A message that changed machines.
 #[derive(Clone, Copy)]
@@ -47,13 +47,13 @@ fn state_of(machine: &Option<Machine>) -> Option<State>
 fn change_of<F: Family>(
     ledger: &Ledger<F>,
     by: &Changer<F::Addr>,
-    change: &Change<F::Addr>,
-) -> Transition<F::Addr>
+    change: &Transition<F::Addr>,
+) -> TransitionEvent<F::Addr>
     ensures { machine_changed (transition_seen F.bytes_of result)
         ≡ change_of (ledger_seen F.bytes_of ledger.now) (cause_seen F.bytes_of by.now.packet)
         by.now.neighbours (change_seen F.bytes_of change.now) }
 {
-    Transition {
+    TransitionEvent {
         frame: by.packet.frame,
         from: by.packet.from,
         by: change.by,
@@ -72,7 +72,7 @@ fn write_change<F: Family, W, T: EventWriter<F, W>>(
     device: &mut W,
     ledger: &mut Ledger<F>,
     by: &Changer<F::Addr>,
-    change: &Change<F::Addr>,
+    change: &Transition<F::Addr>,
 ) -> Result<(), TurnFault>
     ensures bytes { AppendsAll (T.contents device.old) (T.contents device.new) result
         (text_on (T.line event_writer.now) (ledger_seen F.bytes_of ledger.old) by.now.packet.ms

@@ -20,7 +20,7 @@ use std::process::ExitCode;
 use std::{env, io};
 
 /// Whether the first word is `session`.
-fn asks_for_session(rt: &HostRuntime) -> io::Result<bool> {
+fn wants_session(rt: &HostRuntime) -> io::Result<bool> {
     for (index, word) in env::args(rt)?.enumerate() {
         if index == 1 {
             return Ok(word.as_str() == "session");
@@ -56,7 +56,7 @@ fn run_stored(rt: &HostRuntime, tally: &mut Tally<Commands>) -> io::Result<ExitC
 
 /// Runs what the words ask for. Returns the status if no file fails.
 fn run_all(rt: &HostRuntime, tally: &mut Tally<Commands>) -> io::Result<ExitCode> {
-    if asks_for_session(rt)? {
+    if wants_session(rt)? {
         return run_stored(rt, tally);
     }
     run_words(rt, tally)?;
@@ -66,7 +66,7 @@ fn run_all(rt: &HostRuntime, tally: &mut Tally<Commands>) -> io::Result<ExitCode
 fn main(rt: HostRuntime) -> io::Result<ExitCode> {
     let mut tally = Tally::new(Commands);
     let status = run_all(&rt, &mut tally)?;
-    tally.tell(&rt)?;
+    tally.write_tally(&rt)?;
     if tally.has_failed() {
         return Ok(ExitCode::FAILURE);
     }

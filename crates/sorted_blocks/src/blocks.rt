@@ -12,7 +12,7 @@ ghost use Rattle.sorted_blocks.specs.declared.place.Place.{Place};
 use crate::items::Items;
 use crate::place::Place;
 use crate::probe::Probe;
-use crate::store::Store;
+use crate::store::BlockStore;
 use std::alloc::{AllocError, Global};
 use std::marker::Model;
 
@@ -20,7 +20,7 @@ use std::marker::Model;
 /// have more than `HALF` items together.
 #[derive(Drop)]
 pub struct Blocks<T: Copy, const HALF: usize> {
-    store: Store<T, HALF>,
+    store: BlockStore<T, HALF>,
 }
 
 impl<T: Copy, const HALF: usize> Model for Blocks<T, HALF> {
@@ -43,7 +43,7 @@ impl<T: Copy, const HALF: usize> Blocks<T, HALF> {
         ensures { result ≡ record { blocks = []; spare = 0 } }
     {
         Blocks {
-            store: Store::new(alloc),
+            store: BlockStore::new(alloc),
         }
     }
 

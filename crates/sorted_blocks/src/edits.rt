@@ -12,9 +12,9 @@ ghost use Rattle.sorted_blocks.specs.Places.{before, rest_of, IsPlace, IsItem, H
 ghost use Rattle.sorted_blocks.specs.Sound.{IsDense, IsDenseIn};
 
 use crate::place::Place;
-use crate::store::Store;
+use crate::store::BlockStore;
 
-impl<T: Copy, const HALF: usize> Store<T, HALF> {
+impl<T: Copy, const HALF: usize> BlockStore<T, HALF> {
     /// Inserts an item at this place, and returns its place. The caller has a spare block.
     pub(crate) fn insert_reserved(&mut self, place: Place, item: T) -> Place
         requires place { IsPlace self.old place }

@@ -13,7 +13,7 @@ ghost use Rattle.sorted_blocks.specs.Sought.{IsLessAt};
 
 use crate::place::Place;
 use crate::probe::Probe;
-use crate::store::Store;
+use crate::store::BlockStore;
 use std::cmp::Ordering;
 
 /// Returns 1 where the item at this place of a row is less than what is sought, else 0.
@@ -58,7 +58,7 @@ fn seek<T: Copy, P: Probe<T>>(probe: &P, row: &[T], low: usize, high: usize) -> 
     }
 }
 
-impl<T: Copy, const HALF: usize> Store<T, HALF> {
+impl<T: Copy, const HALF: usize> BlockStore<T, HALF> {
     /// Returns the place of an item that compares equal, or else a gap. The item before a gap is
     /// less than what is sought, and the item at it is greater. In a list in the order of the
     /// probe, the gap is where the item belongs. It then costs about as many comparisons as the

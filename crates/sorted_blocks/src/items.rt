@@ -7,7 +7,7 @@ ghost use Rattle.sorted_blocks.specs.Places.{before, IsPlace};
 
 use crate::block::Block;
 use crate::place::Place;
-use crate::store::Store;
+use crate::store::BlockStore;
 use std::marker::Model;
 
 /// The items from a place on, in order. Contracts see the items that remain. A step reads within a
@@ -32,7 +32,7 @@ impl<'a, T: Copy, const HALF: usize> Model for Items<'a, T, HALF> {
     ghost invariant = { λ walk. AllFilled HALF walk.all_blocks.now };
 }
 
-impl<T: Copy, const HALF: usize> Store<T, HALF> {
+impl<T: Copy, const HALF: usize> BlockStore<T, HALF> {
     /// Returns a walk over the items from this place on.
     pub(crate) fn iter_from(&self, place: Place) -> Items<'_, T, HALF>
         requires { IsPlace self.now place }

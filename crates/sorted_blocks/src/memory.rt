@@ -9,10 +9,10 @@ ghost use Rattle.sorted_blocks.specs.Shape.{items, joined, capacity};
 ghost use Rattle.sorted_blocks.specs.Places.{before, IsPlace, IsItem};
 ghost use Rattle.sorted_blocks.specs.declared.place.Place.{Place};
 
-use crate::store::Store;
+use crate::store::BlockStore;
 use std::alloc::AllocError;
 
-impl<T: Copy, const HALF: usize> Store<T, HALF> {
+impl<T: Copy, const HALF: usize> BlockStore<T, HALF> {
     /// Returns the number of items that fit without memory, for any inserts and removals in
     /// between.
     pub(crate) fn capacity(&self) -> usize

@@ -22,7 +22,7 @@ const MOST_BLOCKS: usize = 1 << 32;
 /// A list of items in blocks of up to twice `HALF` items. Within a call, neighbouring blocks may
 /// have few items together.
 #[derive(Drop)]
-pub(crate) struct Store<T: Copy, const HALF: usize> {
+pub(crate) struct BlockStore<T: Copy, const HALF: usize> {
     alloc: Global,
     /// The blocks in use, none of them empty; with memory for the spare ones too.
     used: Vec<Block<T, HALF>>,
@@ -34,7 +34,7 @@ pub(crate) struct Store<T: Copy, const HALF: usize> {
     count: usize,
 }
 
-impl<T: Copy, const HALF: usize> Model for Store<T, HALF> {
+impl<T: Copy, const HALF: usize> Model for BlockStore<T, HALF> {
     ghost use Rattle.sorted_blocks.specs.Shape.{Shape};
 
     ghost Value = { Shape T };
@@ -48,14 +48,14 @@ impl<T: Copy, const HALF: usize> Model for Store<T, HALF> {
         × IsLed b.used.items b.spare.len b.firsts.items b.firsts.cap };
 }
 
-impl<T: Copy, const HALF: usize> Store<T, HALF> {
+impl<T: Copy, const HALF: usize> BlockStore<T, HALF> {
     /// Returns a list without items.
     pub(crate) fn new(alloc: Global) -> Self
         requires some { 1 ≤ HALF }
         requires small { HALF ≤ 65536 }
         ensures { result ≡ record { blocks = []; spare = 0 } }
     {
-        Store {
+        BlockStore {
             alloc,
             used: Vec::new(alloc),
             firsts: Vec::new(alloc),

@@ -5,9 +5,9 @@ ghost use Rattle.sorted_blocks.specs.Shape.{items};
 ghost use Rattle.sorted_blocks.specs.Places.{before, rest_of, IsPlace, IsItem};
 
 use crate::place::Place;
-use crate::store::Store;
+use crate::store::BlockStore;
 
-impl<T: Copy, const HALF: usize> Store<T, HALF> {
+impl<T: Copy, const HALF: usize> BlockStore<T, HALF> {
     /// Returns whether the place is that of an item.
     #[tactic(auto, unfolding(crate::specs::Places::IsItem))]
     pub(crate) fn is_item(&self, place: Place) -> bool

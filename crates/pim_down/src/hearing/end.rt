@@ -11,7 +11,7 @@ use crate::hearing::hear::{RptsOf, event_of, is_rpt_of, is_star_join};
 use crate::machines::event::Event;
 use crate::machines::key::OfFamily;
 use crate::machines::machine::State;
-use crate::records::store::Store;
+use crate::records::store::RecordStore;
 use pim_addr::{Family, Routes};
 use pim_jp::{Entries, JpView};
 use sorted_blocks::Place;
@@ -24,7 +24,11 @@ fn is_temporary(state: State) -> bool
 }
 
 /// Applies End of Message to the (S,G,rpt) machines of a group. It visits only these.
-fn end_group<F: Family>(records: &mut Store<F::Addr, OfFamily<F>>, port: usize, group: F::Addr)
+fn end_group<F: Family>(
+    records: &mut RecordStore<F::Addr, OfFamily<F>>,
+    port: usize,
+    group: F::Addr,
+)
     requires { IsAscending (records_seen F.bytes_of records.old.items) }
     ensures { records_seen F.bytes_of records.new.items
         ≡ filter (λ held. not (is_over_in port (F.bytes_of group) held))
@@ -65,7 +69,7 @@ pub fn has_star_join<F: Family>(routes: &Routes<F>, group: F::Addr, joined: Entr
 /// Applies End of Message to the (S,G,rpt) machines of a port, after the sets of a message. Those
 /// in a Tmp state are of groups for which the message had a Join(*,G), and it visits only these.
 pub(crate) fn end_sets<F: Family>(
-    records: &mut Store<F::Addr, OfFamily<F>>,
+    records: &mut RecordStore<F::Addr, OfFamily<F>>,
     port: usize,
     routes: &Routes<F>,
     message: &JpView<'_, F>,
@@ -86,7 +90,7 @@ pub(crate) fn end_sets<F: Family>(
 
 /// Applies End of Message to the (S,G,rpt) machines of a group. The last group has none left.
 fn end_next<F: Family>(
-    records: &mut Store<F::Addr, OfFamily<F>>,
+    records: &mut RecordStore<F::Addr, OfFamily<F>>,
     port: usize,
     group: F::Addr,
     last: Option<F::Addr>,
@@ -109,7 +113,7 @@ fn end_next<F: Family>(
 /// The same as `end_sets`, after the events of a list. If the events of each group are side by
 /// side, it visits each group once.
 pub(crate) fn end_events<F: Family>(
-    records: &mut Store<F::Addr, OfFamily<F>>,
+    records: &mut RecordStore<F::Addr, OfFamily<F>>,
     port: usize,
     events: &[Event<F::Addr>],
 )

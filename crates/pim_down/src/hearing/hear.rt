@@ -14,7 +14,7 @@ use crate::machines::key::{Key, OfFamily, What, compare_groups};
 use crate::machines::machine::{on_join, on_prune, on_rpt_prune, on_star_join};
 use crate::records::bound::Bound;
 use crate::records::edits::{find_place, machine_of, put_machine};
-use crate::records::store::Store;
+use crate::records::store::RecordStore;
 use pim_addr::{Family, Routes};
 use pim_jp::Entry;
 use sorted_blocks::Place;
@@ -139,7 +139,7 @@ impl<F: Family> Bound<F::Addr> for RptsOf<F> {
 
 /// Applies Join(*,G) to the (S,G,rpt) machines of its group. It visits only these.
 pub(crate) fn join_rpts<F: Family>(
-    records: &mut Store<F::Addr, OfFamily<F>>,
+    records: &mut RecordStore<F::Addr, OfFamily<F>>,
     port: usize,
     group: F::Addr,
 )
@@ -171,7 +171,7 @@ pub(crate) fn is_star_join<A>(event: &Event<A>) -> bool
 /// Applies an event to the machine that it names, and to no other. The search begins near a place,
 /// and leaves the place that it found.
 pub(crate) fn act_on_own<F: Family>(
-    records: &mut Store<F::Addr, OfFamily<F>>,
+    records: &mut RecordStore<F::Addr, OfFamily<F>>,
     near: &mut Place,
     port: usize,
     start: Start,
@@ -200,7 +200,7 @@ pub(crate) fn act_on_own<F: Family>(
 /// Applies an event to the machines of a port. The search begins near a place, and leaves the place
 /// that it found.
 pub(crate) fn act<F: Family>(
-    records: &mut Store<F::Addr, OfFamily<F>>,
+    records: &mut RecordStore<F::Addr, OfFamily<F>>,
     near: &mut Place,
     port: usize,
     start: Start,

@@ -11,7 +11,7 @@ use crate::machines::held::Arrival;
 use crate::machines::key::{Key, OfFamily, What};
 use crate::machines::machine::on_star_join;
 use crate::records::edits::{find_place, place_of, replace_at};
-use crate::records::store::Store;
+use crate::records::store::RecordStore;
 use pim_addr::Family;
 use sorted_blocks::Place;
 
@@ -32,7 +32,7 @@ struct Numbered<A> {
 /// Applies Join(*,G) to the (S,G,rpt) machine of this source. The search begins near a place, and
 /// leaves the place that it found.
 fn join_rpt<F: Family>(
-    records: &mut Store<F::Addr, OfFamily<F>>,
+    records: &mut RecordStore<F::Addr, OfFamily<F>>,
     near: &mut Place,
     port: usize,
     group: F::Addr,
@@ -63,7 +63,7 @@ fn join_rpt<F: Family>(
 /// Applies Join(*,G) to the (S,G,rpt) machines of its group. It changes only machines that these
 /// events name.
 fn join_entries<F: Family>(
-    records: &mut Store<F::Addr, OfFamily<F>>,
+    records: &mut RecordStore<F::Addr, OfFamily<F>>,
     near: &mut Place,
     port: usize,
     group: F::Addr,
@@ -89,7 +89,7 @@ fn join_entries<F: Family>(
 /// group, it visits only those that the events since then name, since the others don't change.
 /// Otherwise it visits all.
 fn join_listed<F: Family>(
-    records: &mut Store<F::Addr, OfFamily<F>>,
+    records: &mut RecordStore<F::Addr, OfFamily<F>>,
     near: &mut Place,
     port: usize,
     group: F::Addr,
@@ -113,7 +113,7 @@ fn join_listed<F: Family>(
 
 /// Applies the event at this index, after those before it. Returns the last Join(*,G) so far.
 fn act_listed<F: Family>(
-    records: &mut Store<F::Addr, OfFamily<F>>,
+    records: &mut RecordStore<F::Addr, OfFamily<F>>,
     near: &mut Place,
     arrival: Arrival,
     events: &[Event<F::Addr>],
@@ -157,7 +157,7 @@ fn act_listed<F: Family>(
 /// group follows it. If the events of each group are side by side, it walks once through the
 /// (S,G,rpt) machines of each group that has a Join(*,G).
 pub(crate) fn hear_events<F: Family>(
-    records: &mut Store<F::Addr, OfFamily<F>>,
+    records: &mut RecordStore<F::Addr, OfFamily<F>>,
     arrival: Arrival,
     events: &[Event<F::Addr>],
 )

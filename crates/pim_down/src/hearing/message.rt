@@ -19,7 +19,7 @@ use crate::machines::fault::HearFault;
 use crate::machines::held::Arrival;
 use crate::machines::key::{Key, OfFamily, What};
 use crate::records::edits::{find_place, place_of};
-use crate::records::store::Store;
+use crate::records::store::RecordStore;
 use crate::records::walk::count_on;
 use pim_addr::{Family, Routes};
 use pim_jp::{Entries, JpView, Sets};
@@ -39,7 +39,7 @@ fn creates<A>(event: &Event<A>) -> bool
 /// Whether the event creates a record that isn't held. The search begins near a place, and leaves
 /// the place that it found.
 fn is_new<F: Family>(
-    records: &Store<F::Addr, OfFamily<F>>,
+    records: &RecordStore<F::Addr, OfFamily<F>>,
     near: &mut Place,
     port: usize,
     event: &Event<F::Addr>,
@@ -62,7 +62,7 @@ fn is_new<F: Family>(
 
 /// How many entries of one list create a record that isn't held.
 fn count_list<F: Family>(
-    records: &Store<F::Addr, OfFamily<F>>,
+    records: &RecordStore<F::Addr, OfFamily<F>>,
     near: &mut Place,
     port: usize,
     routes: &Routes<F>,
@@ -90,7 +90,7 @@ fn count_list<F: Family>(
 /// Hears the entries of one list of a message: those that put off timers of records side by side at
 /// once, the others one by one.
 fn hear_list<F: Family>(
-    records: &mut Store<F::Addr, OfFamily<F>>,
+    records: &mut RecordStore<F::Addr, OfFamily<F>>,
     near: &mut Place,
     arrival: Arrival,
     routes: &Routes<F>,
@@ -122,7 +122,7 @@ fn hear_list<F: Family>(
 
 /// How many entries of these sets create a record that isn't held, repeats counted.
 fn count_sets<F: Family>(
-    records: &Store<F::Addr, OfFamily<F>>,
+    records: &RecordStore<F::Addr, OfFamily<F>>,
     port: usize,
     routes: &Routes<F>,
     sets: Sets<'_, F>,
@@ -154,7 +154,7 @@ fn count_sets<F: Family>(
 /// It looks up each entry at most once, and walks through the (S,G,rpt) machines of a group at each
 /// of its Joins(*,G).
 fn hear_sets<F: Family>(
-    records: &mut Store<F::Addr, OfFamily<F>>,
+    records: &mut RecordStore<F::Addr, OfFamily<F>>,
     arrival: Arrival,
     routes: &Routes<F>,
     message: &JpView<'_, F>,
@@ -187,7 +187,7 @@ fn hear_sets<F: Family>(
 /// Returns a number of records for which room suffices: that of all entries if the limit allows as
 /// many, else that of the new ones.
 fn judge_full<F: Family>(
-    records: &Store<F::Addr, OfFamily<F>>,
+    records: &RecordStore<F::Addr, OfFamily<F>>,
     limit: usize,
     port: usize,
     routes: &Routes<F>,
@@ -219,7 +219,7 @@ fn judge_full<F: Family>(
 /// Takes memory for this many records, or else for those that the message makes: only then it
 /// counts them. It is refused only if the message makes a record.
 fn make_room<F: Family>(
-    records: &mut Store<F::Addr, OfFamily<F>>,
+    records: &mut RecordStore<F::Addr, OfFamily<F>>,
     port: usize,
     routes: &Routes<F>,
     message: &JpView<'_, F>,
@@ -244,7 +244,7 @@ fn make_room<F: Family>(
 
 /// Hears the events of a message, which may be in a list of their own, and End of Message.
 fn hear_all<F: Family>(
-    records: &mut Store<F::Addr, OfFamily<F>>,
+    records: &mut RecordStore<F::Addr, OfFamily<F>>,
     arrival: Arrival,
     routes: &Routes<F>,
     message: &JpView<'_, F>,
@@ -280,7 +280,7 @@ fn hear_all<F: Family>(
 /// one as `Memory` may raise it. All growth of the records comes before the first change.
 pub(crate) fn hear_message<F: Family>(
     alloc: Global,
-    records: &mut Store<F::Addr, OfFamily<F>>,
+    records: &mut RecordStore<F::Addr, OfFamily<F>>,
     limit: usize,
     arrival: Arrival,
     routes: &Routes<F>,

@@ -17,7 +17,7 @@ use crate::machines::event::EntryList;
 use crate::machines::held::{Arrival, Held, Timed};
 use crate::machines::key::{Key, OfFamily, What};
 use crate::machines::machine::State;
-use crate::records::store::Store;
+use crate::records::store::RecordStore;
 use pim_addr::Family;
 use pim_jp::{Entries, Entry};
 use sorted_blocks::Place;
@@ -67,7 +67,7 @@ fn names_joined<F: Family>(
 /// How many entries in front name the records from this place on, one after another, each of them
 /// in Join until this time.
 fn count_refreshed<F: Family>(
-    records: &Store<F::Addr, OfFamily<F>>,
+    records: &RecordStore<F::Addr, OfFamily<F>>,
     place: Place,
     from: u64,
     port: usize,
@@ -97,7 +97,7 @@ fn count_refreshed<F: Family>(
 /// The place of the record that the first entry names, if it is an (S,G) record at this place or
 /// the next one.
 fn front_place<F: Family>(
-    records: &Store<F::Addr, OfFamily<F>>,
+    records: &RecordStore<F::Addr, OfFamily<F>>,
     near: Place,
     port: usize,
     group: F::Addr,
@@ -127,7 +127,7 @@ fn front_place<F: Family>(
 
 /// The place that is `count` records after this one; that of the last one where they are fewer.
 fn place_after<F: Family>(
-    records: &Store<F::Addr, OfFamily<F>>,
+    records: &RecordStore<F::Addr, OfFamily<F>>,
     place: Place,
     count: usize,
 ) -> Place {
@@ -147,7 +147,7 @@ fn place_after<F: Family>(
 /// may be none.
 #[tactic(auto, unfolding(crate::specs::Hearing::act_all))]
 pub(crate) fn refresh_front<F: Family>(
-    records: &mut Store<F::Addr, OfFamily<F>>,
+    records: &mut RecordStore<F::Addr, OfFamily<F>>,
     near: &mut Place,
     arrival: Arrival,
     list: EntryList<F::Addr>,

@@ -9,7 +9,7 @@ use crate::machines::held::Held;
 use crate::machines::key::{Key, OfFamily, compare_addresses, compare_groups, compare_keys};
 use crate::records::bound::Bound;
 use crate::records::near::Near;
-use crate::records::store::Store;
+use crate::records::store::RecordStore;
 use pim_addr::Family;
 
 /// The bound before all groups of a port above one, or before all of its groups.
@@ -39,7 +39,7 @@ impl<F: Family> Bound<F::Addr> for GroupsAbove<F> {
 /// the place of this record, or where it would be. The search begins near a place, which doesn't
 /// affect the record that it finds.
 pub(crate) fn first_of_groups_after<F: Family>(
-    records: &Store<F::Addr, OfFamily<F>>,
+    records: &RecordStore<F::Addr, OfFamily<F>>,
     near: Near,
     port: usize,
     bound: Option<F::Addr>,

@@ -8,7 +8,7 @@ ghost use Rattle.pim_down.specs.Words.{changed, key_seen, machine_seen, records_
 use crate::machines::held::{Held, Timed};
 use crate::machines::key::{Key, KeyOrder, OfFamily, compare_keys};
 use crate::records::near::Near;
-use crate::records::store::Store;
+use crate::records::store::RecordStore;
 use pim_addr::Family;
 use sorted_blocks::{Place, Probe};
 use std::cmp::Ordering;
@@ -36,7 +36,7 @@ impl<F: Family> Probe<Held<F::Addr>> for Sought<F> {
 /// The place of the key's record, or as an error the place where it would be inserted. The search
 /// begins near a place, which doesn't affect what it finds.
 pub(crate) fn find_place<F: Family>(
-    records: &Store<F::Addr, OfFamily<F>>,
+    records: &RecordStore<F::Addr, OfFamily<F>>,
     near: Place,
     key: &Key<F::Addr>,
 ) -> Result<Place, Place>
@@ -55,7 +55,7 @@ pub(crate) fn place_of(found: Result<Place, Place>) -> Place {
 
 /// Replaces the machine of the record at this place, or removes the record. Returns a place nearby.
 pub(crate) fn replace_at<A: Copy, O: KeyOrder<A>>(
-    records: &mut Store<A, O>,
+    records: &mut RecordStore<A, O>,
     place: Place,
     machine: Option<Timed>,
 ) -> Place
@@ -79,7 +79,7 @@ pub(crate) fn replace_at<A: Copy, O: KeyOrder<A>>(
 
 /// The machine of the record that was found; `None` if none was.
 pub(crate) fn machine_of<F: Family>(
-    records: &Store<F::Addr, OfFamily<F>>,
+    records: &RecordStore<F::Addr, OfFamily<F>>,
     key: &Key<F::Addr>,
     found: Result<Place, Place>,
 ) -> Option<Timed>
@@ -97,7 +97,7 @@ pub(crate) fn machine_of<F: Family>(
 /// The key's machine; `None` is NoInfo. Also returns the place of its record, or where it would be.
 /// The search begins near a place, which doesn't affect the machine that it finds.
 pub(crate) fn machine_near<F: Family>(
-    records: &Store<F::Addr, OfFamily<F>>,
+    records: &RecordStore<F::Addr, OfFamily<F>>,
     near: Near,
     key: &Key<F::Addr>,
 ) -> (Option<Timed>, Near)
@@ -113,7 +113,7 @@ pub(crate) fn machine_near<F: Family>(
 /// Gives the machine that was searched this state, or removes its record. The caller ensures room
 /// for the records held afterwards. Returns a place nearby.
 pub(crate) fn put_machine<F: Family>(
-    records: &mut Store<F::Addr, OfFamily<F>>,
+    records: &mut RecordStore<F::Addr, OfFamily<F>>,
     key: Key<F::Addr>,
     found: Result<Place, Place>,
     machine: Option<Timed>,

@@ -8,7 +8,7 @@ use crate::machines::key::{Key, OfFamily};
 use crate::machines::machine::Record;
 use crate::records::after::{Behind, is_of_group};
 use crate::records::near::Near;
-use crate::records::store::Store;
+use crate::records::store::RecordStore;
 use crate::records::walk::record_after;
 use pim_addr::Family;
 use sorted_blocks::Place;
@@ -19,7 +19,7 @@ use std::marker::Model;
 /// Contracts see the records, and the key of the machine that the walk follows.
 #[derive(Drop)]
 pub struct GroupMachines<'a, F: Family> {
-    records: &'a Store<F::Addr, OfFamily<F>>,
+    records: &'a RecordStore<F::Addr, OfFamily<F>>,
     /// The place of the next one, if there is one.
     place: Place,
     behind: Key<F::Addr>,
@@ -47,7 +47,7 @@ impl<'a, F: Family> GroupMachines<'a, F> {
     /// The machines after this key, at this moment. The search begins near a place, which doesn't
     /// affect the machines.
     pub(crate) fn behind(
-        records: &'a Store<F::Addr, OfFamily<F>>,
+        records: &'a RecordStore<F::Addr, OfFamily<F>>,
         near: Near,
         key: Key<F::Addr>,
         moment: u64,

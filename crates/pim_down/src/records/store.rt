@@ -38,7 +38,7 @@ const HALF_OF_TIMERS: usize = 128;
 /// The records of all ports. Contracts see their list, its places, and the number of records that
 /// fit without memory.
 #[derive(Drop)]
-pub(crate) struct Store<A: Copy, O: KeyOrder<A>> {
+pub(crate) struct RecordStore<A: Copy, O: KeyOrder<A>> {
     list: SortedSlab<Held<A>, HALF_OF_RECORDS>,
     schedule: Schedule<A, O, HALF_OF_TIMERS>,
     /// How many records each port has.
@@ -49,7 +49,7 @@ pub(crate) struct Store<A: Copy, O: KeyOrder<A>> {
     room: usize,
 }
 
-impl<A: Copy, O: KeyOrder<A>> Model for Store<A, O> {
+impl<A: Copy, O: KeyOrder<A>> Model for RecordStore<A, O> {
     ghost use Rattle.sorted_slab.specs.Listed.{Listed};
     ghost use Rattle.pim_down.specs.declared.machines.held.Held.{Held};
 
@@ -130,12 +130,12 @@ fn put_off_rows<A: Copy, const HALF: usize>(
     }
 }
 
-impl<A: Copy, O: KeyOrder<A>> Store<A, O> {
+impl<A: Copy, O: KeyOrder<A>> RecordStore<A, O> {
     /// No record; it takes no memory.
     pub(crate) fn new(alloc: Global) -> Self
         ensures { result.items ≡ [] }
     {
-        Store {
+        RecordStore {
             list: SortedSlab::new(alloc),
             schedule: Schedule::new(alloc),
             counts: no_counts(),
@@ -360,7 +360,7 @@ impl<A: Copy, O: KeyOrder<A>> Store<A, O> {
     }
 }
 
-impl<A: Copy + fmt::Debug, O: KeyOrder<A>> fmt::Debug for Store<A, O> {
+impl<A: Copy + fmt::Debug, O: KeyOrder<A>> fmt::Debug for RecordStore<A, O> {
     fn fmt<W: fmt::Write>(&self, f: &mut fmt::Formatter<W>) -> fmt::Result {
         f.debug_list().entries(self.iter()).finish()
     }

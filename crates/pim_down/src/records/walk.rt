@@ -11,7 +11,7 @@ use crate::machines::held::{Held, Timed};
 use crate::machines::key::{Key, OfFamily};
 use crate::machines::machine::{Machine, Pending, Record};
 use crate::records::bound::Bound;
-use crate::records::store::{HALF_OF_RECORDS, Store};
+use crate::records::store::{HALF_OF_RECORDS, RecordStore};
 use pim_addr::Family;
 use sorted_blocks::Place;
 use sorted_slab::Walk;
@@ -69,7 +69,7 @@ impl<A> Bound<A> for OfPort {
 
 /// The records of one port, which are side by side.
 pub(crate) fn on_port<F: Family>(
-    records: &Store<F::Addr, OfFamily<F>>,
+    records: &RecordStore<F::Addr, OfFamily<F>>,
     port: usize,
 ) -> Walk<'_, Held<F::Addr>, HALF_OF_RECORDS>
     requires ascending { IsAscending (records_seen F.bytes_of records.now.items) }
@@ -84,7 +84,7 @@ pub(crate) fn on_port<F: Family>(
 }
 
 /// How many records the port has.
-pub(crate) fn count_on<F: Family>(records: &Store<F::Addr, OfFamily<F>>, port: usize) -> usize
+pub(crate) fn count_on<F: Family>(records: &RecordStore<F::Addr, OfFamily<F>>, port: usize) -> usize
     requires { port < 64 }
     ensures { result ≡ count_on port (records_seen F.bytes_of records.now.items) }
 {

@@ -7,7 +7,7 @@ ghost use Rattle.pim_down.specs.Words.{step_seen, firing_seen, records_seen, dow
 
 use crate::machines::key::OfFamily;
 use crate::machines::step::{Firing, Step};
-use crate::records::store::Store;
+use crate::records::store::RecordStore;
 use crate::running::timers::{fire_first, fire_timer, first_by};
 use pim_addr::Family;
 
@@ -23,7 +23,7 @@ pub(crate) struct Stop<A> {
 /// Runs from the present moment, before which no timer ends, to a later one, or to the first
 /// PruneEcho. No timer ends before the moment at which the run stops.
 pub(crate) fn run<F: Family>(
-    records: &mut Store<F::Addr, OfFamily<F>>,
+    records: &mut RecordStore<F::Addr, OfFamily<F>>,
     now: u64,
     moment: u64,
 ) -> Stop<F::Addr>
@@ -79,7 +79,7 @@ pub(crate) struct Halt<A> {
 /// Runs from the present moment, before which no timer ends, to a later one, or until one timer has
 /// fired. No timer ends before the moment at which the run stops.
 pub(crate) fn run_to_firing<F: Family>(
-    records: &mut Store<F::Addr, OfFamily<F>>,
+    records: &mut RecordStore<F::Addr, OfFamily<F>>,
     now: u64,
     moment: u64,
 ) -> Halt<F::Addr>

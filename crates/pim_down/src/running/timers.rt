@@ -17,13 +17,13 @@ use crate::machines::machine::State;
 use crate::machines::step::{Firing, Step, Timer};
 use crate::records::deadline::{Deadline, TimerKind};
 use crate::records::edits::{find_place, replace_at};
-use crate::records::store::Store;
+use crate::records::store::RecordStore;
 use crate::records::walk::record_after;
 use pim_addr::Family;
 use sorted_blocks::Place;
 
 /// When the first of all timers ends.
-pub(crate) fn next_end<F: Family>(records: &Store<F::Addr, OfFamily<F>>) -> Option<u64>
+pub(crate) fn next_end<F: Family>(records: &RecordStore<F::Addr, OfFamily<F>>) -> Option<u64>
     ensures { result ≡ first_end (records_seen F.bytes_of records.now.items) }
 {
     match records.first_timer() {
@@ -45,7 +45,7 @@ fn is_due<A>(timer: &Deadline<A>, last: u64, looks: &mut u64) -> bool
 /// The timer that fires first, if it ends no later than the moment `last`. It looks at one timer at
 /// most.
 pub(crate) fn first_by<F: Family>(
-    records: &Store<F::Addr, OfFamily<F>>,
+    records: &RecordStore<F::Addr, OfFamily<F>>,
     last: u64,
     looks: &mut u64,
 ) -> Option<Deadline<F::Addr>>
@@ -135,7 +135,7 @@ fn et_fires<A: Copy>(held: &Held<A>, now: u64) -> Firing<A>
 /// Fires the Prune-Pending Timer of the record at this place, at the moment `now`. Returns what
 /// fired, and a place nearby.
 fn fire_pending<F: Family>(
-    records: &mut Store<F::Addr, OfFamily<F>>,
+    records: &mut RecordStore<F::Addr, OfFamily<F>>,
     place: Place,
     now: u64,
 ) -> (Firing<F::Addr>, Place)
@@ -158,7 +158,7 @@ fn fire_pending<F: Family>(
 /// Fires the Expiry Timer of the record at this place, at the moment `now`. Returns what fired, and
 /// a place nearby.
 fn fire_expiry<F: Family>(
-    records: &mut Store<F::Addr, OfFamily<F>>,
+    records: &mut RecordStore<F::Addr, OfFamily<F>>,
     place: Place,
     now: u64,
 ) -> (Firing<F::Addr>, Place)
@@ -176,7 +176,7 @@ fn fire_expiry<F: Family>(
 /// Fires the first of all timers, at its end. The search for its record begins near this place.
 /// Returns what fired, and a place nearby.
 pub(crate) fn fire_timer<F: Family>(
-    records: &mut Store<F::Addr, OfFamily<F>>,
+    records: &mut RecordStore<F::Addr, OfFamily<F>>,
     near: Place,
     first: Deadline<F::Addr>,
 ) -> (Firing<F::Addr>, Place)
@@ -212,7 +212,7 @@ fn step_of<A: Copy>(fired: Firing<A>) -> Step<A>
 /// Fires the first of all timers, as `fire_timer` does. Returns what the run reports, and a place
 /// nearby.
 pub(crate) fn fire_first<F: Family>(
-    records: &mut Store<F::Addr, OfFamily<F>>,
+    records: &mut RecordStore<F::Addr, OfFamily<F>>,
     near: Place,
     first: Deadline<F::Addr>,
 ) -> (Step<F::Addr>, Place)

@@ -7,7 +7,7 @@ use pim_down::{Machine, State, Timer, What};
 use pim_event_lines::JsonPrinter;
 use pim_events::{
     Cause, EndOfTrace, EventWriter, Filter, Fired, Greeting, Happening, Ignored, Judgment,
-    OwnRestart, Skip, SkipCounts, Skipping, TimeOut, TraceEvent, Transition,
+    OwnRestart, Skip, SkipCounts, Skipping, TimeOut, TraceEvent, TransitionEvent,
 };
 use pim_hello::Heard;
 use pim_jp::JpView;
@@ -72,7 +72,7 @@ const TRANSITION: &str =
 
 /// Whether a transition is written so.
 fn writes_transition(alloc: Global) -> bool {
-    let what = Happening::Transition(Transition {
+    let what = Happening::Transition(TransitionEvent {
         frame: 51,
         from: ANNE,
         by: By::Join,

@@ -2,7 +2,7 @@ use Rattle.std.proofs.Common.{◌≡◌, ◌++◌, map, drop}
 use Rattle.std.specs.List.{flat_map}
 use Rattle.pim_addr.specs.Routes.{rp_of}
 use Rattle.pim_jp.specs.Seen.{entry_seen}
-use Rattle.pim_change.specs.Seen.{tellings_seen}
+use Rattle.pim_change.specs.Seen.{actions_seen}
 use Rattle.pim_change.specs.Written.{joined_entries}
 use Rattle.pim_change.proofs.entries.push_all_joined.Given as goal
 
@@ -12,7 +12,7 @@ invariant-loop-unit g l =
     let bytes_of = g.F.Family.bytes_of in
     map (entry_seen bytes_of) l.entries.items
     ++ flat_map (joined_entries (rp_of g.F.Family.family l.routes (bytes_of l.group)))
-    (tellings_seen bytes_of (drop l.unit-index l.units))
+    (actions_seen bytes_of (drop l.unit-index l.units))
     ≡ map (entry_seen bytes_of) l.fn.entries.items
     ++ flat_map (joined_entries (rp_of g.F.Family.family l.routes (bytes_of l.group)))
-    (tellings_seen bytes_of l.units)
+    (actions_seen bytes_of l.units)

@@ -115,21 +115,21 @@ returns-clause-grows g c =
     let x = extent_is c.args.container c.args.head.now c.in_ok-extent.extent c.in_ok-extent.ensures.answer in
     rw (named_ok c.args.container c.args.head.now c.in_ok-extent.extent.length x.0 x.2, c.read_piece.ensures.capacity) c.read_after.ensures.grows
 
-pub returns-in_err-extent-clause-asked : goal.returns-in_err-extent-clause-asked
-returns-in_err-extent-clause-asked g c =
+pub returns-in_err-extent-clause-lacking : goal.returns-in_err-extent-clause-lacking
+returns-in_err-extent-clause-lacking g c =
     let p = err_from_is_err_and c.from_residual.result c.from_residual.ensures.1 in
     rw (p.1, p.2) (memory_not FoundPiece c.in_err-extent.field-0.0 _ c.in_err-extent.ensures.not_other)
 
-pub returns-in_err-read_after-clause-asked : goal.returns-in_err-read_after-clause-asked
-returns-in_err-read_after-clause-asked g c =
+pub returns-in_err-read_after-clause-lacking : goal.returns-in_err-read_after-clause-lacking
+returns-in_err-read_after-clause-lacking g c =
     let p = err_from_is_err_and c.from_residual-in_err-read_after.result c.from_residual-in_err-read_after.ensures.1 in
     let x = extent_is c.args.container c.args.head.now c.in_ok-extent.extent c.in_ok-extent.ensures.answer in
     rw (p.1, p.2) (memory_passed (Unit {0}) FoundPiece c.in_err-read_after.field-0.0 _ _
     (λ less. inl (lacks_known (vec_capacity c.args.buffer.now) c.in_ok-extent.extent.length c.args.container c.args.head.now x.0 x.2 less))
     c.in_err-read_after.ensures.memory)
 
-pub returns-in_err-event-clause-asked : goal.returns-in_err-event-clause-asked
-returns-in_err-event-clause-asked g c =
+pub returns-in_err-event-clause-lacking : goal.returns-in_err-event-clause-lacking
+returns-in_err-event-clause-lacking g c =
     let p = err_from_is_err_and c.from_residual-in_err-event.result c.from_residual-in_err-event.ensures.1 in
     let x = extent_is c.args.container c.args.head.now c.in_ok-extent.extent c.in_ok-extent.ensures.answer in
     rw (p.1, p.2) (asks_place ContainerEvent FoundPiece c.in_err-event.field-0.0 _ _ _ _

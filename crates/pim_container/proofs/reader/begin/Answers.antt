@@ -112,18 +112,18 @@ returns-clause-grows g c =
     let classic : is_section head ≡ false = grind arith in
     grows_classic head (g.R.Feed.remaining c.args.device.now) (g.R.Feed.remaining c.read_up_to.new.feed) (vec_capacity c.args.buffer.now) (vec_capacity c.begin_classic.new.buffer) l classic (all_read _ _ head c.in_ok-got.got (omega arith) c.in_ok-got.ensures.bytes) c.begin_classic.ensures.grows
 
-pub returns-then-is_section-clause-asked : goal.returns-then-is_section-clause-asked
-returns-then-is_section-clause-asked g c =
+pub returns-then-is_section-clause-lacking : goal.returns-then-is_section-clause-lacking
+returns-then-is_section-clause-lacking g c =
     let head = c.read_up_to.new.buffer in
     let l : length head ≡ 12 = omega arith in
     let blocks : is_section head ≡ true = grind arith in
     memory_of c.go_on.result _ _
     (asks_first head (g.R.Feed.remaining c.args.device.now) (g.R.Feed.remaining c.read_up_to.new.feed) (vec_capacity c.args.buffer.now) _ (vec_capacity c.args.interfaces.now ≤ 0)
     (λ (full : vec_capacity c.clear.new.self ≤ vec_len c.clear.new.self). omega (arith, full, c.clear.ensures.len, c.clear.ensures.capacity)) l blocks (all_read _ _ head c.in_ok-got.got (omega arith) c.in_ok-got.ensures.bytes))
-    c.go_on.ensures.asked
+    c.go_on.ensures.lacking
 
-pub returns-in_err-format-clause-asked : goal.returns-in_err-format-clause-asked
-returns-in_err-format-clause-asked g c =
+pub returns-in_err-format-clause-lacking : goal.returns-in_err-format-clause-lacking
+returns-in_err-format-clause-lacking g c =
     let p = err_from_is_err_and c.from_residual-in_err-format.result c.from_residual-in_err-format.ensures.1 in
     let head = c.read_up_to.new.buffer in
     let l : length head ≡ 12 = omega arith in

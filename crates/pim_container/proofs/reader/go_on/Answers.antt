@@ -32,10 +32,10 @@ returns-in_err-found-clause-taken g c =
     let p = err_from_is_err_and c.from_residual.result c.from_residual.ensures.1 in
     rw (p.1, p.2) (takes_passed FoundPiece ReaderStep _ c.in_err-found.field-0.0 _ _ c.in_err-found.ensures.taken)
 
-pub returns-in_err-found-clause-asked : goal.returns-in_err-found-clause-asked
-returns-in_err-found-clause-asked g c =
+pub returns-in_err-found-clause-lacking : goal.returns-in_err-found-clause-lacking
+returns-in_err-found-clause-lacking g c =
     let p = err_from_is_err_and c.from_residual.result c.from_residual.ensures.1 in
-    rw (p.1, p.2) (memory_passed FoundPiece ReaderStep c.in_err-found.field-0.0 _ _ (λ m. m) c.in_err-found.ensures.asked)
+    rw (p.1, p.2) (memory_passed FoundPiece ReaderStep c.in_err-found.field-0.0 _ _ (λ m. m) c.in_err-found.ensures.lacking)
 
 pub returns-clause-ahead : goal.returns-clause-ahead
 returns-clause-ahead g c =

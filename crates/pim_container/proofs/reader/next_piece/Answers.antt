@@ -83,12 +83,12 @@ returns-clause-grows g c =
     grows_next c.args.left c.args.container head (g.R.Feed.remaining c.args.device.now) (g.R.Feed.remaining c.read_up_to.new.feed) (vec_capacity c.args.buffer.now) (vec_capacity c.go_on.new.buffer) (omega arith) (omega arith) (all_read _ _ head c.in_ok-got.got (omega arith) c.in_ok-got.ensures.bytes)
     c.go_on.ensures.grows c.go_on.ensures.capacity
 
-pub returns-clause-asked : goal.returns-clause-asked
-returns-clause-asked g c =
+pub returns-clause-lacking : goal.returns-clause-lacking
+returns-clause-lacking g c =
     let head = c.read_up_to.new.buffer in
     memory_of c.go_on.result _ _
     (asks_next c.args.left c.args.container head (g.R.Feed.remaining c.args.device.now) (g.R.Feed.remaining c.read_up_to.new.feed) (vec_capacity c.args.buffer.now) _ (omega arith) (omega arith) (all_read _ _ head c.in_ok-got.got (omega arith) c.in_ok-got.ensures.bytes))
-    c.go_on.ensures.asked
+    c.go_on.ensures.lacking
 
 pub returns-clause-ahead : goal.returns-clause-ahead
 returns-clause-ahead g c =

@@ -24,7 +24,7 @@ returns-clause-mirrored g c =
     mirrored g.F.Family.family c.args.fresh.now.routes.now c.args.by.now c.args.fresh.now.limit c.args.messages.now c.mirror_answers_for_the_form.ensures c.is_sound.ensures c.is_writing.ensures
     c.requires.least c.requires.most c.requires.sent (fresh_seen g.F.Family.bytes_of c.args.fresh.now) c.mirror.result c.requires.once c.mirror.ensures.course
 
-pub returns-clause-tells : goal.returns-clause-tells
-returns-clause-tells g c = λ sent.
+pub returns-clause-wrote : goal.returns-clause-wrote
+returns-clause-wrote g c = λ sent.
     tells_once g.F.Family.family c.args.fresh.now.routes.now c.args.by.now c.args.fresh.now.limit c.args.messages.now c.mirror_answers_for_the_form.ensures c.is_sound.ensures c.is_writing.ensures
     c.requires.least c.requires.most sent (fresh_seen g.F.Family.bytes_of c.args.fresh.now) c.mirror.result c.requires.once c.mirror.ensures.course

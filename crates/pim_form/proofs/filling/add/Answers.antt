@@ -1,7 +1,7 @@
 use Rattle.std.proofs.Common.{◌+◌, arith, refl}
 use Rattle.std.proofs.lemmas.Result.{IfOk-weaker}
 use Rattle.pim_form.specs.Filling.{star_entries, place_sources}
-use Rattle.pim_form.proofs.PlanCuts.{goes_next, within_of, few_of, room_behind, few_entries, tells}
+use Rattle.pim_form.proofs.PlanCuts.{goes_next, within_of, few_of, room_behind, few_entries, carries}
 use Rattle.pim_form.proofs.filling.add.Goals as goal
 
 pub has_at_most-requires-clause-sources : goal.has_at_most-requires-clause-sources
@@ -32,7 +32,7 @@ push-requires-clause-entries g c =
 pub returns-then-has_at_most : goal.returns-then-has_at_most
 returns-then-has_at_most g c =
     let room = room_behind g.F.Family.bytes_of g.F.Family.family c.args.budget c.args.place.now c.args.filling.now c.requires.next c.fitting.result c.fitting.ensures ((c.if-has_at_most.ensures {u = tt}).0 refl) in
-    IfOk-weaker c.push.result _ _ (λ x. tells g.F.Family.bytes_of g.F.Family.family c.args.budget c.args.place.now c.args.place.now c.args.filling.now c.args.filling.now c.push.new.self
+    IfOk-weaker c.push.result _ _ (λ x. carries g.F.Family.bytes_of g.F.Family.family c.args.budget c.args.place.now c.args.place.now c.args.filling.now c.args.filling.now c.push.new.self
     (λ row places left filling. filling) room) c.push.ensures
 
 pub push-requires-2-clause-sources : goal.push-requires-2-clause-sources
@@ -47,5 +47,5 @@ push-requires-2-clause-exceptions g c =
 
 pub returns : goal.returns
 returns g c =
-    IfOk-weaker c.push-2.result _ _ (λ x. tells g.F.Family.bytes_of g.F.Family.family c.args.budget c.args.place.now c.in_ok-last.last c.args.filling.now c.fill.new.filling c.push-2.new.self
+    IfOk-weaker c.push-2.result _ _ (λ x. carries g.F.Family.bytes_of g.F.Family.family c.args.budget c.args.place.now c.in_ok-last.last c.args.filling.now c.fill.new.filling c.push-2.new.self
     c.in_ok-last.ensures.filled c.in_ok-last.ensures.fits) c.push-2.ensures

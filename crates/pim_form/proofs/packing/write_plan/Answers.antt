@@ -50,13 +50,13 @@ loop-end-preserved g c =
     let rps = rp_of family c.args.routes.now in
     let run = run_of bytes_of c.args.row.now in
     let part : c.between-part.result.now ≡ between c.loop-end.start end pieces = c.between-part.ensures ∙ ap (between c.loop-end.start end) c.deref.ensures.value in
-    let tells = subst (λ (these : List _). CarriesRun family c.args.writer.now rps (run these) added.message) part
-    (part_tells bytes_of family c.args.writer.now rps c.args.row.now c.between-part.result.now added.message is.kept added.tells) in
+    let carries = subst (λ (these : List _). CarriesRun family c.args.writer.now rps (run these) added.message) part
+    (part_tells bytes_of family c.args.writer.now rps c.args.row.now c.between-part.result.now added.message is.kept added.carries) in
     record {
       ends = at.behind;
       parts = of_others pieces c.loop-end.start end left others at.next (IsFitting bytes_of family c.args.writer.now.budget c.args.row.now) c.loop-end.invariant.parts;
       rps = of_others pieces c.loop-end.start end left others at.next (PartHasRps bytes_of family rps c.args.row.now) c.loop-end.invariant.rps;
-      reported = one_more_told pieces c.loop-end.start end left others at.next family run c.args.writer.now rps _ c.loop-end.messages _ added.message added.more tells c.loop-end.invariant.reported;
+      reported = one_more_told pieces c.loop-end.start end left others at.next family run c.args.writer.now rps _ c.loop-end.messages _ added.message added.more carries c.loop-end.invariant.reported;
     }
 
 pub returns : goal.returns

@@ -15,6 +15,6 @@ returns-clause-ok g c =
       message = c.write_message.new.bytes;
       more = cut_behind c.split_at_mut-place.result.0.now c.args.bytes.now.items c.write_message.new.bytes _ _
           (omega (arith, c.split_at_mut-place.ensures.front_len, c.split_at_mut-place.ensures.back_len, c.write_message.auto.bytes, c.deref_mut.ensures.len)) front;
-      tells = subst (λ (part : List GroupForm). CarriesPart g.F.Family.family c.args.writer.now (rp_of g.F.Family.family c.args.routes.now) part c.write_message.new.bytes)
+      carries = subst (λ (part : List GroupForm). CarriesPart g.F.Family.family c.args.writer.now (rp_of g.F.Family.family c.args.routes.now) part c.write_message.new.bytes)
           c.new-2.ensures c.write_message.ensures;
     }

@@ -2,7 +2,7 @@ use Rattle.pim_replay.proofs.Ending.{quiet}
 use Rattle.pim_replay.proofs.quiet.replay_quietly.Goals as goal
 
 pub returns-in-Ok-clause-runs : goal.returns-in-Ok-clause-runs
-returns-in-Ok-clause-runs g c = record { account = c.in-Ok.ensures.heard.0.account; tells = c.in-Ok.ensures.heard.0.tells; counted = c.in-Ok.ensures.heard.1 }
+returns-in-Ok-clause-runs g c = record { account = c.in-Ok.ensures.heard.0.account; wrote = c.in-Ok.ensures.heard.0.wrote; counted = c.in-Ok.ensures.heard.1 }
 
 pub returns-in-Err-clause-runs : goal.returns-in-Err-clause-runs
 returns-in-Err-clause-runs g c =

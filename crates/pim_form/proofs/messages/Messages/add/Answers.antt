@@ -16,5 +16,5 @@ returns g c =
       more = message_added c.self.inside.bytes.items ok.message c.append_message.new.bytes.items c.self.inside.spans.items c.push.new.self.items (record { start = c.len-start.result; end = c.len-end.result })
           ok.more c.self.invariant (omega (arith, c.len-start.ensures, c.self.inside.bytes.ok.0)) (omega (arith, c.len-end.ensures, c.append_message.new.bytes.ok.0)) c.in_ok-push.ensures.items
           ∙ ap (λ (messages : List (List ℕ)). messages ++ ok.message ∷ []) c.self.view_is;
-      tells = ok.tells;
+      carries = ok.carries;
     }

@@ -105,7 +105,7 @@ returns-in-Err-clause-memory g c =
     rw (c.failed.ensures) (fails_memory c.is_cut-cut.result c.in-Err.fault _ _
     (λ asked. inr (subst (λ (it : Option (List Need)). IfSome it (SomeExceeds (piece_capacity self) (places self))) (sym (uncut_needs self.is_cut needs c.if-self.false))
     (asks_need (piece_capacity self) (places self) self.reader.state (vec_len self.reader.interfaces) self.reader.interfaces.items (g.R.Feed.remaining self.reader.device) asked)))
-    c.in-Err.ensures.asked)
+    c.in-Err.ensures.lacking)
 
 pub returns-in-Err-clause-piece : goal.returns-in-Err-clause-piece
 returns-in-Err-clause-piece g c =

@@ -13,7 +13,7 @@ returns-in_default-clause-taken g c =
     let taken = taking g.F.Family.family turn.capture turn.reported way.after in
     begun_longer (g.L.Listener.line c.args.self.now.listener.now) (PassesTime turn.moment c.args.router.now) (WritesTurn g.F.Family.family turn c.args.router.now)
     (g.L.Listener.contents c.args.device.now) (g.L.Listener.contents c.pass_time.new.device) way taken.0 taken.1
-    (both (PassesTime turn.moment c.args.router.now) (TakesRecord g.F.Family.family turn) way.account taken.0 way.after taken.1 way.tells refl)
+    (both (PassesTime turn.moment c.args.router.now) (TakesRecord g.F.Family.family turn) way.account taken.0 way.after taken.1 way.wrote refl)
 
 pub returns-in-Ok-take_record-clause-taken : goal.returns-in-Ok-take_record-clause-taken
 returns-in-Ok-take_record-clause-taken g c =

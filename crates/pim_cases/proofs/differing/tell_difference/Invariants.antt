@@ -1,5 +1,0 @@
-use Rattle.std.proofs.Common.{length}
-use Rattle.pim_cases.proofs.differing.tell_difference.Given as goal
-
-abbrev pub decreases-loop-wanted : goal.decreases-loop-wanted
-decreases-loop-wanted l = length l.left
