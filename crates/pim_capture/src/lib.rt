@@ -10,7 +10,7 @@
 //! failed read, so that no count wraps. A pcapng file is refused (`Magic`).
 //!
 //! `judge_packet` judges an IP packet alone. Callers: `pim_container`, which reads more links and
-//! pcapng, `pim_merge` and `pim_census`.
+//! pcapng, and `pim_merge`.
 #![tactic(auto)]
 
 mod capture;

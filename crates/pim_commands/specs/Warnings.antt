@@ -3,8 +3,8 @@ use Rattle.std.specs.Prelude.{ℕ, suc, nat_lt, cond, is_some, List, [], ◌∷�
 use Rattle.std.specs.List.{flat_map}
 use Rattle.pim_addr.specs.declared.family.AddressFamily.{AddressFamily}
 use Rattle.pim_addr.specs.Routes.{RouteTable}
-use Rattle.pim_census.specs.declared.census.Census.{Census}
-use Rattle.pim_census.specs.Missing.{misses, without_rp}
+use Rattle.pim_merge.specs.declared.census.Census.{Census}
+use Rattle.pim_merge.specs.Missing.{misses, without_rp}
 use Rattle.pim_files.specs.Captures.{PortFiles}
 use Rattle.pim_merge.specs.declared.tally.RecordPlace.{RecordPlace}
 use Rattle.pim_merge.specs.declared.tally.Tally.{Tally}

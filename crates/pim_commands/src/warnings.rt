@@ -14,10 +14,9 @@ ghost use Rattle.pim_commands.specs.Warnings.{port_warnings, warnings_from, warn
 
 use crate::naming::{is_in, name_at};
 use pim_addr::{Drain, Failed, Family, Feed, Routes};
-use pim_census::Census;
 use pim_faults::{Warning, missed_line, unserved_line, warning_line};
 use pim_files::Pair;
-use pim_merge::{Merge, RecordPlace, Tally};
+use pim_merge::{Census, Merge, RecordPlace, Tally};
 use pim_words::{Captures, More, Port, RouterSide};
 
 /// A count that isn't 0, as the place that its warning names: the port's own file.

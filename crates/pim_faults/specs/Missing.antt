@@ -2,7 +2,7 @@
 use Rattle.std.specs.Prelude.{ℕ, List, [], ◌∷◌, ◌++◌, codes, Option, None, Some}
 use Rattle.pim_addr.specs.declared.family.AddressFamily.{AddressFamily}
 use Rattle.pim_addr.specs.Text.{address_text}
-use Rattle.pim_census.specs.Missing.{address_in}
+use Rattle.pim_merge.specs.Missing.{address_in}
 use Rattle.pim_lines.specs.Pieces.{line}
 
 -- Words and the address in a slot, if it has one.

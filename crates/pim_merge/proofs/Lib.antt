@@ -17,3 +17,7 @@ pub mod Following
 pub mod Clocks
 pub mod Repeating
 pub mod Needing
+pub mod CensusPlaces
+pub mod CensusSteps
+pub mod Counted
+pub mod Adding

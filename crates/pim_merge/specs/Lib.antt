@@ -10,3 +10,8 @@ pub mod Laws
 pub mod Content
 pub mod Run
 pub mod OneLink
+pub mod CensusSlots
+pub mod CensusPlaces
+pub mod Census
+pub mod Missing
+pub mod CensusLaws

@@ -8,8 +8,8 @@ use Rattle.pim_capture.specs.declared.event.Why.{Why}
 use Rattle.pim_capture.specs.declared.event.Why.TheVariants.{Fragment, Cut, CutShort, NextFile}
 use Rattle.pim_capture.specs.Capture.{EventSeen, packet, skipped, ended}
 use Rattle.pim_capture.specs.Frame.{Datagram}
-use Rattle.pim_census.specs.declared.census.Census.{Census}
-use Rattle.pim_census.specs.Census.{no_names, census_after}
+use Rattle.pim_merge.specs.declared.census.Census.{Census}
+use Rattle.pim_merge.specs.Census.{no_names, census_after}
 use Rattle.pim_merge.specs.declared.tally.RecordPlace.{RecordPlace}
 use Rattle.pim_merge.specs.declared.tally.Tally.{Tally}
 use Rattle.pim_merge.specs.Merge.{Taken, event_time}

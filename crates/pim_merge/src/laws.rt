@@ -1,5 +1,6 @@
 //! Laws of the definitions. Nothing in this module is to be called.
 
+ghost use Rattle.pim_merge.specs.CensusLaws.{MissedIsListedByNone, UnservedIsJoined};
 ghost use Rattle.pim_merge.specs.Laws.{MergeHasOneEnd, MergeByHasOneEnd};
 ghost use Rattle.pim_merge.specs.OneLink.{OneLinkIsReadAlike, MergesAlike};
 ghost use Rattle.pim_merge.specs.OneLink.{RecordsHoldAlike};
@@ -33,3 +34,18 @@ pub fn merges_are_alike()
 pub fn records_hold_alike()
     ensures { RecordsHoldAlike }
 {}
+
+/// Where a census misses an address, messages count, and none of them names it as its upstream
+/// neighbour.
+pub fn missed_is_listed_by_none()
+    ensures { MissedIsListedByNone }
+{}
+
+/// The group that a census names for an address has no RP. A message that counts has a Join(\*,G)
+/// of it for the upstream neighbour with that address.
+pub fn unserved_is_joined()
+    ensures { UnservedIsJoined }
+{
+    pim_jp::laws::legal_is_spelled();
+    pim_jp::laws::spelled_is_message();
+}

@@ -11,10 +11,10 @@ ghost use Rattle.pim_merge.specs.Tally.{next_place, tally_by, in_next_file, tall
 ghost use Rattle.pim_merge.specs.Tally.{tally_after, tally_taken, tally_with, census_with};
 ghost use Rattle.pim_merge.specs.Tally.{census_begun};
 
+use crate::census::Census;
 use crate::lane::time_of;
 use pim_addr::AddressFamily;
 use pim_capture::{Event, Ip, Why};
-use pim_census::Census;
 
 /// The place of a record in a capture.
 #[derive(Clone, Copy, Debug, PartialEq, Eq)]

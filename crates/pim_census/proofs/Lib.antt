@@ -1,4 +1,0 @@
-pub mod Places
-pub mod Steps
-pub mod Counted
-pub mod Adding

@@ -1,8 +1,0 @@
-use Rattle.pim_census.proofs.Steps.{set_added, sets_added}
-use Rattle.pim_census.proofs.counting.add_all_joined.Goals as goal
-
-pub loop-set-preserved : goal.loop-set-preserved
-loop-set-preserved g c = set_added (g.F.Family.bytes_of c.args.upstream) _ _ _ _ _ _ c.in-Some.ensures.steps c.add_joined.ensures c.loop-set.invariant
-
-pub returns : goal.returns
-returns g c = sets_added (g.F.Family.bytes_of c.args.upstream) _ _ _ c.in-None.ensures.steps.0 c.loop-set.invariant

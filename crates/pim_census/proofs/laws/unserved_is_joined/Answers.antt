@@ -1,5 +1,0 @@
-use Rattle.pim_census.proofs.Counted.{unserved}
-use Rattle.pim_census.proofs.laws.unserved_is_joined.Goals as goal
-
-pub returns : goal.returns
-returns c = unserved c.legal_is_spelled.ensures c.spelled_is_message.ensures

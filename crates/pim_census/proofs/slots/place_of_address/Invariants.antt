@@ -1,7 +1,0 @@
-use Rattle.std.proofs.Common.{◌≡◌, ◌+◌, drop, bytes_eq}
-use Rattle.pim_census.specs.Places.{place_of}
-use Rattle.pim_census.proofs.slots.place_of_address.Given as goal
-
--- the place is among the slots that are left
-abbrev pub invariant-loop-slot : goal.invariant-loop-slot
-invariant-loop-slot l = (l.place ≡ l.slot-index) × (l.place + place_of (bytes_eq l.address) (drop l.slot-index l.slots) ≡ place_of (bytes_eq l.address) l.slots)

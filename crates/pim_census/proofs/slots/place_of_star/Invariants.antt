@@ -1,8 +1,0 @@
-use Rattle.std.proofs.Common.{◌≡◌, ◌+◌, drop}
-use Rattle.pim_census.specs.Places.{place_of}
-use Rattle.pim_census.specs.Slots.{same_star}
-use Rattle.pim_census.proofs.slots.place_of_star.Given as goal
-
--- the place is among the slots that are left
-abbrev pub invariant-loop-slot : goal.invariant-loop-slot
-invariant-loop-slot l = (l.place ≡ l.slot-index) × (l.place + place_of (same_star l.star) (drop l.slot-index l.slots) ≡ place_of (same_star l.star) l.slots)

@@ -1,5 +1,0 @@
-pub mod Slots
-pub mod Places
-pub mod Census
-pub mod Missing
-pub mod Laws

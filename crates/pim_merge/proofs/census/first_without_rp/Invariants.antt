@@ -1,0 +1,7 @@
+use Rattle.std.proofs.Common.{◌≡◌, drop}
+use Rattle.pim_merge.specs.Missing.{first_without_rp}
+use Rattle.pim_merge.proofs.census.first_without_rp.Given as goal
+
+-- the slots that are left give the group
+abbrev pub invariant-loop-slot : goal.invariant-loop-slot
+invariant-loop-slot g l = first_without_rp g.F.Family.family l.routes l.own (drop l.slot-index l.slots) ≡ first_without_rp g.F.Family.family l.routes l.own l.slots
