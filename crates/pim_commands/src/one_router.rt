@@ -22,7 +22,7 @@ use crate::routers::{configs, end_of, router_of, writer_of};
 use crate::tracing::{names_of, trace_by};
 use crate::warnings::warn_of_one;
 use pim_addr::{Drain, Family, Feed, Routes};
-use pim_exchange::{ExchangeFault, emit_into, mirror_into};
+use pim_exchange::{ExchangeFault, ExchangeOptions, emit_into, mirror_into};
 use pim_faults::Fault;
 use pim_files::Opener;
 use pim_form::Writer;
@@ -146,7 +146,13 @@ fn lead<F: Family, R: Feed + Drop, W: Drain>(
             of_traced(trace_by::<F, R, W>(alloc, requested, names, merge, router, writer))
         }
         Made::Mirror(by) => {
-            mirror_into::<F, R, W>(alloc, merge, router, end, by, captures.limit, writer)
+            let options = ExchangeOptions {
+                alloc,
+                end,
+                by,
+                limit: captures.limit,
+            };
+            mirror_into::<F, R, W>(merge, router, &options, writer)
         }
         Made::Emit(by) => emit_into::<F, R, W>(alloc, merge, router, end, by, writer),
     }

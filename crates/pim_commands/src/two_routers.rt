@@ -15,7 +15,7 @@ use crate::opening::open_two;
 use crate::routers::{configs, end_of, router_of, writer_of};
 use crate::warnings::warn_of_both;
 use pim_addr::{Drain, Family, Feed, Routes};
-use pim_exchange::{change_into, same_into};
+use pim_exchange::{ExchangeOptions, change_into, same_into};
 use pim_faults::Fault;
 use pim_files::{Opener, Pair};
 use pim_words::{Captures, RouterSide, Writing};
@@ -77,19 +77,21 @@ fn run_command<'a, F: Family, R: Feed + Drop, W: Drain>(
         Ok(router) => router,
         Err(fault) => return Err(fault),
     };
+    let options = ExchangeOptions {
+        alloc,
+        end,
+        by: &by,
+        limit,
+    };
     let of_a = &mut pair.a;
     let of_b = &mut pair.b;
     match command {
         TwoRouters::Same => {
-            let reported = same_into::<F, R, W>(
-                alloc, of_a, &mut a, of_b, &mut b, end, &by, writer,
-            );
+            let reported = same_into::<F, R, W>(of_a, &mut a, of_b, &mut b, &options, writer);
             answer_of::<F>(captures, Some(RouterSide::A), Some(RouterSide::B), reported)
         }
         TwoRouters::Change => {
-            let reported = change_into::<F, R, W>(
-                alloc, of_a, &mut a, of_b, &mut b, end, &by, limit, writer,
-            );
+            let reported = change_into::<F, R, W>(of_a, &mut a, of_b, &mut b, &options, writer);
             answer_of::<F>(captures, Some(RouterSide::A), Some(RouterSide::B), reported)
         }
     }

@@ -17,10 +17,11 @@ use crate::both::replay_both;
 use crate::change_hearing::move_again;
 use crate::fault::{ExchangeFault, of_mirror};
 use crate::mirror_text::{demand_of, judgement};
+use crate::options::ExchangeOptions;
 use pim_addr::{Drain, Family, Feed, write_all};
 use pim_form::laws::one_normal_form;
 use pim_form::{FormFault, Messages, NormalForm, Writer};
-use pim_merge::{End, Merge};
+use pim_merge::Merge;
 use pim_moving::laws::change_fits;
 use pim_report::write_messages;
 use pim_router::Router;
@@ -111,30 +112,34 @@ fn report<F: Family, W: Drain>(
 /// - `Output`: a prefix of the text was written.
 /// - `Memory`: nothing was written, or everything but `agrees`.
 pub fn change_into<F: Family, R: Feed + Drop, W: Drain>(
-    alloc: Global,
     merge_a: &mut Merge<R>,
     router_a: &mut Router<'_, F>,
     merge_b: &mut Merge<R>,
     router_b: &mut Router<'_, F>,
-    end: End,
-    by: &Writer<F>,
-    limit: usize,
+    options: &ExchangeOptions<'_, F>,
     writer: &mut W,
 ) -> Result<u8, ExchangeFault<F::Addr>>
     requires ports_a { length merge_a.old.lanes ≡ length router_a.old.ports }
     requires ports_b { length merge_b.old.lanes ≡ length router_b.old.ports }
     requires moment_a { router_a.old.machines.moment ≤ latest_moment }
     requires moment_b { router_b.old.machines.moment ≤ latest_moment }
-    requires end { IsBoundedEnd end }
-    requires least { 1 ≤ limit }
-    requires most { limit ≤ 100000 }
+    requires end { IsBoundedEnd options.now.end }
+    requires least { 1 ≤ options.now.limit }
+    requires most { options.now.limit ≤ 100000 }
     requires routes { router_a.old.routes ≡ router_b.old.routes }
-    ensures text { WritesChange F.family end by.now limit merge_a.old merge_a.new router_a.old
-        router_a.new
+    ensures text { WritesChange F.family options.now.end options.now.by.now options.now.limit
+        merge_a.old merge_a.new router_a.old router_a.new
         merge_b.old merge_b.new router_b.old router_b.new
         F.bytes_of (W.contents writer.old) (W.contents writer.new) result }
     ensures count { W.failures writer.new ≡ failures_of_exchange (W.failures writer.old) result }
 {
-    replay_both::<F, R>(merge_a, router_a, merge_b, router_b, end)?;
-    report::<F, W>(alloc, router_a, router_b, by, limit, writer)
+    replay_both::<F, R>(merge_a, router_a, merge_b, router_b, options.end)?;
+    report::<F, W>(
+        options.alloc,
+        router_a,
+        router_b,
+        options.by,
+        options.limit,
+        writer,
+    )
 }

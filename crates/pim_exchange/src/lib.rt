@@ -20,10 +20,12 @@ mod emit;
 mod fault;
 mod fresh_hearing;
 mod mirror_text;
+mod options;
 mod same;
 
 pub use change_text::change_into;
 pub use emit::emit_into;
 pub use fault::ExchangeFault;
 pub use mirror_text::mirror_into;
+pub use options::ExchangeOptions;
 pub use same::same_into;

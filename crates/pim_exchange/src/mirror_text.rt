@@ -14,10 +14,11 @@ ghost use Rattle.pim_exchange.specs.MirrorText.{DemandsBy, Exchanges, Judges, Wr
 
 use crate::fault::{ExchangeFault, of_form, of_mirror};
 use crate::fresh_hearing::hear_again;
+use crate::options::ExchangeOptions;
 use pim_addr::{Drain, Family, Feed, write_all};
 use pim_form::laws::one_normal_form;
 use pim_form::{Messages, Writer};
-use pim_merge::{End, Merge};
+use pim_merge::Merge;
 use pim_replay::replay_quietly;
 use pim_report::write_messages;
 use pim_router::Router;
@@ -98,27 +99,25 @@ fn exchange<F: Family, W: Drain>(
 /// - `Output`: a prefix of the text was written.
 /// - `Memory`: nothing was written, or everything but `agrees`.
 pub fn mirror_into<F: Family, R: Feed + Drop, W: Drain>(
-    alloc: Global,
     merge: &mut Merge<R>,
     router: &mut Router<'_, F>,
-    end: End,
-    by: &Writer<F>,
-    limit: usize,
+    options: &ExchangeOptions<'_, F>,
     writer: &mut W,
 ) -> Result<u8, ExchangeFault<F::Addr>>
     requires ports { length merge.old.lanes ≡ length router.old.ports }
     requires moment { router.old.machines.moment ≤ latest_moment }
-    requires end { IsBoundedEnd end }
-    requires least { 1 ≤ limit }
-    requires most { limit ≤ 100000 }
-    ensures text { WritesMirror F.family end by.now limit merge.old merge.new router.old router.new
+    requires end { IsBoundedEnd options.now.end }
+    requires least { 1 ≤ options.now.limit }
+    requires most { options.now.limit ≤ 100000 }
+    ensures text { WritesMirror F.family options.now.end options.now.by.now options.now.limit
+        merge.old merge.new router.old router.new
         F.bytes_of (W.contents writer.old) (W.contents writer.new) result }
     ensures count { W.failures writer.new ≡ failures_of_exchange (W.failures writer.old) result }
     // The tallies of the captures after the run are those of the turns that were taken.
-    ensures tallied { IsTallied end merge.old merge.new }
+    ensures tallied { IsTallied options.now.end merge.old merge.new }
 {
-    if let Err(fault) = replay_quietly::<F, R>(merge, router, end) {
+    if let Err(fault) = replay_quietly::<F, R>(merge, router, options.end) {
         return Err(ExchangeFault::Replay(fault));
     }
-    exchange::<F, W>(alloc, router, by, limit, writer)
+    exchange::<F, W>(options.alloc, router, options.by, options.limit, writer)
 }

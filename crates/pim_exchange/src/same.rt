@@ -12,9 +12,10 @@ ghost use Rattle.pim_exchange.specs.Same.{Compares, ComparesRouters, answer_stat
 
 use crate::both::replay_both;
 use crate::fault::{ExchangeFault, of_form};
+use crate::options::ExchangeOptions;
 use pim_addr::{Drain, Family, Feed, write_all};
 use pim_form::Writer;
-use pim_merge::{End, Merge};
+use pim_merge::Merge;
 use pim_report::same_line;
 use pim_router::{Router, same_wants};
 use pim_run::RunFault;
@@ -65,27 +66,25 @@ fn compare<F: Family, W: Drain>(
 /// - `Memory` if memory is refused: nothing was written.
 /// - `Output` if the device fails: a prefix of the line was written.
 pub fn same_into<F: Family, R: Feed + Drop, W: Drain>(
-    alloc: Global,
     merge_a: &mut Merge<R>,
     router_a: &mut Router<'_, F>,
     merge_b: &mut Merge<R>,
     router_b: &mut Router<'_, F>,
-    end: End,
-    by: &Writer<F>,
+    options: &ExchangeOptions<'_, F>,
     writer: &mut W,
 ) -> Result<u8, ExchangeFault<F::Addr>>
     requires ports_a { length merge_a.old.lanes ≡ length router_a.old.ports }
     requires ports_b { length merge_b.old.lanes ≡ length router_b.old.ports }
     requires moment_a { router_a.old.machines.moment ≤ latest_moment }
     requires moment_b { router_b.old.machines.moment ≤ latest_moment }
-    requires end { IsBoundedEnd end }
+    requires end { IsBoundedEnd options.now.end }
     requires routes { router_a.old.routes ≡ router_b.old.routes }
-    ensures compares { Compares F.family end by.now merge_a.old merge_a.new router_a.old
-        router_a.new
+    ensures compares { Compares F.family options.now.end options.now.by.now
+        merge_a.old merge_a.new router_a.old router_a.new
         merge_b.old merge_b.new router_b.old router_b.new
         F.bytes_of (W.contents writer.old) (W.contents writer.new) result }
     ensures count { W.failures writer.new ≡ failures_of_exchange (W.failures writer.old) result }
 {
-    replay_both::<F, R>(merge_a, router_a, merge_b, router_b, end)?;
-    compare::<F, W>(alloc, router_a, router_b, by, writer)
+    replay_both::<F, R>(merge_a, router_a, merge_b, router_b, options.end)?;
+    compare::<F, W>(options.alloc, router_a, router_b, options.by, writer)
 }
