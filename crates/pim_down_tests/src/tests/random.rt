@@ -133,20 +133,26 @@ fn message(alloc: Global, numbers: &mut Numbers) -> Result<Vec<Named>, AllocErro
     Ok(entries)
 }
 
+/// A message, with its body.
+#[derive(Drop)]
+struct Spoken<'a> {
+    message: &'a [Named],
+    holdtime: u16,
+    body: &'a [u8],
+}
+
 /// Both hear this message: whether they answer alike.
 fn answer_alike(
     numbers: &mut Numbers,
     routes: &Routes<V4>,
     ports: &mut Ports<V4>,
     slow: &mut Slow,
-    message: &[Named],
-    holdtime: u16,
-    body: &[u8],
+    spoken: &Spoken<'_>,
 ) -> bool {
     let timing = numbers.timing();
     let port = usize::from(numbers.byte(2));
-    let reported = hear_body(ports, routes, port, body, timing);
-    match slow.hear(port, message, holdtime, timing) {
+    let reported = hear_body(ports, routes, port, spoken.body, timing);
+    match slow.hear(port, spoken.message, spoken.holdtime, timing) {
         Ok(None) => reported == Some(Ok(())),
         Ok(Some(needed)) => reported == Some(Err(HearFault::Full { needed })),
         Err(_) => false,
@@ -166,7 +172,14 @@ fn hear(
     };
     let holdtime = numbers.holdtime();
     match body(alloc, holdtime, &message) {
-        Ok(body) => answer_alike(numbers, routes, ports, slow, &message, holdtime, &body),
+        Ok(body) => {
+            let spoken = Spoken {
+                message: &message,
+                holdtime,
+                body: &body,
+            };
+            answer_alike(numbers, routes, ports, slow, &spoken)
+        }
         Err(_) => false,
     }
 }
@@ -184,7 +197,14 @@ fn hear_joins(
     };
     let holdtime = numbers.holdtime();
     match body_of_joins(alloc, holdtime, &message) {
-        Ok(body) => answer_alike(numbers, routes, ports, slow, &message, holdtime, &body),
+        Ok(body) => {
+            let spoken = Spoken {
+                message: &message,
+                holdtime,
+                body: &body,
+            };
+            answer_alike(numbers, routes, ports, slow, &spoken)
+        }
         Err(_) => false,
     }
 }
