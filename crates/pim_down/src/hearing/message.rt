@@ -14,7 +14,7 @@ use crate::hearing::hear::{act, event_of};
 use crate::hearing::listed::hear_events;
 use crate::hearing::ordered::{entry_count, in_key_order};
 use crate::hearing::refresh::refresh_front;
-use crate::machines::event::{EntryList, Event};
+use crate::machines::event::Event;
 use crate::machines::fault::HearFault;
 use crate::machines::held::Arrival;
 use crate::machines::key::{Key, OfFamily, What};
@@ -60,21 +60,28 @@ fn is_new<F: Family>(
     creates(event) && found.is_err()
 }
 
+/// The entries of one list of a group set, and the group.
+struct GroupEntries<'a, F: Family> {
+    group: F::Addr,
+    entries: Entries<'a, F>,
+}
+
 /// How many entries of one list create a record that isn't held.
 fn count_list<F: Family>(
     records: &RecordStore<F::Addr, OfFamily<F>>,
     near: &mut Place,
     port: usize,
     routes: &Routes<F>,
-    list: EntryList<F::Addr>,
-    entries: Entries<'_, F>,
+    joins: bool,
+    list: GroupEntries<'_, F>,
 ) -> usize
     requires { IsAscending (records_seen F.bytes_of records.now.items) }
     ensures count { result ≡ count_new port (records_seen F.bytes_of records.now.items)
-        (list_events (rp_of F.family routes.now) list.joins (F.bytes_of list.group) entries.entry) }
+        (list_events (rp_of F.family routes.now) joins (F.bytes_of list.entry.group)
+        list.entry.entries) }
     ensures bound { result ≤ 65535 }
 {
-    let EntryList { group, joins } = list;
+    let GroupEntries { group, entries } = list;
     let _most = entries.count_left();
     let mut count = 0;
     for entry in entries {
@@ -94,26 +101,28 @@ fn hear_list<F: Family>(
     near: &mut Place,
     arrival: Arrival,
     routes: &Routes<F>,
-    list: EntryList<F::Addr>,
-    entries: Entries<'_, F>,
+    joins: bool,
+    list: GroupEntries<'_, F>,
 )
     requires ascending { IsAscending (records_seen F.bytes_of records.old.items) }
     requires room { HasRoom arrival.port (start_seen arrival.start) records.old.capacity
-        (list_events (rp_of F.family routes.now) list.joins (F.bytes_of list.group) entries)
+        (list_events (rp_of F.family routes.now) joins (F.bytes_of list.group) list.entries)
         (records_seen F.bytes_of records.old.items) }
     ensures records { records_seen F.bytes_of records.new.items
         ≡ act_all arrival.port (start_seen arrival.start)
-        (list_events (rp_of F.family routes.now) list.joins (F.bytes_of list.group) entries.entry)
+        (list_events (rp_of F.family routes.now) joins (F.bytes_of list.entry.group)
+        list.entry.entries)
         (records_seen F.bytes_of records.old.items) }
     ensures capacity { records.old.capacity ≤ records.new.capacity }
 {
+    let GroupEntries { group, entries } = list;
     let mut left = entries;
     loop {
-        let _taken = refresh_front::<F>(records, near, arrival, list, &mut left);
+        let _taken = refresh_front::<F>(records, near, arrival, joins, group, &mut left);
         let Some(entry) = left.next() else {
             return;
         };
-        match event_of::<F>(routes, list.joins, list.group, entry) {
+        match event_of::<F>(routes, joins, group, entry) {
             Some(event) => act::<F>(records, near, arrival.port, arrival.start, event),
             None => {}
         }
@@ -137,13 +146,12 @@ fn count_sets<F: Family>(
     let mut count = 0;
     for set in sets {
         let group = set.group();
-        let joins = EntryList { group, joins: true };
-        let joined = count_list::<F>(records, &mut near, port, routes, joins, set.joined());
-        let prunes = EntryList {
-            group,
-            joins: false,
-        };
-        let pruned = count_list::<F>(records, &mut near, port, routes, prunes, set.pruned());
+        let entries = set.joined();
+        let list = GroupEntries { group, entries };
+        let joined = count_list::<F>(records, &mut near, port, routes, true, list);
+        let entries = set.pruned();
+        let list = GroupEntries { group, entries };
+        let pruned = count_list::<F>(records, &mut near, port, routes, false, list);
         count += joined + pruned;
     }
     count
@@ -171,13 +179,12 @@ fn hear_sets<F: Family>(
     let mut near = Place::START;
     for set in message.sets() {
         let group = set.group();
-        let joins = EntryList { group, joins: true };
-        hear_list::<F>(records, &mut near, arrival, routes, joins, set.joined());
-        let prunes = EntryList {
-            group,
-            joins: false,
-        };
-        hear_list::<F>(records, &mut near, arrival, routes, prunes, set.pruned());
+        let entries = set.joined();
+        let list = GroupEntries { group, entries };
+        hear_list::<F>(records, &mut near, arrival, routes, true, list);
+        let entries = set.pruned();
+        let list = GroupEntries { group, entries };
+        hear_list::<F>(records, &mut near, arrival, routes, false, list);
     }
 }
 

@@ -13,7 +13,6 @@ ghost use Rattle.pim_down.specs.Refresh.{is_source_of, is_joined_until, names_jo
 ghost use Rattle.pim_down.specs.Refresh.{AreJoinedUntil};
 ghost use Rattle.pim_down.specs.Seen.{start_seen, timed_seen, key_seen, record_seen, records_seen};
 
-use crate::machines::event::EntryList;
 use crate::machines::held::{Arrival, Held, Timed};
 use crate::machines::key::{Key, OfFamily, What};
 use crate::machines::machine::State;
@@ -150,7 +149,8 @@ pub(crate) fn refresh_front<F: Family>(
     records: &mut RecordStore<F::Addr, OfFamily<F>>,
     near: &mut Place,
     arrival: Arrival,
-    list: EntryList<F::Addr>,
+    joins: bool,
+    group: F::Addr,
     entries: &mut Entries<'_, F>,
 ) -> usize
     requires ascending { IsAscending (records_seen F.bytes_of records.old.items) }
@@ -158,12 +158,11 @@ pub(crate) fn refresh_front<F: Family>(
     ensures entries { entries.new ≡ drop result entries.old }
     ensures records { (known : List ℕ → Option (List ℕ)) → records_seen F.bytes_of records.new.items
         ≡ act_all arrival.port (start_seen arrival.start)
-        (list_events known list.joins (F.bytes_of list.group) (take result entries.old))
+        (list_events known joins (F.bytes_of group) (take result entries.old))
         (records_seen F.bytes_of records.old.items) }
     ensures capacity { records.new.capacity ≡ records.old.capacity }
 {
     let Arrival { port, start } = arrival;
-    let EntryList { group, joins } = list;
     let Some(to) = start.expires_at else {
         return 0;
     };

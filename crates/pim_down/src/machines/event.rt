@@ -13,13 +13,6 @@ pub struct Event<A> {
     pub what: What<A>,
 }
 
-/// Which list of a group set entries stand in: of which group, and whether it is the joined list.
-#[derive(Clone, Copy)]
-pub(crate) struct EntryList<A> {
-    pub(crate) group: A,
-    pub(crate) joins: bool,
-}
-
 /// What a port knows of its neighbours when a message comes.
 #[derive(Clone, Copy, Debug, PartialEq, Eq)]
 pub struct Timing {

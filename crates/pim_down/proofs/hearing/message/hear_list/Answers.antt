@@ -13,8 +13,8 @@ act-requires-clause-ascending g c =
     let here = c.loop-entry.invariant in
     let front = c.refresh_front-taken in
     let seen = records_seen bytes_of front.new.records.items in
-    let after : Follows c.args.arrival.port start known c.args.list.joins group front.new.records.capacity c.loop-entry.left (records_seen bytes_of c.loop-entry.records.items) front.new.entries seen =
-    front_heard c.args.arrival.port start known c.args.list.joins group c.loop-entry.records.capacity front.new.records.capacity front.result c.loop-entry.left front.new.entries (records_seen bytes_of c.loop-entry.records.items) seen front.ensures.capacity front.ensures.entries (front.ensures.records known) here.ascending here.room in
+    let after : Follows c.args.arrival.port start known c.args.joins group front.new.records.capacity c.loop-entry.left (records_seen bytes_of c.loop-entry.records.items) front.new.entries seen =
+    front_heard c.args.arrival.port start known c.args.joins group c.loop-entry.records.capacity front.new.records.capacity front.result c.loop-entry.left front.new.entries (records_seen bytes_of c.loop-entry.records.items) seen front.ensures.capacity front.ensures.entries (front.ensures.records known) here.ascending here.room in
     after.0
 
 pub act-requires-clause-room : goal.act-requires-clause-room
@@ -26,12 +26,12 @@ act-requires-clause-room g c =
     let here = c.loop-entry.invariant in
     let front = c.refresh_front-taken in
     let seen = records_seen bytes_of front.new.records.items in
-    let after : Follows c.args.arrival.port start known c.args.list.joins group front.new.records.capacity c.loop-entry.left (records_seen bytes_of c.loop-entry.records.items) front.new.entries seen =
-    front_heard c.args.arrival.port start known c.args.list.joins group c.loop-entry.records.capacity front.new.records.capacity front.result c.loop-entry.left front.new.entries (records_seen bytes_of c.loop-entry.records.items) seen front.ensures.capacity front.ensures.entries (front.ensures.records known) here.ascending here.room in
+    let after : Follows c.args.arrival.port start known c.args.joins group front.new.records.capacity c.loop-entry.left (records_seen bytes_of c.loop-entry.records.items) front.new.entries seen =
+    front_heard c.args.arrival.port start known c.args.joins group c.loop-entry.records.capacity front.new.records.capacity front.result c.loop-entry.left front.new.entries (records_seen bytes_of c.loop-entry.records.items) seen front.ensures.capacity front.ensures.entries (front.ensures.records known) here.ascending here.room in
     let event = event_seen bytes_of c.in-Some-event_of.event in
     let rest = c.next.new.self in
-    let split = events_one known c.args.list.joins group front.new.entries rest (entry_seen bytes_of c.in-Some.entry) event c.in-Some.ensures.steps c.in-Some-event_of.ensures in
-    let space = room_at c.args.arrival.port start front.new.records.capacity event (list_events known c.args.list.joins group front.new.entries) (list_events known c.args.list.joins group rest) seen split after.1 in
+    let split = events_one known c.args.joins group front.new.entries rest (entry_seen bytes_of c.in-Some.entry) event c.in-Some.ensures.steps c.in-Some-event_of.ensures in
+    let space = room_at c.args.arrival.port start front.new.records.capacity event (list_events known c.args.joins group front.new.entries) (list_events known c.args.joins group rest) seen split after.1 in
     space.0
 
 pub loop-entry-preserved-in-Some-event_of : goal.loop-entry-preserved-in-Some-event_of
@@ -43,13 +43,13 @@ loop-entry-preserved-in-Some-event_of g c =
     let here = c.loop-entry.invariant in
     let front = c.refresh_front-taken in
     let seen = records_seen bytes_of front.new.records.items in
-    let after : Follows c.args.arrival.port start known c.args.list.joins group front.new.records.capacity c.loop-entry.left (records_seen bytes_of c.loop-entry.records.items) front.new.entries seen =
-    front_heard c.args.arrival.port start known c.args.list.joins group c.loop-entry.records.capacity front.new.records.capacity front.result c.loop-entry.left front.new.entries (records_seen bytes_of c.loop-entry.records.items) seen front.ensures.capacity front.ensures.entries (front.ensures.records known) here.ascending here.room in
+    let after : Follows c.args.arrival.port start known c.args.joins group front.new.records.capacity c.loop-entry.left (records_seen bytes_of c.loop-entry.records.items) front.new.entries seen =
+    front_heard c.args.arrival.port start known c.args.joins group c.loop-entry.records.capacity front.new.records.capacity front.result c.loop-entry.left front.new.entries (records_seen bytes_of c.loop-entry.records.items) seen front.ensures.capacity front.ensures.entries (front.ensures.records known) here.ascending here.room in
     let event = event_seen bytes_of c.in-Some-event_of.event in
     let rest = c.next.new.self in
-    let all = list_events known c.args.list.joins group front.new.entries in
-    let others = list_events known c.args.list.joins group rest in
-    let split = events_one known c.args.list.joins group front.new.entries rest (entry_seen bytes_of c.in-Some.entry) event c.in-Some.ensures.steps c.in-Some-event_of.ensures in
+    let all = list_events known c.args.joins group front.new.entries in
+    let others = list_events known c.args.joins group rest in
+    let split = events_one known c.args.joins group front.new.entries rest (entry_seen bytes_of c.in-Some.entry) event c.in-Some.ensures.steps c.in-Some-event_of.ensures in
     let space = room_at c.args.arrival.port start front.new.records.capacity event all others seen split after.1 in
     record {
       ascending = rw c.act.ensures.records (IsAscending-act c.args.arrival.port start event seen after.0);
@@ -67,9 +67,9 @@ loop-entry-preserved g c =
     let here = c.loop-entry.invariant in
     let front = c.refresh_front-taken in
     let seen = records_seen bytes_of front.new.records.items in
-    let after : Follows c.args.arrival.port start known c.args.list.joins group front.new.records.capacity c.loop-entry.left (records_seen bytes_of c.loop-entry.records.items) front.new.entries seen =
-    front_heard c.args.arrival.port start known c.args.list.joins group c.loop-entry.records.capacity front.new.records.capacity front.result c.loop-entry.left front.new.entries (records_seen bytes_of c.loop-entry.records.items) seen front.ensures.capacity front.ensures.entries (front.ensures.records known) here.ascending here.room in
-    let none = no_event known c.args.list.joins group front.new.entries c.next.new.self (entry_seen bytes_of c.in-Some.entry) c.in-Some.ensures.steps c.in-None.ensures in
+    let after : Follows c.args.arrival.port start known c.args.joins group front.new.records.capacity c.loop-entry.left (records_seen bytes_of c.loop-entry.records.items) front.new.entries seen =
+    front_heard c.args.arrival.port start known c.args.joins group c.loop-entry.records.capacity front.new.records.capacity front.result c.loop-entry.left front.new.entries (records_seen bytes_of c.loop-entry.records.items) seen front.ensures.capacity front.ensures.entries (front.ensures.records known) here.ascending here.room in
+    let none = no_event known c.args.joins group front.new.entries c.next.new.self (entry_seen bytes_of c.in-Some.entry) c.in-Some.ensures.steps c.in-None.ensures in
     record {
       ascending = after.0;
       room = subst (λ (es : List Event). HasRoom c.args.arrival.port start front.new.records.capacity es seen) none after.1;
@@ -86,6 +86,6 @@ returns-in_default-clause-records g c =
     let here = c.loop-entry.invariant in
     let front = c.refresh_front-taken in
     let seen = records_seen bytes_of front.new.records.items in
-    let after : Follows c.args.arrival.port start known c.args.list.joins group front.new.records.capacity c.loop-entry.left (records_seen bytes_of c.loop-entry.records.items) front.new.entries seen =
-    front_heard c.args.arrival.port start known c.args.list.joins group c.loop-entry.records.capacity front.new.records.capacity front.result c.loop-entry.left front.new.entries (records_seen bytes_of c.loop-entry.records.items) seen front.ensures.capacity front.ensures.entries (front.ensures.records known) here.ascending here.room in
-    sym (nothing_left c.args.arrival.port start known c.args.list.joins group front.new.entries seen c.in_default.ensures.steps.0) ∙ after.2 ∙ here.left
+    let after : Follows c.args.arrival.port start known c.args.joins group front.new.records.capacity c.loop-entry.left (records_seen bytes_of c.loop-entry.records.items) front.new.entries seen =
+    front_heard c.args.arrival.port start known c.args.joins group c.loop-entry.records.capacity front.new.records.capacity front.result c.loop-entry.left front.new.entries (records_seen bytes_of c.loop-entry.records.items) seen front.ensures.capacity front.ensures.entries (front.ensures.records known) here.ascending here.room in
+    sym (nothing_left c.args.arrival.port start known c.args.joins group front.new.entries seen c.in_default.ensures.steps.0) ∙ after.2 ∙ here.left

@@ -15,7 +15,7 @@ loop-set-init g c =
 pub hear_list-requires-clause-room : goal.hear_list-requires-clause-room
 hear_list-requires-clause-room g c =
     let space = set_room c.args.arrival.port (start_seen c.args.arrival.start) c.loop-set.records.capacity (rp_of g.F.Family.family c.args.routes.now) c.in-Some.set c.loop-set.set-iterator c.next.new.self (records_seen g.F.Family.bytes_of c.loop-set.records.items) c.in-Some.ensures.steps c.loop-set.invariant.room in
-    rw (c.group-group.ensures, c.joined.ensures) space.0
+    rw (c.group-group.ensures, c.joined-entries.ensures) space.0
 
 pub hear_list-requires-in-loop-set-clause-ascending : goal.hear_list-requires-in-loop-set-clause-ascending
 hear_list-requires-in-loop-set-clause-ascending g c =
@@ -27,9 +27,9 @@ hear_list-requires-in-loop-set-clause-room g c =
     let set = c.in-Some.set in
     let seen = records_seen g.F.Family.bytes_of c.loop-set.records.items in
     let space = set_room c.args.arrival.port (start_seen c.args.arrival.start) c.loop-set.records.capacity known set c.loop-set.set-iterator c.next.new.self seen c.in-Some.ensures.steps c.loop-set.invariant.room in
-    let joined = rw (c.group-group.ensures, c.joined.ensures) at c.hear_list.ensures.records in
+    let joined = rw (c.group-group.ensures, c.joined-entries.ensures) at c.hear_list.ensures.records in
     let grown = room_grows c.args.arrival.port (start_seen c.args.arrival.start) c.loop-set.records.capacity c.hear_list.new.records.capacity (list_events known false set.group set.pruned) (act_all c.args.arrival.port (start_seen c.args.arrival.start) (list_events known true set.group set.joined) seen) c.hear_list.ensures.capacity space.1 in
-    rw (joined, c.group-group.ensures, c.pruned.ensures) grown
+    rw (joined, c.group-group.ensures, c.pruned-entries.ensures) grown
 
 pub loop-set-preserved : goal.loop-set-preserved
 loop-set-preserved g c =
@@ -40,8 +40,8 @@ loop-set-preserved g c =
     let joins = list_events known true set.group set.joined in
     let prunes = list_events known false set.group set.pruned in
     let space = set_room c.args.arrival.port (start_seen c.args.arrival.start) c.loop-set.records.capacity known set c.loop-set.set-iterator c.next.new.self seen c.in-Some.ensures.steps c.loop-set.invariant.room in
-    let joined = rw (c.group-group.ensures, c.joined.ensures) at c.hear_list.ensures.records in
-    let pruned = rw (joined, c.group-group.ensures, c.pruned.ensures) at c.hear_list-in-loop-set.ensures.records in
+    let joined = rw (c.group-group.ensures, c.joined-entries.ensures) at c.hear_list.ensures.records in
+    let pruned = rw (joined, c.group-group.ensures, c.pruned-entries.ensures) at c.hear_list-in-loop-set.ensures.records in
     let middle = act_all c.args.arrival.port (start_seen c.args.arrival.start) joins seen in
     let after = act_all c.args.arrival.port (start_seen c.args.arrival.start) prunes middle in
     let grown = room_grows c.args.arrival.port (start_seen c.args.arrival.start) c.loop-set.records.capacity c.hear_list.new.records.capacity rest after c.hear_list.ensures.capacity space.2 in
