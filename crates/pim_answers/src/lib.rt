@@ -4,12 +4,12 @@
 //! - `answer_now`, `answer_next`, `answer_state`, `answer_wants` and `answer_neighbours` report
 //!   what the router holds.
 //! - `answer_messages` writes the canonical messages to an upstream neighbour. `form_to_keep` makes
-//!   the form that a `KeptForms` keeps; `answer_change` and `answer_same` compare the demand of now
+//!   the form that `KeptForms` keep; `answer_change` and `answer_same` compare the demand of now
 //!   with it.
 //!
 //! Each writes its lines and `ok`, or one line with the first fault, and a refusal changes nothing.
-//! If the device fails, a prefix of the text was written. A `KeptForms` knows no router, so that it
-//! outlives each. By the laws, two answers of a command to one state, neither of them `memory`, are
+//! If the device fails, a prefix of the text was written. `KeptForms` know no router, so that they
+//! outlive each. By the laws, two answers of a command to one state, neither of them `memory`, are
 //! the same. Callers: `pim_session`.
 #![tactic(auto)]
 

@@ -14,7 +14,7 @@ use Rattle.pim_merge.specs.declared.census.Census.{Census}
 use Rattle.pim_merge.specs.declared.census.StarJoin.{StarJoin}
 use Rattle.pim_merge.specs.CensusSlots.{added, field_of, same_star}
 
--- That of messages of this family before the first.
+-- The census of this family before its first message.
 abbrev pub no_names : AddressFamily → Census
 no_names family = record { family = family; upstreams = replicate 8 None; stars = replicate 16 None }
 

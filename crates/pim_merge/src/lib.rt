@@ -10,7 +10,7 @@
 //!
 //! The turns are a function of the bytes of the readers (`IsMerge` in `specs/Merge.antt`). A time
 //! that runs back counts as the moment of the last record. The bytes of a turn stay until the next
-//! call. Callers: `pim_run`, `pim_files`, `pim_faults` and `pim_commands`.
+//! call. Callers: `pim_run`, `pim_files` and `pim_commands`.
 #![tactic(auto)]
 
 mod census;
