@@ -1,19 +1,11 @@
 -- Rows added in any order: one map.
-use Rattle.std.proofs.Common.{◌≡◌, Bool, true, false, cond, T, ◌&&◌, List, [], ◌∷◌, Some, refl, sym, ap, subst, ◌∙◌}
-use Rattle.std.specs.List.{AllByRecursion}
-use Rattle.std.specs.List.Sorted.{IsStrictlySortedBy}
-use Rattle.std.specs.Ordering.{nat_cmp, is_eq, is_lt, ordering_then, ordering_reverse}
-use Rattle.std.specs.Cmp.Lexicographic.{slice_cmp}
+use Rattle.pim_addr.proofs.Words.{◌≡◌, Bool, true, false, cond, T, ◌&&◌, List, [], ◌∷◌, Some, refl, sym, ap, subst, ◌∙◌}
+use Rattle.pim_addr.proofs.Words.{AllByRecursion, IsStrictlySortedBy, nat_cmp, is_eq, is_lt, ordering_then, ordering_reverse}
+use Rattle.pim_addr.proofs.Words.{slice_cmp, Ordering, Less, Equal, Greater, is_at, keys_of, false≢true, cond-true, cond-false}
+use Rattle.pim_addr.proofs.Words.{false_from_ne_true, tied_itself, Prefix, Row, prefix_cmp, AreInOrder, row_at, led_to}
+use Rattle.pim_addr.proofs.Words.{RowIsAddedAtItsPrefix, RouteMapHasOneList, with_rows, OrderOfAddingIsFree}
 use Rattle.std.specs.FinMap.{slice_cmp-IsAntisymmetric, nat_cmp-IsAntisymmetric}
-use Rattle.std.specs.declared.cmp.Ordering.{Ordering}
-use Rattle.std.specs.declared.cmp.Ordering.TheVariants.{Less, Equal, Greater}
-use Rattle.std.specs.BTreeMap.{is_at}
-use Rattle.std.specs.Map.{keys_of}
 use Rattle.std.specs.FinMap.Entries.{find, below_all, is_sorted, same_entries}
-use Rattle.std.proofs.lemmas.Bool.{false≢true, cond-true, cond-false, false_from_ne_true}
-use Rattle.std.proofs.lemmas.Cmp.{tied_itself}
-use Rattle.pim_addr.specs.Routes.{Prefix, Row, prefix_cmp, AreInOrder, row_at, led_to}
-use Rattle.pim_addr.specs.RouteLaws.{RowIsAddedAtItsPrefix, RouteMapHasOneList, with_rows, OrderOfAddingIsFree}
 use Rattle.pim_addr.proofs.RowOrder.{prefix_total}
 use Rattle.pim_addr.proofs.Inserted.{lookup_insert, sorted_insert}
 

@@ -1,15 +1,10 @@
 -- A search that halves what is left of a list in order.
 use Rattle.std.proofs.Common.{◌≡◌, ◌∙◌, sym, ap, ℕ, zero, suc, ◌+◌, ◌-◌, ◌*◌, ◌/◌, ◌%◌, ◌^◌, ◌≤◌, ◌<◌, Bool, true, false, List, Ordering, length, get_or, min, refl, arith, ⊎_elim}
-use Rattle.std.specs.declared.cmp.Ordering.TheVariants.{Less, Equal, Greater}
-use Rattle.std.specs.Ordering.{is_lt, ordering_index}
+use Rattle.pim_addr.proofs.Words.{Less, Equal, Greater, is_lt, ordering_index, IsTotalOrder, IsSorted, IsPartitionPoint}
+use Rattle.pim_addr.proofs.Words.{cases_lt, one-mul, mul-one, zero-mul, mul-zero, mod-eq_of_lt, two-pow-succ}
+use Rattle.pim_addr.proofs.Words.{get_or_default, searchable_from_sorted}
 use Rattle.std.specs.Int.{from_bool}
-use Rattle.std.specs.Cmp.{IsTotalOrder}
-use Rattle.std.specs.List.Sorted.{IsSorted, IsPartitionPoint}
-use Rattle.std.proofs.lemmas.Bool.{cases_lt}
-use Rattle.std.proofs.Math.Nat.{one-mul, mul-one, zero-mul, mul-zero, mod-eq_of_lt, two-pow-succ}
 use Rattle.std.proofs.Math.Pow.{pow-lt}
-use Rattle.std.proofs.lemmas.List.{get_or_default}
-use Rattle.std.proofs.lemmas.List.Sorted.{searchable_from_sorted}
 
 -- of the items from `base` on, so many are still to be told apart: those before them are less, those behind aren't
 pub record Halved {T : Type 0} (cmp : T → T → Ordering) (xs : List T) (item : T) (base size : ℕ) : Type 0 where

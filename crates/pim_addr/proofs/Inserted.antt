@@ -1,14 +1,8 @@
 -- Entries in order, with one more.
-use Rattle.std.proofs.Common.{◌≡◌, Bool, true, false, cond, List, [], ◌∷◌, Some, None, refl, sym, ap, ◌∙◌}
-use Rattle.std.specs.List.{AllByRecursion}
-use Rattle.std.specs.List.Sorted.{IsStrictlySortedBy}
-use Rattle.std.specs.Ordering.{is_eq, eq_by_cmp, match_ordering, ordering_reverse}
-use Rattle.std.specs.Cmp.{IsTotalOrder, eq_by_cmp_equiv, Equal-is}
-use Rattle.std.specs.declared.cmp.Ordering.{Ordering}
-use Rattle.std.specs.declared.cmp.Ordering.TheVariants.{Less, Equal, Greater}
-use Rattle.std.specs.BTreeMap.{is_at, insert_entry}
-use Rattle.std.specs.Map.{lookup, keys_of}
-use Rattle.std.proofs.lemmas.Bool.{cond-false}
+use Rattle.pim_addr.proofs.Words.{◌≡◌, Bool, true, false, cond, List, [], ◌∷◌, Some, None, refl, sym, ap, ◌∙◌}
+use Rattle.pim_addr.proofs.Words.{AllByRecursion, IsStrictlySortedBy, is_eq, eq_by_cmp, match_ordering}
+use Rattle.pim_addr.proofs.Words.{ordering_reverse, IsTotalOrder, eq_by_cmp_equiv, Equal-is, Ordering, Less, Equal}
+use Rattle.pim_addr.proofs.Words.{Greater, is_at, insert_entry, lookup, keys_of, cond-false}
 
 cond_again : {X : Type 0} (b : Bool) (x y z : X) → cond b x z ≡ cond b x (cond b y z)
 cond_again true x y z = refl

@@ -1,3 +1,4 @@
+pub mod Words
 pub mod Pieces
 pub mod ReadBack
 pub mod TextNames

@@ -1,18 +1,11 @@
 -- Addresses as numbers: their order, what their bytes say of them, and their last bits.
 use Rattle.std.proofs.Common.{◌≡◌, ℕ, zero, suc, ◌+◌, ◌-◌, ◌*◌, ◌/◌, ◌%◌, ◌^◌, true, ◌≤◌, ◌<◌, ◌&&◌, not, List, [], ◌∷◌, length, slice_index, refl, sym, ap, ◌∙◌, arith, nat_eq, nat_lt, nat_le, subst, ◌==◌, ◌⊎◌, inl, inr}
-use Rattle.pim_addr.specs.declared.family.AddressFamily.{AddressFamily}
-use Rattle.pim_addr.specs.declared.family.AddressFamily.TheVariants.{Ipv4, Ipv6}
-use Rattle.std.proofs.Math.Nat.{div-eq_of_lt, div-eq_of_lt-le, div-mul-le_self, mul-le-mul_right, mul_assoc, pow-succ', add-mul, one-mul}
-use Rattle.std.proofs.lemmas.Nat.{pow-add, pow_pos, div_below, div-add-mod', le-div}
-use Rattle.std.proofs.lemmas.Bool.{lt-ltb, le-ltb, lt-leb, le-leb, ne_eqb, eq-eqb, eqb-true, and_left, cases_lt}
-use Rattle.std.specs.List.{list_all}
-use Rattle.std.specs.Ordering.{nat_cmp, ordering_then, MatchOrdering}
-use Rattle.std.specs.declared.cmp.Ordering.{Ordering}
-use Rattle.std.specs.declared.cmp.Ordering.TheVariants.{Less, Equal, Greater}
-use Rattle.std.specs.Cmp.{nat_cmp_is, ranks}
-use Rattle.std.specs.Cmp.Lexicographic.{slice_cmp}
-use Rattle.std.specs.Slice.Scan.{big_endian}
-use Rattle.pim_addr.specs.Address.{AreBytes, IsAddress, NumbersAreInOrder, mask_length, number_of, first_bits, ends_within, last_number, is_unspecified, is_source}
+use Rattle.pim_addr.proofs.Words.{AddressFamily, Ipv4, Ipv6, div-eq_of_lt, div-eq_of_lt-le, div-mul-le_self, mul-le-mul_right}
+use Rattle.pim_addr.proofs.Words.{mul_assoc, pow-succ', add-mul, one-mul, pow-add, pow_pos, div_below, div-add-mod', le-div}
+use Rattle.pim_addr.proofs.Words.{lt-ltb, le-ltb, lt-leb, le-leb, ne_eqb, eq-eqb, eqb-true, and_left, cases_lt, list_all, nat_cmp}
+use Rattle.pim_addr.proofs.Words.{ordering_then, MatchOrdering, Ordering, Less, Equal, Greater, nat_cmp_is, ranks, slice_cmp}
+use Rattle.pim_addr.proofs.Words.{big_endian, AreBytes, IsAddress, NumbersAreInOrder, mask_length, number_of, first_bits}
+use Rattle.pim_addr.proofs.Words.{ends_within, last_number, is_unspecified, is_source}
 
 -- a smaller start stays smaller, whatever bytes follow
 rises : (a b : ℕ) (us vs : List ℕ) → length us ≡ length vs → AreBytes us → a < b → big_endian a us < big_endian b vs

@@ -1,11 +1,8 @@
 -- One more range: where a number becomes the end of one.
-use Rattle.std.proofs.Common.{◌≡◌, ℕ, zero, suc, ◌<◌, ◌≤◌, ◌⊎◌, inl, inr, List, [], ◌∷◌, length, map, get_or, refl, sym, ap, subst, ◌∙◌, arith, nat_lt, add-one, Option, None}
-use Rattle.std.specs.List.{insert}
-use Rattle.std.proofs.lemmas.Bool.{cases_lt, lt-ltb, le-ltb}
-use Rattle.std.proofs.lemmas.List.Sums.{prefix_len-le-length}
-use Rattle.std.proofs.lemmas.List.Edits.{length-insert, get_or-insert_below, get_or-insert_at, get_or-insert_above}
-use Rattle.pim_addr.specs.Routes.{Row}
-use Rattle.pim_addr.specs.RouteRows.{Rises, before, answer_of, AreRanges, IsEnd, KeepAnswers}
+use Rattle.pim_addr.proofs.Words.{◌≡◌, ℕ, zero, suc, ◌<◌, ◌≤◌, ◌⊎◌, inl, inr, List, [], ◌∷◌, length, map, get_or, refl}
+use Rattle.pim_addr.proofs.Words.{sym, ap, subst, ◌∙◌, arith, nat_lt, add-one, Option, None, insert, cases_lt, lt-ltb}
+use Rattle.pim_addr.proofs.Words.{le-ltb, prefix_len-le-length, length-insert, get_or-insert_below, get_or-insert_at}
+use Rattle.pim_addr.proofs.Words.{get_or-insert_above, Row, Rises, before, answer_of, AreRanges, IsEnd, KeepAnswers}
 
 pub before_within : (n : ℕ) (ends : List ℕ) → before n ends ≤ length ends
 unfolding before

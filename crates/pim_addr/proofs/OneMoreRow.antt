@@ -1,21 +1,12 @@
 -- How rows and ranges stand together: with no rows, and with one more.
-use Rattle.std.proofs.Common.{◌≡◌, ℕ, zero, suc, ◌+◌, ◌*◌, ◌/◌, ◌%◌, ◌-◌, ◌^◌, ◌<◌, ◌≤◌, ◌⊎◌, inl, inr, Bool, true, false, cond, List, [], ◌∷◌, length, map, filter, refl, sym, ap, subst, ◌∙◌, arith, Option, Some, None}
-use Rattle.std.specs.List.{AllByRecursion, insert}
-use Rattle.std.specs.List.Sorted.{IsStrictlySortedBy}
-use Rattle.std.specs.Prelude.{is_some, OnOk, OnErr, Result, Ok, Err}
-use Rattle.std.specs.Ordering.{is_eq, match_ordering, nat_cmp, ordering_then, MatchOrdering}
-use Rattle.std.specs.Cmp.{ranks, nat_cmp_is}
-use Rattle.std.specs.Cmp.Lexicographic.{slice_cmp}
-use Rattle.std.specs.declared.cmp.Ordering.{Ordering}
-use Rattle.std.specs.declared.cmp.Ordering.TheVariants.{Less, Equal, Greater}
-use Rattle.std.proofs.lemmas.Bool.{false≢true, lt-ltb, le-ltb, cases_lt, eqb-true}
-use Rattle.std.proofs.lemmas.Nat.{div-add-mod'}
-use Rattle.std.proofs.lemmas.List.Edits.{length-insert}
-use Rattle.pim_addr.specs.declared.family.AddressFamily.{AddressFamily}
-use Rattle.pim_addr.specs.declared.route.Route.{Route}
-use Rattle.pim_addr.specs.Address.{mask_length, number_of, last_number}
-use Rattle.pim_addr.specs.Routes.{Prefix, Row, prefix_cmp, row_at, with_row, IsRealRow, matches, longer_of, longest}
-use Rattle.pim_addr.specs.RouteRows.{rows_seen, answers_seen, before, answer_of, AreRanges, answer_with, AnswersBetween, longest_match, Stand, IsGap}
+use Rattle.pim_addr.proofs.Words.{◌≡◌, ℕ, zero, suc, ◌+◌, ◌*◌, ◌/◌, ◌%◌, ◌-◌, ◌^◌, ◌<◌, ◌≤◌, ◌⊎◌, inl, inr, Bool, true, false}
+use Rattle.pim_addr.proofs.Words.{cond, List, [], ◌∷◌, length, map, filter, refl, sym, ap, subst, ◌∙◌, arith, Option, Some, None}
+use Rattle.pim_addr.proofs.Words.{AllByRecursion, insert, IsStrictlySortedBy, is_some, OnOk, OnErr, Result, Ok, Err, is_eq}
+use Rattle.pim_addr.proofs.Words.{match_ordering, nat_cmp, ordering_then, MatchOrdering, ranks, nat_cmp_is, slice_cmp, Ordering}
+use Rattle.pim_addr.proofs.Words.{Less, Equal, Greater, false≢true, lt-ltb, le-ltb, cases_lt, eqb-true, div-add-mod'}
+use Rattle.pim_addr.proofs.Words.{length-insert, AddressFamily, Route, mask_length, number_of, last_number, Prefix, Row}
+use Rattle.pim_addr.proofs.Words.{prefix_cmp, row_at, with_row, IsRealRow, matches, longer_of, longest, rows_seen, answers_seen}
+use Rattle.pim_addr.proofs.Words.{before, answer_of, AreRanges, answer_with, AnswersBetween, longest_match, Stand, IsGap}
 use Rattle.pim_addr.proofs.Numbers.{numbers_are_in_order, between}
 use Rattle.pim_addr.proofs.RowOrder.{prefix_total}
 use Rattle.pim_addr.proofs.Inserted.{sorted_insert}

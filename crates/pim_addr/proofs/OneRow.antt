@@ -1,15 +1,9 @@
 -- Tables of one row.
-use Rattle.std.proofs.Common.{◌≡◌, ℕ, suc, ◌+◌, ◌*◌, ◌/◌, ◌^◌, ◌<◌, ◌≤◌, true, List, [], ◌∷◌, length, Some, refl, sym, ap, subst, ◌∙◌, arith, nat_lt}
-use Rattle.std.specs.Prelude.{nat_le}
-use Rattle.std.specs.Slice.Scan.{big_endian}
-use Rattle.std.proofs.Math.Nat.{mul-le-mul_right, mul_assoc, pow-succ'}
-use Rattle.std.proofs.lemmas.Bool.{and_parts, ltb-true, leb-true, eqb-true, eq-eqb}
-use Rattle.std.proofs.lemmas.Nat.{div_below, le-div, pow_pos}
-use Rattle.pim_addr.specs.declared.family.AddressFamily.{AddressFamily}
-use Rattle.pim_addr.specs.declared.family.AddressFamily.TheVariants.{Ipv4, Ipv6}
-use Rattle.pim_addr.specs.Address.{IsAddress, AreBytes, is_group, first_bits}
-use Rattle.pim_addr.specs.Routes.{Prefix, led_to}
-use Rattle.pim_addr.specs.RouteLaws.{OneRpForAllGroups, OneNeighbourForAll, first_group, all_groups, all_addresses}
+use Rattle.pim_addr.proofs.Words.{◌≡◌, ℕ, suc, ◌+◌, ◌*◌, ◌/◌, ◌^◌, ◌<◌, ◌≤◌, true, List, [], ◌∷◌, length, Some, refl}
+use Rattle.pim_addr.proofs.Words.{sym, ap, subst, ◌∙◌, arith, nat_lt, nat_le, big_endian, mul-le-mul_right, mul_assoc}
+use Rattle.pim_addr.proofs.Words.{pow-succ', and_parts, ltb-true, leb-true, eqb-true, eq-eqb, div_below, le-div}
+use Rattle.pim_addr.proofs.Words.{pow_pos, AddressFamily, Ipv4, Ipv6, IsAddress, AreBytes, is_group, first_bits, Prefix}
+use Rattle.pim_addr.proofs.Words.{led_to, OneRpForAllGroups, OneNeighbourForAll, first_group, all_groups, all_addresses}
 use Rattle.pim_addr.proofs.Numbers.{stays_below, no_bits}
 
 one_row : (family : AddressFamily) (address to : List ℕ) (p : Prefix) → first_bits family p.bits p.address ≡ first_bits family p.bits address → led_to family address ((p, to) ∷ []) ≡ Some to

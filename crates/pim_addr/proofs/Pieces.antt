@@ -1,9 +1,8 @@
 -- Writing pieces one after the other, and the steps of an address's text.
-use Rattle.std.proofs.Common.{◌≡◌, ℕ, ◌+◌, ◌-◌, ◌*◌, ◌/◌, ◌%◌, ◌<◌, ◌≤◌, zero, suc, List, [], ◌∷◌, ◌++◌, length, get_or, take, drop, map, decimal, refl, sym, ap, ◌∙◌, subst, arith, append_assoc, length-append}
-use Rattle.std.proofs.lemmas.Fmt.{decimal_digit, decimal_step}
-use Rattle.std.proofs.lemmas.List.{drop-drop, map_more, take_more, length-map, length-take-le}
-use Rattle.std.specs.List.{join_with_byte}
-use Rattle.pim_addr.specs.Text.{hex_pair, hex_groups, separator, Wrote}
+use Rattle.pim_addr.proofs.Words.{◌≡◌, ℕ, ◌+◌, ◌-◌, ◌*◌, ◌/◌, ◌%◌, ◌<◌, ◌≤◌, zero, suc, List, [], ◌∷◌, ◌++◌, length}
+use Rattle.pim_addr.proofs.Words.{get_or, take, drop, map, decimal, refl, sym, ap, ◌∙◌, subst, arith, append_assoc}
+use Rattle.pim_addr.proofs.Words.{length-append, decimal_digit, decimal_step, drop-drop, map_more, take_more}
+use Rattle.pim_addr.proofs.Words.{length-map, length-take-le, join_with_byte, hex_pair, hex_groups, separator, Wrote}
 
 -- two pieces, one behind the other
 pub Wrote-more : {p q t u v : List ℕ} {a b c : ℕ} → Wrote p a t b u → Wrote q b u c v → Wrote (p ++ q) a t c v

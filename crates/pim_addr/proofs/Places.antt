@@ -1,6 +1,5 @@
 -- The faults of parts stand in the order in which they are told.
-use Rattle.std.proofs.Common.{ℕ, suc, ◌<◌, List, [], ◌∷◌, ◌++◌, refl, inl, inr, arith}
-use Rattle.std.specs.List.{AllByRecursion}
+use Rattle.pim_addr.proofs.Words.{ℕ, suc, ◌<◌, List, [], ◌∷◌, ◌++◌, refl, inl, inr, arith, AllByRecursion}
 use Rattle.pim_addr.specs.Order.{IsReportedBefore, FirstIsLeast, NumbersRise, OffsetsRise, places_at, places, FirstOfPartsIsLeast}
 
 all_append : {X : Type 0} (P : X → Type 0) (xs ys : List X) → AllByRecursion P xs → AllByRecursion P ys → AllByRecursion P (xs ++ ys)

@@ -1,15 +1,9 @@
 -- Ranges of addresses: how many end before a number, with one more end, and with a row that answers in some of them.
-use Rattle.std.proofs.Common.{◌≡◌, ℕ, zero, suc, ◌<◌, ◌≤◌, ◌⊎◌, inl, inr, Bool, true, false, cond, List, [], ◌∷◌, length, map, get_or, refl, sym, ap, ◌∙◌, arith, nat_lt, add-one}
-use Rattle.std.specs.List.Sorted.{IsSorted, IsPartitionPoint}
-use Rattle.std.specs.Ordering.{nat_cmp, is_lt}
-use Rattle.std.specs.declared.cmp.Ordering.{Ordering}
-use Rattle.std.specs.declared.cmp.Ordering.TheVariants.{Equal, Greater}
-use Rattle.std.specs.Prelude.{◌↔◌}
-use Rattle.std.proofs.lemmas.Bool.{false≢true, cases_lt, lt-ltb, le-ltb}
-use Rattle.std.proofs.lemmas.List.{length-map, get_or_default}
+use Rattle.pim_addr.proofs.Words.{◌≡◌, ℕ, zero, suc, ◌<◌, ◌≤◌, ◌⊎◌, inl, inr, Bool, true, false, cond, List, [], ◌∷◌}
+use Rattle.pim_addr.proofs.Words.{length, map, get_or, refl, sym, ap, ◌∙◌, arith, nat_lt, add-one, IsSorted}
+use Rattle.pim_addr.proofs.Words.{IsPartitionPoint, nat_cmp, is_lt, Ordering, Equal, Greater, ◌↔◌, false≢true, cases_lt}
+use Rattle.pim_addr.proofs.Words.{lt-ltb, le-ltb, length-map, get_or_default, prefix_len_is, Rises, before}
 use Rattle.std.proofs.lemmas.List.{get_or-map as get_or_of_map}
-use Rattle.std.proofs.lemmas.List.Sums.{prefix_len_is}
-use Rattle.pim_addr.specs.RouteRows.{Rises, before}
 
 -- ---- numbers of a family
 

@@ -1,11 +1,9 @@
 -- What is written of an encoded address has no fault, and is read back.
-use Rattle.std.proofs.Common.{◌≡◌, ℕ, suc, ◌+◌, Bool, true, false, eqb, ltb, List, ◌++◌, length, slice_index, refl, sym, ap, arith, length-append}
-use Rattle.std.proofs.lemmas.Bool.{le-ltb, eq-eqb}
-use Rattle.std.proofs.lemmas.List.{take_at}
-use Rattle.pim_addr.specs.declared.family.AddressFamily.{AddressFamily}
-use Rattle.pim_addr.specs.Address.{address_length, mask_length, family_byte}
+use Rattle.pim_addr.proofs.Words.{◌≡◌, ℕ, suc, ◌+◌, Bool, true, false, eqb, ltb, List, ◌++◌, length, slice_index, refl}
+use Rattle.pim_addr.proofs.Words.{sym, ap, arith, length-append, le-ltb, eq-eqb, take_at, AddressFamily, address_length}
+use Rattle.pim_addr.proofs.Words.{mask_length, family_byte, canonical_unicast, canonical_group, canonical_flags}
+use Rattle.pim_addr.proofs.Words.{canonical_source, ReadsUnicast, ReadsGroup, ReadsSource}
 use Rattle.pim_addr.specs.Encoded.{SourceValue, IsSource, wildcard_bit, rpt_bit}
-use Rattle.pim_addr.specs.Canonical.{canonical_unicast, canonical_group, canonical_flags, canonical_source, ReadsUnicast, ReadsGroup, ReadsSource}
 
 -- ---- the flags that are written hold the two bits
 

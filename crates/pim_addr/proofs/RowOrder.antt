@@ -1,22 +1,12 @@
 -- Rows in order: where a prefix stands among them, or would stand.
 use Rattle.std.proofs.Common.{◌≡◌, ℕ, zero, suc, ◌+◌, ◌<◌, ◌≤◌, ◌⊎◌, inl, inr, Bool, true, false, cond, List, [], ◌∷◌, length, map, get_or, Some, Result, Ok, Err, refl, sym, ap, subst, ◌∙◌, arith}
-use Rattle.std.specs.List.{insert}
-use Rattle.std.specs.List.Sorted.{IsNonDecreasingBy, IsBinarySearchResult, IsSearchInRange}
-use Rattle.std.specs.Map.{keys_of, lookup}
-use Rattle.std.specs.BTreeMap.{is_at}
-use Rattle.std.specs.Prelude.{is_some}
-use Rattle.std.specs.Ordering.{is_eq, is_lt, ordering_index, ordering_reverse, match_ordering}
-use Rattle.std.specs.Cmp.{IsTotalOrder}
-use Rattle.std.specs.declared.cmp.Ordering.{Ordering}
-use Rattle.std.specs.declared.cmp.Ordering.TheVariants.{Less, Equal, Greater}
-use Rattle.std.proofs.lemmas.Bool.{cases_lt}
-use Rattle.std.proofs.lemmas.Cmp.{nat_cmp_total, nat_list_cmp_total, on_total, then_total, back_total}
-use Rattle.std.proofs.lemmas.List.{length-map}
+use Rattle.pim_addr.proofs.Words.{insert, IsNonDecreasingBy, IsBinarySearchResult, IsSearchInRange, keys_of, lookup}
+use Rattle.pim_addr.proofs.Words.{is_at, is_some, is_eq, is_lt, ordering_index, ordering_reverse, match_ordering}
+use Rattle.pim_addr.proofs.Words.{IsTotalOrder, Ordering, Less, Equal, Greater, cases_lt, nat_cmp_total}
+use Rattle.pim_addr.proofs.Words.{nat_list_cmp_total, on_total, then_total, back_total, length-map}
+use Rattle.pim_addr.proofs.Words.{searchable_from_sorted, Prefix, Row, prefix_cmp, AreInOrder, with_row, IsRowPlace}
 use Rattle.std.proofs.lemmas.List.{get_or-map as get_or_of_map}
-use Rattle.std.proofs.lemmas.List.Sorted.{searchable_from_sorted}
 use Rattle.std.proofs.lemmas.Map.Keys.{Less-from_sorted}
-use Rattle.pim_addr.specs.Routes.{Prefix, Row, prefix_cmp, AreInOrder, with_row}
-use Rattle.pim_addr.specs.RouteRows.{IsRowPlace}
 
 pub prefix_total : IsTotalOrder prefix_cmp
 unfolding prefix_cmp

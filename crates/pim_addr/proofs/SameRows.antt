@@ -1,11 +1,6 @@
 -- Rows that compare equal are seen as equal rows, and the other way round.
-use Rattle.std.proofs.Common.{◌≡◌, ℕ, Bool, true, ◌&&◌, List, [], ◌∷◌, refl, ap, nat_eq}
-use Rattle.std.specs.Prelude.{◌↔◌}
-use Rattle.std.specs.Cmp.Lexicographic.{pointwise}
-use Rattle.std.proofs.lemmas.Bool.{false≢true, and_parts, and_from, eq-eqb, eqb-true}
-use Rattle.pim_addr.specs.declared.route.Route.{Route}
-use Rattle.pim_addr.specs.Routes.{Row}
-use Rattle.pim_addr.specs.RouteRows.{row_seen, rows_seen}
+use Rattle.pim_addr.proofs.Words.{◌≡◌, ℕ, Bool, true, ◌&&◌, List, [], ◌∷◌, refl, ap, nat_eq, ◌↔◌, pointwise, false≢true}
+use Rattle.pim_addr.proofs.Words.{and_parts, and_from, eq-eqb, eqb-true, Route, Row, row_seen, rows_seen}
 
 module _ {A : Type 0} (bytes_of : A → List ℕ) (same : A → A → Bool) (decides : (a b : A) → (same a b ≡ true) ↔ (bytes_of a ≡ bytes_of b)) where
   one_row : (x y : Route A) → (same x.prefix y.prefix && (nat_eq x.length y.length && same x.to y.to)) ≡ true → row_seen bytes_of x ≡ row_seen bytes_of y

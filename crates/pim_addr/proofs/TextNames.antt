@@ -1,23 +1,20 @@
 -- The texts of IPv6 addresses are those that std's grammar has without a dot; a text names one address, and what is
 -- written of an address names it.
-use Rattle.std.proofs.Common.{◌≡◌, ℕ, suc, map, ◌+◌, ◌-◌, ◌*◌, ◌/◌, ◌%◌, ◌<◌, inl, inr, Bool, true, false, ◌||◌, eqb, List, [], ◌∷◌, ◌++◌, length, codes, decimal, slice_index, refl, sym, ap, ◌∙◌, subst, arith, lit≤, append_assoc, append-nil}
-use Rattle.std.specs.List.{list_any, join_with_byte}
+use Rattle.pim_addr.proofs.Words.{◌≡◌, ℕ, suc, map, ◌+◌, ◌-◌, ◌*◌, ◌/◌, ◌%◌, ◌<◌, inl, inr, Bool, true, false, ◌||◌, eqb, List}
+use Rattle.pim_addr.proofs.Words.{[], ◌∷◌, ◌++◌, length, codes, decimal, slice_index, refl, sym, ap, ◌∙◌, subst, arith, lit≤}
+use Rattle.pim_addr.proofs.Words.{append_assoc, append-nil, list_any, join_with_byte, or_parts, or_from, ne_eqb, AddressFamily}
+use Rattle.pim_addr.proofs.Words.{Ipv4, Ipv6, address_length, hex_pair, hex_groups, address_text}
 use Rattle.std.specs.Char.{digit_value, digit_char}
 use Rattle.std.specs.Str.Parse.{AllDigits}
 use Rattle.std.specs.Net.Addr.{octets_of, segments_of}
 use Rattle.std.specs.Net.Grammar.{IsDotted, IsGroup, IsGroupsAfter, IsGroups, IsColonHex, IsIpv4Text, IsIpv6Text}
 use Rattle.std.specs.declared.net.ipv4_addr.Ipv4Addr.{Ipv4Addr}
 use Rattle.std.specs.declared.net.ipv6_addr.Ipv6Addr.{Ipv6Addr}
-use Rattle.std.proofs.lemmas.Bool.{or_parts, or_from, ne_eqb}
 use Rattle.std.proofs.lemmas.List.Folds.{list_any-append}
 use Rattle.std.proofs.lemmas.Str.{digit_value-digit_char}
 use Rattle.std.proofs.NetLemmas.Ipv4.{read_ipv4_complete}
 use Rattle.std.proofs.NetLemmas.Ipv6.{read_ipv6_complete, EndsGroups-nil}
 use Rattle.std.proofs.NetLemmas.Options.{same_parts}
-use Rattle.pim_addr.specs.declared.family.AddressFamily.{AddressFamily}
-use Rattle.pim_addr.specs.declared.family.AddressFamily.TheVariants.{Ipv4, Ipv6}
-use Rattle.pim_addr.specs.Address.{address_length}
-use Rattle.pim_addr.specs.Text.{hex_pair, hex_groups, address_text}
 use Rattle.pim_addr.specs.TextForms.{AreEightGroups, IsText}
 
 -- ---- dots

@@ -1,33 +1,22 @@
 -- Messages that are made, and what is told of them.
-use Rattle.std.proofs.Common.{◌≡◌, ℕ, Bool, true, false, List, [], ◌∷◌, codes, Option, None, Some, Result, Ok, Err, IfOk, option_map, not, is_some, Bor, refl, sym, ap, subst, inl, inr}
-use Rattle.pim_device.specs.Device.{AppendsAll}
-use Rattle.pim_addr.specs.declared.family.AddressFamily.{AddressFamily}
+use Rattle.pim_answers.proofs.Words.{◌≡◌, ℕ, Bool, true, false, List, [], ◌∷◌, codes, Option, None, Some, Result, Ok, Err, IfOk}
+use Rattle.pim_answers.proofs.Words.{option_map, not, is_some, Bor, refl, sym, ap, subst, inl, inr, AppendsAll, AddressFamily}
+use Rattle.pim_answers.proofs.Words.{RouteTable, rp_of, GroupForm, group_too_big, Comparison, IsDemandedBy, IsTooBig, RouterState}
+use Rattle.pim_answers.proofs.Words.{Wrote, UnlessIf, UnlessAny, SaysMade, SaysSame, AreCompared, AnswersMessages, AnswersFound}
+use Rattle.pim_answers.proofs.Words.{SaysOf, IfUsable, has_other_family, writer_words, writer_of, name_words, address_bytes}
+use Rattle.pim_answers.proofs.Words.{made_text, same_text, SaysBig, IsFirst, has_same_tables, fault_words, form_seen, IsFound}
+use Rattle.pim_answers.proofs.Words.{Kept, is_usable, family_words, fault_line}
 use Rattle.pim_addr.specs.declared.family.AddressFamily.TheVariants.{Ipv4, Ipv6}
-use Rattle.pim_addr.specs.Routes.{RouteTable, rp_of}
 use Rattle.pim_form.specs.Messages.{Writing as Writer}
-use Rattle.pim_form.specs.NormalForm.{GroupForm}
-use Rattle.pim_form.specs.Refused.{group_too_big}
 use Rattle.pim_form.specs.Toward.{via_of, is_toward}
 use Rattle.pim_form.specs.declared.fault.FormFault.{FormFault}
 use Rattle.pim_form.specs.declared.fault.FormFault.TheVariants.{TooBig, Memory, Tables}
 use Rattle.pim_request.specs.declared.command.AnyWriting.{AnyWriting}
-use Rattle.pim_request.specs.declared.command.Comparison.{Comparison}
-use Rattle.pim_router.specs.Canonical.{IsDemandedBy, IsTooBig}
-use Rattle.pim_router.specs.State.{RouterState}
-use Rattle.pim_answers.specs.Answered.{Wrote}
-use Rattle.pim_answers.specs.Demanding.{UnlessIf, UnlessAny, SaysMade, SaysSame, AreCompared, AnswersMessages, AnswersFound, SaysOf, IfUsable, has_other_family, writer_words, writer_of, name_words}
 use Rattle.pim_answers.specs.declared.fault.AnswerFault.{AnswerFault}
 use Rattle.pim_answers.specs.declared.kept.FoundForm.{FoundForm}
 use Rattle.pim_answers.specs.declared.kept.FoundForm.TheVariants.{Unknown, Other, Form}
 use Rattle.pim_answers.specs.declared.kept.KeptForm.{KeptForm}
-use Rattle.pim_lines.specs.AnyAddress.{address_bytes}
 use Rattle.pim_addr.specs.Families.{is_same}
-use Rattle.pim_answers.specs.DemandingSeen.{made_text, same_text, SaysBig, IsFirst, has_same_tables}
-use Rattle.pim_answers.specs.Fault.{fault_words}
-use Rattle.pim_answers.specs.StoreSeen.{form_seen, IsFound}
-use Rattle.pim_answers.specs.Kept.{Kept, is_usable}
-use Rattle.pim_answers.specs.Families.{family_words}
-use Rattle.pim_answers.specs.Lines.{fault_line}
 
 -- messages that were made, or why they weren't
 pub made_told : {F A N : Type 0} (family : AddressFamily) (bytes_of : A → List ℕ) (AreMade : List (List ℕ) → Type 0) (IsBig : Option (List ℕ) → Type 0) (made : Result (List (List ℕ)) (FormFault F A N))

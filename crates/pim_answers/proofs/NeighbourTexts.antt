@@ -1,14 +1,11 @@
 -- The line of a neighbour in its pieces, and the lines of ports one by one.
-use Rattle.std.proofs.Common.{◌≡◌, ℕ, ◌+◌, ◌<◌, Option, Some, List, [], ◌∷◌, ◌++◌, codes, decimal, length, drop, slice_index_or, refl, sym, ap, ◌∙◌, append_assoc, append-nil, add-one}
-use Rattle.std.proofs.lemmas.List.{take_at, length_push, drop_more}
-use Rattle.std.specs.List.{flat_map}
-use Rattle.pim_addr.specs.declared.family.AddressFamily.{AddressFamily}
+use Rattle.pim_answers.proofs.Words.{◌≡◌, ℕ, ◌+◌, ◌<◌, Option, Some, List, [], ◌∷◌, ◌++◌, codes, decimal, length, drop}
+use Rattle.pim_answers.proofs.Words.{slice_index_or, refl, sym, ap, ◌∙◌, append_assoc, append-nil, add-one, take_at}
+use Rattle.pim_answers.proofs.Words.{length_push, drop_more, flat_map, AddressFamily, Table, no_neighbours, bit}
+use Rattle.pim_answers.proofs.Words.{delays_text, option_words, place_words, neighbour_line, tables_text}
 use Rattle.pim_addr.specs.Text.{address_text}
 use Rattle.pim_hello.specs.Hello.{Delays}
-use Rattle.pim_hello.specs.Neighbours.{Table, no_neighbours}
-use Rattle.pim_text.specs.HelloText.{bit, delays_text}
 use Rattle.pim_lines.specs.Pieces.{number_or}
-use Rattle.pim_answers.specs.Neighbours.{option_words, place_words, neighbour_line, tables_text}
 
 -- an option that is there, by the words of its line
 option_line : (text : List ℕ) → option_words (text ++ 10 ∷ []) ≡ 32 ∷ text

@@ -1,40 +1,27 @@
 -- A command has one answer, but that memory may be refused.
-use Rattle.std.proofs.Common.{◌≡◌, ◌∙◌, ◌≢◌, sym, ap, subst, refl, inl, inr, ℕ, ◌-◌, ◌<◌, Bool, true, false, not, ◌||◌, List, [], ◌∷◌, ◌++◌, Option, None, Some, codes, ltb, arith, IsTrue}
-use Rattle.std.proofs.lemmas.Bool.{false≢true, ltb-true, ltb-false}
-use Rattle.pim_addr.specs.declared.family.AddressFamily.{AddressFamily}
-use Rattle.pim_addr.specs.Routes.{rp_of}
+use Rattle.pim_answers.proofs.Words.{◌≡◌, ◌∙◌, ◌≢◌, sym, ap, subst, refl, inl, inr, ℕ, ◌-◌, ◌<◌, Bool, true, false, not, ◌||◌}
+use Rattle.pim_answers.proofs.Words.{List, [], ◌∷◌, ◌++◌, Option, None, Some, codes, ltb, arith, IsTrue, false≢true, ltb-true}
+use Rattle.pim_answers.proofs.Words.{ltb-false, AddressFamily, rp_of, GroupForm, Demand, IsFormOf, echo_line, refresh_line}
+use Rattle.pim_answers.proofs.Words.{Comparison, Echo, Refresh, Reached, RouterReport, echo, refresh, verdict, IsTooBig}
+use Rattle.pim_answers.proofs.Words.{RunHasOneEnd, RouterState, IsLong, stated_in, type_of, address_bytes, FromText, Refused}
+use Rattle.pim_answers.proofs.Words.{RefusedIf, OrMemory, OrMemoryIf, UnlessIf, UnlessAny, SaysMade, too_big_words, KeepsForm}
+use Rattle.pim_answers.proofs.Words.{kept_now, SaysOf, IfUsable, AnswersFound, SaysChange, has_other_family, name_words}
+use Rattle.pim_answers.proofs.Words.{IsFirstBig, AreCompared, SaysSame, writer_of, writer_words, differ_from, family_words, Kept}
+use Rattle.pim_answers.proofs.Words.{with_kept, lacks_place, is_usable, ok_line, fault_line, memory_line, lacks_port, port_words}
+use Rattle.pim_answers.proofs.Words.{addresses_of, Takes, NeedsMemory, packet_of, packet_from, destination_of, IsMessageOf}
+use Rattle.pim_answers.proofs.Words.{TakesText, TakesShort, Passes, moment_line}
 use Rattle.pim_down.specs.Time.{Downstream, IsNextDue}
 use Rattle.pim_form.specs.Laws.{OneNormalForm, OneListOfMessages}
 use Rattle.pim_form.specs.Messages.{Writing as Writer}
-use Rattle.pim_form.specs.NormalForm.{GroupForm, Demand, IsFormOf}
 use Rattle.pim_form.specs.TooBig.{too_big}
 use Rattle.pim_frame.specs.Seal.{IsSealed, OneChecksum}
 use Rattle.pim_report.specs.DemandText.{demand_text}
-use Rattle.pim_report.specs.EchoLine.{echo_line}
 use Rattle.pim_report.specs.MessageText.{messages_text}
-use Rattle.pim_report.specs.RefreshLine.{refresh_line}
-use Rattle.pim_request.specs.declared.command.Comparison.{Comparison}
-use Rattle.pim_router.specs.declared.step.Step.TheVariants.{Echo, Refresh, Reached}
-use Rattle.pim_router.specs.Course.{RouterReport, echo, refresh, verdict}
-use Rattle.pim_router.specs.Canonical.{IsTooBig}
-use Rattle.pim_router.specs.Laws.{RunHasOneEnd}
 use Rattle.pim_router.specs.OneList.{OneListIsDemanded, OneIsTooBig, OneListIsTheChange, OneChangeIsTooBig}
 use Rattle.pim_router.specs.Packets.{Packet as Received}
-use Rattle.pim_router.specs.State.{RouterState}
 use Rattle.pim_text.specs.OneReading.{OneBody, LongBody}
-use Rattle.pim_text.specs.Spell.{IsLong, stated_in, type_of}
-use Rattle.pim_lines.specs.AnyAddress.{address_bytes}
-use Rattle.pim_answers.specs.declared.packets.FromText.{FromText}
-use Rattle.pim_answers.specs.Answered.{Refused, RefusedIf, OrMemory, OrMemoryIf}
-use Rattle.pim_answers.specs.Demanding.{UnlessIf, UnlessAny, SaysMade, too_big_words, KeepsForm, kept_now, SaysOf, IfUsable, AnswersFound, SaysChange, has_other_family, name_words, IsFirstBig, AreCompared, SaysSame, writer_of, writer_words}
 use Rattle.pim_report.specs.SameLine.{same_line}
-use Rattle.pim_answers.specs.Families.{differ_from, family_words}
-use Rattle.pim_answers.specs.Kept.{Kept, with_kept, lacks_place, is_usable}
-use Rattle.pim_answers.specs.Lines.{ok_line, fault_line, memory_line}
 use Rattle.pim_answers.specs.OneAnswer.{OneAnswer, OneText, OneRun, OnePacket, OneFrom, OneKeep, OneNext, OneWants, OneMessages, OneChange, OneSame}
-use Rattle.pim_answers.specs.Packets.{lacks_port, port_words, addresses_of, Takes, NeedsMemory, packet_of, packet_from, destination_of, IsMessageOf, TakesText, TakesShort}
-use Rattle.pim_answers.specs.Running.{Passes}
-use Rattle.pim_answers.specs.Reports.{moment_line}
 
 -- ---- refusals
 

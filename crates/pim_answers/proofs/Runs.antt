@@ -1,23 +1,10 @@
 -- On the way to a moment, run by run.
-use Rattle.std.proofs.Common.{◌≡◌, ℕ, List, [], ◌∷◌, ◌++◌, Option, Result, Ok, Err, IsErr, refl, sym, subst, ap, append_assoc, append-nil}
-use Rattle.std.specs.Io.KnownBytes.{Appends}
-use Rattle.std.proofs.KnownBytes.{Appends-nil, Appends-trans}
-use Rattle.pim_addr.specs.declared.family.AddressFamily.{AddressFamily}
-use Rattle.pim_device.specs.Device.{AppendsFront, AppendsAll}
+use Rattle.pim_answers.proofs.Words.{◌≡◌, ℕ, List, [], ◌∷◌, ◌++◌, Option, Result, Ok, Err, IsErr, refl, sym, subst, ap}
+use Rattle.pim_answers.proofs.Words.{append_assoc, append-nil, Appends, Appends-nil, Appends-trans, AddressFamily, AppendsFront}
+use Rattle.pim_answers.proofs.Words.{AppendsAll, Step, Echo, Refresh, Reached, RouterReport, echo, refresh, verdict, runs_to}
+use Rattle.pim_answers.proofs.Words.{Reaches, IsCourse, step_seen, RouterState, Runs, EveryListHasACourse, echo_line}
+use Rattle.pim_answers.proofs.Words.{refresh_line, Answered, ok_line, Passes, AnswersRun, step_line}
 use Rattle.pim_down.specs.declared.machines.key.What.{What}
-use Rattle.pim_router.specs.declared.step.Step.{Step}
-use Rattle.pim_router.specs.declared.step.Step.TheVariants.{Echo, Refresh, Reached}
-use Rattle.pim_router.specs.Course.{RouterReport, echo, refresh, verdict, runs_to, Reaches, IsCourse}
-use Rattle.pim_router.specs.Seen.{step_seen}
-use Rattle.pim_router.specs.State.{RouterState}
-use Rattle.pim_router.specs.Time.{Runs}
-use Rattle.pim_router.specs.Laws.{EveryListHasACourse}
-use Rattle.pim_report.specs.EchoLine.{echo_line}
-use Rattle.pim_report.specs.RefreshLine.{refresh_line}
-use Rattle.pim_answers.specs.Answered.{Answered}
-use Rattle.pim_answers.specs.Lines.{ok_line}
-use Rattle.pim_answers.specs.Running.{Passes, AnswersRun}
-use Rattle.pim_answers.specs.RunningSeen.{step_line}
 use Rattle.pim_answers.proofs.Wrote.{answered_text}
 use Rattle.pim_answers.proofs.Written.{front-longer, front-more, both}
 

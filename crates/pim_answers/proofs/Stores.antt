@@ -1,21 +1,17 @@
 -- What is kept under names, and stars.
-use Rattle.std.proofs.Common.{◌≡◌, ℕ, ◌<◌, ◌≤◌, Bool, true, false, not, nat_lt, nat_le, List, [], ◌∷◌, ◌++◌, length, map, get_or, Option, None, Some, option_map, is_some, Result, Ok, Err, IfOk, refl, sym, ap, subst, ◌∙◌, append_assoc}
-use Rattle.std.specs.List.{position, position_or_len}
+use Rattle.pim_answers.proofs.Words.{◌≡◌, ℕ, ◌<◌, ◌≤◌, Bool, true, false, not, nat_lt, nat_le, List, [], ◌∷◌, ◌++◌, length, map}
+use Rattle.pim_answers.proofs.Words.{get_or, Option, None, Some, option_map, is_some, Result, Ok, Err, IfOk, refl, sym, ap, subst}
+use Rattle.pim_answers.proofs.Words.{◌∙◌, append_assoc, position, position_or_len, le-leb, le-ltb, map-set, get_or-map}
+use Rattle.pim_answers.proofs.Words.{length-map, AddressFamily, RouteTable, GroupForm, Kept, place_of, kept_at, kept_as}
+use Rattle.pim_answers.proofs.Words.{kept_with, with_kept, lacks_place, star_of, stars_of, any_seen, entry_seen}
 use Rattle.std.proofs.Math.ListN.{set}
-use Rattle.std.proofs.lemmas.Bool.{le-leb, le-ltb}
-use Rattle.std.proofs.lemmas.List.{map-set, get_or-map, length-map}
 use Rattle.std.proofs.lemmas.List.Quantifiers.{position-Some}
 use Rattle.std.proofs.lemmas.Option.{slice_get-map, slice_get-get_or}
 use Rattle.std.specs.Str.{bytes_eq}
-use Rattle.pim_addr.specs.declared.family.AddressFamily.{AddressFamily}
 use Rattle.pim_addr.specs.Equality.{bytes_equal}
-use Rattle.pim_addr.specs.Routes.{RouteTable}
-use Rattle.pim_form.specs.NormalForm.{GroupForm}
 use Rattle.pim_answers.specs.declared.kept.AnyForm.{AnyForm}
 use Rattle.pim_answers.specs.declared.kept.AnyForm.TheVariants.{Ipv4, Ipv6}
 use Rattle.pim_answers.specs.declared.kept.KeptEntry.{KeptEntry}
-use Rattle.pim_answers.specs.Kept.{Kept, place_of, kept_at, kept_as, kept_with, with_kept, lacks_place, star_of, stars_of}
-use Rattle.pim_answers.specs.StoreSeen.{any_seen, entry_seen}
 
 -- the name of what is kept
 pub named : (name : List ℕ) (form : AnyForm) → (any_seen name form).name ≡ name

@@ -1,21 +1,13 @@
 -- Packets that a router takes.
-use Rattle.std.proofs.Common.{◌≡◌, ◌⊎◌, ℕ, ◌*◌, ◌<◌, ◌≤◌, true, false, List, [], ◌∷◌, ◌++◌, length, codes, Option, Result, refl, ap, subst, inl, inr, arith}
-use Rattle.std.proofs.lemmas.Bool.{le-leb, lt-leb}
-use Rattle.pim_device.specs.Device.{AppendsAll}
+use Rattle.pim_answers.proofs.Words.{◌≡◌, ◌⊎◌, ℕ, ◌*◌, ◌<◌, ◌≤◌, true, false, List, [], ◌∷◌, ◌++◌, length, codes, Option, Result}
+use Rattle.pim_answers.proofs.Words.{refl, ap, subst, inl, inr, arith, le-leb, lt-leb, AppendsAll, hex_bytes, IsLong}
+use Rattle.pim_answers.proofs.Words.{address_bytes, AddressFamily, RouterState, verdict_line, FromText, RefusedIf, OrMemory}
+use Rattle.pim_answers.proofs.Words.{OrMemoryIf, Answered, differ_from, family_words, ok_line, fault_line, Takes, NeedsMemory}
+use Rattle.pim_answers.proofs.Words.{TakesText, TakesShort, IsMessageOf, AnswersPacket, AnswersFrom, lacks_port, port_words}
+use Rattle.pim_answers.proofs.Words.{packet_of, packet_from, destination_of}
 use Rattle.pim_request.specs.declared.command.Packet.{Packet as Arrived}
-use Rattle.pim_request.specs.Forms.{hex_bytes}
-use Rattle.pim_text.specs.Spell.{IsLong}
-use Rattle.pim_lines.specs.AnyAddress.{address_bytes}
-use Rattle.pim_addr.specs.declared.family.AddressFamily.{AddressFamily}
 use Rattle.pim_router.specs.declared.verdict.Verdict.{Verdict}
 use Rattle.pim_router.specs.Packets.{Packet, received}
-use Rattle.pim_router.specs.State.{RouterState}
-use Rattle.pim_report.specs.PacketLine.{verdict_line}
-use Rattle.pim_answers.specs.declared.packets.FromText.{FromText}
-use Rattle.pim_answers.specs.Answered.{RefusedIf, OrMemory, OrMemoryIf, Answered}
-use Rattle.pim_answers.specs.Families.{differ_from, family_words}
-use Rattle.pim_answers.specs.Lines.{ok_line, fault_line}
-use Rattle.pim_answers.specs.Packets.{Takes, NeedsMemory, TakesText, TakesShort, IsMessageOf, AnswersPacket, AnswersFrom, lacks_port, port_words, packet_of, packet_from, destination_of}
 use Rattle.pim_answers.specs.PacketsSeen.{has_other_family}
 use Rattle.pim_answers.proofs.Wrote.{answered_text, answered_more, refused_if, passed_if}
 

@@ -1,8 +1,6 @@
 -- Answers for which something holds, from their texts.
-use Rattle.std.proofs.Common.{◌≡◌, ℕ, Bool, true, false, List, Option, Result, Ok, Err, codes, sym, ap, subst, inl, inr}
-use Rattle.pim_device.specs.Device.{AppendsAll}
-use Rattle.pim_answers.specs.Answered.{RefusedIf, OrMemoryIf, Answered, Wrote}
-use Rattle.pim_answers.specs.Lines.{fault_line}
+use Rattle.pim_answers.proofs.Words.{◌≡◌, ℕ, Bool, true, false, List, Option, Result, Ok, Err, codes, sym, ap, subst}
+use Rattle.pim_answers.proofs.Words.{inl, inr, AppendsAll, RefusedIf, OrMemoryIf, Answered, Wrote, fault_line}
 
 -- a text that was written
 pub told_text : {A E : Type 0} (Says : List ℕ → Type 0) (old new : Option (List ℕ)) (r : Result A E) (text : List ℕ) → Says text → AppendsAll old new r text → Wrote Says old new r

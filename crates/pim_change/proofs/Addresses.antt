@@ -1,13 +1,9 @@
 -- Addresses: when two are the same, and what their order says of it.
-use Rattle.std.proofs.Common.{◌≡◌, ◌∙◌, ◌↔◌, ℕ, Bool, true, false, not, IsTrue, List, [], ◌∷◌, Ordering, refl, sym, ap}
-use Rattle.std.proofs.lemmas.Bool.{false≢true, both_ways, not-true}
-use Rattle.std.specs.declared.cmp.Ordering.TheVariants.{Less, Equal, Greater}
-use Rattle.std.specs.List.{AllByRecursion}
-use Rattle.std.specs.Ordering.{nat_cmp, ordering_reverse, is_eq}
-use Rattle.std.specs.Cmp.Lexicographic.{slice_cmp, texts_ties}
+use Rattle.pim_change.proofs.Words.{◌≡◌, ◌∙◌, ◌↔◌, ℕ, Bool, true, false, not, IsTrue, List, [], ◌∷◌, Ordering, refl}
+use Rattle.pim_change.proofs.Words.{sym, ap, false≢true, both_ways, not-true, Less, Equal, Greater, AllByRecursion}
+use Rattle.pim_change.proofs.Words.{nat_cmp, ordering_reverse, is_eq, slice_cmp, texts_ties, nat_list_cmp_total}
+use Rattle.pim_change.proofs.Words.{tied_itself, same_address, is_listed}
 use Rattle.std.specs.FinMap.{slice_cmp-IsAntisymmetric, nat_cmp-IsAntisymmetric}
-use Rattle.std.proofs.lemmas.Cmp.{nat_list_cmp_total, tied_itself}
-use Rattle.pim_form.specs.NormalForm.{same_address, is_listed}
 
 pub same_itself : (a : List ℕ) → same_address a a ≡ true
 same_itself a = texts_ties a a ∙ ap is_eq (tied_itself nat_list_cmp_total a)

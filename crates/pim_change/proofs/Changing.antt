@@ -1,14 +1,8 @@
 -- The change between two forms, group by group.
-use Rattle.std.proofs.Common.{◌≡◌, ◌∙◌, ℕ, List, [], ◌∷◌, ◌++◌, refl, sym, ap, subst}
-use Rattle.std.specs.declared.cmp.Ordering.TheVariants.{Less, Equal, Greater}
-use Rattle.std.specs.List.{AllByRecursion, flat_map}
-use Rattle.std.specs.List.Sorted.{IsStrictlySortedBy}
-use Rattle.std.specs.Ordering.{nat_cmp}
-use Rattle.std.specs.Cmp.Lexicographic.{slice_cmp}
-use Rattle.std.proofs.lemmas.Cmp.{nat_list_cmp_total, tied_itself}
-use Rattle.pim_form.specs.NormalForm.{GroupForm, AreAscending, groups_of}
-use Rattle.pim_form.specs.Settled.{unwanted, group_in}
-use Rattle.pim_change.specs.Change.{ChangeUnit, about, group_change, inserted, in_order, change_at, change}
+use Rattle.pim_change.proofs.Words.{◌≡◌, ◌∙◌, ℕ, List, [], ◌∷◌, ◌++◌, refl, sym, ap, subst, Less, Equal, Greater}
+use Rattle.pim_change.proofs.Words.{AllByRecursion, flat_map, IsStrictlySortedBy, nat_cmp, slice_cmp}
+use Rattle.pim_change.proofs.Words.{nat_list_cmp_total, tied_itself, GroupForm, AreAscending, groups_of, unwanted}
+use Rattle.pim_change.proofs.Words.{group_in, ChangeUnit, about, group_change, inserted, in_order, change_at, change}
 use Rattle.pim_change.proofs.Addresses.{same_itself, equal_is, less_apart, greater_less, less_greater, less_apart_back}
 use Rattle.pim_change.proofs.Addresses.{all_behind}
 use Rattle.pim_change.proofs.Sorted.{either_all}

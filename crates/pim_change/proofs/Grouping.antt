@@ -1,12 +1,9 @@
 -- Units of one group that stand together are one set.
-use Rattle.std.proofs.Common.{◌≡◌, ◌∙◌, ℕ, zero, suc, ◌<◌, ◌≤◌, Bool, true, false, List, [], ◌∷◌}
-use Rattle.std.proofs.Common.{length, take, drop, get_or, refl, sym, ap, subst, arith}
-use Rattle.std.specs.List.{AllByRecursion}
-use Rattle.pim_form.specs.NormalForm.{same_address}
+use Rattle.pim_change.proofs.Words.{◌≡◌, ◌∙◌, ℕ, zero, suc, ◌<◌, ◌≤◌, Bool, true, false, List, [], ◌∷◌, length, take}
+use Rattle.pim_change.proofs.Words.{drop, get_or, refl, sym, ap, subst, arith, AllByRecursion, same_address, Action}
+use Rattle.pim_change.proofs.Words.{ChangeUnit, unit_of, action_seen, actions_seen, unit_seen, units_seen, GroupActions}
+use Rattle.pim_change.proofs.Words.{actions_of, set_in_front, in_front, grouped}
 use Rattle.pim_change.specs.declared.unit.Unit.{Unit as UnitOf}
-use Rattle.pim_change.specs.Change.{Action, ChangeUnit, unit_of}
-use Rattle.pim_change.specs.Seen.{action_seen, actions_seen, unit_seen, units_seen}
-use Rattle.pim_change.specs.Written.{GroupActions, actions_of, set_in_front, in_front, grouped}
 use Rattle.pim_change.proofs.Addresses.{same_itself}
 
 -- sets whose first is of this group

@@ -1,12 +1,7 @@
 -- What one list in order has that another one lacks: one step of a walk over both.
-use Rattle.std.proofs.Common.{◌≡◌, ◌∙◌, ℕ, true, false, ◌||◌, not, cond, List, [], ◌∷◌, refl, ap, subst}
-use Rattle.std.specs.declared.cmp.Ordering.TheVariants.{Less, Equal, Greater}
-use Rattle.std.specs.List.{AllByRecursion}
-use Rattle.std.specs.List.Sorted.{IsStrictlySortedBy}
-use Rattle.std.specs.Ordering.{nat_cmp}
-use Rattle.std.specs.Cmp.Lexicographic.{slice_cmp}
-use Rattle.pim_form.specs.NormalForm.{AreAscending, same_address, is_listed}
-use Rattle.pim_change.specs.Change.{lacking}
+use Rattle.pim_change.proofs.Words.{◌≡◌, ◌∙◌, ℕ, true, false, ◌||◌, not, cond, List, [], ◌∷◌, refl, ap, subst, Less}
+use Rattle.pim_change.proofs.Words.{Equal, Greater, AllByRecursion, IsStrictlySortedBy, nat_cmp, slice_cmp}
+use Rattle.pim_change.proofs.Words.{AreAscending, same_address, is_listed, lacking}
 use Rattle.pim_change.proofs.Addresses.{same_itself, equal_is, greater_less, less_apart_back, all_behind}
 use Rattle.pim_change.proofs.Addresses.{unlisted_below}
 

@@ -1,18 +1,9 @@
 -- Of a change, only new stars can be too big.
-use Rattle.std.proofs.Common.{◌≡◌, ◌∙◌, ℕ, Bool, true, false, ◌||◌, cond, not, List, [], ◌∷◌, None, Some, Ordering, refl, sym, ap, subst}
-use Rattle.std.specs.Option.{is_some}
-use Rattle.std.specs.declared.cmp.Ordering.TheVariants.{Less, Equal, Greater}
-use Rattle.std.specs.List.{AllByRecursion, filter}
-use Rattle.std.specs.List.Sorted.{IsStrictlySortedBy}
-use Rattle.std.specs.Ordering.{nat_cmp}
-use Rattle.std.specs.Cmp.Lexicographic.{slice_cmp}
-use Rattle.pim_addr.specs.declared.family.AddressFamily.{AddressFamily}
-use Rattle.pim_form.specs.NormalForm.{GroupForm, AreAscending, groups_of}
-use Rattle.pim_form.specs.Settled.{group_in}
+use Rattle.pim_change.proofs.Words.{◌≡◌, ◌∙◌, ℕ, Bool, true, false, ◌||◌, cond, not, List, [], ◌∷◌, None, Some}
+use Rattle.pim_change.proofs.Words.{Ordering, refl, sym, ap, subst, is_some, Less, Equal, Greater, AllByRecursion}
+use Rattle.pim_change.proofs.Words.{filter, IsStrictlySortedBy, nat_cmp, slice_cmp, AddressFamily, GroupForm}
+use Rattle.pim_change.proofs.Words.{AreAscending, groups_of, group_in, change, too_big, NewStarsAloneAreTooBig}
 use Rattle.pim_form.specs.TooBig as form
-use Rattle.pim_change.specs.Change.{change}
-use Rattle.pim_change.specs.TooBig.{too_big}
-use Rattle.pim_change.specs.Laws.{NewStarsAloneAreTooBig}
 use Rattle.pim_change.proofs.Addresses.{equal_is, greater_less, all_behind}
 use Rattle.pim_change.proofs.Changing.{in_same, in_behind, in_none, no_change}
 use Rattle.pim_change.proofs.StarsFit.{behind, IsFitting, fits_less, at_equal, at_greater, at_came, all_gone}

@@ -1,20 +1,8 @@
 -- The change between two forms has one list of messages.
-use Rattle.std.proofs.Common.{◌≡◌, ◌∙◌, sym, ap, subst, refl, ℕ, List, [], ◌∷◌, ◌++◌, length, map, arith, Option}
-use Rattle.std.specs.List.{flat_map}
-use Rattle.std.proofs.lemmas.List.{length-map, map-append}
-use Rattle.pim_addr.specs.declared.family.AddressFamily.{AddressFamily}
-use Rattle.pim_frame.specs.Frame.{all_routers}
-use Rattle.pim_frame.specs.Seal.{OneChecksum}
-use Rattle.pim_frame.specs.declared.frame.MessageType.TheVariants.{JoinPrune}
-use Rattle.pim_jp.specs.Canonical.{canonical}
-use Rattle.pim_form.specs.Laws.{OnePacking}
-use Rattle.pim_form.specs.Messages.{Writing}
-use Rattle.pim_form.specs.NormalForm.{GroupForm}
-use Rattle.pim_form.specs.Packing.{joined, IsPacking}
-use Rattle.pim_form.specs.Units.{WantUnit}
-use Rattle.pim_change.specs.Change.{ChangeUnit, change}
-use Rattle.pim_change.specs.Written.{weight, weights, IsPacked, written_message, CarryRuns, CarryChange}
-use Rattle.pim_change.specs.Laws.{OneListOfChange}
+use Rattle.pim_change.proofs.Words.{◌≡◌, ◌∙◌, sym, ap, subst, refl, ℕ, List, [], ◌∷◌, ◌++◌, length, map, arith, Option, flat_map}
+use Rattle.pim_change.proofs.Words.{length-map, map-append, AddressFamily, all_routers, OneChecksum, JoinPrune, canonical}
+use Rattle.pim_change.proofs.Words.{OnePacking, Writing, GroupForm, joined, IsPacking, WantUnit, ChangeUnit, change, weight}
+use Rattle.pim_change.proofs.Words.{weights, IsPacked, written_message, CarryRuns, CarryChange, OneListOfChange}
 
 abbrev all : List (List ChangeUnit) → List ChangeUnit
 all runs = flat_map (λ run. run) runs

@@ -1,14 +1,11 @@
 -- A change tells at most one star of each group, and so does each set of its messages.
-use Rattle.std.proofs.Common.{◌≡◌, ℕ, ◌+◌, ◌≤◌, Bool, true, false, cond, ◌&&◌, List, [], ◌∷◌, ◌++◌, map, Option, None, Some, refl, sym, ap, subst, ◌∙◌, arith}
-use Rattle.std.specs.List.{AllByRecursion, flat_map}
-use Rattle.pim_jp.specs.declared.entry.Entry.{Entry}
-use Rattle.pim_jp.specs.Spelling.{star_count}
-use Rattle.pim_form.specs.NormalForm.{GroupForm, same_address, groups_of}
-use Rattle.pim_form.specs.Settled.{group_in}
-use Rattle.pim_change.specs.declared.unit.ActionKind.{ActionKind}
-use Rattle.pim_change.specs.declared.unit.ActionKind.TheVariants.{JoinRpt, PruneRpt, JoinSource, PruneSource}
-use Rattle.pim_change.specs.Change.{Action, star_joined, star_pruned, of_source, lacking, star_change, sources_change, group_change, ChangeUnit, unit_of, in_order, change_at, change}
-use Rattle.pim_change.specs.Written.{rp_entry, excepted_entries, joined_entries, pruned_entries, GroupActions, actions_of, set_in_front, in_front, grouped, written_set}
+use Rattle.pim_change.proofs.Words.{◌≡◌, ℕ, ◌+◌, ◌≤◌, Bool, true, false, cond, ◌&&◌, List, [], ◌∷◌, ◌++◌, map, Option}
+use Rattle.pim_change.proofs.Words.{None, Some, refl, sym, ap, subst, ◌∙◌, arith, AllByRecursion, flat_map, Entry}
+use Rattle.pim_change.proofs.Words.{star_count, GroupForm, same_address, groups_of, group_in, ActionKind, JoinRpt}
+use Rattle.pim_change.proofs.Words.{PruneRpt, JoinSource, PruneSource, Action, star_joined, star_pruned, of_source}
+use Rattle.pim_change.proofs.Words.{lacking, star_change, sources_change, group_change, ChangeUnit, unit_of, in_order}
+use Rattle.pim_change.proofs.Words.{change_at, change, rp_entry, excepted_entries, joined_entries, pruned_entries}
+use Rattle.pim_change.proofs.Words.{GroupActions, actions_of, set_in_front, in_front, grouped, written_set}
 use Rattle.pim_change.proofs.Addresses.{same_itself, same_is}
 use Rattle.pim_change.proofs.Sorted.{in_order_sorted, one_if, count, count_append, count_flat, count_once}
 

@@ -1,16 +1,9 @@
 -- Messages of a packing, one message on.
-use Rattle.std.proofs.Common.{◌≡◌, ◌∙◌, ℕ, zero, suc, ◌+◌, ◌≤◌, ◌<◌, true, List, [], ◌∷◌, ◌++◌, length, map, take, drop, Option}
-use Rattle.std.proofs.Common.{refl, sym, ap, subst, arith, append_assoc, append-nil, length-drop}
-use Rattle.std.specs.List.{flat_map}
-use Rattle.std.proofs.lemmas.List.{take-append-drop, drop-drop, drop_all, map-append}
-use Rattle.pim_addr.specs.declared.family.AddressFamily.{AddressFamily}
-use Rattle.pim_form.specs.Units.{WantUnit}
-use Rattle.pim_form.specs.Packing.{fits, StopsBefore, IsNonempty, joined, AreRuns}
-use Rattle.pim_form.specs.Messages.{Writing}
-use Rattle.pim_change.specs.declared.unit.Unit.{Unit}
-use Rattle.pim_change.specs.Change.{ChangeUnit}
-use Rattle.pim_change.specs.Seen.{units_seen}
-use Rattle.pim_change.specs.Written.{weights, CarriesRun, CarryUnits}
+use Rattle.pim_change.proofs.Words.{◌≡◌, ◌∙◌, ℕ, zero, suc, ◌+◌, ◌≤◌, ◌<◌, true, List, [], ◌∷◌, ◌++◌, length, map, take}
+use Rattle.pim_change.proofs.Words.{drop, Option, refl, sym, ap, subst, arith, append_assoc, append-nil, length-drop}
+use Rattle.pim_change.proofs.Words.{flat_map, take-append-drop, drop-drop, drop_all, map-append, AddressFamily}
+use Rattle.pim_change.proofs.Words.{WantUnit, fits, StopsBefore, IsNonempty, joined, AreRuns, Writing, Unit, ChangeUnit}
+use Rattle.pim_change.proofs.Words.{units_seen, weights, CarriesRun, CarryUnits}
 
 joined_weights : (runs : List (List ChangeUnit)) → joined (map weights runs) ≡ weights (flat_map (λ run. run) runs)
 joined_weights [] = refl

@@ -1,18 +1,9 @@
 -- The messages of a change are read back.
-use Rattle.std.proofs.Common.{◌≡◌, ◌≤◌, ◌+◌, ◌∙◌, ℕ, List, [], ◌∷◌, map, length, sym, ap, subst, arith, Option}
-use Rattle.std.specs.List.{AllByRecursion, flat_map}
-use Rattle.pim_addr.specs.declared.family.AddressFamily.{AddressFamily}
-use Rattle.pim_frame.specs.Seal.{checksum, framed}
-use Rattle.pim_frame.specs.declared.frame.MessageType.TheVariants.{JoinPrune}
-use Rattle.pim_jp.specs.Canonical.{IsMessage, canonical, canonical_head_length, canonical_sets_length}
-use Rattle.pim_jp.specs.Message.{Message}
-use Rattle.pim_form.specs.Laws.{SealedMessageIsRead}
-use Rattle.pim_form.specs.Messages.{Writing, IsWriting}
-use Rattle.pim_form.specs.NormalForm.{GroupForm}
-use Rattle.pim_form.specs.Packing.{AreRuns}
-use Rattle.pim_change.specs.Change.{ChangeUnit}
-use Rattle.pim_change.specs.Written.{weights, written_message, CarryRuns}
-use Rattle.pim_change.specs.Laws.{AreReadAsRuns, ChangeIsRead, ChangeMessagesAreShort}
+use Rattle.pim_change.proofs.Words.{◌≡◌, ◌≤◌, ◌+◌, ◌∙◌, ℕ, List, [], ◌∷◌, map, length, sym, ap, subst, arith, Option}
+use Rattle.pim_change.proofs.Words.{AllByRecursion, flat_map, AddressFamily, checksum, framed, JoinPrune, IsMessage}
+use Rattle.pim_change.proofs.Words.{canonical, canonical_head_length, canonical_sets_length, Message}
+use Rattle.pim_change.proofs.Words.{SealedMessageIsRead, Writing, IsWriting, GroupForm, AreRuns, ChangeUnit, weights}
+use Rattle.pim_change.proofs.Words.{written_message, CarryRuns, AreReadAsRuns, ChangeIsRead, ChangeMessagesAreShort}
 use Rattle.pim_change.proofs.RunSizes.{within_budget}
 use Rattle.pim_change.proofs.OneStar.{HasOneStar, runs_have_one_star}
 use Rattle.pim_change.proofs.Spelled.{all_split, IsFairUnit, change_fair, run_spelled}

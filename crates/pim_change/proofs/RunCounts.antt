@@ -1,25 +1,15 @@
 -- The units that one message holds: how they are counted, one by one, and that the first fits.
-use Rattle.std.proofs.Common.{◌≡◌, ◌∙◌, ◌↔◌, ℕ, zero, suc, ◌+◌, ◌-◌, ◌≤◌, ◌<◌, Bool, true, false, not, IsTrue}
-use Rattle.std.proofs.Common.{List, [], ◌∷◌, ◌++◌, Option, None, Some, length, map, take, drop, get_or, nat_le}
-use Rattle.std.proofs.Common.{refl, sym, ap, subst, arith}
+use Rattle.pim_change.proofs.Words.{◌≡◌, ◌∙◌, ◌↔◌, ℕ, zero, suc, ◌+◌, ◌-◌, ◌≤◌, ◌<◌, Bool, true, false, not, IsTrue, List, []}
+use Rattle.pim_change.proofs.Words.{◌∷◌, ◌++◌, Option, None, Some, length, map, take, drop, get_or, nat_le, refl, sym, ap, subst}
+use Rattle.pim_change.proofs.Words.{arith, if◌then◌else◌, false≢true, both_ways, leb-true, le-leb, and_parts, and_from, take_more}
+use Rattle.pim_change.proofs.Words.{drop_more, map-append, length-map, AddressFamily, Ipv4, Ipv6, same_address, WantUnit}
+use Rattle.pim_change.proofs.Words.{source_unit, star_unit, unit_group, unit_entries, run_entries, is_of_group, groups_behind}
+use Rattle.pim_change.proofs.Words.{run_groups, run_size, fits, most_groups, StopsBefore, Unit, JoinStar, Action, star_joined}
+use Rattle.pim_change.proofs.Words.{star_pruned, of_source, ChangeUnit, action_seen, unit_seen, units_seen, action_fits, too_big}
+use Rattle.pim_change.proofs.Words.{weight, weights}
 use mir.Val.{bool_byte}
-use Rattle.std.specs.Prelude.{if◌then◌else◌}
 use Rattle.std.specs.Borrow.{Bor}
-use Rattle.std.proofs.lemmas.Bool.{false≢true, both_ways, leb-true, le-leb, and_parts, and_from}
-use Rattle.std.proofs.lemmas.List.{take_more, drop_more, map-append, length-map}
-use Rattle.pim_addr.specs.declared.family.AddressFamily.{AddressFamily}
-use Rattle.pim_addr.specs.declared.family.AddressFamily.TheVariants.{Ipv4, Ipv6}
-use Rattle.pim_form.specs.NormalForm.{same_address}
-use Rattle.pim_form.specs.Units.{WantUnit, source_unit, star_unit, unit_group, unit_entries, run_entries, is_of_group}
-use Rattle.pim_form.specs.Units.{groups_behind, run_groups, run_size}
-use Rattle.pim_form.specs.Packing.{fits, most_groups, StopsBefore}
-use Rattle.pim_change.specs.declared.unit.Unit.{Unit}
 use Rattle.pim_change.specs.declared.unit.Action.{Action as ActionOf}
-use Rattle.pim_change.specs.declared.unit.Action.TheVariants.{JoinStar}
-use Rattle.pim_change.specs.Change.{Action, star_joined, star_pruned, of_source, ChangeUnit}
-use Rattle.pim_change.specs.Seen.{action_seen, unit_seen, units_seen}
-use Rattle.pim_change.specs.TooBig.{action_fits, too_big}
-use Rattle.pim_change.specs.Written.{weight, weights}
 use Rattle.pim_change.specs.Runs.{last_group}
 use Rattle.pim_change.proofs.Addresses.{same_is, same_itself}
 use Rattle.pim_change.proofs.RunSizes.{weight_group}

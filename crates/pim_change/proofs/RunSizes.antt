@@ -1,23 +1,13 @@
 -- What room the sets of a run take: as much as its units weigh, or less where a group has no RP.
-use Rattle.std.proofs.Common.{◌≡◌, ◌∙◌, ℕ, suc, ◌+◌, ◌*◌, ◌≤◌, ◌<◌, ◌^◌, Bool, true, false, List, [], ◌∷◌}
-use Rattle.std.proofs.Common.{Option, None, Some, length, map, nat_le, refl, sym, ap, subst, arith, length-append}
-use Rattle.std.specs.Prelude.{if◌then◌else◌}
-use Rattle.std.specs.List.{AllByRecursion, flat_map}
-use Rattle.std.proofs.lemmas.Bool.{leb-true, and_parts}
-use Rattle.std.proofs.lemmas.List.{length-map}
-use Rattle.pim_addr.specs.declared.family.AddressFamily.{AddressFamily}
-use Rattle.pim_addr.specs.declared.family.AddressFamily.TheVariants.{Ipv4, Ipv6}
-use Rattle.pim_jp.specs.declared.entry.Entry.TheVariants.{Rpt}
-use Rattle.pim_jp.specs.Message.{GroupSet}
-use Rattle.pim_jp.specs.Canonical.{canonical_head_length, canonical_sets_length}
-use Rattle.pim_form.specs.NormalForm.{same_address}
-use Rattle.pim_form.specs.Units.{unit_group, unit_entries, run_entries, groups_behind, run_groups, run_size}
-use Rattle.pim_form.specs.Units.{empty_set_size, entry_size}
-use Rattle.pim_form.specs.Packing.{fits, most_groups}
-use Rattle.pim_change.specs.declared.unit.ActionKind.TheVariants.{JoinRpt, PruneRpt, JoinSource, PruneSource}
-use Rattle.pim_change.specs.Change.{Action, star_joined, star_pruned, of_source, ChangeUnit}
-use Rattle.pim_change.specs.Written.{weight_of, weights, rp_entry, joined_entries, pruned_entries, GroupActions}
-use Rattle.pim_change.specs.Written.{actions_of, set_in_front, in_front, grouped, written_set, written_sets, IsShort}
+use Rattle.pim_change.proofs.Words.{◌≡◌, ◌∙◌, ℕ, suc, ◌+◌, ◌*◌, ◌≤◌, ◌<◌, ◌^◌, Bool, true, false, List, [], ◌∷◌, Option, None}
+use Rattle.pim_change.proofs.Words.{Some, length, map, nat_le, refl, sym, ap, subst, arith, length-append, if◌then◌else◌}
+use Rattle.pim_change.proofs.Words.{AllByRecursion, flat_map, leb-true, and_parts, length-map, AddressFamily, Ipv4, Ipv6, Rpt}
+use Rattle.pim_change.proofs.Words.{GroupSet, canonical_head_length, canonical_sets_length, same_address, unit_group}
+use Rattle.pim_change.proofs.Words.{unit_entries, run_entries, groups_behind, run_groups, run_size, empty_set_size, entry_size}
+use Rattle.pim_change.proofs.Words.{fits, most_groups, JoinRpt, PruneRpt, JoinSource, PruneSource, Action, star_joined}
+use Rattle.pim_change.proofs.Words.{star_pruned, of_source, ChangeUnit, weight_of, weights, rp_entry, joined_entries}
+use Rattle.pim_change.proofs.Words.{pruned_entries, GroupActions, actions_of, set_in_front, in_front, grouped, written_set}
+use Rattle.pim_change.proofs.Words.{written_sets, IsShort}
 use Rattle.pim_change.proofs.Addresses.{same_is}
 use Rattle.pim_change.proofs.Grouping.{StartsWith, starts}
 

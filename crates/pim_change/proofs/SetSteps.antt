@@ -1,16 +1,10 @@
 -- One more set of a run.
-use Rattle.std.proofs.Common.{◌≡◌, ◌∙◌, ℕ, suc, ◌+◌, ◌≤◌, ◌<◌, List, [], ◌∷◌, ◌++◌, length, map, take, drop, Option}
-use Rattle.std.proofs.Common.{get_or, sym, ap, subst, arith, append_assoc, append-nil}
+use Rattle.pim_change.proofs.Words.{◌≡◌, ◌∙◌, ℕ, suc, ◌+◌, ◌≤◌, ◌<◌, List, [], ◌∷◌, ◌++◌, length, map, take, drop}
+use Rattle.pim_change.proofs.Words.{Option, get_or, sym, ap, subst, arith, append_assoc, append-nil, drop_more}
+use Rattle.pim_change.proofs.Words.{drop_all, drop-drop, flat_map, AddressFamily, GroupSet, canonical_set}
+use Rattle.pim_change.proofs.Words.{canonical_sets_length, Unit, Action, unit_of, action_seen, actions_seen, units_seen}
+use Rattle.pim_change.proofs.Words.{actions_of, written_set, written_sets, set_size, grouped}
 use Rattle.std.proofs.Math.Numerals.{add-one}
-use Rattle.std.proofs.lemmas.List.{drop_more, drop_all, drop-drop}
-use Rattle.std.specs.List.{flat_map}
-use Rattle.pim_addr.specs.declared.family.AddressFamily.{AddressFamily}
-use Rattle.pim_jp.specs.Message.{GroupSet}
-use Rattle.pim_jp.specs.Canonical.{canonical_set, canonical_sets_length}
-use Rattle.pim_change.specs.declared.unit.Unit.{Unit}
-use Rattle.pim_change.specs.Change.{Action, unit_of}
-use Rattle.pim_change.specs.Seen.{action_seen, actions_seen, units_seen}
-use Rattle.pim_change.specs.Written.{actions_of, written_set, written_sets, set_size, grouped}
 
 module _ {A : Type 0} (bytes_of : A → List ℕ) (rps : List ℕ → Option (List ℕ)) (units : List (Unit A)) (start n : ℕ) (d : Unit A)
     (left behind these : List (Unit A)) (below : start < length units) (is_left : left ≡ drop start units)

@@ -1,21 +1,11 @@
 -- A change has messages exactly if it isn't too big.
-use Rattle.std.proofs.Common.{◌≡◌, ◌∙◌, ℕ, ◌≤◌, true, false, cond, List, [], ◌∷◌, ◌++◌, None, Some, map, nat_le, refl, sym, ap, subst, arith, Option}
-use Rattle.std.proofs.lemmas.Bool.{le-leb, and_from}
-use Rattle.std.specs.List.{AllByRecursion, flat_map}
-use Rattle.pim_addr.specs.declared.family.AddressFamily.{AddressFamily}
-use Rattle.pim_addr.specs.declared.family.AddressFamily.TheVariants.{Ipv4, Ipv6}
-use Rattle.pim_frame.specs.Frame.{all_routers}
-use Rattle.pim_frame.specs.Seal.{SomeMessageIsSealed}
-use Rattle.pim_frame.specs.declared.frame.MessageType.TheVariants.{JoinPrune}
-use Rattle.pim_jp.specs.Canonical.{canonical}
-use Rattle.pim_form.specs.Laws.{UnitsPackIfEachFits}
-use Rattle.pim_form.specs.Messages.{Writing, IsWriting}
-use Rattle.pim_form.specs.Packing.{fits, most_groups, AreRuns}
-use Rattle.pim_form.specs.Units.{WantUnit, source_unit, run_entries, groups_behind, run_groups, run_size}
-use Rattle.pim_change.specs.Change.{Action, star_joined, star_pruned, of_source, ChangeUnit, change}
-use Rattle.pim_change.specs.Laws.{ChangeHasMessagesUnlessTooBig}
-use Rattle.pim_change.specs.TooBig.{action_fits, too_big}
-use Rattle.pim_change.specs.Written.{weight_of, weight, weights, written_message, CarryRuns, CarryUnits}
+use Rattle.pim_change.proofs.Words.{◌≡◌, ◌∙◌, ℕ, ◌≤◌, true, false, cond, List, [], ◌∷◌, ◌++◌, None, Some, map, nat_le, refl, sym}
+use Rattle.pim_change.proofs.Words.{ap, subst, arith, Option, le-leb, and_from, AllByRecursion, flat_map, AddressFamily, Ipv4}
+use Rattle.pim_change.proofs.Words.{Ipv6, all_routers, SomeMessageIsSealed, JoinPrune, canonical, UnitsPackIfEachFits, Writing}
+use Rattle.pim_change.proofs.Words.{IsWriting, fits, most_groups, AreRuns, WantUnit, source_unit, run_entries, groups_behind}
+use Rattle.pim_change.proofs.Words.{run_groups, run_size, Action, star_joined, star_pruned, of_source, ChangeUnit, change}
+use Rattle.pim_change.proofs.Words.{ChangeHasMessagesUnlessTooBig, action_fits, too_big, weight_of, weight, weights}
+use Rattle.pim_change.proofs.Words.{written_message, CarryRuns, CarryUnits}
 
 -- ---- units that fit alone
 

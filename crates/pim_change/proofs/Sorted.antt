@@ -1,16 +1,10 @@
 -- Addresses in order: they ascend, so that each stands there once.
-use Rattle.std.proofs.Common.{◌≡◌, ℕ, ◌+◌, ◌≤◌, Bool, true, false, cond, ◌||◌, ◌∙◌, List, [], ◌∷◌, ◌++◌, refl, sym, ap, subst, arith}
-use Rattle.std.specs.List.{AllByRecursion, flat_map}
-use Rattle.std.specs.List.Sorted.{IsStrictlySortedBy}
+use Rattle.pim_change.proofs.Words.{◌≡◌, ℕ, ◌+◌, ◌≤◌, Bool, true, false, cond, ◌||◌, ◌∙◌, List, [], ◌∷◌, ◌++◌, refl}
+use Rattle.pim_change.proofs.Words.{sym, ap, subst, arith, AllByRecursion, flat_map, IsStrictlySortedBy, Less, Equal}
+use Rattle.pim_change.proofs.Words.{Greater, nat_cmp, slice_cmp, nat_list_cmp_total, same_address, is_listed, inserted}
+use Rattle.pim_change.proofs.Words.{in_order, AddressesAreInOrder}
 use Rattle.std.specs.declared.cmp.Ordering.{Ordering}
-use Rattle.std.specs.declared.cmp.Ordering.TheVariants.{Less, Equal, Greater}
-use Rattle.std.specs.Ordering.{nat_cmp}
-use Rattle.std.specs.Cmp.Lexicographic.{slice_cmp}
-use Rattle.std.proofs.lemmas.Cmp.{nat_list_cmp_total}
-use Rattle.pim_form.specs.NormalForm.{same_address, is_listed}
 use Rattle.pim_form.specs.Merge.{by_order}
-use Rattle.pim_change.specs.Change.{inserted, in_order}
-use Rattle.pim_change.specs.Laws.{AddressesAreInOrder}
 use Rattle.pim_change.proofs.Addresses.{same_is, less_apart, equal_is, greater_less}
 
 abbrev pub Below : List ℕ → List (List ℕ) → Type 0

@@ -1,22 +1,15 @@
 -- The message of a run can be spelled: its groups are groups, its sources and RPs valid sources, its lists short, and no set
 -- has two stars or a source both joined and pruned.
-use Rattle.std.proofs.Common.{◌≡◌, ℕ, Bool, true, false, cond, not, ◌||◌, List, [], ◌∷◌, ◌++◌, map, Option, None, Some, refl, sym, ap, subst, ◌∙◌, arith}
-use Rattle.std.specs.List.{AllByRecursion, filter, flat_map, list_any}
-use Rattle.std.proofs.lemmas.Bool.{false≢true}
-use Rattle.pim_addr.specs.declared.family.AddressFamily.{AddressFamily}
+use Rattle.pim_change.proofs.Words.{◌≡◌, ℕ, Bool, true, false, cond, not, ◌||◌, List, [], ◌∷◌, ◌++◌, map, Option, None, Some}
+use Rattle.pim_change.proofs.Words.{refl, sym, ap, subst, ◌∙◌, arith, AllByRecursion, filter, flat_map, list_any, false≢true}
+use Rattle.pim_change.proofs.Words.{AddressFamily, Entry, Star, Source, Rpt, same_source, IsMessageEntry, IsMessageSet, IsMessage}
+use Rattle.pim_change.proofs.Words.{GroupForm, same_address, is_listed, AreExceptions, IsNormalGroup, IsNormal, groups_of}
+use Rattle.pim_change.proofs.Words.{exceptions_of, Writing, IsWriting, IsRp, IsRpOf, HaveRps, fits, group_in, JoinRpt, PruneRpt}
+use Rattle.pim_change.proofs.Words.{JoinSource, PruneSource, Action, star_joined, star_pruned, of_source, lacking, star_change}
+use Rattle.pim_change.proofs.Words.{sources_change, group_change, ChangeUnit, unit_of, in_order, change_at, change, weights}
+use Rattle.pim_change.proofs.Words.{rp_entry, excepted_entries, joined_entries, pruned_entries, GroupActions, set_in_front}
+use Rattle.pim_change.proofs.Words.{in_front, grouped, written_set, written_message, IsShort}
 use Rattle.pim_addr.specs.Address.{IsGroupAddress, IsSourceAddress}
-use Rattle.pim_jp.specs.declared.entry.Entry.{Entry}
-use Rattle.pim_jp.specs.declared.entry.Entry.TheVariants.{Star, Source, Rpt}
-use Rattle.pim_jp.specs.Spelling.{same_source}
-use Rattle.pim_jp.specs.Canonical.{IsMessageEntry, IsMessageSet, IsMessage}
-use Rattle.pim_form.specs.NormalForm.{GroupForm, same_address, is_listed, AreExceptions, IsNormalGroup, IsNormal, groups_of}
-use Rattle.pim_form.specs.Rows.{exceptions_of}
-use Rattle.pim_form.specs.Messages.{Writing, IsWriting, IsRp, IsRpOf, HaveRps}
-use Rattle.pim_form.specs.Packing.{fits}
-use Rattle.pim_form.specs.Settled.{group_in}
-use Rattle.pim_change.specs.declared.unit.ActionKind.TheVariants.{JoinRpt, PruneRpt, JoinSource, PruneSource}
-use Rattle.pim_change.specs.Change.{Action, star_joined, star_pruned, of_source, lacking, star_change, sources_change, group_change, ChangeUnit, unit_of, in_order, change_at, change}
-use Rattle.pim_change.specs.Written.{weights, rp_entry, excepted_entries, joined_entries, pruned_entries, GroupActions, set_in_front, in_front, grouped, written_set, written_message, IsShort}
 use Rattle.pim_change.proofs.Addresses.{same_itself, same_is}
 use Rattle.pim_change.proofs.Sorted.{either_all}
 use Rattle.pim_change.proofs.OneStar.{HasOneStar, HasFewStars, one_star_a_set}

@@ -1,20 +1,10 @@
 -- Which of the units of a change don't fit a message.
-use Rattle.std.proofs.Common.{◌≡◌, ◌∙◌, ℕ, Bool, true, false, ◌||◌, cond, List, [], ◌∷◌, ◌++◌, Option, None, Some}
-use Rattle.std.proofs.Common.{map, refl, sym, ap, subst, append_assoc}
-use Rattle.std.specs.Option.{is_some}
-use Rattle.std.specs.declared.cmp.Ordering.TheVariants.{Less, Equal, Greater}
-use Rattle.std.specs.List.Sorted.{IsStrictlySortedBy}
-use Rattle.std.specs.Ordering.{nat_cmp}
-use Rattle.std.specs.Cmp.Lexicographic.{slice_cmp}
-use Rattle.pim_addr.specs.declared.family.AddressFamily.{AddressFamily}
-use Rattle.pim_form.specs.NormalForm.{GroupForm, AreAscending, groups_of}
+use Rattle.pim_change.proofs.Words.{◌≡◌, ◌∙◌, ℕ, Bool, true, false, ◌||◌, cond, List, [], ◌∷◌, ◌++◌, Option, None, Some, map}
+use Rattle.pim_change.proofs.Words.{refl, sym, ap, subst, append_assoc, is_some, Less, Equal, Greater, IsStrictlySortedBy}
+use Rattle.pim_change.proofs.Words.{nat_cmp, slice_cmp, AddressFamily, GroupForm, AreAscending, groups_of, unwanted, ActionKind}
+use Rattle.pim_change.proofs.Words.{JoinRpt, PruneRpt, JoinSource, PruneSource, Action, of_source, ChangeUnit, about, lacking}
+use Rattle.pim_change.proofs.Words.{star_change, sources_change, group_change, change, action_fits, too_big, star_change_fits}
 use Rattle.pim_form.specs.TooBig.{star_fits}
-use Rattle.pim_form.specs.Settled.{unwanted}
-use Rattle.pim_change.specs.declared.unit.ActionKind.{ActionKind}
-use Rattle.pim_change.specs.declared.unit.ActionKind.TheVariants.{JoinRpt, PruneRpt, JoinSource, PruneSource}
-use Rattle.pim_change.specs.Change.{Action, of_source, ChangeUnit, about, lacking, star_change, sources_change}
-use Rattle.pim_change.specs.Change.{group_change, change}
-use Rattle.pim_change.specs.TooBig.{action_fits, too_big, star_change_fits}
 use Rattle.pim_change.proofs.Changing.{change_less, change_equal, change_greater, change_gone, change_came, no_change}
 
 module _ (family : AddressFamily) (budget : ℕ) where

@@ -1,10 +1,8 @@
 -- A form that is told again changes nothing.
-use Rattle.std.proofs.Common.{◌≡◌, ℕ, Bool, true, false, ◌||◌, List, [], ◌∷◌, ◌++◌, Option, None, Some, map, refl, ap}
-use Rattle.std.specs.List.{AllByRecursion, flat_map}
-use Rattle.pim_form.specs.NormalForm.{GroupForm, same_address, is_listed, groups_of}
-use Rattle.pim_form.specs.Settled.{group_in}
-use Rattle.pim_change.specs.declared.unit.ActionKind.TheVariants.{JoinRpt, PruneRpt, JoinSource, PruneSource}
-use Rattle.pim_change.specs.Change.{of_source, ChangeUnit, about, lacking, star_change, group_change, in_order, change_at, change}
+use Rattle.pim_change.proofs.Words.{◌≡◌, ℕ, Bool, true, false, ◌||◌, List, [], ◌∷◌, ◌++◌, Option, None, Some, map, refl}
+use Rattle.pim_change.proofs.Words.{ap, AllByRecursion, flat_map, GroupForm, same_address, is_listed, groups_of}
+use Rattle.pim_change.proofs.Words.{group_in, JoinRpt, PruneRpt, JoinSource, PruneSource, of_source, ChangeUnit, about}
+use Rattle.pim_change.proofs.Words.{lacking, star_change, group_change, in_order, change_at, change}
 use Rattle.pim_change.proofs.Addresses.{same_itself}
 
 none_of : (xs ys : List (List ℕ)) → AllByRecursion (λ x. is_listed x ys ≡ true) xs → lacking xs ys ≡ []

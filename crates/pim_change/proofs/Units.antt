@@ -1,23 +1,10 @@
 -- Units that are told, one after the other.
-use Rattle.std.proofs.Common.{◌≡◌, ◌∙◌, ℕ, true, List, [], ◌∷◌, ◌++◌, Option, None, Some, length, map, refl, sym, ap}
-use Rattle.std.proofs.Common.{subst, append_assoc}
-use Rattle.std.specs.Option.{is_some}
-use Rattle.std.specs.declared.cmp.Ordering.TheVariants.{Less, Equal, Greater}
-use Rattle.std.specs.List.Sorted.{IsStrictlySortedBy}
-use Rattle.std.specs.Ordering.{nat_cmp}
-use Rattle.std.specs.Cmp.Lexicographic.{slice_cmp}
-use Rattle.std.proofs.lemmas.Bool.{false≢true}
+use Rattle.pim_change.proofs.Words.{◌≡◌, ◌∙◌, ℕ, true, List, [], ◌∷◌, ◌++◌, Option, None, Some, length, map, refl, sym, ap, subst}
+use Rattle.pim_change.proofs.Words.{append_assoc, is_some, Less, Equal, Greater, IsStrictlySortedBy, nat_cmp, slice_cmp}
+use Rattle.pim_change.proofs.Words.{false≢true, GroupForm, AreAscending, groups_of, exceptions_of, unwanted, ActionKind, JoinRpt}
+use Rattle.pim_change.proofs.Words.{PruneRpt, JoinSource, PruneSource, Unit, Of, Action, of_source, ChangeUnit, unit_of, about}
+use Rattle.pim_change.proofs.Words.{lacking, star_change, sources_change, group_change, change, unit_seen, units_seen}
 use Rattle.std.proofs.lemmas.List.{append-nil, nil_from_length}
-use Rattle.pim_form.specs.NormalForm.{GroupForm, AreAscending, groups_of}
-use Rattle.pim_form.specs.Rows.{exceptions_of}
-use Rattle.pim_form.specs.Settled.{unwanted}
-use Rattle.pim_change.specs.declared.unit.ActionKind.{ActionKind}
-use Rattle.pim_change.specs.declared.unit.ActionKind.TheVariants.{JoinRpt, PruneRpt, JoinSource, PruneSource}
-use Rattle.pim_change.specs.declared.unit.Unit.{Unit}
-use Rattle.pim_change.specs.declared.unit.Action.TheVariants.{Of}
-use Rattle.pim_change.specs.Change.{Action, of_source, ChangeUnit, unit_of, about, lacking, star_change, sources_change}
-use Rattle.pim_change.specs.Change.{group_change, change}
-use Rattle.pim_change.specs.Seen.{unit_seen, units_seen}
 use Rattle.pim_change.proofs.Lacking.{lacking_all, lacking_less, lacking_equal, lacking_greater}
 use Rattle.pim_change.proofs.Changing.{change_less, change_equal, change_greater, change_gone, change_came, no_change}
 

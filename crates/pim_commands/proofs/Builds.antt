@@ -1,24 +1,16 @@
 -- What `build` returns and writes, from what is built of a text.
-use Rattle.std.proofs.Common.{◌≡◌, ◌∙◌, sym, ap, refl, subst, inr, ℕ, ◌≤◌, List, [], ◌∷◌, ◌++◌, Option, None, Some, Ok, Err, length, map}
-use Rattle.std.specs.Prelude.{IfSome}
-use Rattle.std.specs.Io.KnownBytes.{Appends, Keeps}
-use Rattle.pim_addr.specs.Faults.{judged}
-use Rattle.pim_addr.specs.declared.family.AddressFamily.{AddressFamily}
-use Rattle.pim_device.specs.Device.{AppendsFront}
-use Rattle.pim_frame.specs.Frame.{Content, hello, join_prune, other, content, frame_faults}
+use Rattle.pim_commands.proofs.Words.{◌≡◌, ◌∙◌, sym, ap, refl, subst, inr, ℕ, ◌≤◌, List, [], ◌∷◌, ◌++◌, Option, None}
+use Rattle.pim_commands.proofs.Words.{Some, Ok, Err, length, map, IfSome, Appends, Keeps, judged, AddressFamily}
+use Rattle.pim_commands.proofs.Words.{AppendsFront, Content, hello, join_prune, other, content, frame_faults, faults}
+use Rattle.pim_commands.proofs.Words.{hello_text, message_text, Fault, Frame, Hello, JoinPrune, Output, content_faults}
+use Rattle.pim_commands.proofs.Words.{content_text, message_faults, message_report}
 use Rattle.pim_hello.specs.Faults.{faults as hello_option_faults}
-use Rattle.pim_jp.specs.Faults.{faults}
-use Rattle.pim_text.specs.HelloText.{hello_text}
-use Rattle.pim_text.specs.JoinPruneText.{message_text}
 use Rattle.pim_text.specs.Building as of_bytes
 use Rattle.pim_text.specs.Building.{Value, a_hello, a_message, IsBuilt, IsReadAs, IsRefused, text_of}
 use Rattle.pim_text.specs.declared.build.fault.BuildFault.{BuildFault}
 use Rattle.pim_text.specs.declared.build.fault.BuildFault.TheVariants as of_build
-use Rattle.pim_faults.specs.declared.fault.Fault.{Fault}
-use Rattle.pim_faults.specs.declared.fault.Fault.TheVariants.{Frame, Hello, JoinPrune, Output}
 use Rattle.pim_faults.specs.Words.{build_fault}
 use Rattle.pim_commands.specs.Building.{IsAccepted, IsRefusedBy, Explains, Builds}
-use Rattle.pim_commands.specs.Report.{content_faults, content_text, message_faults, message_report}
 use Rattle.pim_commands.proofs.Reports.{keeps_self, short_input}
 
 -- ---- the faults of a message, as the program's

@@ -1,3 +1,4 @@
+pub mod Words
 pub mod Reports
 pub mod Builds
 pub mod NewRouters

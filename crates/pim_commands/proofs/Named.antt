@@ -1,12 +1,7 @@
 -- The ports of a router with their further files, by number.
-use Rattle.std.proofs.Common.{◌≡◌, ◌∙◌, sym, ap, refl, ℕ, suc, ◌+◌, ◌<◌, Bool, cond, List, [], ◌∷◌, length, drop, get_or, Option, None, Some}
-use Rattle.std.specs.Prelude.{filter}
-use Rattle.std.proofs.lemmas.List.{drop_more}
-use Rattle.pim_files.specs.Captures.{PortFiles, files_from, with_more}
-use Rattle.pim_words.specs.declared.fault.RouterSide.{RouterSide}
-use Rattle.pim_words.specs.declared.task.More.{More}
-use Rattle.pim_words.specs.declared.task.Port.{Port}
-use Rattle.pim_commands.specs.Naming.{further_name, name_at, is_in, are_in, ports_of}
+use Rattle.pim_commands.proofs.Words.{◌≡◌, ◌∙◌, sym, ap, refl, ℕ, suc, ◌+◌, ◌<◌, Bool, cond, List, [], ◌∷◌, length}
+use Rattle.pim_commands.proofs.Words.{drop, get_or, Option, None, Some, filter, drop_more, PortFiles, files_from}
+use Rattle.pim_commands.proofs.Words.{with_more, RouterSide, More, Port, further_name, name_at, is_in, are_in, ports_of}
 
 -- ---- the further files of a port
 

@@ -1,30 +1,17 @@
 -- Routers that are made, and the program's result for that of an engine.
-use Rattle.std.proofs.Common.{◌≡◌, refl, sym, ap, ◌∙◌, ℕ, Bool, true, false, cond, List, [], ◌∷◌, ◌++◌, length, map, Option, None, Some, Ok, Err, Result}
+use Rattle.pim_commands.proofs.Words.{◌≡◌, refl, sym, ap, ◌∙◌, ℕ, Bool, true, false, cond, List, [], ◌∷◌, ◌++◌, length, map}
+use Rattle.pim_commands.proofs.Words.{Option, None, Some, Ok, Err, Result, filter, length-map, AddressFamily, RouteTable}
+use Rattle.pim_commands.proofs.Words.{ExchangeFault, failures_of_exchange, PortConfig, IsMadeUnless, port_seen, setup_seen}
+use Rattle.pim_commands.proofs.Words.{RouterState, new_router, PortFiles, Port, Fault, write_failures_after, answer_of, in_file}
+use Rattle.pim_commands.proofs.Words.{file_at, is_memory, port_fault, is_in, config_of, config_fault, IsFirstCause}
 use Rattle.std.specs.Borrow.{Bor}
-use Rattle.std.specs.Prelude.{filter}
-use Rattle.std.proofs.lemmas.List.{length-map}
-use Rattle.pim_addr.specs.declared.family.AddressFamily.{AddressFamily}
-use Rattle.pim_addr.specs.Routes.{RouteTable}
 use Rattle.pim_merge.specs.declared.merge.MergeFault.{MergeFault}
 use Rattle.pim_run.specs.declared.fault.RunFault.TheVariants as of_replay
-use Rattle.pim_exchange.specs.declared.fault.ExchangeFault.{ExchangeFault}
 use Rattle.pim_exchange.specs.declared.fault.ExchangeFault.TheVariants as of_exchange
-use Rattle.pim_exchange.specs.Fault.{failures_of_exchange}
 use Rattle.pim_router.specs.declared.config.ConfigFault.{ConfigFault}
 use Rattle.pim_router.specs.declared.config.ConfigFault.TheVariants as of_config
-use Rattle.pim_router.specs.declared.config.PortConfig.{PortConfig}
-use Rattle.pim_router.specs.Config.{IsMadeUnless}
-use Rattle.pim_router.specs.Seen.{port_seen, setup_seen}
-use Rattle.pim_router.specs.State.{RouterState, new_router}
-use Rattle.pim_files.specs.Captures.{PortFiles}
-use Rattle.pim_words.specs.declared.task.Port.{Port}
 use Rattle.pim_capture.specs.declared.fault.CaptureFault.{CaptureFault}
-use Rattle.pim_faults.specs.declared.fault.Fault.{Fault}
 use Rattle.pim_faults.specs.declared.fault.Fault.TheVariants as of_run
-use Rattle.pim_commands.specs.Report.{write_failures_after}
-use Rattle.pim_commands.specs.Answers.{answer_of}
-use Rattle.pim_commands.specs.Naming.{in_file, file_at, is_memory, port_fault, is_in}
-use Rattle.pim_commands.specs.Routers.{config_of, config_fault, IsFirstCause}
 
 -- a value that was made
 pub made_is : {A : Type 0} (faults : List ConfigFault) (value made : A) → IsMadeUnless faults value (Ok made) → (faults ≡ []) × (made ≡ value)

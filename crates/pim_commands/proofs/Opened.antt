@@ -1,18 +1,13 @@
 -- What was opened, and what is returned and written over it.
-use Rattle.std.proofs.Common.{◌≡◌, ◌∙◌, inr, sym, ap, refl, ℕ, List, Option, Result, Ok, Err}
-use Rattle.pim_addr.specs.declared.family.AddressFamily.{AddressFamily}
-use Rattle.pim_addr.specs.Routes.{RouteTable}
+use Rattle.pim_commands.proofs.Words.{◌≡◌, ◌∙◌, inr, sym, ap, refl, ℕ, List, Option, Result, Ok, Err, AddressFamily}
+use Rattle.pim_commands.proofs.Words.{RouteTable, IsOpen, AreOpen, MergeState, Fault, OpensNot, Opens, OverOne}
+use Rattle.pim_commands.proofs.Words.{OverBoth, write_failures_after}
 use Rattle.pim_files.specs.declared.fault.OpenFault.{OpenFault}
 use Rattle.pim_files.specs.declared.fault.OpenFault.TheVariants as opening
 use Rattle.pim_files.specs.Files.{Known}
-use Rattle.pim_files.specs.Opening.{IsOpen, AreOpen}
-use Rattle.pim_merge.specs.Next.{MergeState}
 use Rattle.pim_files.specs.declared.routes.fault.RoutesFault.TheVariants as routes
 use Rattle.pim_words.specs.declared.task.Captures.{Captures}
-use Rattle.pim_faults.specs.declared.fault.Fault.{Fault}
-use Rattle.pim_commands.specs.Opening.{OpensNot, Opens, OverOne, OverBoth}
 use Rattle.pim_faults.specs.Unopened.{open_fault}
-use Rattle.pim_commands.specs.Report.{write_failures_after}
 
 -- a fault of opening isn't one of writing
 pub not_written : (before : ℕ) (reported : OpenFault) → write_failures_after {A = ℕ} before (Err (open_fault reported)) ≡ before

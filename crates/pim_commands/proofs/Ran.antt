@@ -1,18 +1,11 @@
 -- Engines that ran, and what is returned of them.
-use Rattle.std.proofs.Common.{◌≡◌, inr, refl, subst, ℕ, List, Result, Ok, Err}
-use Rattle.pim_addr.specs.declared.family.AddressFamily.{AddressFamily}
-use Rattle.pim_exchange.specs.declared.fault.ExchangeFault.{ExchangeFault}
-use Rattle.pim_exchange.specs.Fault.{failures_of_exchange}
-use Rattle.pim_files.specs.Captures.{PortFiles}
+use Rattle.pim_commands.proofs.Words.{◌≡◌, inr, refl, subst, ℕ, List, Result, Ok, Err, AddressFamily, ExchangeFault}
+use Rattle.pim_commands.proofs.Words.{failures_of_exchange, PortFiles, RouterState, Fault, answer_of, Runs, of_replayed}
+use Rattle.pim_commands.proofs.Words.{of_traced, writer_causes, IsFirstCause, IsWriterOf}
 use Rattle.pim_form.specs.Messages.{Writing}
 use Rattle.pim_form.specs.Writer.{has_bad_address}
 use Rattle.pim_run.specs.declared.fault.RunFault.{RunFault}
 use Rattle.pim_run.specs.Faults.{failures_of_device}
-use Rattle.pim_router.specs.State.{RouterState}
-use Rattle.pim_faults.specs.declared.fault.Fault.{Fault}
-use Rattle.pim_commands.specs.Answers.{answer_of}
-use Rattle.pim_commands.specs.Engines.{Runs, of_replayed, of_traced}
-use Rattle.pim_commands.specs.Routers.{writer_causes, IsFirstCause, IsWriterOf}
 
 -- an engine ran
 pub ran : {A S P : Type 0} (causes : List Fault) (Unmade : Type 0) (Ran : S → Result ℕ (ExchangeFault A) → Type 0) (ports others : List (PortFiles P)) (family : AddressFamily) (bytes_of : A → List ℕ)

@@ -1,30 +1,23 @@
 -- How the report of a message becomes that of an input.
-use Rattle.std.proofs.Common.{◌≡◌, ℕ, ◌≤◌, List, [], ◌∷◌, ◌++◌, length, map, Option, None, Some, Result, Ok, Err, refl, sym, subst, ap, ◌∙◌}
-use Rattle.std.specs.Prelude.{IfSome, IfOk}
-use Rattle.std.specs.Io.KnownBytes.{Keeps}
+use Rattle.pim_commands.proofs.Words.{◌≡◌, ℕ, ◌≤◌, List, [], ◌∷◌, ◌++◌, length, map, Option, None, Some, Result, Ok, Err, refl}
+use Rattle.pim_commands.proofs.Words.{sym, subst, ap, ◌∙◌, IfSome, IfOk, Keeps, AddressFamily, judged, Content, hello, join_prune}
+use Rattle.pim_commands.proofs.Words.{content, frame_faults, faults, message_text, hello_text, Fault, Words, File, Unopened}
+use Rattle.pim_commands.proofs.Words.{RoutesTooLong, RoutesRead, RoutesLine, Capture, InFile, TooBig, Full, Frame, Hello}
+use Rattle.pim_commands.proofs.Words.{JoinPrune, InputTooLong, InputRead, Output, Memory, TextTooLong, TextLine, TextFamily}
+use Rattle.pim_commands.proofs.Words.{content_faults, content_text, body_report, hello_report, message_report, input_report}
+use Rattle.pim_commands.proofs.Words.{Explains, IsMessageFault, IsStated, Reports}
 use Rattle.std.proofs.lemmas.Bool.{le-ltb}
-use Rattle.pim_addr.specs.declared.family.AddressFamily.{AddressFamily}
-use Rattle.pim_addr.specs.Faults.{judged}
 use Rattle.pim_frame.specs.declared.frame.FrameFault.{FrameFault}
-use Rattle.pim_frame.specs.Frame.{Content, hello, join_prune, content, frame_faults}
 use Rattle.pim_hello.specs.Hello as of_hello
 use Rattle.pim_hello.specs.Value.{hello_of}
 use Rattle.pim_hello.specs.Faults.{faults as hello_option_faults}
 use Rattle.pim_hello.specs.declared.fault.HelloFault.{HelloFault}
 use Rattle.pim_jp.specs.Message.{Message, message_of}
 use Rattle.pim_jp.specs.Canonical.{IsMessage}
-use Rattle.pim_jp.specs.Faults.{faults}
 use Rattle.pim_jp.specs.declared.fault.JpFault.{JpFault}
-use Rattle.pim_text.specs.JoinPruneText.{message_text}
-use Rattle.pim_text.specs.HelloText.{hello_text}
 use Rattle.pim_text.specs.Laws.{MessageTextStates}
 use Rattle.pim_text.specs.Read.{States}
 use Rattle.pim_text.specs.Value.{message_in}
-use Rattle.pim_faults.specs.declared.fault.Fault.{Fault}
-use Rattle.pim_faults.specs.declared.fault.Fault.TheVariants.{Words, File, Unopened, RoutesTooLong, RoutesRead, RoutesLine, Capture, InFile, TooBig, Full}
-use Rattle.pim_faults.specs.declared.fault.Fault.TheVariants.{Frame, Hello, JoinPrune, InputTooLong, InputRead, Output, Memory}
-use Rattle.pim_faults.specs.declared.fault.Fault.TheVariants.{TextTooLong, TextLine, TextFamily}
-use Rattle.pim_commands.specs.Report.{content_faults, content_text, body_report, hello_report, message_report, input_report, Explains, IsMessageFault, IsStated, Reports}
 
 -- the faults of a body are told as those of its message
 

@@ -1,20 +1,17 @@
 -- A trace and a replay of the same captures lead to the same router.
-use Rattle.std.proofs.Common.{◌≡◌, ◌∙◌, ℕ, Bool, List, [], ◌∷◌, ◌++◌, None, refl, sym, ap, subst, arith}
-use Rattle.pim_addr.specs.declared.family.AddressFamily.{AddressFamily}
+use Rattle.pim_commands.proofs.Words.{◌≡◌, ◌∙◌, ℕ, Bool, List, [], ◌∷◌, ◌++◌, None, refl, sym, ap, subst, arith}
+use Rattle.pim_commands.proofs.Words.{AddressFamily, IsComing, MergeState, RouterState}
 use Rattle.pim_capture.specs.Capture.{Answer, EventSeen}
 use Rattle.pim_merge.specs.Content.{Content, holds, of_other_family, without_packet, no_record, content_in}
 use Rattle.pim_merge.specs.declared.end.End.{End}
 use Rattle.pim_merge.specs.Ends.{last_of, end_moment, clock_of}
-use Rattle.pim_merge.specs.Lane.{IsComing}
 use Rattle.pim_merge.specs.Laws.{MergeByHasOneEnd}
 use Rattle.pim_merge.specs.Merge.{Taken}
-use Rattle.pim_merge.specs.Next.{MergeState}
 use Rattle.pim_router.specs.declared.step.Step.TheVariants.{Echo, Refresh, Reached}
 use Rattle.pim_router.specs.Course.{RouterReport, echo, refresh, verdict}
 use Rattle.pim_router.specs.Happening.{Happening, Happens}
 use Rattle.pim_router.specs.Laws.{RunsPastAreTurns, HappeningGoesOn, HappeningHasOneEnd}
 use Rattle.pim_router.specs.Refreshes.{RunsPast}
-use Rattle.pim_router.specs.State.{RouterState}
 use Rattle.pim_events.specs.Events.{Occurrence}
 use Rattle.pim_trace.specs.Ledger.{Ledger, frame_of}
 use Rattle.pim_trace.specs.Passing as trace

@@ -1,13 +1,11 @@
 -- What is printed of an event, as the printers say it and as the words ask for it.
-use Rattle.std.proofs.Common.{◌≡◌, ℕ, true, false, List, map, sym, ap}
-use Rattle.std.specs.Prelude.{if◌then◌else◌}
-use Rattle.pim_addr.specs.declared.family.AddressFamily.{AddressFamily}
+use Rattle.pim_commands.proofs.Words.{◌≡◌, ℕ, true, false, List, map, sym, ap, if◌then◌else◌, AddressFamily}
+use Rattle.pim_commands.proofs.Words.{selection_of, line_of}
 use Rattle.pim_event_lines.specs.JsonLine.{json_line}
 use Rattle.pim_event_lines.specs.TextLine.{text_line}
 use Rattle.pim_events.specs.declared.filter.Filter.{Filter}
 use Rattle.pim_events.specs.Filter.{filter_seen, if_shown}
 use Rattle.pim_words.specs.declared.task.Tracing.{Tracing}
-use Rattle.pim_commands.specs.Tracing.{selection_of, line_of}
 
 module _ {A : Type 0} (family : AddressFamily) (bytes_of : A → List ℕ) (names : List (List ℕ)) (tracing : Tracing A) (filter : Filter A)
     (all : filter.all ≡ tracing.all) (groups : filter.groups.now ≡ tracing.groups.items) (sources : filter.sources.now ≡ tracing.sources.items) (from : filter.from ≡ tracing.from) where

@@ -1,20 +1,12 @@
 -- Warnings that are written one after another.
-use Rattle.std.proofs.Common.{◌≡◌, inl, inr, refl, sym, ap, subst, ◌∙◌, ℕ, suc, ◌+◌, ◌≤◌, ◌<◌, Bool, true, false, cond, List, [], ◌∷◌, ◌++◌, length, take, get_or, Option, None, Some, Result, Ok, Err, IsErr, arith, append_assoc, length-append}
-use Rattle.std.proofs.lemmas.List.{take-append-le, length-take}
+use Rattle.pim_commands.proofs.Words.{◌≡◌, inl, inr, refl, sym, ap, subst, ◌∙◌, ℕ, suc, ◌+◌, ◌≤◌, ◌<◌, Bool, true, false, cond}
+use Rattle.pim_commands.proofs.Words.{List, [], ◌∷◌, ◌++◌, length, take, get_or, Option, None, Some, Result, Ok, Err, IsErr}
+use Rattle.pim_commands.proofs.Words.{arith, append_assoc, length-append, take-append-le, length-take, Appends, AddressFamily}
+use Rattle.pim_commands.proofs.Words.{RouteTable, AppendsFront, AppendsAll, failures_after, RouterSide, with_more, More, Port}
+use Rattle.pim_commands.proofs.Words.{IsReported, is_in, port_warnings, warnings_from}
 use Rattle.std.proofs.KnownBytes.{Appends-nil, Appends-trans}
-use Rattle.std.specs.Io.KnownBytes.{Appends}
-use Rattle.pim_addr.specs.declared.family.AddressFamily.{AddressFamily}
-use Rattle.pim_addr.specs.Routes.{RouteTable}
-use Rattle.pim_device.specs.Device.{AppendsFront, AppendsAll, failures_after}
 use Rattle.pim_merge.specs.declared.tally.Tally.{Tally}
 use Rattle.pim_merge.specs.Tally.{tally_at}
-use Rattle.pim_words.specs.declared.fault.RouterSide.{RouterSide}
-use Rattle.pim_files.specs.Captures.{with_more}
-use Rattle.pim_words.specs.declared.task.More.{More}
-use Rattle.pim_words.specs.declared.task.Port.{Port}
-use Rattle.pim_faults.specs.Ending.{IsReported}
-use Rattle.pim_commands.specs.Naming.{is_in}
-use Rattle.pim_commands.specs.Warnings.{port_warnings, warnings_from}
 use Rattle.pim_commands.proofs.Named.{left_from, one_port}
 
 -- nothing was written

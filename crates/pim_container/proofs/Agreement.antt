@@ -1,13 +1,15 @@
 -- The results for a classic file agree with those of `pim_capture`.
-use Rattle.std.proofs.Common.{◌≡◌, ℕ, zero, suc, ◌+◌, ◌-◌, ◌*◌, ◌/◌, ◌%◌, ◌^◌, ◌≤◌, Bool, true, false, not, ◌&&◌, ◌||◌, ◌==◌, nat_lt, List, [], ◌∷◌, ◌++◌, length, take, drop, Option, Some, None, Result, Ok, Err, ap, sym, ◌∙◌, subst, arith, refl, if◌then◌else◌, is_ok}
-use Rattle.std.proofs.lemmas.Bool.{false≢true}
-use Rattle.std.proofs.lemmas.List.{drop-take, take-take, drop-drop, length-drop}
-use Rattle.std.proofs.lemmas.Grind.{common_steps}
-use Rattle.byteorder.specs.Endian.{big_number}
-use Rattle.pim_addr.specs.declared.family.AddressFamily.{AddressFamily}
-use Rattle.pim_addr.specs.Faults.{fault_if, judged}
-use Rattle.pim_capture.specs.declared.event.Why.{Why}
-use Rattle.pim_capture.specs.declared.event.Why.TheVariants.{Cut, NotIp, BadHeader, NotPim, Fragment, NoTime, LinkType, NotChosen, CutShort, NextFile}
+use Rattle.pim_container.proofs.Words.{◌≡◌, ℕ, zero, suc, ◌+◌, ◌-◌, ◌*◌, ◌/◌, ◌%◌, ◌^◌, ◌≤◌, Bool, true, false, not, ◌&&◌, ◌||◌}
+use Rattle.pim_container.proofs.Words.{◌==◌, nat_lt, List, [], ◌∷◌, ◌++◌, length, take, drop, Option, Some, None, Result, Ok, Err}
+use Rattle.pim_container.proofs.Words.{ap, sym, ◌∙◌, subst, arith, refl, if◌then◌else◌, is_ok, false≢true, drop-take, take-take}
+use Rattle.pim_container.proofs.Words.{drop-drop, length-drop, common_steps, big_number, AddressFamily, fault_if, judged, Why}
+use Rattle.pim_container.proofs.Words.{Cut, NotIp, BadHeader, NotPim, Fragment, NoTime, LinkType, NotChosen, CutShort, NextFile}
+use Rattle.pim_container.proofs.Words.{Datagram, judge_packet, ethernet_family, raw_family, version, records, BlockEndianness}
+use Rattle.pim_container.proofs.Words.{Big, Little, ClassicFormat, Classic, Blocks, Carried, number, is_tag, second_type}
+use Rattle.pim_container.proofs.Words.{after_one, after_two, tagged, link_of, place_in, typed_place, untagged_place, place_of}
+use Rattle.pim_container.proofs.Words.{EventSeen, section, packet_event, placed_event, frame_event, is_section, Answer, answers}
+use Rattle.pim_container.proofs.Words.{classic_answers, judge_beginning, pieces, unless_fault, unless_faults, IsAt, SameEvent}
+use Rattle.pim_container.proofs.Words.{SameAnswers, AfterSection}
 use Rattle.pim_capture.specs.declared.fault.CaptureFault.{CaptureFault}
 use Rattle.pim_capture.specs.declared.fault.CaptureFault.TheVariants as theirs
 use Rattle.pim_capture.specs.declared.header.Format as format
@@ -18,28 +20,16 @@ use Rattle.pim_capture.specs.declared.header.Resolution.TheVariants as resolutio
 use Rattle.pim_capture.specs.declared.header.Link as layer_type
 use Rattle.pim_capture.specs.declared.header.Link.TheVariants as layer
 use Rattle.pim_capture.specs.Frame as frame
-use Rattle.pim_capture.specs.Frame.{Datagram, judge_packet, ethernet_family, raw_family, version}
 use Rattle.pim_capture.specs.Header as header
 use Rattle.pim_capture.specs.Capture as capture
-use Rattle.pim_capture.specs.Capture.{records}
-use Rattle.pim_container.specs.declared.link.BlockEndianness.{BlockEndianness}
-use Rattle.pim_container.specs.declared.link.BlockEndianness.TheVariants.{Big, Little}
 use Rattle.pim_container.specs.declared.link.LinkLayer.{LinkLayer}
 use Rattle.pim_container.specs.declared.link.LinkLayer.TheVariants as link
-use Rattle.pim_container.specs.declared.classic.ClassicFormat.{ClassicFormat}
 use Rattle.pim_container.specs.declared.classic.ClassicResolution.{ClassicResolution}
 use Rattle.pim_container.specs.declared.classic.ClassicResolution.TheVariants.{Microseconds, Nanoseconds}
-use Rattle.pim_container.specs.declared.container.Container.TheVariants.{Classic, Blocks}
 use Rattle.pim_container.specs.declared.fault.ContainerFault.TheVariants as fault
-use Rattle.pim_container.specs.declared.tags.Carried.{Carried}
 use Rattle.pim_container.specs.declared.place.PacketPlace.{PacketPlace}
 use Rattle.pim_container.specs.declared.event.Origin.{Origin}
-use Rattle.pim_container.specs.Link.{number, is_tag, second_type, after_one, after_two, tagged, link_of, place_in, typed_place, untagged_place, place_of}
-use Rattle.pim_container.specs.EventSeen.{EventSeen, section, packet_event, placed_event, frame_event}
-use Rattle.pim_container.specs.Block.{is_section}
 use Rattle.pim_container.specs.Classic as classic
-use Rattle.pim_container.specs.Pieces.{Answer, answers, classic_answers, judge_beginning, pieces, unless_fault, unless_faults}
-use Rattle.pim_container.specs.Agreement.{IsAt, SameEvent, SameAnswers, AfterSection}
 
 -- ---- what stands for what
 

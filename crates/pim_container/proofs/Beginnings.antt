@@ -1,25 +1,14 @@
 -- How a capture begins, and how the reading of its next piece begins.
-use Rattle.std.proofs.Common.{◌≡◌, ℕ, ◌+◌, ◌<◌, ◌≤◌, ◌⊎◌, Bool, true, false, nat_lt, List, [], ◌∷◌, ◌++◌, length, take, drop, Option, Some, None, Result, Ok, Err, IfSome, ap, sym, ◌∙◌, subst, arith, refl, inl, inr, if◌then◌else◌}
-use Rattle.std.specs.Option.{option_map}
-use Rattle.std.specs.Io.KnownBytes.{Consumes, IsAtEnd}
-use Rattle.std.proofs.lemmas.List.{take_at, drop_at, take_all, length-append, length-take-le}
-use Rattle.std.proofs.lemmas.Grind.{common_steps}
-use Rattle.pim_addr.specs.Faults.{Answers}
-use Rattle.pim_capture.specs.Capture.{most_records}
-use Rattle.pim_container.specs.declared.link.BlockEndianness.TheVariants.{Big}
-use Rattle.pim_container.specs.declared.fault.ContainerFault.{ContainerFault}
+use Rattle.pim_container.proofs.Words.{◌≡◌, ℕ, ◌+◌, ◌<◌, ◌≤◌, ◌⊎◌, Bool, true, false, nat_lt, List, [], ◌∷◌, ◌++◌, length, take}
+use Rattle.pim_container.proofs.Words.{drop, Option, Some, None, Result, Ok, Err, IfSome, ap, sym, ◌∙◌, subst, arith, refl, inl}
+use Rattle.pim_container.proofs.Words.{inr, if◌then◌else◌, option_map, Consumes, IsAtEnd, take_at, drop_at, take_all}
+use Rattle.pim_container.proofs.Words.{length-append, length-take-le, common_steps, Answers, most_records, Big, ContainerFault}
+use Rattle.pim_container.proofs.Words.{Interface, ClassicFormat, Container, Classic, Blocks, ReaderStep, section, ended}
+use Rattle.pim_container.proofs.Words.{is_section, judge_header, Answer, answers, classic_answers, judge_beginning, pieces}
+use Rattle.pim_container.proofs.Words.{judge_piece, piece_event, container_after, unless_fault, unless_faults, head_length}
+use Rattle.pim_container.proofs.Words.{head_of, piece_of, piece_length, head_faults, fault_if, IsNext, IsRefusal, CountsReads}
+use Rattle.pim_container.proofs.Words.{FillsAfter, BeginsClassic, Reads, behind}
 use Rattle.pim_container.specs.declared.fault.ContainerFault.TheVariants as fault
-use Rattle.pim_container.specs.declared.interface.Interface.{Interface}
-use Rattle.pim_container.specs.declared.classic.ClassicFormat.{ClassicFormat}
-use Rattle.pim_container.specs.declared.container.Container.{Container}
-use Rattle.pim_container.specs.declared.container.Container.TheVariants.{Classic, Blocks}
-use Rattle.pim_container.specs.declared.reader.ReaderStep.{ReaderStep}
-use Rattle.pim_container.specs.EventSeen.{section, ended}
-use Rattle.pim_container.specs.Block.{is_section}
-use Rattle.pim_container.specs.Classic.{judge_header}
-use Rattle.pim_container.specs.Pieces.{Answer, answers, classic_answers, judge_beginning, pieces, judge_piece, piece_event, container_after, unless_fault, unless_faults, head_length, head_of, piece_of, piece_length, head_faults}
-use Rattle.pim_addr.specs.Faults.{fault_if}
-use Rattle.pim_container.specs.Next.{IsNext, IsRefusal, CountsReads, FillsAfter, BeginsClassic, Reads, behind}
 use Rattle.pim_container.proofs.Steps.{pieces_end, pieces_bound, at_fault, failed}
 
 -- ---- what came of known bytes

@@ -1,32 +1,23 @@
 -- The results for a classic file without further tags are those of `pim_capture`.
-use Rattle.std.proofs.Common.{◌≡◌, ℕ, zero, suc, ◌+◌, Bool, true, false, not, ◌&&◌, ◌||◌, ◌==◌, nat_lt, List, [], ◌∷◌, ◌++◌, length, take, drop, Option, Some, None, Result, Ok, Err, ap, sym, ◌∙◌, subst, arith, refl, if◌then◌else◌}
-use Rattle.std.proofs.lemmas.Bool.{false≢true}
-use Rattle.std.proofs.lemmas.List.{drop-take, drop-drop, length-drop}
-use Rattle.byteorder.specs.Endian.{big_number}
-use Rattle.pim_addr.specs.declared.family.AddressFamily.{AddressFamily}
-use Rattle.pim_addr.specs.Faults.{fault_if}
-use Rattle.pim_capture.specs.declared.event.Why.{Why}
-use Rattle.pim_capture.specs.declared.event.Why.TheVariants.{Cut}
+use Rattle.pim_container.proofs.Words.{◌≡◌, ℕ, zero, suc, ◌+◌, Bool, true, false, not, ◌&&◌, ◌||◌, ◌==◌, nat_lt, List, [], ◌∷◌}
+use Rattle.pim_container.proofs.Words.{◌++◌, length, take, drop, Option, Some, None, Result, Ok, Err, ap, sym, ◌∙◌, subst, arith}
+use Rattle.pim_container.proofs.Words.{refl, if◌then◌else◌, false≢true, drop-take, drop-drop, length-drop, big_number}
+use Rattle.pim_container.proofs.Words.{AddressFamily, fault_if, Why, Cut, Datagram, judge_packet, ethernet_family, raw_family}
+use Rattle.pim_container.proofs.Words.{version, records, Big, Classic, Blocks, Carried, is_tag, second_type, after_one, after_two}
+use Rattle.pim_container.proofs.Words.{tagged, place_in, typed_place, untagged_place, place_of, EventSeen, section, packet_event}
+use Rattle.pim_container.proofs.Words.{placed_event, frame_event, is_section, Answer, answers, classic_answers, pieces}
+use Rattle.pim_container.proofs.Words.{unless_fault, has_further_tag, is_faulty, lacks_further_tags, of_vlan, ExactEvent}
+use Rattle.pim_container.proofs.Words.{ExactAnswers, ExactAfterSection}
 use Rattle.pim_capture.specs.declared.fault.CaptureFault.TheVariants as theirs
 use Rattle.pim_capture.specs.declared.header.Format as format
 use Rattle.pim_capture.specs.declared.header.Link as layer_type
 use Rattle.pim_capture.specs.declared.header.Link.TheVariants as layer
 use Rattle.pim_capture.specs.declared.vlan.Vlan.{Vlan}
 use Rattle.pim_capture.specs.Frame as frame
-use Rattle.pim_capture.specs.Frame.{Datagram, judge_packet, ethernet_family, raw_family, version}
 use Rattle.pim_capture.specs.Header as header
 use Rattle.pim_capture.specs.Capture as capture
-use Rattle.pim_capture.specs.Capture.{records}
-use Rattle.pim_container.specs.declared.link.BlockEndianness.TheVariants.{Big}
 use Rattle.pim_container.specs.declared.link.LinkLayer.TheVariants as link
-use Rattle.pim_container.specs.declared.container.Container.TheVariants.{Classic, Blocks}
-use Rattle.pim_container.specs.declared.tags.Carried.{Carried}
-use Rattle.pim_container.specs.Link.{is_tag, second_type, after_one, after_two, tagged, place_in, typed_place, untagged_place, place_of}
-use Rattle.pim_container.specs.EventSeen.{EventSeen, section, packet_event, placed_event, frame_event}
-use Rattle.pim_container.specs.Block.{is_section}
 use Rattle.pim_container.specs.Classic as classic
-use Rattle.pim_container.specs.Pieces.{Answer, answers, classic_answers, pieces, unless_fault}
-use Rattle.pim_container.specs.Agreement.{has_further_tag, is_faulty, lacks_further_tags, of_vlan, ExactEvent, ExactAnswers, ExactAfterSection}
 use Rattle.pim_container.proofs.Agreement.{link_as, format_as, less_is, left_is, judged_by, never, millis_same, length_same, rest_is, ones_of, others_of, header_same}
 
 -- ---- frames

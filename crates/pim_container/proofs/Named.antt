@@ -1,21 +1,11 @@
 -- The length that the head of a piece names.
-use Rattle.std.proofs.Common.{◌≡◌, ℕ, ◌+◌, ◌<◌, ◌≤◌, ◌⊎◌, max, Bool, true, false, ◌==◌, ◌||◌, nat_lt, List, [], ◌∷◌, ◌++◌, length, Option, Some, None, Err, IfSome, ap, sym, ◌∙◌, subst, arith, refl, inl, inr, is_ok, if◌then◌else◌}
-use Rattle.std.specs.Option.{option_map}
-use Rattle.std.specs.Io.KnownBytes.{Consumes}
-use Rattle.std.proofs.lemmas.Bool.{false≢true}
-use Rattle.std.proofs.lemmas.List.{length-append}
-use Rattle.std.proofs.lemmas.Grind.{common_steps}
-use Rattle.pim_addr.specs.Faults.{judged}
-use Rattle.pim_capture.specs.Capture.{most_records}
-use Rattle.pim_container.specs.declared.link.BlockEndianness.TheVariants.{Big}
-use Rattle.pim_container.specs.declared.fault.ContainerFault.{ContainerFault}
-use Rattle.pim_container.specs.declared.container.Container.{Container}
-use Rattle.pim_container.specs.declared.container.Container.TheVariants.{Blocks}
-use Rattle.pim_container.specs.Block.{is_section, most_block}
-use Rattle.pim_container.specs.Pieces.{head_length, piece_length, head_faults, head_of}
-use Rattle.pim_container.specs.Next.{behind}
-use Rattle.pim_container.specs.declared.reader.ReaderState.TheVariants.{Unbegun, Pieces}
-use Rattle.pim_container.specs.Room.{unless_any, stated_length, next_length, first_length, taken_by, GrowsBy, GrowsFor, LacksRoom, DescribesFirst, DescribesNext}
+use Rattle.pim_container.proofs.Words.{◌≡◌, ℕ, ◌+◌, ◌<◌, ◌≤◌, ◌⊎◌, max, Bool, true, false, ◌==◌, ◌||◌, nat_lt, List, [], ◌∷◌}
+use Rattle.pim_container.proofs.Words.{◌++◌, length, Option, Some, None, Err, IfSome, ap, sym, ◌∙◌, subst, arith, refl, inl, inr}
+use Rattle.pim_container.proofs.Words.{is_ok, if◌then◌else◌, option_map, Consumes, false≢true, length-append, common_steps}
+use Rattle.pim_container.proofs.Words.{judged, most_records, Big, ContainerFault, Container, Blocks, is_section, most_block}
+use Rattle.pim_container.proofs.Words.{head_length, piece_length, head_faults, head_of, behind, Unbegun, Pieces, unless_any}
+use Rattle.pim_container.proofs.Words.{stated_length, next_length, first_length, taken_by, GrowsBy, GrowsFor, LacksRoom}
+use Rattle.pim_container.proofs.Words.{DescribesFirst, DescribesNext}
 use Rattle.pim_container.proofs.Whole.{head_is, head_le, piece_most}
 use Rattle.pim_container.proofs.Beginnings.{section_front}
 

@@ -1,22 +1,12 @@
 -- What the pieces up to the next record need.
-use Rattle.std.proofs.Common.{◌≡◌, ℕ, zero, suc, ◌-◌, ◌<◌, true, false, List, [], ◌∷◌, ◌++◌, length, drop, Option, Some, None, Ok, ap, sym, ◌∙◌, subst, arith, if◌then◌else◌}
-use Rattle.std.specs.Option.{option_map}
-use Rattle.std.specs.Io.KnownBytes.{Consumes}
-use Rattle.pim_capture.specs.Capture.{most_records}
-use Rattle.pim_container.specs.declared.link.BlockEndianness.TheVariants.{Big}
-use Rattle.pim_container.specs.declared.event.ContainerEvent.{ContainerEvent}
+use Rattle.pim_container.proofs.Words.{◌≡◌, ℕ, zero, suc, ◌-◌, ◌<◌, true, false, List, [], ◌∷◌, ◌++◌, length, drop}
+use Rattle.pim_container.proofs.Words.{Option, Some, None, Ok, ap, sym, ◌∙◌, subst, arith, if◌then◌else◌, option_map}
+use Rattle.pim_container.proofs.Words.{Consumes, most_records, Big, ContainerEvent, Interface, ClassicFormat, Container}
+use Rattle.pim_container.proofs.Words.{Classic, Blocks, FoundPiece, Unbegun, event_seen, is_section, head_of, piece_of}
+use Rattle.pim_container.proofs.Words.{after_piece, container_after, interfaces_after, judge_piece, judge_beginning}
+use Rattle.pim_container.proofs.Words.{TakesPiece, BeginsClassic, behind, Need, CountsList, PassesNeed, first_need}
+use Rattle.pim_container.proofs.Words.{unless_record, needs, needs_in, classic_needs, header_need, after_header}
 use Rattle.pim_container.specs.declared.event.ContainerEvent.TheVariants as event
-use Rattle.pim_container.specs.declared.interface.Interface.{Interface}
-use Rattle.pim_container.specs.declared.classic.ClassicFormat.{ClassicFormat}
-use Rattle.pim_container.specs.declared.container.Container.{Container}
-use Rattle.pim_container.specs.declared.container.Container.TheVariants.{Classic, Blocks}
-use Rattle.pim_container.specs.declared.piece.FoundPiece.{FoundPiece}
-use Rattle.pim_container.specs.declared.reader.ReaderState.TheVariants.{Unbegun}
-use Rattle.pim_container.specs.EventSeen.{event_seen}
-use Rattle.pim_container.specs.Block.{is_section}
-use Rattle.pim_container.specs.Pieces.{head_of, piece_of, after_piece, container_after, interfaces_after, judge_piece, judge_beginning}
-use Rattle.pim_container.specs.Next.{TakesPiece, BeginsClassic, behind}
-use Rattle.pim_container.specs.Room.{Need, CountsList, PassesNeed, first_need, unless_record, needs, needs_in, classic_needs, header_need, after_header}
 use Rattle.pim_container.proofs.Beginnings.{section_front}
 
 -- ---- one step

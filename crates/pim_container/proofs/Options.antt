@@ -1,9 +1,8 @@
 -- The options of an interface, one after the other.
-use Rattle.std.proofs.Common.{◌≡◌, ℕ, zero, suc, ◌+◌, ◌-◌, ◌<◌, ◌≤◌, Bool, true, false, ◌||◌, ◌==◌, nat_lt, List, length, None, Some, if◌then◌else◌, ap, sym, ◌∙◌, arith, refl}
-use Rattle.std.proofs.lemmas.Grind.{common_steps}
-use Rattle.pim_container.specs.declared.link.BlockEndianness.{BlockEndianness}
+use Rattle.pim_container.proofs.Words.{◌≡◌, ℕ, zero, suc, ◌+◌, ◌-◌, ◌<◌, ◌≤◌, Bool, true, false, ◌||◌, ◌==◌, nat_lt}
+use Rattle.pim_container.proofs.Words.{List, length, None, Some, if◌then◌else◌, ap, sym, ◌∙◌, arith, refl, common_steps}
+use Rattle.pim_container.proofs.Words.{BlockEndianness, option_code, option_end, settings_with, settings_from}
 use Rattle.pim_container.specs.declared.interface.Settings.{Settings}
-use Rattle.pim_container.specs.Interface.{option_code, option_end, settings_with, settings_from}
 
 pub ends : (left : ℕ) (order : BlockEndianness) (s : Settings) (at : ℕ) (bytes : List ℕ) → (nat_lt (length bytes) (at + 4) || option_code order at bytes == 0) ≡ true
     → settings_from left order s at bytes ≡ Some s

@@ -1,15 +1,10 @@
 -- What memory was refused for.
-use Rattle.std.proofs.Common.{◌≡◌, ℕ, ◌<◌, ◌⊎◌, true, false, List, [], ◌++◌, length, Option, Some, None, Result, Ok, Err, IfSome, ap, sym, ◌∙◌, subst, arith, inl, inr}
-use Rattle.std.specs.Io.KnownBytes.{Consumes}
-use Rattle.pim_container.specs.declared.link.BlockEndianness.TheVariants.{Big}
-use Rattle.pim_container.specs.declared.fault.ContainerFault.{ContainerFault}
+use Rattle.pim_container.proofs.Words.{◌≡◌, ℕ, ◌<◌, ◌⊎◌, true, false, List, [], ◌++◌, length, Option, Some, None, Result, Ok, Err}
+use Rattle.pim_container.proofs.Words.{IfSome, ap, sym, ◌∙◌, subst, arith, inl, inr, Consumes, Big, ContainerFault, Container}
+use Rattle.pim_container.proofs.Words.{Blocks, is_section, head_length, head_faults, piece_of, piece_length, container_after}
+use Rattle.pim_container.proofs.Words.{IsOfBytes, OnMemory, Describes, NeedsMemory, NeedsToBegin, FillsAfter, behind, LacksRoom}
+use Rattle.pim_container.proofs.Words.{stated_length, DescribesFirst}
 use Rattle.pim_container.specs.declared.fault.ContainerFault.TheVariants as fault
-use Rattle.pim_container.specs.declared.container.Container.{Container}
-use Rattle.pim_container.specs.declared.container.Container.TheVariants.{Blocks}
-use Rattle.pim_container.specs.Block.{is_section}
-use Rattle.pim_container.specs.Pieces.{head_length, head_faults, piece_of, piece_length, container_after}
-use Rattle.pim_container.specs.Next.{IsOfBytes, OnMemory, Describes, NeedsMemory, NeedsToBegin, FillsAfter, behind}
-use Rattle.pim_container.specs.Room.{LacksRoom, stated_length, DescribesFirst}
 use Rattle.pim_container.proofs.Whole.{head_is, whole}
 use Rattle.pim_container.proofs.Beginnings.{section_front}
 use Rattle.pim_container.proofs.Named.{named_ok}

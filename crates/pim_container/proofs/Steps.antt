@@ -1,20 +1,12 @@
 -- The results for the first piece, and those after it.
-use Rattle.std.proofs.Common.{◌≡◌, ◌≢◌, ℕ, zero, suc, ◌+◌, ◌-◌, ◌<◌, ◌⊎◌, min, List, [], ◌∷◌, ◌++◌, length, Option, Some, None, Ok, Err, ap, sym, ◌∙◌, arith, refl, inl, inr}
-use Rattle.std.specs.Option.{option_map}
-use Rattle.std.proofs.lemmas.List.{length-append}
-use Rattle.pim_device.specs.Device.{top_count}
-use Rattle.pim_container.specs.declared.fault.ContainerFault.{ContainerFault}
+use Rattle.pim_container.proofs.Words.{◌≡◌, ◌≢◌, ℕ, zero, suc, ◌+◌, ◌-◌, ◌<◌, ◌⊎◌, min, List, [], ◌∷◌, ◌++◌, length, Option, Some}
+use Rattle.pim_container.proofs.Words.{None, Ok, Err, ap, sym, ◌∙◌, arith, refl, inl, inr, option_map, length-append, top_count}
+use Rattle.pim_container.proofs.Words.{ContainerFault, ContainerEvent, Interface, Container, FoundPiece, ReaderStep, EventSeen}
+use Rattle.pim_container.proofs.Words.{ended, event_seen, Classic, Blocks, head_length, Answer, pieces, judge_piece, unless_fault}
+use Rattle.pim_container.proofs.Words.{head_of, piece_of, after_piece, container_after, interfaces_after, IsNext, IsRefusal}
+use Rattle.pim_container.proofs.Words.{CountsReads, TakesPiece, in_front, behind}
 use Rattle.pim_container.specs.declared.fault.ContainerFault.TheVariants as fault
-use Rattle.pim_container.specs.declared.event.ContainerEvent.{ContainerEvent}
 use Rattle.pim_container.specs.declared.event.ContainerEvent.TheVariants as event
-use Rattle.pim_container.specs.declared.interface.Interface.{Interface}
-use Rattle.pim_container.specs.declared.container.Container.{Container}
-use Rattle.pim_container.specs.declared.piece.FoundPiece.{FoundPiece}
-use Rattle.pim_container.specs.declared.reader.ReaderStep.{ReaderStep}
-use Rattle.pim_container.specs.EventSeen.{EventSeen, ended, event_seen}
-use Rattle.pim_container.specs.declared.container.Container.TheVariants.{Classic, Blocks}
-use Rattle.pim_container.specs.Pieces.{head_length, Answer, pieces, judge_piece, unless_fault, head_of, piece_of, after_piece, container_after, interfaces_after}
-use Rattle.pim_container.specs.Next.{IsNext, IsRefusal, CountsReads, TakesPiece, in_front, behind}
 
 -- a head has some bytes
 pub head_some : (c : Container) → 0 < head_length c

@@ -1,21 +1,11 @@
 -- How much was taken of a device whose bytes are known.
-use Rattle.std.proofs.Common.{◌≡◌, ℕ, ◌+◌, ◌-◌, ◌<◌, ◌≤◌, min, true, false, List, [], ◌++◌, length, take, drop, Option, Some, None, Result, Ok, Err, ap, sym, ◌∙◌, subst, arith, refl}
-use Rattle.std.specs.Io.KnownBytes.{Consumes, IsAtEnd}
-use Rattle.std.proofs.lemmas.List.{drop_at, drop_all, drop_min, drop-drop, length-append, length-drop, length-take-le}
-use Rattle.pim_device.specs.Device.{ConsumesAtMost}
-use Rattle.pim_container.specs.declared.link.BlockEndianness.TheVariants.{Big}
-use Rattle.pim_container.specs.declared.fault.ContainerFault.{ContainerFault}
+use Rattle.pim_container.proofs.Words.{◌≡◌, ℕ, ◌+◌, ◌-◌, ◌<◌, ◌≤◌, min, true, false, List, [], ◌++◌, length, take, drop, Option}
+use Rattle.pim_container.proofs.Words.{Some, None, Result, Ok, Err, ap, sym, ◌∙◌, subst, arith, refl, Consumes, IsAtEnd, drop_at}
+use Rattle.pim_container.proofs.Words.{drop_all, drop_min, drop-drop, length-append, length-drop, length-take-le, ConsumesAtMost}
+use Rattle.pim_container.proofs.Words.{Big, ContainerFault, Container, Blocks, Unbegun, Pieces, ReaderStep, FoundPiece, judged}
+use Rattle.pim_container.proofs.Words.{is_section, head_length, piece_length, head_faults, extent_of, behind, stated_length}
+use Rattle.pim_container.proofs.Words.{next_length, first_length, taken_by, Loses, Takes, TakesNext}
 use Rattle.pim_container.specs.declared.fault.ContainerFault.TheVariants as fault
-use Rattle.pim_container.specs.declared.container.Container.{Container}
-use Rattle.pim_container.specs.declared.container.Container.TheVariants.{Blocks}
-use Rattle.pim_container.specs.declared.reader.ReaderState.TheVariants.{Unbegun, Pieces}
-use Rattle.pim_container.specs.declared.reader.ReaderStep.{ReaderStep}
-use Rattle.pim_container.specs.declared.piece.FoundPiece.{FoundPiece}
-use Rattle.pim_addr.specs.Faults.{judged}
-use Rattle.pim_container.specs.Block.{is_section}
-use Rattle.pim_container.specs.Pieces.{head_length, piece_length, head_faults, extent_of}
-use Rattle.pim_container.specs.Next.{behind}
-use Rattle.pim_container.specs.Room.{stated_length, next_length, first_length, taken_by, Loses, Takes, TakesNext}
 use Rattle.pim_container.proofs.Named.{named_ok, named_none, next_least, first_least, next_is, first_is, classic_is}
 
 -- ---- bytes that were taken

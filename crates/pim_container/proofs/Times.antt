@@ -1,8 +1,6 @@
 -- Time stamps of resolutions that are finer than all that 64 bits can count in milliseconds.
-use Rattle.std.proofs.Common.{◌≡◌, ℕ, ◌*◌, ◌^◌, ◌<◌, ◌≤◌, sym, arith}
-use Rattle.std.proofs.lemmas.Grind.{common_steps}
+use Rattle.pim_container.proofs.Words.{◌≡◌, ℕ, ◌*◌, ◌^◌, ◌<◌, ◌≤◌, sym, arith, common_steps, units_of, stamp_millis}
 use Rattle.std.proofs.Math.Nat.{pow-le-pow_right, div-eq_of_lt}
-use Rattle.pim_container.specs.Interface.{units_of, stamp_millis}
 
 tens : (n : ℕ) → n < 128 → units_of n ≡ 10 ^ n
 tens n b = grind (arith, common_steps)

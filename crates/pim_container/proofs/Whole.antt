@@ -1,28 +1,17 @@
 -- The first piece of known bytes: its head, its bytes, and what follows.
-use Rattle.std.proofs.Common.{◌≡◌, ℕ, ◌+◌, ◌<◌, ◌≤◌, ◌⊎◌, Bool, true, false, nat_lt, List, [], ◌∷◌, ◌++◌, length, take, drop, Option, Some, None, Result, Ok, Err, ap, sym, ◌∙◌, subst, arith, refl, inl, inr, is_ok, if◌then◌else◌, not, ◌||◌, ◌&&◌, ◌==◌, ◌%◌}
-use Rattle.std.proofs.lemmas.Bool.{false≢true}
-use Rattle.std.proofs.lemmas.List.{take_at, drop_at, length-append}
-use Rattle.std.proofs.lemmas.Grind.{common_steps}
-use Rattle.byteorder.specs.Endian.{big_number, little_number}
-use Rattle.pim_addr.specs.Faults.{fault_if, judged}
-use Rattle.pim_container.specs.declared.link.BlockEndianness.{BlockEndianness}
-use Rattle.pim_container.specs.declared.link.BlockEndianness.TheVariants.{Big, Little}
-use Rattle.pim_container.specs.declared.fault.ContainerFault.{ContainerFault}
+use Rattle.pim_container.proofs.Words.{◌≡◌, ℕ, ◌+◌, ◌<◌, ◌≤◌, ◌⊎◌, Bool, true, false, nat_lt, List, [], ◌∷◌, ◌++◌, length, take}
+use Rattle.pim_container.proofs.Words.{drop, Option, Some, None, Result, Ok, Err, ap, sym, ◌∙◌, subst, arith, refl, inl, inr}
+use Rattle.pim_container.proofs.Words.{is_ok, if◌then◌else◌, not, ◌||◌, ◌&&◌, ◌==◌, ◌%◌, false≢true, take_at, drop_at}
+use Rattle.pim_container.proofs.Words.{length-append, common_steps, big_number, little_number, fault_if, judged, BlockEndianness}
+use Rattle.pim_container.proofs.Words.{Big, Little, ContainerFault, ContainerEvent, Interface, Container, Classic, Blocks}
+use Rattle.pim_container.proofs.Words.{FoundPiece, number, event_seen, most_captured, ClassicFormat, head_length, piece_length}
+use Rattle.pim_container.proofs.Words.{head_faults, extent_of, container_after, piece_event, head_of, piece_of, after_piece}
+use Rattle.pim_container.proofs.Words.{judge_piece, unless_faults, piece_faults, interfaces_after, IsPiece, FillsAfter}
+use Rattle.pim_container.proofs.Words.{TakesPiece, behind}
 use Rattle.pim_container.specs.declared.fault.ContainerFault.TheVariants as fault
-use Rattle.pim_container.specs.declared.event.ContainerEvent.{ContainerEvent}
-use Rattle.pim_container.specs.declared.interface.Interface.{Interface}
-use Rattle.pim_container.specs.declared.container.Container.{Container}
-use Rattle.pim_container.specs.declared.container.Container.TheVariants.{Classic, Blocks}
 use Rattle.pim_container.specs.declared.container.Extent.{Extent}
-use Rattle.pim_container.specs.declared.piece.FoundPiece.{FoundPiece}
-use Rattle.pim_container.specs.Link.{number}
-use Rattle.pim_container.specs.EventSeen.{event_seen}
 use Rattle.pim_container.specs.Block as block
 use Rattle.pim_container.specs.Classic as classic
-use Rattle.pim_capture.specs.Capture.{most_captured}
-use Rattle.pim_container.specs.declared.classic.ClassicFormat.{ClassicFormat}
-use Rattle.pim_container.specs.Pieces.{head_length, piece_length, head_faults, extent_of, container_after, piece_event, head_of, piece_of, after_piece, judge_piece, unless_faults, piece_faults, interfaces_after}
-use Rattle.pim_container.specs.Next.{IsPiece, FillsAfter, TakesPiece, behind}
 
 -- ---- the head
 

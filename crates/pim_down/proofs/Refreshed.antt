@@ -73,7 +73,6 @@ past_before : (key : Key (List ℕ)) (change : Option Machine → Option Machine
     → changed key change (before ++ record { key = key; machine = machine } ∷ rest) ≡ before ++ (recorded key (change (Some machine)) ++ rest)
 unfolding changed IsAscending IsBelow
 past_before key change machine [] rest a =
-    let held : Record (List ℕ) = record { key = key; machine = machine } in
     rw (key_itself key) refl
 past_before key change machine (first ∷ before) rest a =
     let held : Record (List ℕ) = record { key = key; machine = machine } in

@@ -1,16 +1,9 @@
 -- What of a list in ascending order is above a bound, and what comes first there.
-use Rattle.std.proofs.Common.{◌≡◌, ◌∙◌, ℕ, Bool, true, false, List, [], ◌∷◌, Option, None, Some, map, cond, refl, sym, ap, subst}
+use Rattle.pim_emit.proofs.Words.{◌≡◌, ◌∙◌, ℕ, Bool, true, false, List, [], ◌∷◌, Option, None, Some, map, cond, refl}
+use Rattle.pim_emit.proofs.Words.{sym, ap, subst, Less, AllByRecursion, filter, find, IsStrictlySortedBy, is_lt}
+use Rattle.pim_emit.proofs.Words.{false≢true, is_above, address_cmp, GroupForm, AreAscending, groups_of, same_address}
+use Rattle.pim_emit.proofs.Words.{group_in, above, next_above, groups_above}
 use Rattle.std.specs.Prelude.{option_map}
-use Rattle.std.specs.declared.cmp.Ordering.TheVariants.{Less}
-use Rattle.std.specs.List.{AllByRecursion, filter, find}
-use Rattle.std.specs.List.Sorted.{IsStrictlySortedBy}
-use Rattle.std.specs.Ordering.{is_lt}
-use Rattle.std.proofs.lemmas.Bool.{false≢true}
-use Rattle.pim_down.specs.After.{is_above}
-use Rattle.pim_down.specs.Key.{address_cmp}
-use Rattle.pim_form.specs.NormalForm.{GroupForm, AreAscending, groups_of, same_address}
-use Rattle.pim_form.specs.Settled.{group_in}
-use Rattle.pim_emit.specs.Left.{above, next_above, groups_above}
 use Rattle.pim_emit.proofs.Addresses.{same_itself, same_is, less_apart, not_above_itself, not_above_greater, above_less}
 
 -- ---- the first that passes, and all that do

@@ -1,27 +1,12 @@
 -- Canonical messages, told one after the other.
-use Rattle.std.proofs.Common.{◌≡◌, ◌∙◌, ℕ, ◌+◌, ◌*◌, ◌-◌, ◌≤◌, true, List, [], ◌∷◌, ◌++◌, Option, None, Some, length, take, refl, sym, ap, subst, arith, length-append, append_assoc}
-use Rattle.std.specs.Io.KnownBytes.{Appends}
-use Rattle.std.proofs.KnownBytes.{Appends-trans}
-use Rattle.std.proofs.Math.Seq.{take-append-add, take-length}
-use Rattle.std.proofs.lemmas.List.{append-nil, take-append-le}
-use Rattle.std.proofs.lemmas.Grind.{flat_map-append}
-use Rattle.pim_addr.specs.declared.family.AddressFamily.{AddressFamily}
-use Rattle.pim_addr.specs.Routes.{RouteTable, rp_of}
-use Rattle.pim_down.specs.Time.{Downstream}
-use Rattle.pim_down.specs.Sound.{IsSound}
-use Rattle.pim_form.specs.Demanded.{DemandedFormIsDemanded, IsDemandedForm, demanded_form}
+use Rattle.pim_emit.proofs.Words.{◌≡◌, ◌∙◌, ℕ, ◌+◌, ◌*◌, ◌-◌, ◌≤◌, true, List, [], ◌∷◌, ◌++◌, Option, None, Some, length, take}
+use Rattle.pim_emit.proofs.Words.{refl, sym, ap, subst, arith, length-append, append_assoc, Appends, Appends-trans}
+use Rattle.pim_emit.proofs.Words.{take-append-add, take-length, append-nil, take-append-le, flat_map-append, AddressFamily}
+use Rattle.pim_emit.proofs.Words.{RouteTable, rp_of, Downstream, IsSound, DemandedFormIsDemanded, IsDemandedForm, demanded_form}
+use Rattle.pim_emit.proofs.Words.{Writing, CarriesRun, CarryRuns, AreCanonical, GroupForm, IsFormOf, fits, IsNonempty}
+use Rattle.pim_emit.proofs.Words.{StopsBefore, AreRuns, IsPacking, demand_toward, WantUnit, units_of, Position, Start, DemandSeen}
+use Rattle.pim_emit.proofs.Words.{IsMessage, left_at, framed, all_framed, HaveGoneOut, HasGoneOut}
 use Rattle.pim_form.specs.Laws.{FirstRunIsWritten, OneListOfMessages, OneNormalForm}
-use Rattle.pim_form.specs.Messages.{Writing, CarriesRun, CarryRuns, AreCanonical}
-use Rattle.pim_form.specs.NormalForm.{GroupForm, IsFormOf}
-use Rattle.pim_form.specs.Packing.{fits, IsNonempty, StopsBefore, AreRuns, IsPacking}
-use Rattle.pim_form.specs.TowardLaws.{demand_toward}
-use Rattle.pim_form.specs.Units.{WantUnit, units_of}
-use Rattle.pim_emit.specs.declared.position.Position.{Position}
-use Rattle.pim_emit.specs.declared.position.Position.TheVariants.{Start}
-use Rattle.pim_emit.specs.DemandSeen.{DemandSeen}
-use Rattle.pim_emit.specs.Drafts.{IsMessage}
-use Rattle.pim_emit.specs.Left.{left_at}
-use Rattle.pim_emit.specs.Written.{framed, all_framed, HaveGoneOut, HasGoneOut}
 
 -- ---- one message of a list
 

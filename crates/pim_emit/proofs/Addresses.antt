@@ -1,15 +1,8 @@
 -- Addresses in order.
-use Rattle.std.proofs.Common.{◌≡◌, ◌∙◌, ℕ, true, false, List, Option, None, Some, refl, sym, ap, subst}
-use Rattle.std.specs.declared.cmp.Ordering.{Ordering}
-use Rattle.std.specs.declared.cmp.Ordering.TheVariants.{Less, Equal, Greater}
-use Rattle.std.specs.Ordering.{is_lt, is_le, is_eq, ordering_reverse}
-use Rattle.std.specs.Cmp.Lexicographic.{texts_ties}
+use Rattle.pim_emit.proofs.Words.{◌≡◌, ◌∙◌, ℕ, true, false, List, Option, None, Some, refl, sym, ap, subst, Ordering}
+use Rattle.pim_emit.proofs.Words.{Less, Equal, Greater, is_lt, is_le, is_eq, ordering_reverse, texts_ties}
+use Rattle.pim_emit.proofs.Words.{nat_list_cmp_total, tied_itself, false≢true, is_above, address_cmp, same_address}
 use Rattle.std.specs.FinMap.{slice_cmp-IsAntisymmetric, nat_cmp-IsAntisymmetric}
-use Rattle.std.proofs.lemmas.Cmp.{nat_list_cmp_total, tied_itself}
-use Rattle.std.proofs.lemmas.Bool.{false≢true}
-use Rattle.pim_down.specs.After.{is_above}
-use Rattle.pim_down.specs.Key.{address_cmp}
-use Rattle.pim_form.specs.NormalForm.{same_address}
 
 pub equal_is : (a b : List ℕ) → address_cmp a b ≡ Equal → a ≡ b
 equal_is a b h = slice_cmp-IsAntisymmetric nat_cmp-IsAntisymmetric a b h

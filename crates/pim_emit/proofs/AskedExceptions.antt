@@ -1,35 +1,12 @@
 -- The star of a group that is asked for, and its exceptions, among the (S,G,rpt) machines of a port that has (*,G).
-use Rattle.std.proofs.Common.{◌≡◌, ◌∙◌, ◌<◌, ◌≤◌, ℕ, suc, Bool, true, false, ◌&&◌, not, List, Option, None, Some, length, refl, sym, ap, subst, arith}
-use Rattle.std.specs.declared.cmp.Ordering.TheVariants.{Less}
-use Rattle.std.specs.List.{list_any}
-use Rattle.std.specs.Option.{is_some}
-use Rattle.std.proofs.lemmas.Bool.{false≢true, and_parts, and_from}
-use Rattle.pim_addr.specs.Address.{IsGroupAddress, IsSourceAddress}
-use Rattle.pim_addr.specs.Routes.{RouteTable, rp_of}
-use Rattle.pim_addr.specs.declared.family.AddressFamily.{AddressFamily}
-use Rattle.pim_down.specs.After.{is_above}
-use Rattle.pim_down.specs.declared.machines.key.Key.{Key}
-use Rattle.pim_down.specs.declared.machines.key.What.TheVariants.{Rpt}
-use Rattle.pim_down.specs.declared.machines.machine.Record.{Record}
-use Rattle.pim_down.specs.declared.machines.machine.State.{State}
-use Rattle.pim_down.specs.Hearing.{rpt_count_on}
-use Rattle.pim_down.specs.Key.{address_cmp, source_of}
-use Rattle.pim_down.specs.Laws.{KeysAreDistinct}
-use Rattle.pim_down.specs.Records.{machine_at}
-use Rattle.pim_down.specs.Sound.{IsSound, IsReal}
-use Rattle.pim_down.specs.Time.{Downstream}
-use Rattle.pim_form.specs.Demanded.{IsDemandedForm}
-use Rattle.pim_form.specs.NormalForm.{GroupForm, most_exceptions, is_listed, same_address}
-use Rattle.pim_form.specs.Rows.{exceptions_of}
-use Rattle.pim_form.specs.Settled.{group_in}
-use Rattle.pim_form.specs.Toward.{via_of, star_rpf_neighbour, is_neighbour}
-use Rattle.pim_form.specs.Wants.{is_pruned, some_below, state_on, wants, wants_on}
-use Rattle.pim_form.specs.declared.tree.Tree.TheVariants.{Shared}
-use Rattle.pim_emit.specs.Least.{IsLeast}
-use Rattle.pim_emit.specs.Left.{above, next_above, star_of, exceptions_in}
-use Rattle.pim_emit.specs.Machines.{is_starred, has_rpt, IsSomeBelow}
-use Rattle.pim_emit.specs.Rpts.{RptsLeft, AreRptsOn, AreRpts}
-use Rattle.pim_emit.specs.Stars.{IsFirstBelow, AreStars}
+use Rattle.pim_emit.proofs.Words.{◌≡◌, ◌∙◌, ◌<◌, ◌≤◌, ℕ, suc, Bool, true, false, ◌&&◌, not, List, Option, None, Some, length}
+use Rattle.pim_emit.proofs.Words.{refl, sym, ap, subst, arith, Less, list_any, is_some, false≢true, and_parts, and_from}
+use Rattle.pim_emit.proofs.Words.{IsGroupAddress, IsSourceAddress, RouteTable, rp_of, AddressFamily, is_above, Key, Rpt, Record}
+use Rattle.pim_emit.proofs.Words.{State, rpt_count_on, address_cmp, source_of, KeysAreDistinct, machine_at, IsSound, IsReal}
+use Rattle.pim_emit.proofs.Words.{Downstream, IsDemandedForm, GroupForm, most_exceptions, is_listed, same_address, exceptions_of}
+use Rattle.pim_emit.proofs.Words.{group_in, via_of, star_rpf_neighbour, is_neighbour, is_pruned, some_below, state_on, wants}
+use Rattle.pim_emit.proofs.Words.{wants_on, Shared, IsLeast, above, next_above, star_of, exceptions_in, is_starred, has_rpt}
+use Rattle.pim_emit.proofs.Words.{IsSomeBelow, RptsLeft, AreRptsOn, AreRpts, IsFirstBelow, AreStars}
 use Rattle.pim_emit.specs.declared.stars.Stars.{Stars}
 use Rattle.pim_emit.proofs.Addresses.{same_itself}
 use Rattle.pim_emit.proofs.Above.{by_test, above_first, above_none}

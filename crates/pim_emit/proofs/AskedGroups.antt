@@ -1,29 +1,11 @@
 -- The groups that are asked for, among those with a record on some port.
-use Rattle.std.proofs.Common.{◌≡◌, ◌∙◌, ◌<◌, ℕ, Bool, true, false, ◌&&◌, ◌||◌, not, List, [], ◌∷◌, Option, None, Some, eqb, refl, sym, subst}
-use Rattle.std.specs.List.{AllByRecursion, list_any}
-use Rattle.std.specs.Option.{is_some}
-use Rattle.std.proofs.lemmas.Bool.{false≢true, eq-eqb, and_parts, and_from, or_left, or_right}
-use Rattle.pim_addr.specs.Address.{IsGroupAddress, IsSourceAddress}
-use Rattle.pim_addr.specs.Routes.{RouteTable, rp_of}
-use Rattle.pim_addr.specs.declared.family.AddressFamily.{AddressFamily}
-use Rattle.pim_down.specs.After.{is_above}
-use Rattle.pim_down.specs.declared.machines.key.Key.{Key}
-use Rattle.pim_down.specs.declared.machines.key.What.{What}
-use Rattle.pim_down.specs.declared.machines.key.What.TheVariants.{Star, Source}
-use Rattle.pim_down.specs.declared.machines.machine.Machine.{Machine}
-use Rattle.pim_down.specs.declared.machines.machine.Record.{Record}
-use Rattle.pim_down.specs.Laws.{KeysAreDistinct}
-use Rattle.pim_down.specs.Records.{machine_at, is_on}
-use Rattle.pim_down.specs.Sound.{IsSound, IsReal}
-use Rattle.pim_down.specs.Time.{Downstream}
-use Rattle.pim_form.specs.Demanded.{IsDemandedForm}
-use Rattle.pim_form.specs.NormalForm.{GroupForm, IsNormalGroup, groups_of, is_empty, is_listed, same_address}
-use Rattle.pim_form.specs.Settled.{group_in}
-use Rattle.pim_form.specs.Toward.{via_of, star_rpf_neighbour, is_neighbour}
-use Rattle.pim_form.specs.Wants.{state_on, some_below}
-use Rattle.pim_emit.specs.Least.{IsLeast}
-use Rattle.pim_emit.specs.Left.{next_above, star_of, sources_in}
-use Rattle.pim_emit.specs.Machines.{is_starred, is_source_joined, has_group}
+use Rattle.pim_emit.proofs.Words.{◌≡◌, ◌∙◌, ◌<◌, ℕ, Bool, true, false, ◌&&◌, ◌||◌, not, List, [], ◌∷◌, Option, None, Some, eqb}
+use Rattle.pim_emit.proofs.Words.{refl, sym, subst, AllByRecursion, list_any, is_some, false≢true, eq-eqb, and_parts, and_from}
+use Rattle.pim_emit.proofs.Words.{or_left, or_right, IsGroupAddress, IsSourceAddress, RouteTable, rp_of, AddressFamily, is_above}
+use Rattle.pim_emit.proofs.Words.{Key, What, Star, Source, Machine, Record, KeysAreDistinct, machine_at, is_on, IsSound, IsReal}
+use Rattle.pim_emit.proofs.Words.{Downstream, IsDemandedForm, GroupForm, IsNormalGroup, groups_of, is_empty, is_listed}
+use Rattle.pim_emit.proofs.Words.{same_address, group_in, via_of, star_rpf_neighbour, is_neighbour, state_on, some_below, IsLeast}
+use Rattle.pim_emit.proofs.Words.{next_above, star_of, sources_in, is_starred, is_source_joined, has_group}
 use Rattle.pim_emit.proofs.Addresses.{same_is, same_itself}
 use Rattle.pim_emit.proofs.Above.{by_test}
 use Rattle.pim_emit.proofs.AskedSources.{lists_of}

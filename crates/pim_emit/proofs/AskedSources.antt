@@ -1,30 +1,11 @@
 -- The sources of a group that is asked for, among those that some port has joined.
-use Rattle.std.proofs.Common.{◌≡◌, ◌∙◌, ◌<◌, ◌≤◌, ℕ, Bool, true, false, ◌&&◌, ◌||◌, List, [], ◌∷◌, Option, None, Some, length, refl, sym, ap, subst, arith}
-use Rattle.std.specs.List.{AllByRecursion, list_any}
-use Rattle.std.specs.Option.{is_some}
-use Rattle.std.specs.List.Sorted.{IsStrictlySortedBy}
-use Rattle.std.proofs.lemmas.Bool.{false≢true, and_parts}
-use Rattle.pim_addr.specs.Address.{IsGroupAddress, IsSourceAddress}
-use Rattle.pim_addr.specs.Routes.{RouteTable}
-use Rattle.pim_addr.specs.declared.family.AddressFamily.{AddressFamily}
-use Rattle.pim_down.specs.After.{is_above}
-use Rattle.pim_down.specs.declared.machines.key.Key.{Key}
-use Rattle.pim_down.specs.declared.machines.key.What.TheVariants.{Source}
-use Rattle.pim_down.specs.declared.machines.machine.Record.{Record}
-use Rattle.pim_down.specs.Key.{source_of}
-use Rattle.pim_down.specs.Laws.{KeysAreDistinct}
-use Rattle.pim_down.specs.Records.{machine_at}
-use Rattle.pim_down.specs.Sound.{IsSound, IsReal}
-use Rattle.pim_down.specs.Time.{Downstream}
-use Rattle.pim_form.specs.Demanded.{IsDemandedForm, DemandedFormIsDemanded, demanded_form}
-use Rattle.pim_form.specs.NormalForm.{GroupForm, IsNormalGroup, AreAscending, AreExceptions, most_exceptions, same_address, is_listed}
-use Rattle.pim_form.specs.Rows.{exceptions_of}
-use Rattle.pim_form.specs.Settled.{group_in, unwanted}
-use Rattle.pim_form.specs.Toward.{via_of, is_neighbour}
-use Rattle.pim_form.specs.Wants.{state_on, some_below}
-use Rattle.pim_emit.specs.Least.{IsLeast}
-use Rattle.pim_emit.specs.Left.{next_above, sources_in}
-use Rattle.pim_emit.specs.Machines.{is_source_joined}
+use Rattle.pim_emit.proofs.Words.{◌≡◌, ◌∙◌, ◌<◌, ◌≤◌, ℕ, Bool, true, false, ◌&&◌, ◌||◌, List, [], ◌∷◌, Option, None, Some, length}
+use Rattle.pim_emit.proofs.Words.{refl, sym, ap, subst, arith, AllByRecursion, list_any, is_some, IsStrictlySortedBy, false≢true}
+use Rattle.pim_emit.proofs.Words.{and_parts, IsGroupAddress, IsSourceAddress, RouteTable, AddressFamily, is_above, Key, Source}
+use Rattle.pim_emit.proofs.Words.{Record, source_of, KeysAreDistinct, machine_at, IsSound, IsReal, Downstream, IsDemandedForm}
+use Rattle.pim_emit.proofs.Words.{DemandedFormIsDemanded, demanded_form, GroupForm, IsNormalGroup, AreAscending, AreExceptions}
+use Rattle.pim_emit.proofs.Words.{most_exceptions, same_address, is_listed, exceptions_of, group_in, unwanted, via_of}
+use Rattle.pim_emit.proofs.Words.{is_neighbour, state_on, some_below, IsLeast, next_above, sources_in, is_source_joined}
 use Rattle.pim_emit.proofs.Addresses.{same_is, same_itself}
 use Rattle.pim_emit.proofs.Above.{by_test}
 use Rattle.pim_emit.proofs.CountAbove.{count_above, fewer_above}

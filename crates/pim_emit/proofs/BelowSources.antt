@@ -1,12 +1,7 @@
 -- The address of zeros stands before each valid source.
-use Rattle.std.proofs.Common.{◌≡◌, ◌∙◌, ℕ, zero, suc, Bool, true, false, not, List, [], ◌∷◌, length, take, refl, sym, arith}
-use Rattle.std.specs.declared.cmp.Ordering.TheVariants.{Less}
-use Rattle.std.specs.List.{AllByRecursion}
-use Rattle.std.proofs.lemmas.Bool.{false≢true, and_parts, lt-ltb}
-use Rattle.pim_addr.specs.Address.{IsSourceAddress, address_length, is_source, is_unspecified}
-use Rattle.pim_addr.specs.declared.family.AddressFamily.{AddressFamily}
-use Rattle.pim_addr.specs.declared.family.AddressFamily.TheVariants.{Ipv4, Ipv6}
-use Rattle.pim_down.specs.Key.{address_cmp}
+use Rattle.pim_emit.proofs.Words.{◌≡◌, ◌∙◌, ℕ, zero, suc, Bool, true, false, not, List, [], ◌∷◌, length, take, refl}
+use Rattle.pim_emit.proofs.Words.{sym, arith, Less, AllByRecursion, false≢true, and_parts, lt-ltb, IsSourceAddress}
+use Rattle.pim_emit.proofs.Words.{address_length, is_source, is_unspecified, AddressFamily, Ipv4, Ipv6, address_cmp}
 
 zeros_before : (zeros source : List ℕ) → AllByRecursion (λ z. z ≡ 0) zeros → length zeros ≡ length source → is_unspecified source ≡ false → address_cmp zeros source ≡ Less
 zeros_before [] [] all long some = absurd (false≢true (sym some))

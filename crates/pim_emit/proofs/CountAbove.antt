@@ -1,10 +1,6 @@
 -- How many of some items have an address above a bound: fewer, where the bound rises to the address of one of them.
-use Rattle.std.proofs.Common.{◌≡◌, ℕ, suc, ◌<◌, ◌≤◌, true, false, ◌||◌, List, [], ◌∷◌, Option, Some, length, ap, subst, arith}
-use Rattle.std.specs.List.{filter, list_any}
-use Rattle.std.proofs.lemmas.Bool.{false≢true}
-use Rattle.pim_down.specs.After.{is_above}
-use Rattle.pim_down.specs.Key.{address_cmp}
-use Rattle.pim_form.specs.NormalForm.{same_address}
+use Rattle.pim_emit.proofs.Words.{◌≡◌, ℕ, suc, ◌<◌, ◌≤◌, true, false, ◌||◌, List, [], ◌∷◌, Option, Some, length, ap}
+use Rattle.pim_emit.proofs.Words.{subst, arith, filter, list_any, false≢true, is_above, address_cmp, same_address}
 use Rattle.pim_emit.proofs.Addresses.{same_is, lt_less, above_less, not_above_itself}
 use Rattle.pim_emit.proofs.Above.{is_over, by_test, kept_here, dropped_here}
 

@@ -1,20 +1,11 @@
 -- How many entries the units of a part have, and whether the part fits a message.
-use Rattle.std.proofs.Common.{◌≡◌, ◌∙◌, ℕ, ◌+◌, ◌*◌, ◌≤◌, true, false, List, [], ◌∷◌, ◌++◌, Option, None, Some, length, map, nat_le, refl, sym, ap, subst, arith, append_assoc, length-append}
-use Rattle.std.specs.List.{AllByRecursion}
-use Rattle.std.specs.List.Sorted.{IsStrictlySortedBy}
-use Rattle.std.specs.declared.cmp.Ordering.TheVariants.{Less}
-use Rattle.std.proofs.lemmas.Bool.{false≢true, and_from, and_parts, le-leb, leb-true, false_from_ne_true}
-use Rattle.std.proofs.lemmas.Grind.{flat_map-append}
-use Rattle.std.proofs.lemmas.List.{append-nil, map-append}
-use Rattle.pim_addr.specs.declared.family.AddressFamily.{AddressFamily}
-use Rattle.pim_addr.specs.declared.family.AddressFamily.TheVariants.{Ipv4, Ipv6}
-use Rattle.pim_down.specs.Key.{address_cmp}
-use Rattle.pim_form.specs.Demanded.{GroupsAreCounted}
-use Rattle.pim_form.specs.NormalForm.{GroupForm, AreAscending, groups_of, is_empty}
-use Rattle.pim_form.specs.Rows.{exceptions_of}
-use Rattle.pim_form.specs.Units.{WantUnit, star_unit, source_unit, star_units, group_units, units_of, run_entries, run_groups, run_size, empty_set_size, entry_size}
-use Rattle.pim_form.specs.Packing.{fits, most_groups, StopsBefore}
-use Rattle.pim_emit.specs.Drafts.{message_size}
+use Rattle.pim_emit.proofs.Words.{◌≡◌, ◌∙◌, ℕ, ◌+◌, ◌*◌, ◌≤◌, true, false, List, [], ◌∷◌, ◌++◌, Option, None, Some, length, map}
+use Rattle.pim_emit.proofs.Words.{nat_le, refl, sym, ap, subst, arith, append_assoc, length-append, AllByRecursion}
+use Rattle.pim_emit.proofs.Words.{IsStrictlySortedBy, Less, false≢true, and_from, and_parts, le-leb, leb-true, false_from_ne_true}
+use Rattle.pim_emit.proofs.Words.{flat_map-append, append-nil, map-append, AddressFamily, Ipv4, Ipv6, address_cmp}
+use Rattle.pim_emit.proofs.Words.{GroupsAreCounted, GroupForm, AreAscending, groups_of, is_empty, exceptions_of, WantUnit}
+use Rattle.pim_emit.proofs.Words.{star_unit, source_unit, star_units, group_units, units_of, run_entries, run_groups, run_size}
+use Rattle.pim_emit.proofs.Words.{empty_set_size, entry_size, fits, most_groups, StopsBefore, message_size}
 
 -- ---- entries
 

@@ -1,37 +1,18 @@
 -- One step of a message that is being made: the next piece is told, or has no room.
 use Rattle.std.proofs.Common.{◌≡◌, ◌∙◌, ◌↔◌, ℕ, suc, zero, ◌+◌, ◌-◌, ◌*◌, ◌≤◌, ◌<◌, Bool, true, false, List, [], ◌∷◌, ◌++◌, Option, None, Some, length, map, take, drop, min, is_some, leb, refl, sym, ap, subst, arith, append_assoc, length-append}
-use Rattle.std.specs.Prelude.{if◌then◌else◌}
+use Rattle.pim_emit.proofs.Words.{if◌then◌else◌, AllByRecursion, filter, find, flat_map, Less, false≢true, leb-true, leb-false}
+use Rattle.pim_emit.proofs.Words.{flat_map-append, append-nil, map-append, length-map, length-drop, drop_all, take-append-drop}
+use Rattle.pim_emit.proofs.Words.{drop-append-le, length-take-le, take-append-add, AddressFamily, Ipv4, Ipv6, is_above}
+use Rattle.pim_emit.proofs.Words.{address_cmp, canonical_set, canonical_set_length, GroupsAreCounted, star_entries}
+use Rattle.pim_emit.proofs.Words.{excepted_entries, written_set, GroupForm, IsNormal, IsNormalGroup, AreExceptions, is_empty}
+use Rattle.pim_emit.proofs.Words.{same_address, most_exceptions, StopsBefore, exceptions_of, group_in, WantUnit, source_unit}
+use Rattle.pim_emit.proofs.Words.{star_units, group_units, units_of, run_entries, empty_message_size, empty_set_size, entry_size}
+use Rattle.pim_emit.proofs.Words.{Draft, Piece, Position, Within, Behind, WrittenSources, DemandSeen, rp_of, IsDraft}
+use Rattle.pim_emit.proofs.Words.{message_size, body_start, IsPiece, IsPosition, above, next_above, groups_above, left_at}
+use Rattle.pim_emit.proofs.Words.{is_past, star_of, sources_in, piece_form, AreWritten, cut_piece, set_size}
 use Rattle.std.specs.Int.{from_bool}
-use Rattle.std.specs.List.{AllByRecursion, filter, find, flat_map}
-use Rattle.std.specs.declared.cmp.Ordering.TheVariants.{Less}
-use Rattle.std.proofs.lemmas.Bool.{false≢true, leb-true, leb-false}
-use Rattle.std.proofs.lemmas.Grind.{flat_map-append}
-use Rattle.std.proofs.lemmas.List.{append-nil, map-append, length-map, length-drop, drop_all, take-append-drop, drop-append-le, length-take-le}
 use Rattle.std.proofs.Math.Nat.{le-min, min-le_left, min-le_right}
-use Rattle.std.proofs.Math.Seq.{take-append-add}
-use Rattle.pim_addr.specs.declared.family.AddressFamily.{AddressFamily}
-use Rattle.pim_addr.specs.declared.family.AddressFamily.TheVariants.{Ipv4, Ipv6}
-use Rattle.pim_down.specs.After.{is_above}
-use Rattle.pim_down.specs.Key.{address_cmp}
 use Rattle.pim_jp.specs.declared.entry.Entry.TheVariants.{Source, Rpt}
-use Rattle.pim_jp.specs.Canonical.{canonical_set, canonical_set_length}
-use Rattle.pim_form.specs.Demanded.{GroupsAreCounted}
-use Rattle.pim_form.specs.Messages.{star_entries, excepted_entries, written_set}
-use Rattle.pim_form.specs.NormalForm.{GroupForm, IsNormal, IsNormalGroup, AreExceptions, is_empty, same_address, most_exceptions}
-use Rattle.pim_form.specs.Packing.{StopsBefore}
-use Rattle.pim_form.specs.Rows.{exceptions_of}
-use Rattle.pim_form.specs.Settled.{group_in}
-use Rattle.pim_form.specs.Units.{WantUnit, source_unit, star_units, group_units, units_of, run_entries, empty_message_size, empty_set_size, entry_size}
-use Rattle.pim_emit.specs.declared.draft.Draft.{Draft}
-use Rattle.pim_emit.specs.declared.piece.Piece.{Piece}
-use Rattle.pim_emit.specs.declared.position.Position.{Position}
-use Rattle.pim_emit.specs.declared.position.Position.TheVariants.{Within, Behind}
-use Rattle.pim_emit.specs.declared.set.WrittenSources.{WrittenSources}
-use Rattle.pim_emit.specs.DemandSeen.{DemandSeen}
-use Rattle.pim_addr.specs.Routes.{rp_of}
-use Rattle.pim_emit.specs.Drafts.{IsDraft, message_size, body_start}
-use Rattle.pim_emit.specs.Left.{IsPiece, IsPosition, above, next_above, groups_above, left_at, is_past, star_of, sources_in, piece_form}
-use Rattle.pim_emit.specs.Sets.{AreWritten, cut_piece, set_size}
 use Rattle.pim_emit.proofs.Above.{by_test, above_none, kept_here, dropped_here, found_later}
 use Rattle.pim_emit.proofs.Addresses.{same_is, lt_less, less_trans}
 use Rattle.pim_emit.proofs.DraftSizes.{IsSome, AreBefore, HasRoom, entries_of_star, units_more, entries_more, groups_more, all_append, ascending_more, size_more, stops_before_group, stops_before_source}

@@ -1,21 +1,9 @@
 -- So many (S,G,rpt) machines of a group are at most those of the port, whatever their groups.
-use Rattle.std.proofs.Common.{◌≡◌, ◌∙◌, ℕ, ◌≤◌, Bool, true, false, ◌&&◌, ◌||◌, List, [], ◌∷◌, Option, None, Some, length, eqb, refl, ap, subst, arith}
-use Rattle.std.specs.declared.cmp.Ordering.TheVariants.{Less}
-use Rattle.std.specs.List.{AllByRecursion, filter, list_any}
-use Rattle.std.specs.List.Sorted.{IsStrictlySortedBy}
-use Rattle.std.specs.Ordering.{is_lt}
-use Rattle.std.proofs.lemmas.Bool.{false≢true, and_from, eqb-false, or_left, or_right}
-use Rattle.pim_down.specs.declared.machines.key.Key.{Key}
-use Rattle.pim_down.specs.declared.machines.key.What.TheVariants.{Rpt}
-use Rattle.pim_down.specs.declared.machines.machine.Record.{Record}
-use Rattle.pim_down.specs.After.{is_above}
-use Rattle.pim_down.specs.Hearing.{is_rpt_on, rpt_count_on}
-use Rattle.pim_down.specs.Key.{address_cmp, source_of}
-use Rattle.pim_down.specs.Laws.{KeysAreDistinct}
-use Rattle.pim_down.specs.Records.{machine_at}
-use Rattle.pim_down.specs.Time.{Downstream}
-use Rattle.pim_form.specs.NormalForm.{AreAscending, same_address}
-use Rattle.pim_emit.specs.Machines.{has_rpt}
+use Rattle.pim_emit.proofs.Words.{◌≡◌, ◌∙◌, ℕ, ◌≤◌, Bool, true, false, ◌&&◌, ◌||◌, List, [], ◌∷◌, Option, None, Some}
+use Rattle.pim_emit.proofs.Words.{length, eqb, refl, ap, subst, arith, Less, AllByRecursion, filter, list_any}
+use Rattle.pim_emit.proofs.Words.{IsStrictlySortedBy, is_lt, false≢true, and_from, eqb-false, or_left, or_right, Key}
+use Rattle.pim_emit.proofs.Words.{Rpt, Record, is_above, is_rpt_on, rpt_count_on, address_cmp, source_of}
+use Rattle.pim_emit.proofs.Words.{KeysAreDistinct, machine_at, Downstream, AreAscending, same_address, has_rpt}
 use Rattle.pim_emit.proofs.Addresses.{same_itself}
 use Rattle.pim_emit.proofs.Above.{is_over, by_test, kept_here, dropped_here}
 use Rattle.pim_emit.proofs.CountAbove.{count_above, fewer_above}

@@ -1,16 +1,8 @@
 -- The first of the records in key order that passes a test of its key.
-use Rattle.std.proofs.Common.{◌≡◌, ◌∙◌, ℕ, Bool, true, false, List, [], ◌∷◌, None, Some, cond, refl, sym, ap, subst}
-use Rattle.std.specs.declared.cmp.Ordering.TheVariants.{Less, Equal}
-use Rattle.std.specs.Ordering.{is_lt, is_le}
-use Rattle.std.specs.List.{AllByRecursion, find, list_any}
-use Rattle.std.proofs.lemmas.Bool.{false≢true, or_left, or_right}
-use Rattle.std.proofs.lemmas.Cmp.{nat_cmp_total, tied_itself}
-use Rattle.pim_down.specs.declared.machines.key.Key.{Key}
-use Rattle.pim_down.specs.declared.machines.machine.Machine.{Machine}
-use Rattle.pim_down.specs.declared.machines.machine.Record.{Record}
-use Rattle.pim_down.specs.Key.{rank, source_of, what_cmp, key_cmp, same_key}
-use Rattle.pim_down.specs.Laws.{KeysAreDistinct}
-use Rattle.pim_down.specs.Records.{IsBelow, IsAscending, machine_at}
+use Rattle.pim_emit.proofs.Words.{◌≡◌, ◌∙◌, ℕ, Bool, true, false, List, [], ◌∷◌, None, Some, cond, refl, sym, ap, subst}
+use Rattle.pim_emit.proofs.Words.{Less, Equal, is_lt, is_le, AllByRecursion, find, list_any, false≢true, or_left}
+use Rattle.pim_emit.proofs.Words.{or_right, nat_cmp_total, tied_itself, Key, Machine, Record, rank, source_of, what_cmp}
+use Rattle.pim_emit.proofs.Words.{key_cmp, same_key, KeysAreDistinct, IsBelow, IsAscending, machine_at}
 use Rattle.pim_emit.proofs.Addresses.{itself}
 use Rattle.pim_emit.proofs.Above.{found_here, found_later, some_found, by_test}
 

@@ -1,8 +1,6 @@
 -- What went out in several writes, one after the other.
-use Rattle.std.proofs.Common.{◌≡◌, ◌∙◌, ℕ, ◌+◌, ◌-◌, ◌≤◌, List, ◌++◌, length, take, drop, Option, sym, ap, subst, arith}
-use Rattle.std.proofs.KnownBytes.{Appends-trans}
-use Rattle.std.proofs.Math.Seq.{take-add, take-append-add, take-length}
-use Rattle.std.specs.Io.KnownBytes.{Appends}
+use Rattle.pim_emit.proofs.Words.{◌≡◌, ◌∙◌, ℕ, ◌+◌, ◌-◌, ◌≤◌, List, ◌++◌, length, take, drop, Option, sym, ap, subst}
+use Rattle.pim_emit.proofs.Words.{arith, Appends-trans, take-add, take-append-add, take-length, Appends}
 
 pub one_write_more : (a b c : Option (List ℕ)) (bs rest : List ℕ) (taken more : ℕ) → rest ≡ drop taken bs → Appends a b (take taken bs) → Appends b c (take more rest)
     → Appends a c (take (taken + more) bs)

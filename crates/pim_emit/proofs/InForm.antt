@@ -1,12 +1,7 @@
 -- What is true of what a normal form has of a group.
-use Rattle.std.proofs.Common.{◌≡◌, ℕ, List, [], ◌∷◌, Option, None, Some, refl, sym}
-use Rattle.std.specs.List.{AllByRecursion}
-use Rattle.std.specs.List.Sorted.{IsStrictlySortedBy}
-use Rattle.pim_addr.specs.declared.family.AddressFamily.{AddressFamily}
-use Rattle.pim_form.specs.NormalForm.{GroupForm, AreAscending, AreExceptions, IsNormalGroup, IsNormal, same_address}
-use Rattle.pim_form.specs.Rows.{exceptions_of}
-use Rattle.pim_form.specs.Settled.{group_in}
-use Rattle.pim_emit.specs.Left.{exceptions_in, sources_in}
+use Rattle.pim_emit.proofs.Words.{◌≡◌, ℕ, List, [], ◌∷◌, Option, None, Some, refl, sym, AllByRecursion, IsStrictlySortedBy}
+use Rattle.pim_emit.proofs.Words.{AddressFamily, GroupForm, AreAscending, AreExceptions, IsNormalGroup, IsNormal, same_address}
+use Rattle.pim_emit.proofs.Words.{exceptions_of, group_in, exceptions_in, sources_in}
 use Rattle.pim_emit.proofs.Above.{by_test}
 use Rattle.pim_emit.proofs.Addresses.{same_is}
 

@@ -1,20 +1,7 @@
 -- Canonical messages that are kept, one more at a time.
-use Rattle.std.proofs.Common.{◌≡◌, ℕ, List, [], ◌∷◌, ◌++◌, sym, ap, subst, append_assoc}
-use Rattle.std.proofs.lemmas.List.{append-nil}
-use Rattle.pim_addr.specs.declared.family.AddressFamily.{AddressFamily}
-use Rattle.pim_addr.specs.Routes.{RouteTable, rp_of}
-use Rattle.pim_down.specs.Time.{Downstream}
-use Rattle.pim_form.specs.Messages.{Writing, AreCanonical}
-use Rattle.pim_form.specs.NormalForm.{IsFormOf}
-use Rattle.pim_form.specs.Packing.{AreRuns}
-use Rattle.pim_form.specs.TowardLaws.{demand_toward}
-use Rattle.pim_form.specs.Units.{units_of}
-use Rattle.pim_emit.specs.declared.position.Position.{Position}
-use Rattle.pim_emit.specs.declared.position.Position.TheVariants.{Start}
-use Rattle.pim_emit.specs.DemandSeen.{DemandSeen}
-use Rattle.pim_emit.specs.Drafts.{IsMessage}
-use Rattle.pim_emit.specs.Left.{left_at}
-use Rattle.pim_emit.specs.Written.{DemandBy}
+use Rattle.pim_emit.proofs.Words.{◌≡◌, ℕ, List, [], ◌∷◌, ◌++◌, sym, ap, subst, append_assoc, append-nil, AddressFamily}
+use Rattle.pim_emit.proofs.Words.{RouteTable, rp_of, Downstream, Writing, AreCanonical, IsFormOf, AreRuns}
+use Rattle.pim_emit.proofs.Words.{demand_toward, units_of, Position, Start, DemandSeen, IsMessage, left_at, DemandBy}
 use Rattle.pim_emit.proofs.Action.{told_first}
 
 -- These messages, and those of what is left behind the place, behind them, are canonical.

@@ -1,16 +1,9 @@
 -- The least of what comes next on some ports, port by port.
-use Rattle.std.proofs.Common.{◌≡◌, ◌∙◌, ℕ, ◌+◌, ◌<◌, ◌≤◌, Bool, true, false, ◌&&◌, List, Option, None, Some, get_or, refl, sym, ap, subst, arith, ⊎_elim}
-use Rattle.std.specs.Prelude.{IfSome}
-use Rattle.std.specs.declared.cmp.Ordering.TheVariants.{Less, Equal, Greater}
-use Rattle.std.specs.Ordering.{is_eq, is_le, ordering_reverse}
-use Rattle.std.specs.Cmp.Lexicographic.{texts_ties}
-use Rattle.std.proofs.lemmas.Bool.{false≢true, cases_lt}
-use Rattle.pim_down.specs.After.{is_above}
-use Rattle.pim_down.specs.Key.{address_cmp}
-use Rattle.pim_down.specs.Time.{Downstream}
-use Rattle.pim_form.specs.Wants.{some_below}
-use Rattle.pim_emit.specs.Ahead.{is_this, IsNextOn, IsNextSource, SourceAhead, its_source, AreNext, LeastSeen, source_of_least, IsLeastBelow, AreLeastBelow}
-use Rattle.pim_emit.specs.Machines.{is_source_joined}
+use Rattle.pim_emit.proofs.Words.{◌≡◌, ◌∙◌, ℕ, ◌+◌, ◌<◌, ◌≤◌, Bool, true, false, ◌&&◌, List, Option, None, Some, get_or}
+use Rattle.pim_emit.proofs.Words.{refl, sym, ap, subst, arith, ⊎_elim, IfSome, Less, Equal, Greater, is_eq, is_le}
+use Rattle.pim_emit.proofs.Words.{ordering_reverse, texts_ties, false≢true, cases_lt, is_above, address_cmp, Downstream}
+use Rattle.pim_emit.proofs.Words.{some_below, is_this, IsNextOn, IsNextSource, SourceAhead, its_source, AreNext}
+use Rattle.pim_emit.proofs.Words.{LeastSeen, source_of_least, IsLeastBelow, AreLeastBelow, is_source_joined}
 use Rattle.pim_emit.proofs.Above.{by_test}
 use Rattle.pim_emit.proofs.Addresses.{equal_is, itself, same_is, back}
 use Rattle.pim_emit.proofs.LeastOfTwo.{up_to_trans}

@@ -1,11 +1,7 @@
 -- The lesser of two least addresses is the least of what either test passes.
-use Rattle.std.proofs.Common.{◌≡◌, ◌∙◌, ℕ, Bool, true, false, ◌||◌, List, Option, None, Some, refl, sym, ap, subst}
-use Rattle.std.specs.declared.cmp.Ordering.{Ordering}
-use Rattle.std.specs.declared.cmp.Ordering.TheVariants.{Less, Equal, Greater}
-use Rattle.std.specs.Ordering.{is_lt, is_le, ordering_reverse}
-use Rattle.std.proofs.lemmas.Bool.{false≢true, or_left, or_right}
-use Rattle.pim_down.specs.Key.{address_cmp}
-use Rattle.pim_emit.specs.Least.{IsLeast}
+use Rattle.pim_emit.proofs.Words.{◌≡◌, ◌∙◌, ℕ, Bool, true, false, ◌||◌, List, Option, None, Some, refl, sym, ap, subst}
+use Rattle.pim_emit.proofs.Words.{Ordering, Less, Equal, Greater, is_lt, is_le, ordering_reverse, false≢true, or_left}
+use Rattle.pim_emit.proofs.Words.{or_right, address_cmp, IsLeast}
 use Rattle.pim_emit.proofs.Addresses.{equal_is, back, less_trans}
 use Rattle.pim_emit.proofs.Above.{by_test}
 

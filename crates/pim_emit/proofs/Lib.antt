@@ -1,3 +1,4 @@
+pub mod Words
 pub mod Addresses
 pub mod Above
 pub mod LeastOfTwo

@@ -1,16 +1,9 @@
 -- The next address of an ascending list above a bound, looked for among all addresses that pass a test which those of the
 -- list pass.
-use Rattle.std.proofs.Common.{◌≡◌, ◌∙◌, ℕ, Bool, true, false, ◌&&◌, ◌||◌, List, [], ◌∷◌, Option, None, Some, refl, sym, ap, subst}
-use Rattle.std.specs.declared.cmp.Ordering.TheVariants.{Less}
-use Rattle.std.specs.List.{AllByRecursion}
-use Rattle.std.specs.List.Sorted.{IsStrictlySortedBy}
-use Rattle.std.specs.Ordering.{is_le, is_lt, ordering_reverse}
-use Rattle.std.proofs.lemmas.Bool.{false≢true, and_from, and_parts, or_left, or_right, or_parts}
-use Rattle.pim_down.specs.After.{is_above}
-use Rattle.pim_down.specs.Key.{address_cmp}
-use Rattle.pim_form.specs.NormalForm.{AreAscending, same_address, is_listed}
-use Rattle.pim_emit.specs.Least.{IsLeast}
-use Rattle.pim_emit.specs.Left.{above, next_above}
+use Rattle.pim_emit.proofs.Words.{◌≡◌, ◌∙◌, ℕ, Bool, true, false, ◌&&◌, ◌||◌, List, [], ◌∷◌, Option, None, Some, refl, sym, ap}
+use Rattle.pim_emit.proofs.Words.{subst, Less, AllByRecursion, IsStrictlySortedBy, is_le, is_lt, ordering_reverse, false≢true}
+use Rattle.pim_emit.proofs.Words.{and_from, and_parts, or_left, or_right, or_parts, is_above, address_cmp, AreAscending}
+use Rattle.pim_emit.proofs.Words.{same_address, is_listed, IsLeast, above, next_above}
 use Rattle.pim_emit.proofs.Addresses.{same_is, same_itself, back, lt_less, above_less, le_above}
 use Rattle.pim_emit.proofs.Above.{by_test}
 

@@ -1,18 +1,9 @@
 -- Stars of a form that another form lacks, and the least of them that is too big.
-use Rattle.std.proofs.Common.{◌≡◌, ◌∙◌, ℕ, zero, suc, ◌≤◌, ◌<◌, Bool, true, false, cond, not, List, [], ◌∷◌, Option, None, Some, length, refl, sym, ap, subst, arith}
-use Rattle.std.specs.declared.cmp.Ordering.TheVariants.{Less, Equal, Greater}
-use Rattle.std.specs.List.{AllByRecursion, filter}
-use Rattle.std.specs.List.Sorted.{IsStrictlySortedBy}
-use Rattle.std.specs.Option.{is_some}
-use Rattle.std.specs.Ordering.{is_lt, ordering_reverse}
-use Rattle.std.proofs.lemmas.Bool.{false≢true}
-use Rattle.pim_addr.specs.declared.family.AddressFamily.{AddressFamily}
-use Rattle.pim_down.specs.After.{is_above}
-use Rattle.pim_down.specs.Key.{address_cmp}
-use Rattle.pim_form.specs.NormalForm.{GroupForm, AreAscending, groups_of, same_address}
-use Rattle.pim_form.specs.Settled.{group_in}
-use Rattle.pim_form.specs.TooBig.{star_fits, too_big}
-use Rattle.pim_emit.specs.Left.{HaveSameStars, next_above, star_of, groups_above}
+use Rattle.pim_emit.proofs.Words.{◌≡◌, ◌∙◌, ℕ, zero, suc, ◌≤◌, ◌<◌, Bool, true, false, cond, not, List, [], ◌∷◌, Option, None}
+use Rattle.pim_emit.proofs.Words.{Some, length, refl, sym, ap, subst, arith, Less, Equal, Greater, AllByRecursion, filter}
+use Rattle.pim_emit.proofs.Words.{IsStrictlySortedBy, is_some, is_lt, ordering_reverse, false≢true, AddressFamily, is_above}
+use Rattle.pim_emit.proofs.Words.{address_cmp, GroupForm, AreAscending, groups_of, same_address, group_in, star_fits, too_big}
+use Rattle.pim_emit.proofs.Words.{HaveSameStars, next_above, star_of, groups_above}
 use Rattle.pim_emit.proofs.Above.{by_test, IsNextGroup, next_group, no_next_group}
 use Rattle.pim_emit.proofs.Addresses.{above_less, lt_less, less_trans, less_apart, back, itself, same_is, same_itself, equal_is, not_above_greater}
 use Rattle.pim_emit.proofs.TooBigSteps.{fewer_groups}

@@ -1,18 +1,10 @@
 -- What comes next on each port, where what comes next of all is passed.
-use Rattle.std.proofs.Common.{◌≡◌, ◌∙◌, ℕ, ◌+◌, ◌<◌, ◌≤◌, true, false, ◌&&◌, List, Option, None, Some, length, get_or, option_map, eqb, sym, subst, arith, ⊎_elim}
+use Rattle.pim_emit.proofs.Words.{◌≡◌, ◌∙◌, ℕ, ◌+◌, ◌<◌, ◌≤◌, true, false, ◌&&◌, List, Option, None, Some, length, get_or}
+use Rattle.pim_emit.proofs.Words.{option_map, eqb, sym, subst, arith, ⊎_elim, false≢true, and_parts, and_from, cases_lt, eq-eqb}
+use Rattle.pim_emit.proofs.Words.{eqb-true, get_or-set_at, get_or-set_same, get_or-set_other, is_le, AddressFamily, is_above}
+use Rattle.pim_emit.proofs.Words.{MachinesLeft, address_cmp, IsSound, Downstream, some_below, is_this, IsNextOn, IsNextSource}
+use Rattle.pim_emit.proofs.Words.{SourceAhead, its_source, IsAheadOn, AreNext, FindsNext, is_source_joined}
 use Rattle.std.proofs.Math.ListN.{set}
-use Rattle.std.proofs.lemmas.Bool.{false≢true, and_parts, and_from, cases_lt, eq-eqb, eqb-true}
-use Rattle.std.proofs.lemmas.Grind.{get_or-set_at}
-use Rattle.std.proofs.lemmas.List.{get_or-set_same, get_or-set_other}
-use Rattle.std.specs.Ordering.{is_le}
-use Rattle.pim_addr.specs.declared.family.AddressFamily.{AddressFamily}
-use Rattle.pim_down.specs.After.{is_above, MachinesLeft}
-use Rattle.pim_down.specs.Key.{address_cmp}
-use Rattle.pim_down.specs.Sound.{IsSound}
-use Rattle.pim_down.specs.Time.{Downstream}
-use Rattle.pim_form.specs.Wants.{some_below}
-use Rattle.pim_emit.specs.Ahead.{is_this, IsNextOn, IsNextSource, SourceAhead, its_source, IsAheadOn, AreNext, FindsNext}
-use Rattle.pim_emit.specs.Machines.{is_source_joined}
 use Rattle.pim_emit.proofs.Addresses.{lt_less, above_less, le_above}
 use Rattle.pim_emit.proofs.Above.{by_test}
 use Rattle.pim_emit.proofs.PortsBelow.{found_below, and_below}

@@ -1,20 +1,9 @@
 -- The next group of a port is the least above the bound that has a record on it.
-use Rattle.std.proofs.Common.{◌≡◌, ◌∙◌, ℕ, Bool, true, false, ◌&&◌, ◌||◌, List, [], ◌∷◌, Option, None, Some, refl, sym, ap, subst}
-use Rattle.std.specs.declared.cmp.Ordering.{Ordering}
-use Rattle.std.specs.declared.cmp.Ordering.TheVariants.{Less, Equal, Greater}
-use Rattle.std.specs.Ordering.{nat_cmp, is_le, ordering_then}
-use Rattle.std.specs.List.{find, list_any}
-use Rattle.std.proofs.lemmas.Bool.{eqb-true, and_parts, and_from, or_left, or_right}
-use Rattle.std.proofs.lemmas.Cmp.{nat_cmp_total, tied_itself}
-use Rattle.pim_down.specs.After.{is_above, is_of_group_after, group_after}
-use Rattle.pim_down.specs.declared.machines.key.Key.{Key}
-use Rattle.pim_down.specs.declared.machines.machine.Record.{Record}
-use Rattle.pim_down.specs.Key.{address_cmp, what_cmp, key_cmp}
-use Rattle.pim_down.specs.Records.{IsBelow, IsAscending, is_on}
-use Rattle.pim_down.specs.Time.{Downstream}
-use Rattle.pim_form.specs.NormalForm.{same_address}
-use Rattle.pim_emit.specs.Least.{IsLeast}
-use Rattle.pim_emit.specs.Machines.{has_group}
+use Rattle.pim_emit.proofs.Words.{◌≡◌, ◌∙◌, ℕ, Bool, true, false, ◌&&◌, ◌||◌, List, [], ◌∷◌, Option, None, Some, refl, sym, ap}
+use Rattle.pim_emit.proofs.Words.{subst, Ordering, Less, Equal, Greater, nat_cmp, is_le, ordering_then, find, list_any, eqb-true}
+use Rattle.pim_emit.proofs.Words.{and_parts, and_from, or_left, or_right, nat_cmp_total, tied_itself, is_above, is_of_group_after}
+use Rattle.pim_emit.proofs.Words.{group_after, Key, Record, address_cmp, what_cmp, key_cmp, IsBelow, IsAscending, is_on}
+use Rattle.pim_emit.proofs.Words.{Downstream, same_address, IsLeast, has_group}
 use Rattle.pim_emit.proofs.Addresses.{same_is, same_itself}
 use Rattle.pim_emit.proofs.Above.{by_test, found_here, found_later, some_found}
 use Rattle.pim_emit.proofs.FirstRecords.{key_itself}

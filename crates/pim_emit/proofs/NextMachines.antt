@@ -1,30 +1,12 @@
 -- The next record of a group on a port tells the least source with a machine of one kind.
-use Rattle.std.proofs.Common.{◌≡◌, ◌∙◌, ℕ, Bool, true, false, ◌&&◌, List, Option, None, Some, eqb, refl, sym, ap, subst, option_map}
-use Rattle.std.specs.declared.cmp.Ordering.{Ordering}
-use Rattle.std.specs.declared.cmp.Ordering.TheVariants.{Less, Equal, Greater}
-use Rattle.std.specs.Ordering.{nat_cmp, is_lt, is_le, is_eq}
-use Rattle.std.specs.Option.{is_some}
-use Rattle.std.proofs.lemmas.Bool.{false≢true, eqb-true, eq-eqb, and_parts, and_from}
-use Rattle.std.proofs.lemmas.Cmp.{nat_cmp_total, tied_itself}
-use Rattle.pim_addr.specs.declared.family.AddressFamily.{AddressFamily}
-use Rattle.pim_down.specs.After.{is_above, next_in_group, MachinesLeft, next_machine, left_behind}
-use Rattle.pim_down.specs.declared.machines.key.What.{What}
-use Rattle.pim_down.specs.declared.machines.key.What.TheVariants.{Star, Source, Rpt}
-use Rattle.pim_down.specs.declared.machines.key.Key.{Key}
-use Rattle.pim_down.specs.declared.machines.machine.Machine.{Machine}
-use Rattle.pim_down.specs.declared.machines.machine.Record.{Record}
-use Rattle.pim_down.specs.declared.machines.machine.State.{State}
+use Rattle.pim_emit.proofs.Words.{◌≡◌, ◌∙◌, ℕ, Bool, true, false, ◌&&◌, List, Option, None, Some, eqb, refl, sym, ap, subst}
+use Rattle.pim_emit.proofs.Words.{option_map, Ordering, Less, Equal, Greater, nat_cmp, is_lt, is_le, is_eq, is_some, false≢true}
+use Rattle.pim_emit.proofs.Words.{eqb-true, eq-eqb, and_parts, and_from, nat_cmp_total, tied_itself, AddressFamily, is_above}
+use Rattle.pim_emit.proofs.Words.{next_in_group, MachinesLeft, next_machine, left_behind, What, Star, Source, Rpt, Key, Machine}
+use Rattle.pim_emit.proofs.Words.{Record, State, address_cmp, what_cmp, key_cmp, KeysAreDistinct, IsAscending, machine_at}
+use Rattle.pim_emit.proofs.Words.{state_of_machine, what_seen, record_of_seen, IsSound, IsReal, joined_or_pending, Downstream}
+use Rattle.pim_emit.proofs.Words.{is_joined, state_on, passed, machines_behind, IsLeast, is_source_joined, has_rpt}
 use Rattle.pim_down.specs.declared.machines.machine.State.TheVariants.{Join, PrunePending, Prune, PruneTmp, PrunePendingTmp}
-use Rattle.pim_down.specs.Key.{address_cmp, what_cmp, key_cmp}
-use Rattle.pim_down.specs.Laws.{KeysAreDistinct}
-use Rattle.pim_down.specs.Records.{IsAscending, machine_at, state_of_machine}
-use Rattle.pim_down.specs.Seen.{what_seen, record_of_seen}
-use Rattle.pim_down.specs.Sound.{IsSound, IsReal, joined_or_pending}
-use Rattle.pim_down.specs.Time.{Downstream}
-use Rattle.pim_form.specs.Wants.{is_joined, state_on}
-use Rattle.pim_emit.specs.Ahead.{passed, machines_behind}
-use Rattle.pim_emit.specs.Least.{IsLeast}
-use Rattle.pim_emit.specs.Machines.{is_source_joined, has_rpt}
 use Rattle.pim_emit.proofs.Addresses.{equal_is, itself}
 use Rattle.pim_emit.proofs.Above.{by_test}
 use Rattle.pim_emit.proofs.FirstRecords.{held_at, none_at, found_passes, found_is_held, found_is_first}

@@ -1,31 +1,12 @@
 -- The message that comes next: how it begins, and what it is when it is full.
-use Rattle.std.proofs.Common.{◌≡◌, ◌∙◌, ℕ, ◌≤◌, Bool, true, false, List, [], ◌∷◌, ◌++◌, Option, None, Some, length, map, take, drop, refl, sym, ap, subst, arith, append_assoc}
-use Rattle.std.specs.Prelude.{if◌then◌else◌}
-use Rattle.std.specs.List.{AllByRecursion, filter}
-use Rattle.std.specs.List.Sorted.{IsStrictlySortedBy}
-use Rattle.std.proofs.lemmas.Bool.{false≢true}
-use Rattle.std.proofs.Math.Seq.{take-append_seam}
-use Rattle.std.proofs.lemmas.List.{drop_all, length-take, length-map}
-use Rattle.pim_addr.specs.declared.family.AddressFamily.{AddressFamily}
-use Rattle.pim_addr.specs.declared.family.AddressFamily.TheVariants.{Ipv4, Ipv6}
-use Rattle.pim_down.specs.After.{is_above}
-use Rattle.pim_frame.specs.Frame.{all_routers}
-use Rattle.pim_frame.specs.Seal.{IsSealed}
-use Rattle.pim_frame.specs.declared.frame.MessageType.TheVariants.{JoinPrune}
-use Rattle.pim_jp.specs.Canonical.{canonical_head, canonical}
-use Rattle.pim_form.specs.Demanded.{GroupsAreCounted}
-use Rattle.pim_form.specs.Messages.{Writing, written_set, written_message}
-use Rattle.pim_form.specs.NormalForm.{GroupForm, is_empty}
-use Rattle.pim_form.specs.Packing.{fits, IsNonempty, StopsBefore}
-use Rattle.pim_form.specs.TooBig.{star_fits, too_big}
-use Rattle.pim_form.specs.Units.{WantUnit, star_unit, source_unit, star_units, units_of, run_entries}
-use Rattle.pim_emit.specs.declared.draft.Draft.{Draft}
-use Rattle.pim_emit.specs.declared.position.Position.{Position}
-use Rattle.pim_emit.specs.declared.position.Position.TheVariants.{Start, Within, Behind}
-use Rattle.pim_emit.specs.DemandSeen.{DemandSeen}
-use Rattle.pim_addr.specs.Routes.{rp_of}
-use Rattle.pim_emit.specs.Drafts.{body_start, message_size, IsDraft, IsMessage}
-use Rattle.pim_emit.specs.Left.{left_at, IsPosition}
+use Rattle.pim_emit.proofs.Words.{◌≡◌, ◌∙◌, ℕ, ◌≤◌, Bool, true, false, List, [], ◌∷◌, ◌++◌, Option, None, Some, length, map, take}
+use Rattle.pim_emit.proofs.Words.{drop, refl, sym, ap, subst, arith, append_assoc, if◌then◌else◌, AllByRecursion, filter}
+use Rattle.pim_emit.proofs.Words.{IsStrictlySortedBy, false≢true, take-append_seam, drop_all, length-take, length-map}
+use Rattle.pim_emit.proofs.Words.{AddressFamily, Ipv4, Ipv6, is_above, all_routers, IsSealed, JoinPrune, canonical_head}
+use Rattle.pim_emit.proofs.Words.{canonical, GroupsAreCounted, Writing, written_set, written_message, GroupForm, is_empty, fits}
+use Rattle.pim_emit.proofs.Words.{IsNonempty, StopsBefore, star_fits, too_big, WantUnit, star_unit, source_unit, star_units}
+use Rattle.pim_emit.proofs.Words.{units_of, run_entries, Draft, Position, Start, Within, Behind, DemandSeen, rp_of, body_start}
+use Rattle.pim_emit.proofs.Words.{message_size, IsDraft, IsMessage, left_at, IsPosition}
 use Rattle.pim_emit.proofs.Above.{by_test}
 use Rattle.pim_emit.proofs.DraftSizes.{fits_by, IsSome}
 

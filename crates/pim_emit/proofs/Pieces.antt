@@ -1,16 +1,9 @@
 -- What of a group comes next behind a place in a form.
-use Rattle.std.proofs.Common.{◌≡◌, ◌∙◌, ℕ, Bool, true, false, List, [], ◌∷◌, ◌++◌, Option, None, Some, map, refl, sym, ap, subst}
-use Rattle.std.specs.Prelude.{if◌then◌else◌}
-use Rattle.std.specs.Option.{is_some}
-use Rattle.pim_addr.specs.declared.family.AddressFamily.{AddressFamily}
-use Rattle.pim_addr.specs.Address.{IsGroupAddress}
-use Rattle.pim_down.specs.After.{is_above}
-use Rattle.pim_form.specs.NormalForm.{GroupForm, IsNormal, IsNormalGroup, groups_of, is_empty}
-use Rattle.pim_form.specs.Settled.{group_in}
-use Rattle.pim_form.specs.Units.{group_units, units_of, source_unit}
-use Rattle.pim_emit.specs.declared.position.Position.{Position}
-use Rattle.pim_emit.specs.declared.position.Position.TheVariants.{Start, Within, Behind}
-use Rattle.pim_emit.specs.Left.{above, next_above, star_of, sources_in, groups_above, left_at, is_past, piece_form, IsPiece, IsNextPiece}
+use Rattle.pim_emit.proofs.Words.{◌≡◌, ◌∙◌, ℕ, Bool, true, false, List, [], ◌∷◌, ◌++◌, Option, None, Some, map, refl}
+use Rattle.pim_emit.proofs.Words.{sym, ap, subst, if◌then◌else◌, is_some, AddressFamily, IsGroupAddress, is_above}
+use Rattle.pim_emit.proofs.Words.{GroupForm, IsNormal, IsNormalGroup, groups_of, is_empty, group_in, group_units}
+use Rattle.pim_emit.proofs.Words.{units_of, source_unit, Position, Start, Within, Behind, above, next_above, star_of}
+use Rattle.pim_emit.proofs.Words.{sources_in, groups_above, left_at, is_past, piece_form, IsPiece, IsNextPiece}
 use Rattle.pim_emit.proofs.Above.{above_none, above_first, next_group, next_group_holds, no_next_group}
 use Rattle.pim_emit.proofs.InForm.{group_named, sources_ascend}
 

@@ -1,8 +1,6 @@
 -- What is true of the ports below a number.
-use Rattle.std.proofs.Common.{◌≡◌, ℕ, zero, suc, ◌+◌, ◌<◌, ◌≤◌, Bool, true, false, ◌&&◌, ◌||◌, List, Option, None, refl, sym, ap, subst, add-one, arith, ⊎_elim}
-use Rattle.std.proofs.lemmas.Bool.{cases_lt, or_left, or_right, or_parts}
-use Rattle.pim_form.specs.Wants.{some_below}
-use Rattle.pim_emit.specs.Least.{IsLeast}
+use Rattle.pim_emit.proofs.Words.{◌≡◌, ℕ, zero, suc, ◌+◌, ◌<◌, ◌≤◌, Bool, true, false, ◌&&◌, ◌||◌, List, Option, None, refl, sym}
+use Rattle.pim_emit.proofs.Words.{ap, subst, add-one, arith, ⊎_elim, cases_lt, or_left, or_right, or_parts, some_below, IsLeast}
 use Rattle.pim_emit.proofs.Above.{by_test}
 
 -- ---- some port, or none

@@ -1,24 +1,14 @@
 -- The set of a piece, as it is written: its entries, and what stands before them.
-use Rattle.std.proofs.Common.{◌≡◌, ◌∙◌, ℕ, ◌+◌, ◌*◌, List, ◌++◌, Option, None, Some, Bool, true, false, map, length, take, refl, sym, ap, arith, length-append, append_assoc}
-use Rattle.std.specs.Prelude.{if◌then◌else◌}
-use Rattle.std.specs.List.{flat_map}
-use Rattle.std.proofs.Math.Seq.{take-append-add}
-use Rattle.std.proofs.lemmas.List.{length-map, append-nil, length-take}
+use Rattle.pim_emit.proofs.Words.{◌≡◌, ◌∙◌, ℕ, ◌+◌, ◌*◌, List, ◌++◌, Option, None, Some, Bool, true, false, map, length, take}
+use Rattle.pim_emit.proofs.Words.{refl, sym, ap, arith, length-append, append_assoc, if◌then◌else◌, flat_map, take-append-add}
+use Rattle.pim_emit.proofs.Words.{length-map, append-nil, length-take, flat_map-append, AddressFamily, group_length}
+use Rattle.pim_emit.proofs.Words.{source_length, canonical_entry, star_entries, excepted_entries, written_set, GroupForm}
+use Rattle.pim_emit.proofs.Words.{exceptions_of, Piece, WrittenSources, piece_form, source_entries, exception_entries}
+use Rattle.pim_emit.proofs.Words.{set_entries, entry_count, set_size, cut_piece, AreWritten}
 use Rattle.std.proofs.lemmas.List.Folds.{flat_map-map}
-use Rattle.std.proofs.lemmas.Grind.{flat_map-append}
-use Rattle.pim_addr.specs.declared.family.AddressFamily.{AddressFamily}
 use Rattle.pim_addr.specs.Canonical.{canonical_group}
-use Rattle.pim_addr.specs.Encoded.{group_length, source_length}
 use Rattle.pim_jp.specs.declared.entry.Entry.{Entry}
 use Rattle.pim_jp.specs.declared.entry.Entry.TheVariants.{Source, Rpt}
-use Rattle.pim_jp.specs.Canonical.{canonical_entry}
-use Rattle.pim_form.specs.Messages.{star_entries, excepted_entries, written_set}
-use Rattle.pim_form.specs.NormalForm.{GroupForm}
-use Rattle.pim_form.specs.Rows.{exceptions_of}
-use Rattle.pim_emit.specs.declared.piece.Piece.{Piece}
-use Rattle.pim_emit.specs.declared.set.WrittenSources.{WrittenSources}
-use Rattle.pim_emit.specs.Left.{piece_form}
-use Rattle.pim_emit.specs.Sets.{source_entries, exception_entries, set_entries, entry_count, set_size, cut_piece, AreWritten}
 
 joined_spelled : (family : AddressFamily) (entries : List (Entry (List ℕ))) (sources : List (List ℕ))
     → flat_map (canonical_entry family) (entries ++ map (λ source. Source source) sources) ≡ flat_map (canonical_entry family) entries ++ source_entries family sources

@@ -1,13 +1,6 @@
 -- What the first port that has the star of a group says of a source, before any other is asked.
-use Rattle.std.proofs.Common.{◌≡◌, ◌∙◌, ℕ, ◌+◌, true, false, ◌&&◌, not, List, Some, sym, ap}
-use Rattle.std.proofs.lemmas.Bool.{and_from}
-use Rattle.pim_down.specs.declared.machines.key.What.TheVariants.{Rpt}
-use Rattle.pim_down.specs.declared.machines.machine.State.{State}
-use Rattle.pim_down.specs.Time.{Downstream}
-use Rattle.pim_form.specs.declared.tree.Tree.TheVariants.{Shared}
-use Rattle.pim_form.specs.Wants.{is_pruned, some_below, state_on, wants, wants_on}
-use Rattle.pim_emit.specs.Machines.{is_starred}
-use Rattle.pim_emit.specs.Stars.{IsFirstBelow}
+use Rattle.pim_emit.proofs.Words.{◌≡◌, ◌∙◌, ℕ, ◌+◌, true, false, ◌&&◌, not, List, Some, sym, ap, and_from, Rpt, State, Downstream}
+use Rattle.pim_emit.proofs.Words.{Shared, is_pruned, some_below, state_on, wants, wants_on, is_starred, IsFirstBelow}
 use Rattle.pim_emit.proofs.PortsBelow.{none_more, none_of_fewer, found_below}
 
 module _ (state : Downstream) (source group : List ℕ) (first : ℕ) (held : State) (least : IsFirstBelow state.ports (is_starred state group) (Some first))

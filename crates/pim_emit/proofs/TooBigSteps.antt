@@ -1,18 +1,9 @@
 -- Whether a star fits a message alone, and the least group whose star doesn't.
-use Rattle.std.proofs.Common.{◌≡◌, ◌∙◌, ◌↔◌, ℕ, zero, suc, ◌+◌, ◌*◌, ◌≤◌, ◌<◌, true, false, List, [], ◌∷◌, Option, None, Some, length, refl, ap, subst, arith}
-use Rattle.std.specs.List.Sorted.{IsStrictlySortedBy}
-use Rattle.std.specs.Option.{is_some}
-use Rattle.pim_addr.specs.Address.{IsGroupAddress}
-use Rattle.pim_addr.specs.declared.family.AddressFamily.{AddressFamily}
-use Rattle.pim_addr.specs.declared.family.AddressFamily.TheVariants.{Ipv4, Ipv6}
-use Rattle.pim_form.specs.Demanded.{GroupsAreCounted}
-use Rattle.pim_form.specs.NormalForm.{GroupForm, AreAscending, IsNormal, IsNormalGroup, groups_of}
-use Rattle.pim_form.specs.Rows.{exceptions_of}
-use Rattle.pim_form.specs.Settled.{group_in}
-use Rattle.pim_form.specs.TooBig.{star_fits, too_big}
-use Rattle.pim_form.specs.Units.{units_of, run_entries, empty_set_size, entry_size}
-use Rattle.pim_emit.specs.Drafts.{body_start, message_size}
-use Rattle.pim_emit.specs.Left.{next_above, star_of, exceptions_in, groups_above}
+use Rattle.pim_emit.proofs.Words.{◌≡◌, ◌∙◌, ◌↔◌, ℕ, zero, suc, ◌+◌, ◌*◌, ◌≤◌, ◌<◌, true, false, List, [], ◌∷◌, Option, None, Some}
+use Rattle.pim_emit.proofs.Words.{length, refl, ap, subst, arith, IsStrictlySortedBy, is_some, IsGroupAddress, AddressFamily}
+use Rattle.pim_emit.proofs.Words.{Ipv4, Ipv6, GroupsAreCounted, GroupForm, AreAscending, IsNormal, IsNormalGroup, groups_of}
+use Rattle.pim_emit.proofs.Words.{exceptions_of, group_in, star_fits, too_big, units_of, run_entries, empty_set_size, entry_size}
+use Rattle.pim_emit.proofs.Words.{body_start, message_size, next_above, star_of, exceptions_in, groups_above}
 use Rattle.pim_emit.proofs.Above.{by_test, next_group, next_group_holds, no_next_group}
 use Rattle.pim_emit.proofs.DraftSizes.{HasRoom, fits_by, fits_not}
 

@@ -1,10 +1,7 @@
 -- Entries that are written one behind the other.
-use Rattle.std.proofs.Common.{◌≡◌, ◌∙◌, ℕ, suc, ◌+◌, ◌*◌, ◌<◌, ◌≤◌, List, [], ◌∷◌, ◌++◌, length, take, drop, min, get_or, sym, ap, subst, arith, append_assoc, ⊎_elim, add-one}
-use Rattle.std.specs.List.{flat_map}
-use Rattle.std.proofs.lemmas.Bool.{cases_lt}
-use Rattle.std.proofs.lemmas.Grind.{flat_map-append}
-use Rattle.std.proofs.lemmas.List.{take_more, append-nil, drop_all, length-drop}
-use Rattle.std.proofs.Math.Seq.{drop-cons}
+use Rattle.pim_emit.proofs.Words.{◌≡◌, ◌∙◌, ℕ, suc, ◌+◌, ◌*◌, ◌<◌, ◌≤◌, List, [], ◌∷◌, ◌++◌, length, take, drop, min}
+use Rattle.pim_emit.proofs.Words.{get_or, sym, ap, subst, arith, append_assoc, ⊎_elim, add-one, flat_map, cases_lt}
+use Rattle.pim_emit.proofs.Words.{flat_map-append, take_more, append-nil, drop_all, length-drop, drop-cons}
 
 -- ---- a list cut behind its first so many items
 

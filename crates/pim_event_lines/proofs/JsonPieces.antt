@@ -1,21 +1,10 @@
 -- The pieces in which lines of JSON are written.
-use Rattle.std.proofs.Common.{◌≡◌, ℕ, List, [], ◌∷◌, ◌++◌, Some, codes, decimal, refl, ◌∙◌}
-use Rattle.pim_addr.specs.declared.family.AddressFamily.{AddressFamily}
+use Rattle.pim_event_lines.proofs.Cited.{◌≡◌, ℕ, List, [], ◌∷◌, ◌++◌, Some, codes, decimal, refl, ◌∙◌, AddressFamily}
+use Rattle.pim_event_lines.proofs.Cited.{line, state_in, short_text, Fired, Greeting, Ignored, OwnRestart, SkipCounts}
+use Rattle.pim_event_lines.proofs.Cited.{TimeOut, TransitionEvent, joined_in, pruned_in, state_text}
 use Rattle.pim_jp.specs.Message.{Message}
-use Rattle.pim_lines.specs.Pieces.{line}
-use Rattle.pim_events.specs.Parts.{state_in}
-use Rattle.pim_lines.specs.ShortText.{short_text}
-use Rattle.pim_events.specs.declared.event.Fired.{Fired}
-use Rattle.pim_events.specs.declared.event.Greeting.{Greeting}
-use Rattle.pim_events.specs.declared.event.Ignored.{Ignored}
-use Rattle.pim_events.specs.declared.event.OwnRestart.{OwnRestart}
 use Rattle.pim_events.specs.declared.event.Skipping.{Skipping}
-use Rattle.pim_events.specs.declared.event.SkipCounts.{SkipCounts}
-use Rattle.pim_events.specs.declared.event.TimeOut.{TimeOut}
-use Rattle.pim_events.specs.declared.event.TransitionEvent.{TransitionEvent}
-use Rattle.pim_event_lines.specs.Counts.{joined_in, pruned_in}
 use Rattle.pim_event_lines.specs.JsonLine.{quoted, number_json, by_word, kind_word, timer_word, skip_word, meaning_word, bool_json, expiry_json, pending_json, sender_json, message_json, hello_json, entry_json, restart_json, skipped_json, change_json, outcome_json, timer_json, effect_json, time_out_json, held_json, counts_json}
-use Rattle.pim_event_lines.specs.TextLine.{state_text}
 use Rattle.pim_event_lines.proofs.Nested.{Text, part, ◌⋄◌, ◌⊕◌, spread, in_parts}
 
 -- A string.

@@ -1,3 +1,4 @@
+pub mod Cited
 pub mod Written
 pub mod Nested
 pub mod TextPieces

@@ -1,19 +1,12 @@
 -- The pieces in which lines of text are written.
-use Rattle.std.proofs.Common.{◌≡◌, ℕ, ◌-◌, List, [], ◌∷◌, ◌++◌, Option, Some, codes, decimal, refl, ◌∙◌}
-use Rattle.pim_addr.specs.declared.family.AddressFamily.{AddressFamily}
+use Rattle.pim_event_lines.proofs.Cited.{◌≡◌, ℕ, ◌-◌, List, [], ◌∷◌, ◌++◌, Option, Some, codes, decimal, refl, ◌∙◌, AddressFamily}
+use Rattle.pim_event_lines.proofs.Cited.{line, state_in, short_text, Fired, Greeting, Ignored, OwnRestart, SkipCounts, TimeOut}
+use Rattle.pim_event_lines.proofs.Cited.{TransitionEvent, generation_text, generation_part, restarted_part, restart_line}
+use Rattle.pim_event_lines.proofs.Cited.{counts_text, held_text, overrides_part, by_words, timer_words, cause_words, echo_text}
+use Rattle.pim_event_lines.proofs.Cited.{source_words, state_text, sender_text, greeting_text, entry_text, time_out_line}
+use Rattle.pim_event_lines.proofs.Cited.{change_text, effect_text, cause_line}
 use Rattle.pim_report.specs.EchoLine.{kind_of}
 use Rattle.pim_report.specs.PacketLine.{heard_words}
-use Rattle.pim_lines.specs.Pieces.{line}
-use Rattle.pim_events.specs.Parts.{state_in}
-use Rattle.pim_lines.specs.ShortText.{short_text}
-use Rattle.pim_events.specs.declared.event.Fired.{Fired}
-use Rattle.pim_events.specs.declared.event.Greeting.{Greeting}
-use Rattle.pim_events.specs.declared.event.Ignored.{Ignored}
-use Rattle.pim_events.specs.declared.event.OwnRestart.{OwnRestart}
-use Rattle.pim_events.specs.declared.event.SkipCounts.{SkipCounts}
-use Rattle.pim_events.specs.declared.event.TimeOut.{TimeOut}
-use Rattle.pim_events.specs.declared.event.TransitionEvent.{TransitionEvent}
-use Rattle.pim_event_lines.specs.TextLine.{generation_text, generation_part, restarted_part, restart_line, counts_text, held_text, overrides_part, by_words, timer_words, cause_words, echo_text, source_words, state_text, sender_text, greeting_text, entry_text, time_out_line, change_text, effect_text, cause_line}
 use Rattle.pim_event_lines.proofs.Nested.{Text, part, ◌⋄◌, ◌⊕◌, spread, in_parts}
 
 -- ---- packets

@@ -1,25 +1,13 @@
 -- The parts of a change between two routers.
-use Rattle.std.proofs.Common.{◌≡◌, ℕ, List, Option, None, Some, Err, inr, sym, ap, subst, ◌∙◌}
-use Rattle.std.specs.Io.KnownBytes.{Appends}
-use Rattle.pim_addr.specs.declared.family.AddressFamily.{AddressFamily}
-use Rattle.pim_addr.specs.Routes.{RouteTable, rp_of}
+use Rattle.pim_exchange.proofs.Words.{◌≡◌, ℕ, List, Option, None, Some, Err, inr, sym, ap, subst, ◌∙◌, Appends, AddressFamily}
+use Rattle.pim_exchange.proofs.Words.{RouteTable, rp_of, OneNormalForm, Writing, GroupForm, too_big, MirrorFault, ChangeFits}
+use Rattle.pim_exchange.proofs.Words.{messages_text, demanded, IsDemandedBy, IsTooBig, RouterState, AreCarried, HasNoRoom}
+use Rattle.pim_exchange.proofs.Words.{MovedAgain, IsChangeBetween, ReportsChange, of_mirror}
 use Rattle.pim_change.specs.Change.{change}
 use Rattle.pim_change.specs.Written.{CarryChange}
 use Rattle.pim_change.specs.TooBig as changed
-use Rattle.pim_form.specs.Laws.{OneNormalForm}
-use Rattle.pim_form.specs.Messages.{Writing}
-use Rattle.pim_form.specs.NormalForm.{GroupForm}
-use Rattle.pim_form.specs.TooBig.{too_big}
-use Rattle.pim_mirror.specs.declared.mirroring.MirrorFault.{MirrorFault}
 use Rattle.pim_mirror.specs.declared.mirroring.MirrorFault.TheVariants as mirror
-use Rattle.pim_moving.specs.Laws.{ChangeFits}
-use Rattle.pim_report.specs.MessageText.{messages_text}
-use Rattle.pim_router.specs.Canonical.{demanded, IsDemandedBy, IsTooBig}
 use Rattle.pim_router.specs.Change.{IsChangeTooBig}
-use Rattle.pim_router.specs.State.{RouterState}
-use Rattle.pim_exchange.specs.ChangeHearing.{AreCarried, HasNoRoom, MovedAgain}
-use Rattle.pim_exchange.specs.ChangeText.{IsChangeBetween, ReportsChange}
-use Rattle.pim_exchange.specs.Fault.{of_mirror}
 use Rattle.pim_exchange.proofs.FreshHearings.{one_of, sent_by}
 
 -- where each star of the second fits, so does the change

@@ -1,19 +1,9 @@
 -- What is written of messages that a fresh router hears.
-use Rattle.std.proofs.Common.{◌≡◌, ℕ, List, Option, Err, inr, sym, subst}
-use Rattle.std.specs.Io.KnownBytes.{Appends}
+use Rattle.pim_exchange.proofs.Words.{◌≡◌, ℕ, List, Option, Err, inr, sym, subst, Appends, AddressFamily, RouteTable}
+use Rattle.pim_exchange.proofs.Words.{AppendsFront, Writing, MirrorFault, messages_text, IsDemandedBy, RouterState}
+use Rattle.pim_exchange.proofs.Words.{of_mirror, HeardAgain, IsFull, Judges, Exchanges, agrees_line, agreed_text}
 use Rattle.std.proofs.KnownBytes.{Appends-trans}
-use Rattle.pim_addr.specs.declared.family.AddressFamily.{AddressFamily}
-use Rattle.pim_addr.specs.Routes.{RouteTable}
-use Rattle.pim_device.specs.Device.{AppendsFront}
-use Rattle.pim_form.specs.Messages.{Writing}
-use Rattle.pim_mirror.specs.declared.mirroring.MirrorFault.{MirrorFault}
 use Rattle.pim_mirror.specs.declared.mirroring.MirrorFault.TheVariants as mirror
-use Rattle.pim_report.specs.MessageText.{messages_text}
-use Rattle.pim_router.specs.Canonical.{IsDemandedBy}
-use Rattle.pim_router.specs.State.{RouterState}
-use Rattle.pim_exchange.specs.Fault.{of_mirror}
-use Rattle.pim_exchange.specs.FreshHearing.{HeardAgain, IsFull}
-use Rattle.pim_exchange.specs.MirrorText.{Judges, Exchanges, agrees_line, agreed_text}
 use Rattle.pim_exchange.proofs.Written.{front-more}
 
 -- ---- the messages, and that those of the fresh router are these

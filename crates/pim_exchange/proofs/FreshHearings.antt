@@ -1,30 +1,19 @@
 -- A fresh router that hears each message once fits its sender.
 use Rattle.std.specs.Prelude.{option_map}
-use Rattle.std.proofs.Common.{◌≡◌, ◌≤◌, ◌<◌, ◌^◌, ◌+◌, ◌-◌, ◌*◌, ◌==◌, max, ℕ, zero, suc, List, [], ◌∷◌, ◌++◌, length, map, reverse, Option, None, Some, Result, Ok, Err, Bool, true, false, if◌then◌else◌, refl, sym, ap, subst, ◌∙◌, ◌≢◌, arith, add-one}
-use Rattle.std.specs.List.{AllByRecursion, IsDistinct}
-use Rattle.std.proofs.lemmas.Bool.{eqb-false}
-use Rattle.std.proofs.lemmas.List.{reverse-append, map-append}
-use Rattle.pim_addr.specs.declared.family.AddressFamily.{AddressFamily}
-use Rattle.pim_addr.specs.Routes.{RouteTable, IsRouteTable, rp_of}
-use Rattle.pim_form.specs.Laws.{OneNormalForm}
-use Rattle.pim_form.specs.Messages.{Writing, IsWriting, AreCanonical}
-use Rattle.pim_form.specs.NormalForm.{GroupForm, Demand, IsFormOf}
+use Rattle.pim_exchange.proofs.Words.{◌≡◌, ◌≤◌, ◌<◌, ◌^◌, ◌+◌, ◌-◌, ◌*◌, ◌==◌, max, ℕ, zero, suc, List, [], ◌∷◌, ◌++◌, length}
+use Rattle.pim_exchange.proofs.Words.{map, reverse, Option, None, Some, Result, Ok, Err, Bool, true, false, if◌then◌else◌, refl}
+use Rattle.pim_exchange.proofs.Words.{sym, ap, subst, ◌∙◌, ◌≢◌, arith, add-one, AllByRecursion, IsDistinct, eqb-false}
+use Rattle.pim_exchange.proofs.Words.{reverse-append, map-append, AddressFamily, RouteTable, IsRouteTable, rp_of, OneNormalForm}
+use Rattle.pim_exchange.proofs.Words.{Writing, IsWriting, AreCanonical, GroupForm, Demand, IsFormOf, too_big, demand_toward}
+use Rattle.pim_exchange.proofs.Words.{Delivery, IsShorter, IsTimely, AreAlive, last_of, is_delivered, final_moment, Fresh}
+use Rattle.pim_exchange.proofs.Words.{delivery_seen, newest_first, end_of, Fits, expiry_of, CarriesTheForm}
+use Rattle.pim_exchange.proofs.Words.{MirrorAnswersForTheForm, Mirrors, MirrorFault, IsDemandedBy, IsTooBig, RouterState}
+use Rattle.pim_exchange.proofs.Words.{delivered_at, each_at, fresh_of, AreSent, HaveRoom, IsAgain, Mirrored, HeardAgain, Demands}
 use Rattle.pim_form.specs.Refused.{group_too_big}
-use Rattle.pim_form.specs.TooBig.{too_big}
-use Rattle.pim_form.specs.TowardLaws.{demand_toward}
-use Rattle.pim_fresh.specs.Deliveries.{Delivery, IsShorter, IsTimely, AreAlive, last_of, is_delivered, final_moment}
-use Rattle.pim_mirror.specs.Config.{Fresh, delivery_seen, newest_first, end_of}
 use Rattle.pim_mirror.specs.declared.config.Delivery as code
-use Rattle.pim_mirror.specs.Fits.{Fits, expiry_of}
-use Rattle.pim_mirror.specs.Headline.{CarriesTheForm, MirrorAnswersForTheForm}
-use Rattle.pim_mirror.specs.Mirror.{Mirrors}
-use Rattle.pim_mirror.specs.declared.mirroring.MirrorFault.{MirrorFault}
 use Rattle.pim_mirror.specs.declared.mirroring.MirrorFault.TheVariants as fault
 use Rattle.pim_form.specs.declared.fault.FormFault.{FormFault}
 use Rattle.pim_form.specs.declared.fault.FormFault.TheVariants.{TooBig}
-use Rattle.pim_router.specs.Canonical.{IsDemandedBy, IsTooBig}
-use Rattle.pim_router.specs.State.{RouterState}
-use Rattle.pim_exchange.specs.FreshHearing.{delivered_at, each_at, fresh_of, AreSent, HaveRoom, IsAgain, Mirrored, HeardAgain, Demands}
 
 -- the same, the newest first
 unfoldable pub newest_at : ℕ → ℕ → List Delivery

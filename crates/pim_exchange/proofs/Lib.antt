@@ -1,3 +1,4 @@
+pub mod Words
 pub mod Written
 pub mod Runs
 pub mod FreshHearings

@@ -1,37 +1,26 @@
 -- The fresh router that heard canonical messages, and hears then those of a change.
-use Rattle.std.proofs.Common.{◌≡◌, ◌≤◌, ◌<◌, ◌^◌, ◌+◌, ◌-◌, ℕ, zero, suc, Bool, true, false, ◌&&◌, List, [], ◌∷◌, ◌++◌, length, None, Result, Ok, Err, inr, refl, sym, ap, subst, ◌∙◌, arith, append_assoc, append-nil}
-use Rattle.std.specs.List.{AllByRecursion, flat_map}
-use Rattle.std.proofs.lemmas.Bool.{false≢true}
-use Rattle.pim_addr.specs.declared.family.AddressFamily.{AddressFamily}
-use Rattle.pim_addr.specs.Routes.{RouteTable, IsRouteTable, rp_of}
+use Rattle.pim_exchange.proofs.Words.{◌≡◌, ◌≤◌, ◌<◌, ◌^◌, ◌+◌, ◌-◌, ℕ, zero, suc, Bool, true, false, ◌&&◌, List, [], ◌∷◌, ◌++◌}
+use Rattle.pim_exchange.proofs.Words.{length, None, Result, Ok, Err, inr, refl, sym, ap, subst, ◌∙◌, arith, append_assoc}
+use Rattle.pim_exchange.proofs.Words.{append-nil, AllByRecursion, flat_map, false≢true, AddressFamily, RouteTable, IsRouteTable}
+use Rattle.pim_exchange.proofs.Words.{rp_of, IsSound, Writing, IsWriting, AreCanonical, GroupForm, IsFormOf, demand_toward}
+use Rattle.pim_exchange.proofs.Words.{SameMessagesSameDemandToward, TestFindsTheNeighbour, Delivery, IsShorter, AreAlive, Fresh}
+use Rattle.pim_exchange.proofs.Words.{newest_first, end_of, expiry_of, CarriesTheForm, Passes, delivery_inputs, MirrorFault}
+use Rattle.pim_exchange.proofs.Words.{ChangeMovesARouter, LongTimersLast, MirrorIsSettled, IsDemandedBy, IsTooBig, RouterState}
+use Rattle.pim_exchange.proofs.Words.{fresh_interval, change_inputs, AreCarried, HearsBoth, MovedAgain, delivered_at, each_at}
+use Rattle.pim_exchange.proofs.Words.{fresh_of, Demands}
 use Rattle.pim_change.specs.Laws.{ChangeMessagesAreShort}
-use Rattle.pim_down.specs.Sound.{IsSound}
 use Rattle.pim_down.specs.Time.{Downstream}
-use Rattle.pim_form.specs.Messages.{Writing, IsWriting, AreCanonical}
-use Rattle.pim_form.specs.NormalForm.{GroupForm, IsFormOf}
 use Rattle.pim_form.specs.Settled.{IsSettledAt}
 use Rattle.pim_form.specs.Toward.{via_of, rpf_neighbour, is_neighbour}
-use Rattle.pim_form.specs.TowardLaws.{demand_toward, SameMessagesSameDemandToward, TestFindsTheNeighbour}
 use Rattle.pim_form.specs.Wants.{wants}
-use Rattle.pim_fresh.specs.Deliveries.{Delivery, IsShorter, AreAlive}
 use Rattle.pim_mirror.specs.CanonicalCourse.{AreOf, inputs_of}
-use Rattle.pim_mirror.specs.Config.{Fresh, newest_first, end_of}
-use Rattle.pim_mirror.specs.Fits.{expiry_of}
-use Rattle.pim_mirror.specs.Headline.{CarriesTheForm}
 use Rattle.pim_mirror.specs.Hellos.{timing_of}
 use Rattle.pim_mirror.specs.Laws.{DemandedStarsHaveRps}
-use Rattle.pim_mirror.specs.Mirror.{Passes, delivery_inputs}
-use Rattle.pim_mirror.specs.declared.mirroring.MirrorFault.{MirrorFault}
 use Rattle.pim_mirror.specs.declared.mirroring.MirrorFault.TheVariants as fault
 use Rattle.pim_moving.specs.Changing.{AreBetween, IsFormToward, StandsAt, KnowsUntil, NoneEndsOnTheWay, IsGiven, HasMoved}
-use Rattle.pim_moving.specs.Laws.{ChangeMovesARouter, LongTimersLast, MirrorIsSettled}
-use Rattle.pim_router.specs.Canonical.{IsDemandedBy, IsTooBig}
 use Rattle.pim_router.specs.Course.{Input, runs_to, IsCourse}
 use Rattle.pim_router.specs.Laws.{EveryListHasACourse}
-use Rattle.pim_router.specs.State.{RouterState}
 use Rattle.pim_settling.specs.Hearing.{NoneExpires}
-use Rattle.pim_exchange.specs.ChangeHearing.{fresh_interval, change_inputs, AreCarried, HearsBoth, MovedAgain}
-use Rattle.pim_exchange.specs.FreshHearing.{delivered_at, each_at, fresh_of, Demands}
 use Rattle.pim_exchange.proofs.FreshHearings.{newest_at, newest_of, end_early, all_early, all_short, came, ends_by, alive, lasts, shorter}
 
 -- ---- each message once, at a moment

@@ -1,20 +1,16 @@
 -- The replays before a step.
-use Rattle.std.proofs.Common.{◌≡◌, ◌∙◌, ℕ, List, [], Option, None, Some, Result, Err, IsOk, inl, refl, sym, ap}
-use Rattle.std.specs.Io.KnownBytes.{Keeps}
-use Rattle.std.proofs.lemmas.Bool.{false≢true}
-use Rattle.pim_addr.specs.declared.family.AddressFamily.{AddressFamily}
+use Rattle.pim_exchange.proofs.Words.{◌≡◌, ◌∙◌, ℕ, List, [], Option, None, Some, Result, Err, IsOk, inl, refl, sym, ap, Keeps}
+use Rattle.pim_exchange.proofs.Words.{false≢true, AddressFamily, Setup, RouterState, setup_of, failures_of_exchange, of_second}
 use Rattle.pim_merge.specs.declared.end.End.{End}
 use Rattle.pim_merge.specs.Ends.{Takes}
 use Rattle.pim_merge.specs.Next.{MergeState}
 use Rattle.pim_merge.specs.Run.{IsTallied}
 use Rattle.pim_merge.specs.Tally.{tallies_after}
-use Rattle.pim_router.specs.State.{Setup, RouterState, setup_of}
 use Rattle.pim_run.specs.declared.fault.RunFault.{RunFault}
 use Rattle.pim_run.specs.declared.fault.RunFault.TheVariants.{Capture, Output, Memory}
 use Rattle.pim_replay.specs.Quiet.{RunsAll, RunsQuietly}
 use Rattle.pim_exchange.specs.declared.fault.ExchangeFault.{ExchangeFault}
 use Rattle.pim_exchange.specs.declared.fault.ExchangeFault.TheVariants.{Replay, Second, TooBig, Full}
-use Rattle.pim_exchange.specs.Fault.{failures_of_exchange, of_second}
 use Rattle.pim_exchange.specs.Runs.{AfterBoth}
 
 -- no turn was taken

@@ -1,12 +1,8 @@
 -- Lines whose rows are added one after another.
 use Rattle.std.proofs.Common.{◌≡◌, ◌∙◌, sym, ap, refl, subst, inl, inr, ℕ, ◌+◌, ◌<◌, ◌≤◌, true, false, List, [], ◌∷◌, ◌++◌, length, take, arith, append_assoc, length-append, ◌==◌}
-use Rattle.std.proofs.lemmas.List.Splits.{length-slice_split}
-use Rattle.std.proofs.lemmas.List.Sums.{count_by-le-length}
-use Rattle.std.proofs.Math.Seq.{take-append_seam}
-use Rattle.pim_addr.specs.Routes.{Row, RouteTable}
-use Rattle.pim_addr.specs.declared.family.AddressFamily.{AddressFamily}
-use Rattle.pim_files.specs.declared.routes.row.FileRow.{FileRow}
-use Rattle.pim_files.specs.RoutesFile.{is_passed_over, IsRow, AreRows, row_faults, with_file_row, AreAdded, Adds, lines_of, file_limit}
+use Rattle.pim_files.proofs.Words.{length-slice_split, count_by-le-length, take-append_seam, Row, RouteTable}
+use Rattle.pim_files.proofs.Words.{AddressFamily, FileRow, is_passed_over, IsRow, AreRows, row_faults, with_file_row}
+use Rattle.pim_files.proofs.Words.{AreAdded, Adds, lines_of, file_limit}
 use Rattle.pim_files.specs.RoutesSeen.{AddsLine, IsLineFault, StopsIn}
 use Rattle.pim_files.specs.declared.routes.fault.RoutesFault.{RoutesFault}
 use Rattle.pim_files.specs.declared.routes.fault.RoutesFault.TheVariants.{TooLong, Read, Line}

@@ -1,19 +1,10 @@
 -- All files of a command, opened one after another.
-use Rattle.std.proofs.Common.{◌≡◌, ◌∙◌, inr, sym, ap, subst, ℕ, List, ◌++◌, length, Option, append_assoc}
-use Rattle.std.specs.List.{filter}
-use Rattle.pim_addr.specs.declared.family.AddressFamily.{AddressFamily}
-use Rattle.pim_addr.specs.Routes.{RouteTable}
-use Rattle.pim_merge.specs.Next.{MergeState, IsUntaken}
+use Rattle.pim_files.proofs.Words.{◌≡◌, ◌∙◌, inr, sym, ap, subst, ℕ, List, ◌++◌, length, Option, append_assoc, filter}
+use Rattle.pim_files.proofs.Words.{AddressFamily, RouteTable, MergeState, IsUntaken, More, Port, OpenFault, PortFiles, all_files}
+use Rattle.pim_files.proofs.Words.{files_from, names_of, of_router, HoldFiles, StopsAt, is_of, Files, Known, RequestsFor}
+use Rattle.pim_files.proofs.Words.{RequestsFront, IsTable, table_names, port_files, file_names, IsUnopened, IsOpen, AreOpen}
 use Rattle.pim_words.specs.declared.fault.RouterSide.TheVariants.{A as of_a, B as of_b}
 use Rattle.pim_words.specs.declared.task.Captures.{Captures}
-use Rattle.pim_words.specs.declared.task.More.{More}
-use Rattle.pim_words.specs.declared.task.Port.{Port}
-use Rattle.pim_files.specs.declared.fault.OpenFault.{OpenFault}
-use Rattle.pim_files.specs.Captures.{PortFiles, all_files, files_from, names_of, of_router, HoldFiles, StopsAt}
-use Rattle.pim_words.specs.Faults.{is_of}
-use Rattle.pim_files.specs.Files.{Files, Known, RequestsFor, RequestsFront}
-use Rattle.pim_files.specs.Table.{IsTable, table_names}
-use Rattle.pim_files.specs.Opening.{port_files, file_names, IsUnopened, IsOpen, AreOpen}
 use Rattle.pim_files.proofs.Asked.{asks_more}
 
 -- ---- the names that were asked for

@@ -1,11 +1,9 @@
 -- A text that is cut at its line feeds.
-use Rattle.std.proofs.Common.{◌≡◌, ◌∙◌, sym, ap, refl, ℕ, ◌+◌, ◌≤◌, Bool, true, false, cond, List, [], ◌∷◌, Some, None, length, take, drop, ltb, arith, add-one}
-use Rattle.std.specs.List.{position, position_or_len, slice_split, onto_first}
-use Rattle.std.proofs.lemmas.List.Sums.{position_or_len_is}
+use Rattle.pim_files.proofs.Words.{◌≡◌, ◌∙◌, sym, ap, refl, ℕ, ◌+◌, ◌≤◌, Bool, true, false, cond, List, [], ◌∷◌, Some, None}
+use Rattle.pim_files.proofs.Words.{length, take, drop, ltb, arith, add-one, position, position_or_len, slice_split, onto_first}
+use Rattle.pim_files.proofs.Words.{position_or_len_is, slice_split-cons_no, slice_split_first, ltb-false}
 use Rattle.std.proofs.Math.Seq.{drop-cons}
 use Rattle.std.proofs.lemmas.List.Quantifiers.{position-Some}
-use Rattle.std.proofs.lemmas.List.Splits.{slice_split-cons_no, slice_split_first}
-use Rattle.std.proofs.lemmas.Bool.{ltb-false}
 
 -- nothing passes the test, so there is one part
 split_whole : {X : Type 0} (p : X → Bool) (xs : List X) → length xs ≤ position_or_len p xs → slice_split p xs ≡ xs ∷ []

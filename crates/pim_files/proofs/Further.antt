@@ -1,13 +1,9 @@
 -- The files of a port, by its further files that were passed over one after another.
-use Rattle.std.proofs.Common.{◌≡◌, ◌∙◌, sym, ap, ℕ, ◌+◌, ◌<◌, ◌≤◌, Bool, true, false, cond, List, [], ◌∷◌, ◌++◌, length, map, take, drop, get_or, Option, append_assoc, append-nil}
-use Rattle.std.specs.List.{filter}
-use Rattle.std.proofs.lemmas.List.{take-append-drop, take_all, map-append}
-use Rattle.std.proofs.lemmas.List.Elements.{filter-append, filter_more}
-use Rattle.pim_words.specs.declared.task.More.{More}
-use Rattle.pim_words.specs.declared.task.Port.{Port}
-use Rattle.pim_files.specs.declared.fault.OpenFault.{OpenFault}
-use Rattle.pim_files.specs.Files.{Files, Known, RequestsFor, RequestsFront}
-use Rattle.pim_files.specs.Captures.{FileOfName, is_further, with_more, first_file, further_file, files_of, names_of, IsReaderOf, IsPortFault, StopsAt, HaveFiles}
+use Rattle.pim_files.proofs.Words.{◌≡◌, ◌∙◌, sym, ap, ℕ, ◌+◌, ◌<◌, ◌≤◌, Bool, true, false, cond, List, [], ◌∷◌, ◌++◌, length, map}
+use Rattle.pim_files.proofs.Words.{take, drop, get_or, Option, append_assoc, append-nil, filter, take-append-drop, take_all}
+use Rattle.pim_files.proofs.Words.{map-append, filter-append, filter_more, More, Port, OpenFault, Files, Known, RequestsFor}
+use Rattle.pim_files.proofs.Words.{RequestsFront, FileOfName, is_further, with_more, first_file, further_file, files_of, names_of}
+use Rattle.pim_files.proofs.Words.{IsReaderOf, IsPortFault, StopsAt, HaveFiles}
 use Rattle.pim_files.proofs.Asked.{all_in_front}
 use Rattle.pim_files.proofs.Several.{asks_both, front_within, stops_first, stops_within, one_more_reader, present_of}
 

@@ -1,9 +1,7 @@
 -- Files in memory, one after another.
-use Rattle.std.proofs.Common.{◌≡◌, ◌∙◌, sym, ap, ℕ, ◌+◌, ◌<◌, Bool, cond, List, length, drop, get_or, Some}
-use Rattle.std.specs.Prelude.{bytes_eq}
-use Rattle.std.proofs.lemmas.List.{drop_more}
+use Rattle.pim_files.proofs.Words.{◌≡◌, ◌∙◌, sym, ap, ℕ, ◌+◌, ◌<◌, Bool, cond, List, length, drop, get_or, Some}
+use Rattle.pim_files.proofs.Words.{bytes_eq, drop_more, held_content}
 use Rattle.pim_files.specs.declared.held.HeldFile.{HeldFile}
-use Rattle.pim_files.specs.Held.{held_content}
 
 -- the file at this place has the name, or those after it hold what is asked
 pub one_file : (files : List HeldFile) (place : ℕ) (other : HeldFile) (name : List ℕ) (b : Bool) → place < length files → b ≡ bytes_eq (get_or files place other).name.now name

@@ -1,14 +1,9 @@
 -- A text that leads from a prefix: where it is cut, and that it spells one row.
-use Rattle.std.proofs.Common.{◌≡◌, ◌∙◌, sym, ap, subst, ℕ, ◌<◌, List, ◌∷◌, ◌++◌, Option, None, Some, append_assoc, lit<}
-use Rattle.std.specs.Prelude.{IfNone, MatchOption}
+use Rattle.pim_files.proofs.Words.{◌≡◌, ◌∙◌, sym, ap, subst, ℕ, ◌<◌, List, ◌∷◌, ◌++◌, Option, None, Some, append_assoc, lit<}
+use Rattle.pim_files.proofs.Words.{IfNone, MatchOption, digits_value, IsText, OneAddress, Row, AddressFamily, IsDecimal, Leads}
 use Rattle.std.specs.Borrow.{Bor}
-use Rattle.std.specs.Str.Parse.{digits_value}
 use Rattle.std.proofs.lemmas.Str.Pattern.{IsSplitOnceResult, split_after}
-use Rattle.pim_addr.specs.TextForms.{IsText, OneAddress}
-use Rattle.pim_addr.specs.Routes.{Row}
-use Rattle.pim_addr.specs.declared.family.AddressFamily.{AddressFamily}
-use Rattle.pim_files.specs.RoutesFile.{IsDecimal, Leads}
-use Rattle.pim_files.proofs.Words.{text_is_solid, decimal_text_is_solid, lacks_slash, lacks_space}
+use Rattle.pim_files.proofs.RowText.{text_is_solid, decimal_text_is_solid, lacks_slash, lacks_space}
 
 pub if_none : {A X : Type 0} (r : Option A) → X → IfNone r X
 if_none None x = x

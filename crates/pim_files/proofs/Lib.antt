@@ -1,5 +1,6 @@
-pub mod Cut
 pub mod Words
+pub mod Cut
+pub mod RowText
 pub mod Led
 pub mod Spelled
 pub mod Added

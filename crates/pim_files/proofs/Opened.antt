@@ -1,23 +1,16 @@
 -- Captures that are opened one by one.
 use Rattle.std.proofs.Common.{◌≡◌, ◌∙◌, ◌+◌, sym, ap, subst, refl, arith, ℕ, zero, suc, ◌<◌, ◌≤◌, Bool, cond, true, false, List, [], ◌∷◌, ◌++◌, length, take, drop, get_or, map, option_map, Option, None, Some, append-nil, take-suc, drop-cons, take_all}
-use Rattle.std.specs.Prelude.{slice_index_or}
-use Rattle.std.specs.List.{filter, AllByRecursion}
-use Rattle.std.proofs.lemmas.List.{take-append-drop, map-append, length-map, length-append}
+use Rattle.pim_files.proofs.Words.{slice_index_or, filter, AllByRecursion, take-append-drop, map-append, length-map}
+use Rattle.pim_files.proofs.Words.{length-append, filter-append, Answer, answers, LaneState, coming_on, tallies_of, MergeState}
+use Rattle.pim_files.proofs.Words.{IsUntaken, More, Port, is_side, is_of, Files, PortFiles, with_more, files_from, files_of}
+use Rattle.pim_files.proofs.Words.{all_files, names_of, choice_of, results_by, results_of, AreReaders, HaveFiles, AreFiles}
+use Rattle.pim_files.proofs.Words.{HoldFiles, are_of, of_router, one_of, AddsLane, AddsUntaken}
 use Rattle.std.proofs.lemmas.List.Concat.{flat_map-append}
-use Rattle.std.proofs.lemmas.List.Elements.{filter-append}
-use Rattle.pim_capture.specs.Capture.{Answer, answers}
 use Rattle.pim_merge.specs.Chosen.{all_known, known_too, answers_of_files}
 use Rattle.pim_merge.specs.declared.tally.Tally.{Tally}
-use Rattle.pim_merge.specs.Lane.{LaneState, coming_on, tallies_of}
-use Rattle.pim_merge.specs.Next.{MergeState, IsUntaken}
 use Rattle.pim_merge.specs.Tally.{no_tally}
 use Rattle.pim_words.specs.declared.fault.RouterSide.{RouterSide}
 use Rattle.pim_words.specs.declared.task.LinkWord.{LinkWord}
-use Rattle.pim_words.specs.declared.task.More.{More}
-use Rattle.pim_words.specs.declared.task.Port.{Port}
-use Rattle.pim_words.specs.Faults.{is_side, is_of}
-use Rattle.pim_files.specs.Files.{Files}
-use Rattle.pim_files.specs.Captures.{PortFiles, with_more, files_from, files_of, all_files, names_of, choice_of, results_by, results_of, AreReaders, HaveFiles, AreFiles, HoldFiles, are_of, of_router, one_of, AddsLane, AddsUntaken}
 
 -- ---- what was taken
 

@@ -1,11 +1,8 @@
 -- Files that are opened one after another, and their readers.
-use Rattle.std.proofs.Common.{◌≡◌, ◌∙◌, sym, ap, subst, refl, ℕ, true, false, List, [], ◌∷◌, ◌++◌, map, Option, None, Some, append_assoc}
-use Rattle.std.specs.Prelude.{IsSome}
-use Rattle.std.proofs.lemmas.List.{map-append}
-use Rattle.std.proofs.lemmas.Bool.{false≢true}
-use Rattle.pim_files.specs.declared.fault.OpenFault.{OpenFault}
-use Rattle.pim_files.specs.Files.{Files, Known, RequestsFor, RequestsFront}
-use Rattle.pim_files.specs.Captures.{FileOfName, names_of, IsReaderOf, IsPortFault, CanOpen, StopsAt, AreReaders, HaveFiles}
+use Rattle.pim_files.proofs.Words.{◌≡◌, ◌∙◌, sym, ap, subst, refl, ℕ, true, false, List, [], ◌∷◌, ◌++◌, map, Option}
+use Rattle.pim_files.proofs.Words.{None, Some, append_assoc, IsSome, map-append, false≢true, OpenFault, Files, Known}
+use Rattle.pim_files.proofs.Words.{RequestsFor, RequestsFront, FileOfName, names_of, IsReaderOf, IsPortFault, CanOpen}
+use Rattle.pim_files.proofs.Words.{StopsAt, AreReaders, HaveFiles}
 use Rattle.pim_files.proofs.Asked.{asks_more}
 
 -- ---- the names of two parts of a list

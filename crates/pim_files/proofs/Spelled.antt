@@ -1,14 +1,8 @@
 -- The row of a line, behind the word that begins it.
-use Rattle.std.proofs.Common.{◌≡◌, ◌∙◌, sym, ap, subst, ℕ, ◌<◌, List, ◌++◌, get_or, codes, arith}
-use Rattle.std.specs.Str.{IsUtf8}
+use Rattle.pim_files.proofs.Words.{◌≡◌, ◌∙◌, sym, ap, subst, ℕ, ◌<◌, List, ◌++◌, get_or, codes, arith, IsUtf8}
+use Rattle.pim_files.proofs.Words.{append_cancel_left, Row, AddressFamily, FileRow, Rp, Via, Leads, IsRow, bits_of}
 use Rattle.std.specs.Str.Pattern.{FindsTextPrefix, StripsPrefix}
-use Rattle.std.proofs.lemmas.List.{append_cancel_left}
-use Rattle.pim_addr.specs.Routes.{Row}
-use Rattle.pim_addr.specs.declared.family.AddressFamily.{AddressFamily}
-use Rattle.pim_files.specs.declared.routes.row.FileRow.{FileRow}
-use Rattle.pim_files.specs.declared.routes.row.FileRow.TheVariants.{Rp, Via}
-use Rattle.pim_files.specs.RoutesFile.{Leads, IsRow, bits_of}
-use Rattle.pim_files.proofs.Words.{row_is_text}
+use Rattle.pim_files.proofs.RowText.{row_is_text}
 use Rattle.pim_files.proofs.Led.{IsUnread}
 
 -- a text whose front was taken off

@@ -1,138 +1,41 @@
--- The bytes of addresses and decimals: each is ASCII, and none is a space or a slash.
-use Rattle.std.proofs.Common.{◌≡◌, sym, ap, refl, subst, inl, inr, ℕ, zero, suc, ◌<◌, ◌≤◌, Bool, true, false, List, [], ◌∷◌, ◌++◌, length, get_or, codes, decimal, arith, ltb, lit<, lit≤}
-use Rattle.std.specs.List.{AllByRecursion}
-use Rattle.std.specs.Char.{digit_value}
-use Rattle.std.specs.Str.{IsAscii, IsUtf8}
-use Rattle.std.specs.Str.Parse.{AllDigits}
-use Rattle.std.specs.Net.Grammar.{IsDotted, IsGroupsAfter}
-use Rattle.std.proofs.lemmas.Bool.{le-ltb, ltb-true, ltb-false, false≢true}
-use Rattle.std.proofs.lemmas.Fmt.{decimal_is_IsNumeral}
-use Rattle.std.proofs.lemmas.Str.{IsUtf8-from_ascii}
-use Rattle.pim_addr.specs.TextForms.{IsText}
-use Rattle.pim_addr.specs.Routes.{Row}
-use Rattle.pim_addr.specs.declared.family.AddressFamily.{AddressFamily}
-use Rattle.pim_addr.specs.declared.family.AddressFamily.TheVariants.{Ipv4, Ipv6}
-use Rattle.pim_files.specs.declared.routes.row.FileRow.{FileRow}
-use Rattle.pim_files.specs.declared.routes.row.FileRow.TheVariants.{Rp, Via}
-use Rattle.pim_files.specs.RoutesFile.{IsDecimal, Leads, IsRow}
-
--- ---- all bytes of a text
-
-module _ (P : ℕ → Type 0) where
-  pub all_append : (xs ys : List ℕ) → AllByRecursion P xs → AllByRecursion P ys → AllByRecursion P (xs ++ ys)
-  all_append [] ys p q = q
-  all_append (x ∷ xs) ys p q = (p.0, all_append xs ys p.1 q)
-
-  pub all_at : (xs : List ℕ) (i : ℕ) → AllByRecursion P xs → i < length xs → P (get_or xs i 0)
-  all_at [] i p h = absurd (omega arith)
-  all_at (x ∷ xs) zero p h = p.0
-  all_at (x ∷ xs) (suc i) p h = all_at xs i p.1 (omega arith)
-
-  pub all_weaker : (Q : ℕ → Type 0) → ((x : ℕ) → P x → Q x) → (xs : List ℕ) → AllByRecursion P xs → AllByRecursion Q xs
-  all_weaker Q weaker [] p = tt
-  all_weaker Q weaker (x ∷ xs) p = (weaker x p.0, all_weaker Q weaker xs p.1)
-
--- ASCII, and neither a space nor a slash
-pub record IsSolid (byte : ℕ) : Type 0 where
-  pub ascii : byte < 128
-  pub no_space : byte ≡ 32 → ⊥
-  pub no_slash : byte ≡ 47 → ⊥
-
-abbrev pub AreSolid : List ℕ → Type 0
-AreSolid text = AllByRecursion IsSolid text
-
-small : (c : ℕ) → digit_value c < 16 → c < 128
-small c h = at (ltb c 123) refl
-  where
-    at : (t : Bool) → ltb c 123 ≡ t → c < 128
-    at true is = omega (arith, ltb-true c 123 is)
-    at false is =
-        let high : 123 ≤ c = ltb-false c 123 is in
-        let value : digit_value c ≡ 36 = rw (le-ltb c 48 (omega arith), le-ltb c 58 (omega arith), le-ltb c 65 (omega arith), le-ltb c 91 (omega arith), le-ltb c 97 (omega arith), le-ltb c 123 (omega arith)) refl in
-        absurd (omega (arith, value, h))
-
-digit : (c : ℕ) → digit_value c < 16 → IsSolid c
-digit c h = record {
-  ascii = small c h;
-  no_space = λ e. let v : digit_value c ≡ 36 = ap digit_value e in omega (arith, v, h);
-  no_slash = λ e. let v : digit_value c ≡ 36 = ap digit_value e in omega (arith, v, h);
-}
-
-pub digits_are_solid : (radix : ℕ) (ds : List ℕ) → radix ≤ 16 → AllDigits radix ds → AreSolid ds
-digits_are_solid radix [] h p = tt
-digits_are_solid radix (c ∷ ds) h p = (digit c (omega (arith, p.0, h)), digits_are_solid radix ds h p.1)
-
-dot : AreSolid (codes ".")
-dot = (record { ascii = lit< tt; no_space = λ e. absurd cc; no_slash = λ e. absurd cc }, tt)
-
-colon : AreSolid (codes ":")
-colon = (record { ascii = lit< tt; no_space = λ e. absurd cc; no_slash = λ e. absurd cc }, tt)
-
-colons : AreSolid (codes "::")
-colons = (colon.0, colon)
-
-then : (xs ys : List ℕ) → AreSolid xs → AreSolid ys → AreSolid (xs ++ ys)
-then = all_append IsSolid
-
-decimal_is_solid : (n : ℕ) → n < 256 → AreSolid (decimal n)
-decimal_is_solid n h = digits_are_solid 10 (decimal n) (lit≤ tt) (decimal_is_IsNumeral n (omega arith)).0.1
-
-dotted_is_solid : (text octets : List ℕ) → IsDotted text octets → AreSolid text
-dotted_is_solid text octets is =
-    let A = decimal_is_solid is.a is.fit.0 in
-    let B = decimal_is_solid is.b is.fit.1 in
-    let C = decimal_is_solid is.c is.fit.2 in
-    let D = decimal_is_solid is.d is.fit.3 in
-    subst AreSolid (sym is.spelled) (then _ _ (then _ _ (then _ _ (then _ _ (then _ _ (then _ _ A dot) B) dot) C) dot) D)
-
-groups_after : (lead text segments : List ℕ) → AreSolid lead → IsGroupsAfter false lead text segments → AreSolid text
-groups_after lead text [] solid is = subst AreSolid (sym is) tt
-groups_after lead text (s ∷ segments) solid (inl (group, rest, spelled, is_group, others)) =
-    subst AreSolid (sym spelled)
-    (then (lead ++ group) rest (then lead group solid (digits_are_solid 16 group (lit≤ tt) is_group.0.0.1)) (groups_after (codes ":") rest segments colon others))
-groups_after lead text (s ∷ segments) solid (inr (last, octets, never, spelled, is, same)) = absurd (false≢true never)
-
-pub text_is_solid : (family : AddressFamily) (text address : List ℕ) → IsText family text address → AreSolid text
-text_is_solid Ipv4 text address is = dotted_is_solid text address is
-text_is_solid Ipv6 text address (groups, inl (is, count), value) = groups_after [] text groups tt is
-text_is_solid Ipv6 text address (groups, inr elided, value) =
-    subst AreSolid (sym elided.spelled)
-    (then _ _ (then _ _ (groups_after [] elided.left_text elided.left tt elided.left_groups) colons) (groups_after [] elided.right_text elided.right tt elided.right_groups))
-
-pub decimal_text_is_solid : (text : List ℕ) (number : ℕ) → IsDecimal text number → AreSolid text
-decimal_text_is_solid text number is = digits_are_solid 10 text (lit≤ tt) is.digits.1
-
-pub lacks_slash : (text : List ℕ) → AreSolid text → (i : ℕ) → i < length text → get_or text i 0 ≡ 47 → ⊥
-lacks_slash text solid i h = (all_at IsSolid text i solid h).no_slash
-
-pub lacks_space : (text : List ℕ) → AreSolid text → (i : ℕ) → i < length text → get_or text i 0 ≡ 32 → ⊥
-lacks_space text solid i h = (all_at IsSolid text i solid h).no_space
-
--- ---- a line that spells a row is text
-
-abbrev AreAscii : List ℕ → Type 0
-AreAscii text = AllByRecursion (λ byte. byte < 128) text
-
-ascii : (text : List ℕ) → AreSolid text → AreAscii text
-ascii text solid = all_weaker IsSolid (λ byte. byte < 128) (λ byte is. is.ascii) text solid
-
-is_ascii : (text : List ℕ) → AreAscii text → IsAscii text
-is_ascii [] all i = lit< tt
-is_ascii (x ∷ xs) all zero = all.0
-is_ascii (x ∷ xs) all (suc i) = is_ascii xs all.1 i
-
-also : (xs ys : List ℕ) → AreAscii xs → AreAscii ys → AreAscii (xs ++ ys)
-also = all_append (λ byte. byte < 128)
-
-led_is_ascii : (family : AddressFamily) (text : List ℕ) (row : Row) → Leads family text row → AreAscii text
-led_is_ascii family text row leads =
-    let P = ascii leads.prefix_text (text_is_solid family leads.prefix_text row.0.address leads.prefix) in
-    let L = ascii leads.length_text (decimal_text_is_solid leads.length_text row.0.bits leads.bits) in
-    let T = ascii leads.to_text (text_is_solid family leads.to_text row.1 leads.to) in
-    subst AreAscii (sym leads.spelled) (also _ _ (also _ _ (also _ _ (also _ _ P (lit< tt, tt)) L) (lit< tt, tt)) T)
-
-pub row_is_text : (family : AddressFamily) (line : List ℕ) (row : FileRow Row) → IsRow family line row → IsUtf8 line
-row_is_text family line (Rp row) (text, spelled, leads) =
-    IsUtf8-from_ascii line (is_ascii line (subst AreAscii (sym spelled) (also (codes "rp ") text (lit< tt, (lit< tt, (lit< tt, tt))) (led_is_ascii family text row leads))))
-row_is_text family line (Via row) (text, spelled, leads) =
-    IsUtf8-from_ascii line (is_ascii line (subst AreAscii (sym spelled) (also (codes "via ") text (lit< tt, (lit< tt, (lit< tt, (lit< tt, tt)))) (led_is_ascii family text row leads))))
+-- The words of other modules that the lemmas and answers of this crate cite.
+pub use Rattle.pim_addr.specs.Routes.{RouteTable, Row}
+pub use Rattle.pim_addr.specs.TextForms.{IsText, OneAddress}
+pub use Rattle.pim_addr.specs.declared.family.AddressFamily.{AddressFamily}
+pub use Rattle.pim_capture.specs.Capture.{Answer, answers}
+pub use Rattle.pim_merge.specs.Lane.{LaneState, coming_on, tallies_of}
+pub use Rattle.pim_merge.specs.Next.{IsUntaken, MergeState}
+pub use Rattle.pim_words.specs.Faults.{is_of, is_side}
+pub use Rattle.pim_words.specs.declared.fault.RouterSide.TheVariants.{A, B}
+pub use Rattle.pim_words.specs.declared.task.More.{More}
+pub use Rattle.pim_words.specs.declared.task.Port.{Port}
+pub use Rattle.std.proofs.Common.{Bool, List, None, Option, Some, [], add-one, ap, append-nil, append_assoc, arith}
+pub use Rattle.std.proofs.Common.{codes, cond, decimal, drop, false, get_or, inl, inr, length, lit<, lit≤, ltb, map}
+pub use Rattle.std.proofs.Common.{refl, subst, suc, sym, take, true, vec_len, zero, ℕ, ◌++◌, ◌+◌, ◌<◌, ◌∙◌, ◌∷◌}
+pub use Rattle.std.proofs.Common.{◌≡◌, ◌≤◌}
+pub use Rattle.std.proofs.Math.Seq.{take-append_seam}
+pub use Rattle.std.proofs.lemmas.Bool.{false≢true, le-ltb, ltb-false, ltb-true}
+pub use Rattle.std.proofs.lemmas.List.{append_cancel_left, drop_more, length-append, length-drop, length-map}
+pub use Rattle.std.proofs.lemmas.List.{map-append, take-append-drop, take_all}
+pub use Rattle.std.proofs.lemmas.List.Elements.{filter-append, filter_more}
+pub use Rattle.std.proofs.lemmas.List.Splits.{length-slice_split, slice_split-cons_no, slice_split_first}
+pub use Rattle.std.proofs.lemmas.List.Sums.{count_by-le-length, position_or_len_is}
+pub use Rattle.std.proofs.lemmas.Result.{err_from_is_err_and}
+pub use Rattle.std.specs.List.{AllByRecursion, filter, onto_first, position, position_or_len, slice_split}
+pub use Rattle.std.specs.Prelude.{IfNone, IfOk, IsSome, MatchOption, bytes_eq, slice_index_or}
+pub use Rattle.std.specs.Str.{IsAscii, IsUtf8}
+pub use Rattle.std.specs.Str.Parse.{AllDigits, digits_value}
+pub use Rattle.pim_files.specs.Captures.{AddsLane, AddsUntaken, AreFiles, AreReaders, CanOpen, FileOfName}
+pub use Rattle.pim_files.specs.Captures.{HaveFiles, HoldFiles, IsPortFault, IsReaderOf, PortFiles, StopsAt}
+pub use Rattle.pim_files.specs.Captures.{all_files, are_of, choice_of, files_from, files_of, first_file}
+pub use Rattle.pim_files.specs.Captures.{further_file, is_further, names_of, of_router, one_of, results_by}
+pub use Rattle.pim_files.specs.Captures.{results_of, with_more}
+pub use Rattle.pim_files.specs.Files.{Files, Known, RequestsFor, RequestsFront}
+pub use Rattle.pim_files.specs.Held.{held_content}
+pub use Rattle.pim_files.specs.Opening.{AreOpen, IsOpen, IsUnopened, file_names, port_files}
+pub use Rattle.pim_files.specs.RoutesFile.{Adds, AreAdded, AreRows, IsDecimal, IsRow, Leads, bits_of, file_limit}
+pub use Rattle.pim_files.specs.RoutesFile.{is_passed_over, lines_of, row_faults, with_file_row}
+pub use Rattle.pim_files.specs.Table.{IsFileFault, IsTable, name_of, table_names}
+pub use Rattle.pim_files.specs.declared.fault.OpenFault.{OpenFault}
+pub use Rattle.pim_files.specs.declared.routes.row.FileRow.{FileRow}
+pub use Rattle.pim_files.specs.declared.routes.row.FileRow.TheVariants.{Rp, Via}

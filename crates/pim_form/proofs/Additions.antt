@@ -1,10 +1,7 @@
 -- A message behind those that were there.
-use Rattle.std.proofs.Common.{◌≡◌, ◌∙◌, ℕ, ◌+◌, ◌≤◌, List, [], ◌∷◌, ◌++◌, length, take, drop, refl, sym, ap, subst, arith, length-append}
-use Rattle.std.proofs.Math.Seq.{take-append_seam, drop-append_seam}
-use Rattle.std.proofs.lemmas.List.{take_all, take-append-le, map-append}
-use Rattle.std.specs.List.{AllByRecursion}
-use Rattle.pim_form.specs.declared.messages.Span.{Span}
-use Rattle.pim_form.specs.Blocks.{IsSpan, message_seen, messages_seen}
+use Rattle.pim_form.proofs.Words.{◌≡◌, ◌∙◌, ℕ, ◌+◌, ◌≤◌, List, [], ◌∷◌, ◌++◌, length, take, drop, refl, sym, ap, subst}
+use Rattle.pim_form.proofs.Words.{arith, length-append, take-append_seam, drop-append_seam, take_all, take-append-le}
+use Rattle.pim_form.proofs.Words.{map-append, AllByRecursion, Span, IsSpan, message_seen, messages_seen}
 use Rattle.pim_form.proofs.Lists.{all_append}
 
 -- what stands before the blank bytes that were added

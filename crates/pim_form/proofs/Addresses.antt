@@ -1,14 +1,8 @@
 -- Addresses: when two are the same, and what their order says of it.
-use Rattle.std.proofs.Common.{◌≡◌, ◌∙◌, ℕ, true, false, List, [], ◌∷◌, refl, sym, ap, subst}
-use Rattle.std.specs.declared.cmp.Ordering.TheVariants.{Less, Equal, Greater}
-use Rattle.std.specs.List.{AllByRecursion}
-use Rattle.std.specs.Ordering.{nat_cmp, ordering_reverse, is_eq}
-use Rattle.std.specs.Cmp.Lexicographic.{slice_cmp, texts_ties}
+use Rattle.pim_form.proofs.Words.{◌≡◌, ◌∙◌, ℕ, true, false, List, [], ◌∷◌, refl, sym, ap, subst, Less, Equal, Greater}
+use Rattle.pim_form.proofs.Words.{AllByRecursion, nat_cmp, ordering_reverse, is_eq, slice_cmp, texts_ties, nat_list_cmp_total}
+use Rattle.pim_form.proofs.Words.{tied_itself, false≢true, IsStrictlySortedBy, AreAscending, same_address, is_listed}
 use Rattle.std.specs.FinMap.{slice_cmp-IsAntisymmetric, nat_cmp-IsAntisymmetric}
-use Rattle.std.proofs.lemmas.Cmp.{nat_list_cmp_total, tied_itself}
-use Rattle.std.proofs.lemmas.Bool.{false≢true}
-use Rattle.std.specs.List.Sorted.{IsStrictlySortedBy}
-use Rattle.pim_form.specs.NormalForm.{AreAscending, same_address, is_listed}
 
 pub same_itself : (a : List ℕ) → same_address a a ≡ true
 same_itself a = texts_ties a a ∙ ap is_eq (tied_itself nat_list_cmp_total a)

@@ -1,14 +1,8 @@
 -- What several ports want, and the forms of it.
-use Rattle.std.proofs.Common.{◌≡◌, ◌∙◌, ℕ, zero, suc, ◌+◌, Bool, true, false, ◌||◌, List, [], length, refl, sym, ap, subst, arith}
-use Rattle.std.specs.List.Sorted.{IsStrictlySortedBy}
-use Rattle.std.proofs.lemmas.List.{nil_from_length}
-use Rattle.pim_addr.specs.declared.family.AddressFamily.{AddressFamily}
-use Rattle.pim_down.specs.Time.{Downstream}
-use Rattle.pim_form.specs.NormalForm.{GroupForm, Demand, IsFormOf}
-use Rattle.pim_form.specs.declared.tree.Tree.{Tree}
-use Rattle.pim_form.specs.Wants.{some_below, wants_on, wants}
-use Rattle.pim_form.specs.Merge.{some_from, merged_by, group_of, both_groups, merged}
-use Rattle.pim_form.specs.Collect.{wants_at, wants_from}
+use Rattle.pim_form.proofs.Words.{◌≡◌, ◌∙◌, ℕ, zero, suc, ◌+◌, Bool, true, false, ◌||◌, List, [], length, refl, sym, ap}
+use Rattle.pim_form.proofs.Words.{subst, arith, IsStrictlySortedBy, nil_from_length, AddressFamily, Downstream}
+use Rattle.pim_form.proofs.Words.{GroupForm, Demand, IsFormOf, Tree, some_below, wants_on, wants, some_from, merged_by}
+use Rattle.pim_form.proofs.Words.{group_of, both_groups, merged, wants_at, wants_from}
 use Rattle.pim_form.proofs.Merged.{merged_none, merged_normal, merged_wants}
 
 -- ---- so many ports

@@ -1,15 +1,10 @@
 -- The neighbour that is asked for all that a form wants.
-use Rattle.std.proofs.Common.{◌≡◌, ◌∙◌, ◌↔◌, ℕ, Bool, true, false, ◌&&◌, ◌||◌, not, List, [], ◌∷◌, Option, None, Some, refl, sym, ap, subst}
-use Rattle.std.proofs.lemmas.Bool.{false≢true}
-use Rattle.std.specs.Cmp.Derive.{both_true}
-use Rattle.std.specs.List.{AllByRecursion, list_all}
-use Rattle.pim_addr.specs.declared.family.AddressFamily.{AddressFamily}
-use Rattle.pim_addr.specs.Address.{IsSourceAddress}
-use Rattle.pim_form.specs.declared.tree.Tree.{Tree}
+use Rattle.pim_form.proofs.Words.{◌≡◌, ◌∙◌, ◌↔◌, ℕ, Bool, true, false, ◌&&◌, ◌||◌, not, List, [], ◌∷◌, Option, None, Some, refl}
+use Rattle.pim_form.proofs.Words.{sym, ap, subst, false≢true, both_true, AllByRecursion, list_all, AddressFamily, IsSourceAddress}
+use Rattle.pim_form.proofs.Words.{Tree, Demand, GroupForm, same_address, is_listed, AreExceptions, is_excepted, IsNormalGroup}
+use Rattle.pim_form.proofs.Words.{IsNormal, group_wants, form_wants, IsFormOf, star_rpf_neighbour, rpf_neighbour, is_neighbour}
+use Rattle.pim_form.proofs.Words.{toward, is_star_toward, is_group_toward, is_toward, GetsAll}
 use Rattle.pim_form.specs.declared.tree.Tree.TheVariants.{Shared, Source}
-use Rattle.pim_form.specs.NormalForm.{Demand, GroupForm, same_address, is_listed, AreExceptions, is_excepted, IsNormalGroup, IsNormal, group_wants, form_wants, IsFormOf}
-use Rattle.pim_form.specs.Toward.{star_rpf_neighbour, rpf_neighbour, is_neighbour, toward, is_star_toward, is_group_toward, is_toward}
-use Rattle.pim_form.specs.TowardLaws.{GetsAll}
 use Rattle.pim_form.proofs.Addresses.{same_is, listed_first}
 use Rattle.pim_form.proofs.Counting.{outside}
 use Rattle.pim_form.proofs.OneForm.{of_first}

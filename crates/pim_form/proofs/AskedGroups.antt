@@ -1,30 +1,14 @@
 -- What the form of what a neighbour is asked for has of each group.
-use Rattle.std.proofs.Common.{◌≡◌, ◌∙◌, ℕ, zero, suc, Bool, true, false, ◌||◌, ◌&&◌, not, cond, List, [], ◌∷◌, Option, None, Some, map, refl, sym, ap, subst, arith}
+use Rattle.pim_form.proofs.Words.{◌≡◌, ◌∙◌, ℕ, zero, suc, Bool, true, false, ◌||◌, ◌&&◌, not, cond, List, [], ◌∷◌, Option, None}
+use Rattle.pim_form.proofs.Words.{Some, map, refl, sym, ap, subst, arith, both_true, AllByRecursion, IsStrictlySortedBy}
+use Rattle.pim_form.proofs.Words.{false≢true, length-map, AddressFamily, IsGroupAddress, IsSourceAddress, RouteTable, rp_of, What}
+use Rattle.pim_form.proofs.Words.{Star, Source, Rpt, Record, KeysAreDistinct, IsSound, Downstream, Tree, GroupForm, AreExceptions}
+use Rattle.pim_form.proofs.Words.{IsNormalGroup, IsFormOf, AreAscending, same_address, is_listed, is_excepted, groups_of}
+use Rattle.pim_form.proofs.Words.{group_wants, form_wants, exceptions_of, group_in, is_joined, is_pruned, state_on, wants_on}
+use Rattle.pim_form.proofs.Words.{some_below, wants, of_port, collected, via_of, star_rpf_neighbour, rpf_neighbour, is_neighbour}
+use Rattle.pim_form.proofs.Words.{demand_toward, form_below, demanded_form, HasDemand, IsDemandedForm}
 use Rattle.std.specs.Option.{is_some}
-use Rattle.std.specs.Cmp.Derive.{both_true}
-use Rattle.std.specs.List.{AllByRecursion}
-use Rattle.std.specs.List.Sorted.{IsStrictlySortedBy}
-use Rattle.std.proofs.lemmas.Bool.{false≢true}
-use Rattle.std.proofs.lemmas.List.{length-map}
-use Rattle.pim_addr.specs.declared.family.AddressFamily.{AddressFamily}
-use Rattle.pim_addr.specs.Address.{IsGroupAddress, IsSourceAddress}
-use Rattle.pim_addr.specs.Routes.{RouteTable, rp_of}
-use Rattle.pim_down.specs.declared.machines.key.What.{What}
-use Rattle.pim_down.specs.declared.machines.key.What.TheVariants.{Star, Source, Rpt}
-use Rattle.pim_down.specs.declared.machines.machine.Record.{Record}
-use Rattle.pim_down.specs.Laws.{KeysAreDistinct}
-use Rattle.pim_down.specs.Sound.{IsSound}
-use Rattle.pim_down.specs.Time.{Downstream}
-use Rattle.pim_form.specs.declared.tree.Tree.{Tree}
 use Rattle.pim_form.specs.declared.tree.Tree.TheVariants.{Shared, Source as SourceTree}
-use Rattle.pim_form.specs.NormalForm.{GroupForm, AreExceptions, IsNormalGroup, IsFormOf, AreAscending, same_address, is_listed, is_excepted, groups_of, group_wants, form_wants}
-use Rattle.pim_form.specs.Rows.{exceptions_of}
-use Rattle.pim_form.specs.Settled.{group_in}
-use Rattle.pim_form.specs.Wants.{is_joined, is_pruned, state_on, wants_on, some_below, wants}
-use Rattle.pim_form.specs.Collect.{of_port, collected}
-use Rattle.pim_form.specs.Toward.{via_of, star_rpf_neighbour, rpf_neighbour, is_neighbour}
-use Rattle.pim_form.specs.TowardLaws.{demand_toward}
-use Rattle.pim_form.specs.Demanded.{form_below, demanded_form, HasDemand, IsDemandedForm}
 use Rattle.pim_form.proofs.Addresses.{same_is}
 use Rattle.pim_form.proofs.AskedForAll.{first_true, second_true, or_second}
 use Rattle.pim_form.proofs.CollectedWants.{port_form}

@@ -1,7 +1,6 @@
 -- Some number below a bound that passes a test.
-use Rattle.std.proofs.Common.{◌≡◌, ℕ, zero, suc, ◌+◌, ◌<◌, ◌≤◌, Bool, true, false, ◌||◌, refl, add-one, arith, ⊎_elim}
-use Rattle.std.proofs.lemmas.Bool.{cases_lt}
-use Rattle.pim_form.specs.Wants.{some_below}
+use Rattle.pim_form.proofs.Words.{◌≡◌, ℕ, zero, suc, ◌+◌, ◌<◌, ◌≤◌, Bool, true, false, ◌||◌, refl, add-one, arith}
+use Rattle.pim_form.proofs.Words.{⊎_elim, cases_lt, some_below}
 
 pub none_more : (test : ℕ → Bool) (count : ℕ) → some_below count test ≡ false → test count ≡ false → some_below (count + 1) test ≡ false
 unfolding some_below

@@ -1,26 +1,13 @@
 -- The records of one port collect to the normal form of what it wants.
-use Rattle.std.proofs.Common.{◌≡◌, ◌∙◌, ℕ, suc, ◌+◌, ◌≤◌, ◌⊎◌, inl, inr, Bool, true, false, cond, List, [], ◌∷◌, ◌++◌, Option, None, Some, length, refl, sym, ap, subst, arith}
+use Rattle.pim_form.proofs.Words.{◌≡◌, ◌∙◌, ℕ, suc, ◌+◌, ◌≤◌, ◌⊎◌, inl, inr, Bool, true, false, cond, List, [], ◌∷◌, ◌++◌, Option}
+use Rattle.pim_form.proofs.Words.{None, Some, length, refl, sym, ap, subst, arith, Less, Equal, Greater, AllByRecursion}
+use Rattle.pim_form.proofs.Words.{IsStrictlySortedBy, nat_cmp, ordering_then, slice_cmp, false≢true, nat_list_cmp_total}
+use Rattle.pim_form.proofs.Words.{nat_cmp_total, tied_itself, AddressFamily, IsGroupAddress, IsSourceAddress, What, Star, Source}
+use Rattle.pim_form.proofs.Words.{Rpt, State, Record, key_cmp, what_cmp, IsBelow, IsAscending, IsReal, HasSource, GroupForm}
+use Rattle.pim_form.proofs.Words.{AreAscending, AreExceptions, IsNormalGroup, IsNormal, same_address, is_empty, groups_of}
+use Rattle.pim_form.proofs.Words.{exceptions_of, is_joined, is_pruned, Takes, fresh, with_exception, star_with, sources_with}
+use Rattle.pim_form.proofs.Words.{added, closed, collected_behind, collected, AreOfPort}
 use Rattle.std.specs.declared.cmp.Ordering.{Ordering}
-use Rattle.std.specs.declared.cmp.Ordering.TheVariants.{Less, Equal, Greater}
-use Rattle.std.specs.List.{AllByRecursion}
-use Rattle.std.specs.List.Sorted.{IsStrictlySortedBy}
-use Rattle.std.specs.Ordering.{nat_cmp, ordering_then}
-use Rattle.std.specs.Cmp.Lexicographic.{slice_cmp}
-use Rattle.std.proofs.lemmas.Bool.{false≢true}
-use Rattle.std.proofs.lemmas.Cmp.{nat_list_cmp_total, nat_cmp_total, tied_itself}
-use Rattle.pim_addr.specs.declared.family.AddressFamily.{AddressFamily}
-use Rattle.pim_addr.specs.Address.{IsGroupAddress, IsSourceAddress}
-use Rattle.pim_down.specs.declared.machines.key.What.{What}
-use Rattle.pim_down.specs.declared.machines.key.What.TheVariants.{Star, Source, Rpt}
-use Rattle.pim_down.specs.declared.machines.machine.State.{State}
-use Rattle.pim_down.specs.declared.machines.machine.Record.{Record}
-use Rattle.pim_down.specs.Key.{key_cmp, what_cmp}
-use Rattle.pim_down.specs.Records.{IsBelow, IsAscending}
-use Rattle.pim_down.specs.Sound.{IsReal, HasSource}
-use Rattle.pim_form.specs.NormalForm.{GroupForm, AreAscending, AreExceptions, IsNormalGroup, IsNormal, same_address, is_empty, groups_of}
-use Rattle.pim_form.specs.Rows.{exceptions_of}
-use Rattle.pim_form.specs.Wants.{is_joined, is_pruned}
-use Rattle.pim_form.specs.Collect.{Takes, fresh, with_exception, star_with, sources_with, added, closed, collected_behind, collected, AreOfPort}
 use Rattle.pim_form.proofs.Addresses.{same_itself, same_is, equal_is, less_apart_back}
 use Rattle.pim_form.proofs.Lists.{all_append}
 

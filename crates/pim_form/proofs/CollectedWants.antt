@@ -1,26 +1,12 @@
 -- The form that one port's records collect to wants what the port wants.
-use Rattle.std.proofs.Common.{◌≡◌, ◌∙◌, ℕ, inl, inr, Bool, true, false, ◌||◌, ◌&&◌, not, cond, List, [], ◌∷◌, ◌++◌, Option, None, Some, refl, sym, ap, subst}
-use Rattle.std.specs.declared.cmp.Ordering.TheVariants.{Less}
-use Rattle.std.specs.List.{AllByRecursion, list_any}
+use Rattle.pim_form.proofs.Words.{◌≡◌, ◌∙◌, ℕ, inl, inr, Bool, true, false, ◌||◌, ◌&&◌, not, cond, List, [], ◌∷◌, ◌++◌, Option}
+use Rattle.pim_form.proofs.Words.{None, Some, refl, sym, ap, subst, Less, AllByRecursion, list_any, nat_cmp, slice_cmp}
+use Rattle.pim_form.proofs.Words.{false≢true, AddressFamily, What, Star, Source, Rpt, State, Record, what_cmp, KeysAreDistinct}
+use Rattle.pim_form.proofs.Words.{IsSound, Downstream, Tree, GroupForm, same_address, is_listed, is_excepted, is_empty}
+use Rattle.pim_form.proofs.Words.{group_wants, form_wants, IsFormOf, exceptions_of, is_joined, is_pruned, Takes, wants_at, fresh}
+use Rattle.pim_form.proofs.Words.{with_exception, star_with, sources_with, added, closed, collected_behind, collected, of_port}
 use Rattle.std.specs.Option.{is_some}
-use Rattle.std.specs.Ordering.{nat_cmp}
-use Rattle.std.specs.Cmp.Lexicographic.{slice_cmp}
-use Rattle.std.proofs.lemmas.Bool.{false≢true}
-use Rattle.pim_addr.specs.declared.family.AddressFamily.{AddressFamily}
-use Rattle.pim_down.specs.declared.machines.key.What.{What}
-use Rattle.pim_down.specs.declared.machines.key.What.TheVariants.{Star, Source, Rpt}
-use Rattle.pim_down.specs.declared.machines.machine.State.{State}
-use Rattle.pim_down.specs.declared.machines.machine.Record.{Record}
-use Rattle.pim_down.specs.Key.{what_cmp}
-use Rattle.pim_down.specs.Laws.{KeysAreDistinct}
-use Rattle.pim_down.specs.Sound.{IsSound}
-use Rattle.pim_down.specs.Time.{Downstream}
-use Rattle.pim_form.specs.declared.tree.Tree.{Tree}
 use Rattle.pim_form.specs.declared.tree.Tree.TheVariants.{Shared, Source as SourceTree}
-use Rattle.pim_form.specs.NormalForm.{GroupForm, same_address, is_listed, is_excepted, is_empty, group_wants, form_wants, IsFormOf}
-use Rattle.pim_form.specs.Rows.{exceptions_of}
-use Rattle.pim_form.specs.Wants.{is_joined, is_pruned}
-use Rattle.pim_form.specs.Collect.{Takes, wants_at, fresh, with_exception, star_with, sources_with, added, closed, collected_behind, collected, of_port}
 use Rattle.pim_form.proofs.Addresses.{same_is, less_apart}
 use Rattle.pim_form.proofs.PortDemand.{same_what, carries, some_tell, told_wants, port_wants, are_of_port}
 use Rattle.pim_form.proofs.Collected.{Precedes, IsRun, is_run, IsNext, takes_fresh, all_next, all_first, later, taken, all_rising, collected_normal}

@@ -1,13 +1,8 @@
 -- The form of one port's records while it is made.
-use Rattle.std.proofs.Common.{◌≡◌, ◌∙◌, ℕ, Bool, true, false, cond, List, [], ◌∷◌, ◌++◌, length, refl, sym, ap, subst}
-use Rattle.std.specs.List.{AllByRecursion}
+use Rattle.pim_form.proofs.Words.{◌≡◌, ◌∙◌, ℕ, Bool, true, false, cond, List, [], ◌∷◌, ◌++◌, length, refl, sym, ap, subst}
+use Rattle.pim_form.proofs.Words.{AllByRecursion, Record, GroupPlace, GroupForm, same_address, place_seen, form_seen, IsDraft}
+use Rattle.pim_form.proofs.Words.{IsLast, Becomes, Takes, fresh, added, closed, collected_behind, collected}
 use Rattle.std.proofs.lemmas.List.{append_assoc}
-use Rattle.pim_down.specs.declared.machines.machine.Record.{Record}
-use Rattle.pim_form.specs.declared.place.GroupPlace.{GroupPlace}
-use Rattle.pim_form.specs.NormalForm.{GroupForm, same_address}
-use Rattle.pim_form.specs.Rows.{place_seen, form_seen}
-use Rattle.pim_form.specs.Drafts.{IsDraft, IsLast, Becomes}
-use Rattle.pim_form.specs.Collect.{Takes, fresh, added, closed, collected_behind, collected}
 use Rattle.pim_form.proofs.Addresses.{same_itself, same_is}
 use Rattle.pim_form.proofs.Collected.{IsRun, IsNext, taken, all_next, all_first}
 use Rattle.pim_form.proofs.Merging.{IsRest}

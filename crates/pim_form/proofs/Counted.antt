@@ -1,9 +1,7 @@
 -- How many entries the groups of a part have.
-use Rattle.std.proofs.Common.{◌≡◌, ◌∙◌, ℕ, ◌+◌, ◌<◌, ◌^◌, List, [], ◌∷◌, Option, None, Some, Bool, is_some, length, map, ap, arith}
-use Rattle.std.specs.Int.{from_bool}
-use Rattle.pim_form.specs.NormalForm.{GroupForm}
-use Rattle.pim_form.specs.Rows.{exceptions_of}
-use Rattle.pim_form.specs.Units.{source_unit, star_units, group_units, units_of, run_entries}
+use Rattle.pim_form.proofs.Words.{◌≡◌, ◌∙◌, ℕ, ◌+◌, ◌<◌, ◌^◌, List, [], ◌∷◌, Option, None, Some, Bool, is_some, length}
+use Rattle.pim_form.proofs.Words.{map, ap, arith, from_bool, GroupForm, exceptions_of, source_unit, star_units}
+use Rattle.pim_form.proofs.Words.{group_units, units_of, run_entries}
 use Rattle.pim_form.proofs.OnePacking.{entries_append}
 use Rattle.pim_form.proofs.Spelled.{sources_entries}
 

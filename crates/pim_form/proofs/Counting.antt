@@ -1,13 +1,8 @@
 -- There are more valid sources than a star may have exceptions.
-use Rattle.std.proofs.Common.{◌≡◌, ◌≢◌, ◌∙◌, ℕ, zero, suc, ◌+◌, ◌*◌, ◌/◌, ◌%◌, ◌≤◌, ◌<◌, Bool, true, false, ◌||◌, ◌==◌, List, [], ◌∷◌, length, map, slice_index, if◌then◌else◌, refl, sym, ap, subst, arith}
-use Rattle.std.proofs.lemmas.List.{length-map}
-use Rattle.std.specs.List.{AllByRecursion}
-use Rattle.std.proofs.lemmas.Bool.{false≢true, eqb-true, ne_eqb, eq-eqb}
-use Rattle.pim_addr.specs.declared.family.AddressFamily.{AddressFamily}
-use Rattle.pim_addr.specs.declared.family.AddressFamily.TheVariants.{Ipv4, Ipv6}
-use Rattle.pim_addr.specs.Address.{AreBytes, IsSourceAddress}
-use Rattle.pim_form.specs.NormalForm.{same_address, is_listed, most_exceptions}
-use Rattle.pim_form.specs.Laws.{Outside}
+use Rattle.pim_form.proofs.Words.{◌≡◌, ◌≢◌, ◌∙◌, ℕ, zero, suc, ◌+◌, ◌*◌, ◌/◌, ◌%◌, ◌≤◌, ◌<◌, Bool, true, false, ◌||◌, ◌==◌, List}
+use Rattle.pim_form.proofs.Words.{[], ◌∷◌, length, map, slice_index, if◌then◌else◌, refl, sym, ap, subst, arith, length-map}
+use Rattle.pim_form.proofs.Words.{AllByRecursion, false≢true, eqb-true, ne_eqb, eq-eqb, AddressFamily, Ipv4, Ipv6, AreBytes}
+use Rattle.pim_form.proofs.Words.{IsSourceAddress, same_address, is_listed, most_exceptions, Outside}
 use Rattle.pim_form.proofs.Addresses.{same_is}
 
 -- ---- numbers: of one more than a list has, one isn't in it

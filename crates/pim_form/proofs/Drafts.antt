@@ -1,14 +1,9 @@
 -- A form that is being made: what stood before reads as before, and one group more as it was told.
-use Rattle.std.proofs.Common.{◌≡◌, ◌∙◌, ℕ, ◌+◌, ◌≤◌, List, [], ◌∷◌, ◌++◌, map, length, take, drop, Option, None, Some, ◌||◌, refl, sym, ap, subst, arith, length-append}
-use Rattle.std.specs.List.{AllByRecursion}
-use Rattle.std.proofs.lemmas.List.{take-map, drop-map, take-append-le, map-append, length-map}
-use Rattle.std.proofs.Math.Seq.{drop-append_seam, take-length}
-use Rattle.pim_form.specs.declared.place.GroupPlace.{GroupPlace}
-use Rattle.pim_form.specs.NormalForm.{GroupForm}
-use Rattle.pim_form.specs.Rows.{between, IsWithin, star_of, exceptions_of, place_seen, form_seen}
+use Rattle.pim_form.proofs.Words.{◌≡◌, ◌∙◌, ℕ, ◌+◌, ◌≤◌, List, [], ◌∷◌, ◌++◌, map, length, take, drop, Option, None, Some, ◌||◌}
+use Rattle.pim_form.proofs.Words.{refl, sym, ap, subst, arith, length-append, AllByRecursion, take-map, drop-map, take-append-le}
+use Rattle.pim_form.proofs.Words.{map-append, length-map, drop-append_seam, take-length, GroupPlace, GroupForm, between, IsWithin}
+use Rattle.pim_form.proofs.Words.{star_of, exceptions_of, place_seen, form_seen, both_stars, IsDraft}
 use Rattle.std.specs.Option.{is_some}
-use Rattle.pim_form.specs.Merge.{both_stars}
-use Rattle.pim_form.specs.Drafts.{IsDraft}
 use Rattle.pim_form.proofs.Lists.{all_append}
 
 module _ {A : Type 0} (bytes_of : A → List ℕ) where

@@ -1,9 +1,7 @@
 -- Entries written one behind the other, each in a place of one size.
-use Rattle.std.proofs.Common.{◌≡◌, ℕ, ◌*◌, ◌≤◌, List, length, take, map, sym, ap, ◌∙◌, arith}
+use Rattle.pim_form.proofs.Words.{◌≡◌, ℕ, ◌*◌, ◌≤◌, List, length, take, map, sym, ap, ◌∙◌, arith, take_all}
+use Rattle.pim_form.proofs.Words.{flat_map-map, flat_map}
 use Rattle.std.proofs.Math.Nat.{mul-le-mul_right}
-use Rattle.std.proofs.lemmas.List.{take_all}
-use Rattle.std.proofs.lemmas.List.Folds.{flat_map-map}
-use Rattle.std.specs.List.{flat_map}
 
 -- where all are written, they fill what had room for just them
 pub items_written : {X Y : Type 0} (spell : Y → List ℕ) (seen : X → Y) (xs : List X) (i size : ℕ) (old new : List ℕ) → length xs ≤ i

@@ -1,9 +1,6 @@
 -- Messages are the same exactly if the demands agree.
-use Rattle.std.proofs.Common.{◌≡◌, ◌∙◌, ◌↔◌, ℕ, List, Option, sym, ap, subst}
-use Rattle.pim_addr.specs.declared.family.AddressFamily.{AddressFamily}
-use Rattle.pim_frame.specs.Seal.{OneChecksum}
-use Rattle.pim_form.specs.NormalForm.{Demand, Agree, IsFormOf, GroupForm, form_wants}
-use Rattle.pim_form.specs.Messages.{Writing, IsWriting, HaveRps, AreCanonical}
+use Rattle.pim_form.proofs.Words.{◌≡◌, ◌∙◌, ◌↔◌, ℕ, List, Option, sym, ap, subst, AddressFamily, OneChecksum, Demand}
+use Rattle.pim_form.proofs.Words.{Agree, IsFormOf, GroupForm, form_wants, Writing, IsWriting, HaveRps, AreCanonical}
 use Rattle.pim_form.proofs.OneForm.{one_form}
 use Rattle.pim_form.proofs.Told.{Reads, messages_tell, one_list}
 

@@ -1,15 +1,8 @@
 -- A form as it is kept: its first group, and then the others; and the group at a place.
-use Rattle.std.proofs.Common.{◌≡◌, ◌∙◌, ℕ, zero, suc, ◌<◌, Bool, true, false, ◌||◌, List, [], ◌∷◌, length, map, get_or, refl, sym, ap, subst, arith}
-use Rattle.std.specs.declared.cmp.Ordering.TheVariants.{Less}
-use Rattle.std.specs.List.{AllByRecursion}
-use Rattle.std.specs.List.Sorted.{IsStrictlySortedBy}
-use Rattle.std.specs.Ordering.{nat_cmp}
-use Rattle.std.specs.Cmp.Lexicographic.{slice_cmp}
-use Rattle.pim_addr.specs.declared.family.AddressFamily.{AddressFamily}
-use Rattle.pim_form.specs.declared.place.GroupPlace.{GroupPlace}
-use Rattle.pim_form.specs.declared.tree.Tree.{Tree}
-use Rattle.pim_form.specs.NormalForm.{GroupForm, AreAscending, same_address, is_listed, groups_of, IsNormalGroup, group_wants, form_wants}
-use Rattle.pim_form.specs.Rows.{place_group, place_seen, form_seen, IsKept}
+use Rattle.pim_form.proofs.Words.{◌≡◌, ◌∙◌, ℕ, zero, suc, ◌<◌, Bool, true, false, ◌||◌, List, [], ◌∷◌, length, map, get_or, refl}
+use Rattle.pim_form.proofs.Words.{sym, ap, subst, arith, Less, AllByRecursion, IsStrictlySortedBy, nat_cmp, slice_cmp}
+use Rattle.pim_form.proofs.Words.{AddressFamily, GroupPlace, Tree, GroupForm, AreAscending, same_address, is_listed, groups_of}
+use Rattle.pim_form.proofs.Words.{IsNormalGroup, group_wants, form_wants, place_group, place_seen, form_seen, IsKept}
 use Rattle.pim_form.proofs.Addresses.{less_apart_back}
 use Rattle.pim_form.proofs.OneForm.{at_first, of_others}
 

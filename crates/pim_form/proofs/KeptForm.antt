@@ -1,19 +1,13 @@
 -- What is left of a normal form where only one neighbour is asked: it is normal, it wants what is wanted of the
 -- neighbour, and nothing else.
-use Rattle.std.proofs.Common.{◌≡◌, ◌∙◌, ℕ, Bool, true, false, ◌&&◌, ◌||◌, not, List, [], ◌∷◌, Option, None, Some, refl, sym, ap, subst, if◌then◌else◌}
-use Rattle.std.specs.declared.cmp.Ordering.TheVariants.{Less}
-use Rattle.std.specs.List.{AllByRecursion, filter, list_all}
-use Rattle.std.specs.List.Sorted.{IsStrictlySortedBy}
-use Rattle.std.specs.Ordering.{nat_cmp}
-use Rattle.std.specs.Cmp.Lexicographic.{slice_cmp}
+use Rattle.pim_form.proofs.Words.{◌≡◌, ◌∙◌, ℕ, Bool, true, false, ◌&&◌, ◌||◌, not, List, [], ◌∷◌, Option, None, Some, refl, sym}
+use Rattle.pim_form.proofs.Words.{ap, subst, if◌then◌else◌, Less, AllByRecursion, filter, list_all, IsStrictlySortedBy, nat_cmp}
+use Rattle.pim_form.proofs.Words.{slice_cmp, AddressFamily, IsSourceAddress, Tree, GroupForm, AreAscending, same_address}
+use Rattle.pim_form.proofs.Words.{is_listed, AreExceptions, is_empty, IsNormalGroup, groups_of, IsNormal, is_excepted}
+use Rattle.pim_form.proofs.Words.{group_wants, form_wants, IsFormOf, star_rpf_neighbour, rpf_neighbour, is_neighbour, toward}
+use Rattle.pim_form.proofs.Words.{is_star_toward, is_group_toward, is_toward, is_reached, group_toward, form_toward}
 use Rattle.std.proofs.lemmas.List.Kept.{IsStrictlySortedBy-filter}
-use Rattle.pim_addr.specs.declared.family.AddressFamily.{AddressFamily}
-use Rattle.pim_addr.specs.Address.{IsSourceAddress}
-use Rattle.pim_form.specs.declared.tree.Tree.{Tree}
 use Rattle.pim_form.specs.declared.tree.Tree.TheVariants.{Shared, Source}
-use Rattle.pim_form.specs.NormalForm.{GroupForm, AreAscending, same_address, is_listed, AreExceptions, is_empty, IsNormalGroup, groups_of, IsNormal, is_excepted, group_wants, form_wants, IsFormOf}
-use Rattle.pim_form.specs.Toward.{star_rpf_neighbour, rpf_neighbour, is_neighbour, toward, is_star_toward, is_group_toward, is_toward}
-use Rattle.pim_form.specs.KeptToward.{is_reached, group_toward, form_toward}
 use Rattle.pim_form.proofs.Addresses.{same_is}
 
 -- ---- lists

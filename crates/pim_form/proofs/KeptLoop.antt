@@ -1,15 +1,9 @@
 -- The groups of a form, one after another, and what is left of each.
 use Rattle.std.proofs.Common.{◌≡◌, ◌∙◌, ◌++◌, ◌-◌, ◌<◌, ◌≤◌, ℕ, Bool, true, false, ◌||◌, not, List, [], ◌∷◌, Option, None, length, take, map, refl, sym, ap, subst, arith, append_assoc, append-nil, if◌then◌else◌}
 use Rattle.std.specs.Prelude.{nat_lt}
-use Rattle.std.specs.List.{AllByRecursion}
-use Rattle.std.proofs.lemmas.Bool.{ltb-true, ltb-false}
-use Rattle.std.proofs.lemmas.List.{length-drop, length-take-le, map-append}
-use Rattle.std.proofs.Math.ListN.{drop_of_length-le}
-use Rattle.pim_addr.specs.declared.family.AddressFamily.{AddressFamily}
-use Rattle.pim_form.specs.declared.place.GroupPlace.{GroupPlace}
-use Rattle.pim_form.specs.NormalForm.{GroupForm, is_empty, IsNormal}
-use Rattle.pim_form.specs.Rows.{between, star_of, IsWithin, place_seen, form_seen, IsKept}
-use Rattle.pim_form.specs.KeptToward.{group_toward, form_toward, has_some, IsPushed}
+use Rattle.pim_form.proofs.Words.{AllByRecursion, ltb-true, ltb-false, length-drop, length-take-le, map-append, drop_of_length-le}
+use Rattle.pim_form.proofs.Words.{AddressFamily, GroupPlace, GroupForm, is_empty, IsNormal, between, star_of, IsWithin}
+use Rattle.pim_form.proofs.Words.{place_seen, form_seen, IsKept, group_toward, form_toward, has_some, IsPushed}
 use Rattle.pim_form.proofs.Lists.{all_append}
 use Rattle.pim_form.proofs.PushedGroups.{form_front, within_front}
 use Rattle.pim_form.proofs.KeptForm.{form_dropped, form_kept, normal_left}

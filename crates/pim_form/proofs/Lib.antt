@@ -1,3 +1,4 @@
+pub mod Words
 pub mod Below
 pub mod Addresses
 pub mod Counting

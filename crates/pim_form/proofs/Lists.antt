@@ -1,6 +1,5 @@
 -- Lists in general.
-use Rattle.std.proofs.Common.{◌≡◌, List, [], ◌∷◌, ◌++◌, map, refl}
-use Rattle.std.specs.List.{AllByRecursion}
+use Rattle.pim_form.proofs.Words.{◌≡◌, List, [], ◌∷◌, ◌++◌, map, refl, AllByRecursion}
 
 module _ {A : Type 0} where
   pub all_append : (P : A → Type 0) (xs ys : List A) → AllByRecursion P xs → AllByRecursion P ys → AllByRecursion P (xs ++ ys)

@@ -1,12 +1,7 @@
 -- One step of a walk over two lists in order.
-use Rattle.std.proofs.Common.{◌≡◌, ◌∙◌, ℕ, List, [], ◌∷◌, ◌++◌, length, map, refl, sym, ap, subst}
-use Rattle.std.specs.declared.cmp.Ordering.TheVariants.{Less, Equal, Greater}
-use Rattle.std.specs.Ordering.{nat_cmp}
-use Rattle.std.specs.Cmp.Lexicographic.{slice_cmp}
+use Rattle.pim_form.proofs.Words.{◌≡◌, ◌∙◌, ℕ, List, [], ◌∷◌, ◌++◌, length, map, refl, sym, ap, subst, Less, Equal, Greater}
+use Rattle.pim_form.proofs.Words.{nat_cmp, slice_cmp, by_order, merged_into, merged_by, common, IsStrictlySortedBy, AreAscending}
 use Rattle.std.proofs.lemmas.List.{append_assoc, append-nil, nil_from_length}
-use Rattle.pim_form.specs.Merge.{by_order, merged_into, merged_by, common}
-use Rattle.std.specs.List.Sorted.{IsStrictlySortedBy}
-use Rattle.pim_form.specs.NormalForm.{AreAscending}
 use Rattle.pim_form.proofs.Merged.{merged_none, common_none, common_below, common_above, common_both}
 
 module _ {A B : Type 0} (address_of : B → List ℕ) (both : B → B → B) (f : A → B) where

@@ -1,15 +1,11 @@
 -- Two lists in order of addresses, made one.
-use Rattle.std.proofs.Common.{◌≡◌, ◌∙◌, ℕ, ◌≤◌, Bool, true, false, ◌||◌, ◌&&◌, not, cond, List, [], ◌∷◌, Option, None, Some, map, length, refl, sym, ap, subst, arith}
-use Rattle.std.specs.declared.cmp.Ordering.TheVariants.{Less, Equal, Greater}
-use Rattle.std.specs.List.{AllByRecursion, list_any, filter}
-use Rattle.std.specs.List.Sorted.{IsStrictlySortedBy}
-use Rattle.std.specs.Ordering.{nat_cmp}
-use Rattle.std.specs.Cmp.Lexicographic.{slice_cmp}
-use Rattle.pim_addr.specs.declared.family.AddressFamily.{AddressFamily}
-use Rattle.pim_form.specs.declared.tree.Tree.{Tree}
+use Rattle.pim_form.proofs.Words.{◌≡◌, ◌∙◌, ℕ, ◌≤◌, Bool, true, false, ◌||◌, ◌&&◌, not, cond, List, [], ◌∷◌, Option, None, Some}
+use Rattle.pim_form.proofs.Words.{map, length, refl, sym, ap, subst, arith, Less, Equal, Greater, AllByRecursion, list_any}
+use Rattle.pim_form.proofs.Words.{filter, IsStrictlySortedBy, nat_cmp, slice_cmp, AddressFamily, Tree, GroupForm, AreAscending}
+use Rattle.pim_form.proofs.Words.{AreExceptions, IsNormal, IsNormalGroup, same_address, is_listed, is_empty, is_excepted}
+use Rattle.pim_form.proofs.Words.{group_wants, form_wants, by_order, merged_into, merged_by, itself, first_of, united, common}
+use Rattle.pim_form.proofs.Words.{both_stars, both_groups, group_of, merged}
 use Rattle.pim_form.specs.declared.tree.Tree.TheVariants.{Shared, Source}
-use Rattle.pim_form.specs.NormalForm.{GroupForm, AreAscending, AreExceptions, IsNormal, IsNormalGroup, same_address, is_listed, is_empty, is_excepted, group_wants, form_wants}
-use Rattle.pim_form.specs.Merge.{by_order, merged_into, merged_by, itself, first_of, united, common, both_stars, both_groups, group_of, merged}
 use Rattle.pim_form.proofs.Addresses.{same_is, equal_is, greater_less, less_apart_back, IsBelowAll-trans, unlisted_below, same_itself}
 use Rattle.pim_form.proofs.Lists.{all_map, all_mapped}
 

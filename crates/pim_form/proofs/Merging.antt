@@ -1,16 +1,9 @@
 -- A form that is being made, and what is still to come.
-use Rattle.std.proofs.Common.{◌≡◌, ◌∙◌, ℕ, List, [], ◌∷◌, ◌++◌, length, refl, sym, ap, subst}
-use Rattle.std.specs.declared.cmp.Ordering.TheVariants.{Less, Equal, Greater}
-use Rattle.std.specs.List.{AllByRecursion}
-use Rattle.std.specs.Ordering.{nat_cmp}
-use Rattle.std.specs.Cmp.Lexicographic.{slice_cmp}
+use Rattle.pim_form.proofs.Words.{◌≡◌, ◌∙◌, ℕ, List, [], ◌∷◌, ◌++◌, length, refl, sym, ap, subst, Less, Equal, Greater}
+use Rattle.pim_form.proofs.Words.{AllByRecursion, nat_cmp, slice_cmp, AddressFamily, GroupPlace, GroupForm, IsNormal}
+use Rattle.pim_form.proofs.Words.{IsWithin, place_seen, form_seen, AreKept, IsKept, IsDraft, by_order, merged_into}
+use Rattle.pim_form.proofs.Words.{merged_by, group_of, both_groups, merged}
 use Rattle.std.proofs.lemmas.List.{append_assoc, append-nil, nil_from_length}
-use Rattle.pim_addr.specs.declared.family.AddressFamily.{AddressFamily}
-use Rattle.pim_form.specs.declared.place.GroupPlace.{GroupPlace}
-use Rattle.pim_form.specs.NormalForm.{GroupForm, IsNormal}
-use Rattle.pim_form.specs.Rows.{IsWithin, place_seen, form_seen, AreKept, IsKept}
-use Rattle.pim_form.specs.Drafts.{IsDraft}
-use Rattle.pim_form.specs.Merge.{by_order, merged_into, merged_by, group_of, both_groups, merged}
 use Rattle.pim_form.proofs.Merged.{merged_none}
 
 -- ---- one step over two lists

@@ -1,8 +1,5 @@
 -- What a normal form's groups have.
-use Rattle.std.proofs.Common.{List, [], ◌∷◌}
-use Rattle.std.specs.List.{AllByRecursion}
-use Rattle.pim_addr.specs.declared.family.AddressFamily.{AddressFamily}
-use Rattle.pim_form.specs.NormalForm.{GroupForm, IsNormalGroup}
+use Rattle.pim_form.proofs.Words.{List, [], ◌∷◌, AllByRecursion, AddressFamily, GroupForm, IsNormalGroup}
 use Rattle.pim_form.proofs.Units.{IsSome}
 
 pub groups_some : (family : AddressFamily) (form : List GroupForm) → AllByRecursion (IsNormalGroup family) form → AllByRecursion IsSome form

@@ -1,16 +1,10 @@
 -- Normal forms that want the same are one.
-use Rattle.std.proofs.Common.{◌≡◌, ◌∙◌, ℕ, Bool, true, false, ◌||◌, not, List, [], ◌∷◌, Option, None, Some, refl, sym, ap, subst}
-use Rattle.std.specs.declared.cmp.Ordering.TheVariants.{Less, Equal, Greater}
-use Rattle.std.specs.List.{AllByRecursion}
-use Rattle.std.specs.List.Sorted.{IsStrictlySortedBy}
-use Rattle.std.specs.Ordering.{nat_cmp}
-use Rattle.std.specs.Cmp.Lexicographic.{slice_cmp}
-use Rattle.std.proofs.lemmas.Bool.{false≢true}
-use Rattle.pim_addr.specs.declared.family.AddressFamily.{AddressFamily}
-use Rattle.pim_form.specs.declared.tree.Tree.{Tree}
+use Rattle.pim_form.proofs.Words.{◌≡◌, ◌∙◌, ℕ, Bool, true, false, ◌||◌, not, List, [], ◌∷◌, Option, None, Some, refl}
+use Rattle.pim_form.proofs.Words.{sym, ap, subst, Less, Equal, Greater, AllByRecursion, IsStrictlySortedBy, nat_cmp}
+use Rattle.pim_form.proofs.Words.{slice_cmp, false≢true, AddressFamily, Tree, IsSourceAddress, GroupForm, AreAscending}
+use Rattle.pim_form.proofs.Words.{same_address, is_listed, AreExceptions, is_empty, IsNormalGroup, groups_of, IsNormal}
+use Rattle.pim_form.proofs.Words.{is_excepted, group_wants, form_wants, WantTheSame}
 use Rattle.pim_form.specs.declared.tree.Tree.TheVariants.{Shared, Source}
-use Rattle.pim_addr.specs.Address.{IsSourceAddress}
-use Rattle.pim_form.specs.NormalForm.{GroupForm, AreAscending, same_address, is_listed, AreExceptions, is_empty, IsNormalGroup, groups_of, IsNormal, is_excepted, group_wants, form_wants, WantTheSame}
 use Rattle.pim_form.proofs.Addresses.{same_itself, same_is, equal_is, less_apart, greater_less, IsBelowAll-trans, listed_first, same_lists}
 use Rattle.pim_form.proofs.Counting.{outside}
 

@@ -1,10 +1,7 @@
 -- Where all addresses are reached by one neighbour.
-use Rattle.std.proofs.Common.{◌≡◌, ◌∙◌, ℕ, Bool, true, false, ◌&&◌, List, Option, None, Some, is_some, refl, ap}
-use Rattle.std.proofs.lemmas.Bool.{false≢true}
-use Rattle.pim_form.specs.declared.tree.Tree.{Tree}
+use Rattle.pim_form.proofs.Words.{◌≡◌, ◌∙◌, ℕ, Bool, true, false, ◌&&◌, List, Option, None, Some, is_some, refl, ap, false≢true}
+use Rattle.pim_form.proofs.Words.{Tree, Demand, star_rpf_neighbour, rpf_neighbour, is_neighbour, toward, SharedHaveRps}
 use Rattle.pim_form.specs.declared.tree.Tree.TheVariants.{Shared, Source}
-use Rattle.pim_form.specs.NormalForm.{Demand}
-use Rattle.pim_form.specs.Toward.{star_rpf_neighbour, rpf_neighbour, is_neighbour, toward, SharedHaveRps}
 use Rattle.pim_form.proofs.Addresses.{same_itself}
 
 and_known : (a b : Bool) → (a ≡ true → b ≡ true) → a && b ≡ a

@@ -1,12 +1,9 @@
 -- Units have one packing at most.
-use Rattle.std.proofs.Common.{◌≡◌, ◌∙◌, ℕ, ◌+◌, ◌≤◌, true, false, List, [], ◌∷◌, ◌++◌, Option, None, Some, nat_le, refl, sym, subst, arith, append_assoc}
-use Rattle.std.proofs.lemmas.Bool.{false≢true, leb-true, le-leb, and_parts, and_from}
-use Rattle.std.proofs.lemmas.List.{append_cancel_left}
-use Rattle.pim_addr.specs.declared.family.AddressFamily.{AddressFamily}
-use Rattle.pim_addr.specs.declared.family.AddressFamily.TheVariants.{Ipv4, Ipv6}
-use Rattle.pim_form.specs.Units.{WantUnit, unit_group, run_entries, groups_behind, run_groups, run_size}
-use Rattle.pim_form.specs.Laws.{BeginsWith}
-use Rattle.pim_form.specs.Packing.{fits, most_groups, StopsBefore, IsNonempty, joined, AreRuns, IsPacking}
+use Rattle.pim_form.proofs.Words.{◌≡◌, ◌∙◌, ℕ, ◌+◌, ◌≤◌, true, false, List, [], ◌∷◌, ◌++◌, Option, None, Some, nat_le}
+use Rattle.pim_form.proofs.Words.{refl, sym, subst, arith, append_assoc, false≢true, leb-true, le-leb, and_parts}
+use Rattle.pim_form.proofs.Words.{and_from, append_cancel_left, AddressFamily, Ipv4, Ipv6, WantUnit, unit_group}
+use Rattle.pim_form.proofs.Words.{run_entries, groups_behind, run_groups, run_size, BeginsWith, fits, most_groups}
+use Rattle.pim_form.proofs.Words.{StopsBefore, IsNonempty, joined, AreRuns, IsPacking}
 
 -- ---- the front of a run that fits
 

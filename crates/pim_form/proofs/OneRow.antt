@@ -1,17 +1,10 @@
 -- Where one row leads all addresses to one neighbour.
-use Rattle.std.proofs.Common.{◌≡◌, ◌∙◌, ℕ, zero, suc, Bool, true, false, ◌&&◌, ◌||◌, not, List, Option, None, Some, refl, sym, ap}
-use Rattle.std.proofs.lemmas.Bool.{false≢true}
-use Rattle.pim_addr.specs.declared.family.AddressFamily.{AddressFamily}
-use Rattle.pim_addr.specs.Address.{IsAddress, IsGroupAddress}
-use Rattle.pim_addr.specs.Routes.{RouteTable, IsRouteTable, rp_of}
-use Rattle.pim_down.specs.declared.machines.key.What.TheVariants.{Star, Rpt}
-use Rattle.pim_down.specs.Time.{Downstream}
+use Rattle.pim_form.proofs.Words.{◌≡◌, ◌∙◌, ℕ, zero, suc, Bool, true, false, ◌&&◌, ◌||◌, not, List, Option, None, Some}
+use Rattle.pim_form.proofs.Words.{refl, sym, ap, false≢true, AddressFamily, IsAddress, IsGroupAddress, RouteTable}
+use Rattle.pim_form.proofs.Words.{IsRouteTable, rp_of, Star, Rpt, Downstream, is_joined, is_pruned, state_on, wants_on}
+use Rattle.pim_form.proofs.Words.{some_below, wants, Agree, GroupForm, IsFormOf, IsRp, via_of, star_rpf_neighbour}
+use Rattle.pim_form.proofs.Words.{rpf_neighbour, is_neighbour, demand_toward, StarsHaveRps, DemandsAll}
 use Rattle.pim_form.specs.declared.tree.Tree.TheVariants.{Shared, Source}
-use Rattle.pim_form.specs.Wants.{is_joined, is_pruned, state_on, wants_on, some_below, wants}
-use Rattle.pim_form.specs.NormalForm.{Agree, GroupForm, IsFormOf}
-use Rattle.pim_form.specs.Messages.{IsRp}
-use Rattle.pim_form.specs.Toward.{via_of, star_rpf_neighbour, rpf_neighbour, is_neighbour}
-use Rattle.pim_form.specs.TowardLaws.{demand_toward, StarsHaveRps, DemandsAll}
 use Rattle.pim_form.proofs.Addresses.{same_itself}
 use Rattle.pim_form.proofs.AskedForAll.{first_true}
 use Rattle.pim_form.proofs.OneForm.{one_form}

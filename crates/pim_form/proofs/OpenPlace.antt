@@ -1,14 +1,9 @@
 -- The last group of a form that is being made, while addresses are appended to it.
-use Rattle.std.proofs.Common.{◌≡◌, ◌∙◌, ℕ, zero, suc, ◌≤◌, ◌<◌, Bool, true, false, cond, List, [], ◌∷◌, ◌++◌, None, map, length, take, drop, refl, sym, ap, subst, arith}
-use Rattle.std.specs.List.{AllByRecursion}
-use Rattle.std.proofs.lemmas.Bool.{false≢true}
-use Rattle.std.proofs.lemmas.List.{drop-append-le, map-append, length-drop, length-map, length-take-le}
-use Rattle.std.proofs.Math.Seq.{take-length}
-use Rattle.pim_form.specs.declared.place.GroupPlace.{GroupPlace}
-use Rattle.pim_form.specs.NormalForm.{GroupForm, is_empty}
-use Rattle.pim_form.specs.Rows.{between, IsWithin, star_of, exceptions_of, place_seen, form_seen}
-use Rattle.pim_form.specs.Drafts.{IsDraft, IsLast, Keeps, Becomes}
-use Rattle.pim_form.specs.Collect.{with_exception, closed}
+use Rattle.pim_form.proofs.Words.{◌≡◌, ◌∙◌, ℕ, zero, suc, ◌≤◌, ◌<◌, Bool, true, false, cond, List, [], ◌∷◌, ◌++◌, None}
+use Rattle.pim_form.proofs.Words.{map, length, take, drop, refl, sym, ap, subst, arith, AllByRecursion, false≢true}
+use Rattle.pim_form.proofs.Words.{drop-append-le, map-append, length-drop, length-map, length-take-le, take-length}
+use Rattle.pim_form.proofs.Words.{GroupPlace, GroupForm, is_empty, between, IsWithin, star_of, exceptions_of}
+use Rattle.pim_form.proofs.Words.{place_seen, form_seen, IsDraft, IsLast, Keeps, Becomes, with_exception, closed}
 use Rattle.pim_form.proofs.Lists.{all_append}
 use Rattle.pim_form.proofs.Drafts.{appended, same_form, same_place, still_within}
 

@@ -1,17 +1,10 @@
 -- The message of a part of a form that fits the budget: it can be spelled, and what room it takes.
-use Rattle.std.proofs.Common.{◌≡◌, ◌∙◌, ◌+◌, ◌*◌, ℕ, true, List, ◌++◌, length, map, drop, sym, ap, subst, arith, Option, append_assoc, length-append}
-use Rattle.std.proofs.lemmas.List.{length-map}
-use Rattle.std.proofs.Math.Seq.{drop-append_seam}
-use Rattle.pim_addr.specs.declared.family.AddressFamily.{AddressFamily}
-use Rattle.pim_frame.specs.Frame.{all_routers}
-use Rattle.pim_frame.specs.Seal.{IsSealed}
-use Rattle.pim_frame.specs.declared.frame.MessageType.TheVariants.{JoinPrune}
-use Rattle.pim_jp.specs.Canonical.{IsMessage, canonical, canonical_head, canonical_set, canonical_head_length, canonical_sets_length}
-use Rattle.std.specs.List.{flat_map}
-use Rattle.pim_form.specs.NormalForm.{GroupForm, IsNormal}
-use Rattle.pim_form.specs.Units.{units_of, run_entries, run_size, empty_message_size, empty_set_size, entry_size}
-use Rattle.pim_form.specs.Packing.{fits}
-use Rattle.pim_form.specs.Messages.{Writing, IsWriting, HaveRps, written_set, written_message}
+use Rattle.pim_form.proofs.Words.{◌≡◌, ◌∙◌, ◌+◌, ◌*◌, ℕ, true, List, ◌++◌, length, map, drop, sym, ap, subst, arith}
+use Rattle.pim_form.proofs.Words.{Option, append_assoc, length-append, length-map, drop-append_seam, AddressFamily}
+use Rattle.pim_form.proofs.Words.{all_routers, IsSealed, JoinPrune, IsMessage, canonical, canonical_head, canonical_set}
+use Rattle.pim_form.proofs.Words.{canonical_head_length, canonical_sets_length, flat_map, GroupForm, IsNormal, units_of}
+use Rattle.pim_form.proofs.Words.{run_entries, run_size, empty_message_size, empty_set_size, entry_size, fits, Writing}
+use Rattle.pim_form.proofs.Words.{IsWriting, HaveRps, written_set, written_message}
 use Rattle.pim_form.proofs.Normal.{groups_some}
 use Rattle.pim_form.proofs.Units.{count_groups}
 use Rattle.pim_form.proofs.Spelled.{IsPart, units_valid, parts_valid, is_message, sets_size, head_and_sets}

@@ -1,18 +1,12 @@
 -- Pieces of a group, and how the plan goes on with them.
-use Rattle.std.proofs.Common.{◌≡◌, ◌∙◌, ℕ, ◌+◌, ◌-◌, ◌*◌, ◌≤◌, ◌<◌, ◌↔◌, Bool, true, false, List, [], ◌∷◌, ◌++◌, Option, None, Some, length, map, is_some, if◌then◌else◌, ⊎_elim, refl, sym, ap, subst, arith, length-append, append_assoc}
-use Rattle.std.specs.List.{flat_map}
-use Rattle.std.proofs.lemmas.List.{append-nil, map-append, length-map}
-use Rattle.std.proofs.lemmas.Bool.{leb-true, true≢false, cases_lt}
-use Rattle.pim_addr.specs.declared.family.AddressFamily.{AddressFamily}
-use Rattle.pim_addr.specs.declared.family.AddressFamily.TheVariants.{Ipv4, Ipv6}
-use Rattle.pim_addr.specs.Address.{IsSourceAddress}
-use Rattle.pim_form.specs.declared.place.GroupPlace.{GroupPlace}
-use Rattle.pim_form.specs.NormalForm.{GroupForm, IsNormalGroup, is_empty}
-use Rattle.pim_form.specs.Units.{WantUnit, star_unit, source_unit, star_units, group_units, units_of, run_entries, empty_message_size, empty_set_size, entry_size}
-use Rattle.pim_form.specs.Packing.{fits, StopsBefore, IsPacking}
-use Rattle.pim_form.specs.TooBig.{star_fits, too_big}
-use Rattle.pim_form.specs.Rows.{between, star_of, exceptions_of, IsWithin, place_group, place_seen, form_seen, IsKept}
-use Rattle.pim_form.specs.Plan.{run_of}
+use Rattle.pim_form.proofs.Words.{◌≡◌, ◌∙◌, ℕ, ◌+◌, ◌-◌, ◌*◌, ◌≤◌, ◌<◌, ◌↔◌, Bool, true, false, List, [], ◌∷◌, ◌++◌}
+use Rattle.pim_form.proofs.Words.{Option, None, Some, length, map, is_some, if◌then◌else◌, ⊎_elim, refl, sym, ap, subst}
+use Rattle.pim_form.proofs.Words.{arith, length-append, append_assoc, flat_map, append-nil, map-append, length-map}
+use Rattle.pim_form.proofs.Words.{leb-true, true≢false, cases_lt, AddressFamily, Ipv4, Ipv6, IsSourceAddress}
+use Rattle.pim_form.proofs.Words.{GroupPlace, GroupForm, IsNormalGroup, is_empty, WantUnit, star_unit, source_unit}
+use Rattle.pim_form.proofs.Words.{star_units, group_units, units_of, run_entries, empty_message_size, empty_set_size}
+use Rattle.pim_form.proofs.Words.{entry_size, fits, StopsBefore, IsPacking, star_fits, too_big, between, star_of}
+use Rattle.pim_form.proofs.Words.{exceptions_of, IsWithin, place_group, place_seen, form_seen, IsKept, run_of}
 use Rattle.pim_form.specs.Filling.{HasRoom, Filled, IsFilling, IsNext, star_entries, place_sources}
 use Rattle.pim_form.proofs.Lists.{all_front, all_behind}
 use Rattle.pim_form.proofs.Kept.{places_count}

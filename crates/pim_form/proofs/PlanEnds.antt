@@ -1,12 +1,7 @@
 -- The parts of a plan, from where each ends.
-use Rattle.std.proofs.Common.{◌≡◌, ◌∙◌, ℕ, ◌+◌, List, [], ◌∷◌, ◌++◌, length, take, refl, sym, ap, subst, arith, length-append, append_assoc}
-use Rattle.std.proofs.lemmas.List.{append-nil, drop-take}
-use Rattle.std.proofs.Math.Seq.{drop-append_seam, take-append_seam}
-use Rattle.std.specs.List.{flat_map}
-use Rattle.pim_form.specs.declared.place.GroupPlace.{GroupPlace}
-use Rattle.pim_form.specs.Rows.{between}
-use Rattle.pim_form.specs.Plan.{parts_from, AreEnds}
-use Rattle.pim_form.specs.Filling.{ends_from}
+use Rattle.pim_form.proofs.Words.{◌≡◌, ◌∙◌, ℕ, ◌+◌, List, [], ◌∷◌, ◌++◌, length, take, refl, sym, ap, subst, arith}
+use Rattle.pim_form.proofs.Words.{length-append, append_assoc, append-nil, drop-take, drop-append_seam}
+use Rattle.pim_form.proofs.Words.{take-append_seam, flat_map, GroupPlace, between, parts_from, AreEnds, ends_from}
 
 abbrev pub all_of : {A : Type 0} → List (List A) → List A
 all_of parts = flat_map (λ part. part) parts

@@ -1,18 +1,9 @@
 -- A plan that is begun, goes on with a whole group, closes a message, and ends.
-use Rattle.std.proofs.Common.{◌≡◌, ◌∙◌, ℕ, ◌+◌, ◌≤◌, ◌<◌, true, List, [], ◌∷◌, ◌++◌, None, length, map, refl, sym, ap, subst, arith, append_assoc}
-use Rattle.std.specs.List.{AllByRecursion}
-use Rattle.std.proofs.lemmas.List.{append-nil, map-append}
-use Rattle.std.proofs.lemmas.Grind.{flat_map-append}
-use Rattle.pim_addr.specs.declared.family.AddressFamily.{AddressFamily}
-use Rattle.pim_addr.specs.declared.family.AddressFamily.TheVariants.{Ipv4, Ipv6}
-use Rattle.pim_form.specs.declared.place.GroupPlace.{GroupPlace}
-use Rattle.pim_form.specs.NormalForm.{GroupForm, IsNormalGroup}
-use Rattle.pim_form.specs.Units.{WantUnit, units_of, run_entries}
-use Rattle.pim_form.specs.Packing.{fits, StopsBefore, IsNonempty, joined, AreRuns, IsPacking}
-use Rattle.pim_form.specs.TooBig.{too_big}
-use Rattle.pim_form.specs.Rows.{place_seen, form_seen, IsKept}
-use Rattle.pim_form.specs.Plan.{run_of, parts_from, AreEnds, IsPlan}
-use Rattle.pim_form.specs.Filling.{HasRoom, Filled, IsFilling, ends_from}
+use Rattle.pim_form.proofs.Words.{◌≡◌, ◌∙◌, ℕ, ◌+◌, ◌≤◌, ◌<◌, true, List, [], ◌∷◌, ◌++◌, None, length, map, refl, sym, ap, subst}
+use Rattle.pim_form.proofs.Words.{arith, append_assoc, AllByRecursion, append-nil, map-append, flat_map-append, AddressFamily}
+use Rattle.pim_form.proofs.Words.{Ipv4, Ipv6, GroupPlace, GroupForm, IsNormalGroup, WantUnit, units_of, run_entries, fits}
+use Rattle.pim_form.proofs.Words.{StopsBefore, IsNonempty, joined, AreRuns, IsPacking, too_big, place_seen, form_seen, IsKept}
+use Rattle.pim_form.proofs.Words.{run_of, parts_from, AreEnds, IsPlan, HasRoom, Filled, IsFilling, ends_from}
 use Rattle.pim_form.proofs.Lists.{all_append}
 use Rattle.pim_form.proofs.Units.{IsSome, first_unit}
 use Rattle.pim_form.proofs.Kept.{places_count}

@@ -1,15 +1,8 @@
 -- The parts of a plan, one after another.
-use Rattle.std.proofs.Common.{◌≡◌, ◌∙◌, ℕ, ◌+◌, ◌<◌, ◌≤◌, List, [], ◌∷◌, ◌++◌, map, length, get_or, drop, refl, sym, ap, subst, arith, append_assoc, add-one, drop-cons, Option}
-use Rattle.std.proofs.lemmas.List.{append-nil, drop_all}
-use Rattle.std.specs.List.{AllByRecursion}
-use Rattle.pim_addr.specs.declared.family.AddressFamily.{AddressFamily}
-use Rattle.pim_form.specs.declared.place.GroupPlace.{GroupPlace}
-use Rattle.pim_form.specs.Units.{WantUnit, run_size}
-use Rattle.pim_form.specs.Messages.{Writing, CarriesRun, CarryRuns}
-use Rattle.pim_form.specs.Rows.{between, form_seen, IsKept}
-use Rattle.pim_form.specs.Plan.{AreEnds, parts_from, run_of}
-use Rattle.pim_form.specs.Parts.{runs_size}
-use Rattle.pim_form.specs.Added.{CarriesPart}
+use Rattle.pim_form.proofs.Words.{◌≡◌, ◌∙◌, ℕ, ◌+◌, ◌<◌, ◌≤◌, List, [], ◌∷◌, ◌++◌, map, length, get_or, drop, refl, sym, ap}
+use Rattle.pim_form.proofs.Words.{subst, arith, append_assoc, add-one, drop-cons, Option, append-nil, drop_all, AllByRecursion}
+use Rattle.pim_form.proofs.Words.{AddressFamily, GroupPlace, WantUnit, run_size, Writing, CarriesRun, CarryRuns, between}
+use Rattle.pim_form.proofs.Words.{form_seen, IsKept, AreEnds, parts_from, run_of, runs_size, CarriesPart}
 use Rattle.pim_form.proofs.Normal.{groups_some}
 
 -- ---- the ends that are left

@@ -1,16 +1,8 @@
 -- Parts of a row that meet, and what of a kept form is kept.
 use Rattle.std.proofs.Common.{◌≡◌, ◌∙◌, ℕ, ◌+◌, ◌-◌, ◌≤◌, ◌<◌, List, [], ◌∷◌, ◌++◌, length, map, take, drop, refl, sym, ap, subst, arith, length-drop}
-use Rattle.std.proofs.lemmas.List.{drop-append-le, drop-take, length-take, map-append}
-use Rattle.std.proofs.Math.Seq.{take-add}
-use Rattle.std.specs.List.{AllByRecursion}
-use Rattle.std.specs.List.Sorted.{IsStrictlySortedBy}
-use Rattle.std.specs.Ordering.{nat_cmp}
-use Rattle.std.specs.declared.cmp.Ordering.TheVariants.{Less}
-use Rattle.std.specs.Cmp.Lexicographic.{slice_cmp}
-use Rattle.pim_addr.specs.declared.family.AddressFamily.{AddressFamily}
-use Rattle.pim_form.specs.declared.place.GroupPlace.{GroupPlace}
-use Rattle.pim_form.specs.NormalForm.{AreAscending, IsNormalGroup, groups_of}
-use Rattle.pim_form.specs.Rows.{between, IsWithin, place_group, place_seen, form_seen, IsKept}
+use Rattle.pim_form.proofs.Words.{drop-append-le, drop-take, length-take, map-append, take-add, AllByRecursion}
+use Rattle.pim_form.proofs.Words.{IsStrictlySortedBy, nat_cmp, Less, slice_cmp, AddressFamily, GroupPlace, AreAscending}
+use Rattle.pim_form.proofs.Words.{IsNormalGroup, groups_of, between, IsWithin, place_group, place_seen, form_seen, IsKept}
 use Rattle.pim_form.proofs.Lists.{all_append, all_front, all_behind, all_map, all_mapped}
 use Rattle.pim_form.proofs.Kept.{ascending}
 

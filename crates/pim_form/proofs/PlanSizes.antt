@@ -1,13 +1,8 @@
 -- How many entries units have, and whether a run with one more group fits a message.
-use Rattle.std.proofs.Common.{◌≡◌, ℕ, ◌+◌, true, false, List, [], ◌∷◌, ◌++◌, Option, None, Some, length, map, nat_le, refl, sym, ap, subst, arith}
-use Rattle.std.specs.List.{AllByRecursion}
-use Rattle.std.proofs.lemmas.Bool.{and_from, le-leb, false_from_ne_true}
-use Rattle.std.proofs.lemmas.Grind.{flat_map-append}
-use Rattle.pim_addr.specs.declared.family.AddressFamily.{AddressFamily}
-use Rattle.pim_form.specs.NormalForm.{GroupForm, AreAscending, groups_of}
-use Rattle.pim_form.specs.Units.{source_unit, star_units, group_units, units_of, run_entries, run_groups, run_size}
-use Rattle.pim_form.specs.Packing.{fits, most_groups}
-use Rattle.pim_form.specs.Filling.{HasRoom}
+use Rattle.pim_form.proofs.Words.{◌≡◌, ℕ, ◌+◌, true, false, List, [], ◌∷◌, ◌++◌, Option, None, Some, length, map, nat_le, refl}
+use Rattle.pim_form.proofs.Words.{sym, ap, subst, arith, AllByRecursion, and_from, le-leb, false_from_ne_true, flat_map-append}
+use Rattle.pim_form.proofs.Words.{AddressFamily, GroupForm, AreAscending, groups_of, source_unit, star_units, group_units}
+use Rattle.pim_form.proofs.Words.{units_of, run_entries, run_groups, run_size, fits, most_groups, HasRoom}
 use Rattle.pim_form.proofs.Units.{IsSome, count_groups}
 use Rattle.pim_form.proofs.OnePacking.{entries_append, fits_parts}
 

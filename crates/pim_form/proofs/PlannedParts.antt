@@ -1,15 +1,7 @@
 -- The parts of a plan fit messages, and their stars have RPs where those of the form have.
-use Rattle.std.proofs.Common.{ℕ, List, [], ◌∷◌, map, sym, subst, Option}
-use Rattle.std.specs.List.{AllByRecursion}
-use Rattle.pim_addr.specs.declared.family.AddressFamily.{AddressFamily}
-use Rattle.pim_form.specs.declared.place.GroupPlace.{GroupPlace}
-use Rattle.pim_form.specs.NormalForm.{GroupForm, IsNormal}
-use Rattle.pim_form.specs.Units.{units_of}
-use Rattle.pim_form.specs.Packing.{joined, AreRuns}
-use Rattle.pim_form.specs.Messages.{HaveRps}
-use Rattle.pim_form.specs.Rows.{form_seen, IsKept}
-use Rattle.pim_form.specs.Plan.{parts_from, run_of, IsPlan}
-use Rattle.pim_form.specs.Parts.{IsFitting, PartHasRps}
+use Rattle.pim_form.proofs.Words.{ℕ, List, [], ◌∷◌, map, sym, subst, Option, AllByRecursion, AddressFamily, GroupPlace}
+use Rattle.pim_form.proofs.Words.{GroupForm, IsNormal, units_of, joined, AreRuns, HaveRps, form_seen, IsKept}
+use Rattle.pim_form.proofs.Words.{parts_from, run_of, IsPlan, IsFitting, PartHasRps}
 use Rattle.pim_form.proofs.Lists.{all_front, all_behind}
 use Rattle.pim_form.proofs.Normal.{groups_some}
 use Rattle.pim_form.proofs.Spelled.{IsValid, IsValidUnit, units_valid, parts_valid, rp_here}

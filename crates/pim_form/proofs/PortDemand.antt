@@ -1,25 +1,11 @@
 -- What one port wants, asked of its records alone, each by itself.
-use Rattle.std.proofs.Common.{◌≡◌, ◌∙◌, ℕ, ◌+◌, Bool, true, false, ◌||◌, ◌&&◌, not, cond, List, [], ◌∷◌, Option, None, Some, length, eqb, refl, sym, ap, subst, arith}
-use Rattle.std.specs.List.{AllByRecursion, list_any, filter}
-use Rattle.std.specs.Ordering.{is_eq}
-use Rattle.std.proofs.lemmas.Bool.{false≢true, eqb-true}
-use Rattle.std.proofs.lemmas.Bool.Decides.{nat_tests}
-use Rattle.pim_addr.specs.declared.family.AddressFamily.{AddressFamily}
-use Rattle.pim_down.specs.declared.machines.key.What.{What}
-use Rattle.pim_down.specs.declared.machines.key.What.TheVariants.{Star, Source, Rpt}
-use Rattle.pim_down.specs.declared.machines.key.Key.{Key}
-use Rattle.pim_down.specs.declared.machines.machine.State.{State}
-use Rattle.pim_down.specs.declared.machines.machine.Record.{Record}
-use Rattle.pim_down.specs.Key.{same_key}
-use Rattle.pim_down.specs.Records.{IsBelow, IsAscending, machine_at, state_of_machine, state_of, is_on, count_on}
-use Rattle.pim_down.specs.Laws.{KeysAreDistinct}
-use Rattle.pim_down.specs.Sound.{IsReal, IsSound}
-use Rattle.pim_down.specs.Time.{Downstream}
-use Rattle.pim_form.specs.declared.tree.Tree.{Tree}
+use Rattle.pim_form.proofs.Words.{◌≡◌, ◌∙◌, ℕ, ◌+◌, Bool, true, false, ◌||◌, ◌&&◌, not, cond, List, [], ◌∷◌, Option}
+use Rattle.pim_form.proofs.Words.{None, Some, length, eqb, refl, sym, ap, subst, arith, AllByRecursion, list_any}
+use Rattle.pim_form.proofs.Words.{filter, is_eq, false≢true, eqb-true, nat_tests, AddressFamily, What, Star, Source}
+use Rattle.pim_form.proofs.Words.{Rpt, Key, State, Record, same_key, IsBelow, IsAscending, machine_at, state_of_machine}
+use Rattle.pim_form.proofs.Words.{state_of, is_on, count_on, KeysAreDistinct, IsReal, IsSound, Downstream, Tree}
+use Rattle.pim_form.proofs.Words.{same_address, is_joined, is_pruned, state_on, wants_on, AreOfPort, of_port}
 use Rattle.pim_form.specs.declared.tree.Tree.TheVariants.{Shared, Source as SourceTree}
-use Rattle.pim_form.specs.NormalForm.{same_address}
-use Rattle.pim_form.specs.Wants.{is_joined, is_pruned, state_on, wants_on}
-use Rattle.pim_form.specs.Collect.{AreOfPort, of_port}
 use Rattle.pim_form.proofs.Addresses.{same_is, same_itself}
 
 -- ---- asked of each record by itself

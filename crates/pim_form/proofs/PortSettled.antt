@@ -1,28 +1,15 @@
 -- A port is settled at a form exactly if its records are as the form asks, and what the form asks for is there.
-use Rattle.std.proofs.Common.{◌≡◌, ◌∙◌, ◌⊎◌, inl, inr, ◌↔◌, ℕ, ◌<◌, Bool, true, false, ◌||◌, ◌&&◌, cond, List, [], ◌∷◌, Option, None, Some, eqb, length, map, get_or, refl, sym, ap, subst, arith}
+use Rattle.pim_form.proofs.Words.{◌≡◌, ◌∙◌, ◌⊎◌, inl, inr, ◌↔◌, ℕ, ◌<◌, Bool, true, false, ◌||◌, ◌&&◌, cond, List, []}
+use Rattle.pim_form.proofs.Words.{◌∷◌, Option, None, Some, eqb, length, map, get_or, refl, sym, ap, subst, arith}
+use Rattle.pim_form.proofs.Words.{AllByRecursion, list_all, filter, IsStrictlySortedBy, nat_cmp, is_eq, slice_cmp, Less}
+use Rattle.pim_form.proofs.Words.{false≢true, eqb-true, nat_tests, What, Star, Source, Rpt, Key, Record, same_key}
+use Rattle.pim_form.proofs.Words.{IsBelow, IsAscending, machine_at, is_on, KeysAreDistinct, GroupForm, AreAscending}
+use Rattle.pim_form.proofs.Words.{AreExceptions, same_address, is_listed, groups_of, exceptions_of, is_pruned, state_on}
+use Rattle.pim_form.proofs.Words.{unwanted, group_in, is_in_join, joins_if, prunes_if, rpt_settles, machine_settles}
+use Rattle.pim_form.proofs.Words.{IsSettledAt, record_settles, is_joined_at, is_pruned_at, group_settles, AddressFamily}
+use Rattle.pim_form.proofs.Words.{GroupPlace, place_group, place_seen, form_seen, IsKept}
 use Rattle.std.specs.Option.{is_some}
-use Rattle.std.specs.List.{AllByRecursion, list_all, filter}
-use Rattle.std.specs.List.Sorted.{IsStrictlySortedBy}
-use Rattle.std.specs.Ordering.{nat_cmp, is_eq}
-use Rattle.std.specs.Cmp.Lexicographic.{slice_cmp}
-use Rattle.std.specs.declared.cmp.Ordering.TheVariants.{Less}
-use Rattle.std.proofs.lemmas.Bool.{false≢true, eqb-true}
-use Rattle.std.proofs.lemmas.Bool.Decides.{nat_tests}
-use Rattle.pim_down.specs.declared.machines.key.What.{What}
-use Rattle.pim_down.specs.declared.machines.key.What.TheVariants.{Star, Source, Rpt}
-use Rattle.pim_down.specs.declared.machines.key.Key.{Key}
 use Rattle.pim_down.specs.declared.machines.machine.Machine.{Machine}
-use Rattle.pim_down.specs.declared.machines.machine.Record.{Record}
-use Rattle.pim_down.specs.Key.{same_key}
-use Rattle.pim_down.specs.Records.{IsBelow, IsAscending, machine_at, is_on}
-use Rattle.pim_down.specs.Laws.{KeysAreDistinct}
-use Rattle.pim_form.specs.NormalForm.{GroupForm, AreAscending, AreExceptions, same_address, is_listed, groups_of}
-use Rattle.pim_form.specs.Rows.{exceptions_of}
-use Rattle.pim_form.specs.Wants.{is_pruned, state_on}
-use Rattle.pim_form.specs.Settled.{unwanted, group_in, is_in_join, joins_if, prunes_if, rpt_settles, machine_settles, IsSettledAt, record_settles, is_joined_at, is_pruned_at, group_settles}
-use Rattle.pim_addr.specs.declared.family.AddressFamily.{AddressFamily}
-use Rattle.pim_form.specs.declared.place.GroupPlace.{GroupPlace}
-use Rattle.pim_form.specs.Rows.{place_group, place_seen, form_seen, IsKept}
 use Rattle.pim_form.proofs.Kept.{all_at, seen_at, groups_seen, places_count}
 use Rattle.pim_form.proofs.Addresses.{same_is, same_itself, less_apart_back}
 

@@ -1,13 +1,8 @@
 -- A row of addresses behind which what is left of a group is put.
-use Rattle.std.proofs.Common.{◌≡◌, ◌∙◌, ◌++◌, ◌+◌, ◌≤◌, ℕ, Bool, true, false, List, [], ◌∷◌, length, take, drop, map, refl, sym, ap, arith, length-append}
-use Rattle.std.specs.List.{filter}
-use Rattle.std.proofs.lemmas.List.{take-take, take-append-drop}
-use Rattle.std.proofs.Math.Seq.{take-append_seam, drop-append_seam, take-length}
-use Rattle.std.specs.List.{AllByRecursion}
-use Rattle.pim_form.specs.declared.place.GroupPlace.{GroupPlace}
-use Rattle.pim_form.specs.NormalForm.{GroupForm}
-use Rattle.pim_form.specs.Rows.{between, IsWithin, star_of, form_seen}
-use Rattle.pim_form.specs.KeptToward.{IsFront, IsStarPushed, IsPushed}
+use Rattle.pim_form.proofs.Words.{◌≡◌, ◌∙◌, ◌++◌, ◌+◌, ◌≤◌, ℕ, Bool, true, false, List, [], ◌∷◌, length, take, drop}
+use Rattle.pim_form.proofs.Words.{map, refl, sym, ap, arith, length-append, filter, take-take, take-append-drop}
+use Rattle.pim_form.proofs.Words.{take-append_seam, drop-append_seam, take-length, AllByRecursion, GroupPlace}
+use Rattle.pim_form.proofs.Words.{GroupForm, between, IsWithin, star_of, form_seen, IsFront, IsStarPushed, IsPushed}
 use Rattle.pim_form.proofs.Drafts.{appended, same_form, still_within}
 
 module _ {A : Type 0} (bytes_of : A → List ℕ) where

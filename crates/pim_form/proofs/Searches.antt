@@ -1,13 +1,8 @@
 -- What a search among addresses in order finds.
 use Rattle.std.proofs.Common.{◌≡◌, ◌∙◌, sym, ap, ℕ, zero, suc, ◌≤◌, ◌<◌, Bool, true, false, ◌||◌, List, [], ◌∷◌, Ordering, length, get_or, map, refl, ⊎_elim, arith, add-one}
-use Rattle.std.proofs.lemmas.Bool.{cases_lt}
-use Rattle.std.specs.List.Sorted.{IsSortedBy, IsStrictlySortedBy, IsNonDecreasingBy, IsPartitionPoint}
-use Rattle.std.specs.Ordering.{nat_cmp, is_lt, ordering_index, ordering_reverse}
-use Rattle.std.specs.declared.cmp.Ordering.TheVariants.{Less, Equal, Greater}
-use Rattle.std.specs.Cmp.Lexicographic.{slice_cmp}
-use Rattle.std.proofs.lemmas.Cmp.{nat_list_cmp_total}
-use Rattle.std.proofs.lemmas.List.Sorted.{searchable_from_sorted}
-use Rattle.pim_form.specs.NormalForm.{AreAscending, same_address, is_listed}
+use Rattle.pim_form.proofs.Words.{cases_lt, IsSortedBy, IsStrictlySortedBy, IsNonDecreasingBy, IsPartitionPoint}
+use Rattle.pim_form.proofs.Words.{nat_cmp, is_lt, ordering_index, ordering_reverse, Less, Equal, Greater, slice_cmp}
+use Rattle.pim_form.proofs.Words.{nat_list_cmp_total, searchable_from_sorted, AreAscending, same_address, is_listed}
 use Rattle.pim_form.proofs.Addresses.{same_itself, equal_is, less_apart, greater_less, less_apart_back}
 
 module _ {A : Type 0} (bytes_of : A → List ℕ) where

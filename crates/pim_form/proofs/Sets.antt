@@ -1,21 +1,12 @@
 -- The set of a group, as it is written: how many entries it has, and its parts one behind the other.
-use Rattle.std.proofs.Common.{◌≡◌, ◌∙◌, ℕ, ◌+◌, ◌*◌, ◌≤◌, ◌<◌, ◌^◌, List, [], ◌∷◌, ◌++◌, Option, None, Some, map, length, take, refl, sym, ap, arith, length-append, append_assoc}
+use Rattle.pim_form.proofs.Words.{◌≡◌, ◌∙◌, ℕ, ◌+◌, ◌*◌, ◌≤◌, ◌<◌, ◌^◌, List, [], ◌∷◌, ◌++◌, Option, None, Some, map, length}
+use Rattle.pim_form.proofs.Words.{take, refl, sym, ap, arith, length-append, append_assoc, from_bool, flat_map, take-append_seam}
+use Rattle.pim_form.proofs.Words.{length-map, take_all, append-nil, flat_map-map, flat_map-append, AddressFamily, canonical_group}
+use Rattle.pim_form.proofs.Words.{Entry, canonical_entry, canonical_set, canonical_set_length, canonical_sets_length, GroupForm}
+use Rattle.pim_form.proofs.Words.{exceptions_of, IsRpOf, star_entries, excepted_entries, written_set, canonical_source_entry}
+use Rattle.pim_form.proofs.Words.{canonical_rpt_entry}
 use Rattle.std.specs.Prelude.{Bool, is_some}
-use Rattle.std.specs.Int.{from_bool}
-use Rattle.std.specs.List.{flat_map}
-use Rattle.std.proofs.Math.Seq.{take-append_seam}
-use Rattle.std.proofs.lemmas.List.{length-map, take_all, append-nil}
-use Rattle.std.proofs.lemmas.List.Folds.{flat_map-map}
-use Rattle.std.proofs.lemmas.Grind.{flat_map-append}
-use Rattle.pim_addr.specs.declared.family.AddressFamily.{AddressFamily}
-use Rattle.pim_addr.specs.Canonical.{canonical_group}
-use Rattle.pim_jp.specs.declared.entry.Entry.{Entry}
 use Rattle.pim_jp.specs.declared.entry.Entry.TheVariants.{Source, Rpt}
-use Rattle.pim_jp.specs.Canonical.{canonical_entry, canonical_set, canonical_set_length, canonical_sets_length}
-use Rattle.pim_form.specs.NormalForm.{GroupForm}
-use Rattle.pim_form.specs.Rows.{exceptions_of}
-use Rattle.pim_form.specs.Messages.{IsRpOf, star_entries, excepted_entries, written_set}
-use Rattle.pim_form.specs.Entries.{canonical_source_entry, canonical_rpt_entry}
 
 pub pruned_count : (star : Option (List (List ℕ))) → length (excepted_entries star) ≡ length (exceptions_of star)
 pruned_count None = refl

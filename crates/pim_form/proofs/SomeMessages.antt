@@ -1,22 +1,11 @@
 -- A normal form has canonical messages exactly if no star is too big.
-use Rattle.std.proofs.Common.{◌≡◌, ◌∙◌, ◌↔◌, ℕ, ◌≤◌, ◌⊎◌, true, false, cond, List, [], ◌∷◌, ◌++◌, Option, None, Some, map, nat_le, refl, sym, ap, subst, inl, inr, arith}
-use Rattle.std.proofs.lemmas.Bool.{le-leb, and_from}
-use Rattle.std.specs.declared.cmp.Ordering.TheVariants.{Less}
-use Rattle.std.specs.List.{AllByRecursion}
-use Rattle.std.specs.List.Sorted.{IsStrictlySortedBy}
-use Rattle.std.specs.Ordering.{nat_cmp}
-use Rattle.std.specs.Cmp.Lexicographic.{slice_cmp}
-use Rattle.pim_addr.specs.declared.family.AddressFamily.{AddressFamily}
-use Rattle.pim_addr.specs.declared.family.AddressFamily.TheVariants.{Ipv4, Ipv6}
-use Rattle.pim_frame.specs.Frame.{all_routers}
-use Rattle.pim_frame.specs.Seal.{SomeMessageIsSealed}
-use Rattle.pim_frame.specs.declared.frame.MessageType.TheVariants.{JoinPrune}
-use Rattle.pim_jp.specs.Canonical.{canonical}
-use Rattle.pim_form.specs.NormalForm.{GroupForm, AreAscending, IsNormal, groups_of, is_empty}
-use Rattle.pim_form.specs.Units.{WantUnit, star_unit, source_unit, star_units, group_units, units_of, run_entries, run_groups, groups_behind, run_size}
-use Rattle.pim_form.specs.Packing.{most_groups, joined}
-use Rattle.pim_form.specs.Messages.{Writing, IsWriting, CarryRuns, AreCanonical, written_message}
-use Rattle.pim_form.specs.TooBig.{star_fits, too_big}
+use Rattle.pim_form.proofs.Words.{◌≡◌, ◌∙◌, ◌↔◌, ℕ, ◌≤◌, ◌⊎◌, true, false, cond, List, [], ◌∷◌, ◌++◌, Option, None, Some, map}
+use Rattle.pim_form.proofs.Words.{nat_le, refl, sym, ap, subst, inl, inr, arith, le-leb, and_from, Less, AllByRecursion}
+use Rattle.pim_form.proofs.Words.{IsStrictlySortedBy, nat_cmp, slice_cmp, AddressFamily, Ipv4, Ipv6, all_routers}
+use Rattle.pim_form.proofs.Words.{SomeMessageIsSealed, JoinPrune, canonical, GroupForm, AreAscending, IsNormal, groups_of}
+use Rattle.pim_form.proofs.Words.{is_empty, WantUnit, star_unit, source_unit, star_units, group_units, units_of, run_entries}
+use Rattle.pim_form.proofs.Words.{run_groups, groups_behind, run_size, most_groups, joined, Writing, IsWriting, CarryRuns}
+use Rattle.pim_form.proofs.Words.{AreCanonical, written_message, star_fits, too_big}
 use Rattle.pim_form.proofs.Lists.{all_append, all_front, all_behind}
 use Rattle.pim_form.proofs.Normal.{groups_some}
 use Rattle.pim_form.proofs.SomePacking.{Alone, some_packing, packing_alone}

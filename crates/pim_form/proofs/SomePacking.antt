@@ -1,11 +1,9 @@
 -- Units have a packing exactly if each of them fits a message alone.
-use Rattle.std.proofs.Common.{◌≡◌, ◌↔◌, ℕ, ◌+◌, ◌*◌, ◌≤◌, true, false, List, [], ◌∷◌, ◌++◌, nat_le, refl, sym, ap, subst, arith, append_assoc}
-use Rattle.std.proofs.lemmas.Bool.{le-leb, and_from}
-use Rattle.std.specs.List.{AllByRecursion}
-use Rattle.pim_addr.specs.declared.family.AddressFamily.{AddressFamily}
-use Rattle.pim_addr.specs.declared.family.AddressFamily.TheVariants.{Ipv4, Ipv6}
-use Rattle.pim_form.specs.Units.{WantUnit, unit_entries, run_entries, groups_behind, run_groups, run_size, empty_message_size, empty_set_size, entry_size}
-use Rattle.pim_form.specs.Packing.{fits, most_groups, StopsBefore, IsNonempty, joined, AreRuns, IsPacking}
+use Rattle.pim_form.proofs.Words.{◌≡◌, ◌↔◌, ℕ, ◌+◌, ◌*◌, ◌≤◌, true, false, List, [], ◌∷◌, ◌++◌, nat_le, refl, sym, ap}
+use Rattle.pim_form.proofs.Words.{subst, arith, append_assoc, le-leb, and_from, AllByRecursion, AddressFamily, Ipv4}
+use Rattle.pim_form.proofs.Words.{Ipv6, WantUnit, unit_entries, run_entries, groups_behind, run_groups, run_size}
+use Rattle.pim_form.proofs.Words.{empty_message_size, empty_set_size, entry_size, fits, most_groups, StopsBefore}
+use Rattle.pim_form.proofs.Words.{IsNonempty, joined, AreRuns, IsPacking}
 use Rattle.pim_form.proofs.Lists.{all_append}
 use Rattle.pim_form.proofs.OnePacking.{fits_parts}
 

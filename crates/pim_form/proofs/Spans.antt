@@ -1,7 +1,5 @@
 -- Messages as they are kept.
-use Rattle.std.proofs.Common.{◌≡◌, ℕ, suc, ◌<◌, List, [], ◌∷◌, length, Some, slice_get, refl, ap, arith}
-use Rattle.pim_form.specs.declared.messages.Span.{Span}
-use Rattle.pim_form.specs.Blocks.{messages_seen}
+use Rattle.pim_form.proofs.Words.{◌≡◌, ℕ, suc, ◌<◌, List, [], ◌∷◌, length, Some, slice_get, refl, ap, arith, Span, messages_seen}
 
 pub spans_count : (bytes : List ℕ) (spans : List Span) → length (messages_seen bytes spans) ≡ length spans
 spans_count bytes [] = refl

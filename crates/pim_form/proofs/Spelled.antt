@@ -1,21 +1,14 @@
 -- What is written of a part of a form: it can be spelled, and how long it is.
-use Rattle.std.proofs.Common.{◌≡◌, ◌∙◌, ℕ, ◌+◌, ◌*◌, ◌^◌, ◌≤◌, ◌<◌, true, false, List, [], ◌∷◌, ◌++◌, Option, None, Some, map, length, refl, sym, ap, arith, length-append}
-use Rattle.std.specs.Int.{w16, to_be_bytes}
-use Rattle.std.specs.List.{AllByRecursion, list_any}
-use Rattle.std.proofs.lemmas.List.{length-map}
-use Rattle.pim_addr.specs.declared.family.AddressFamily.{AddressFamily}
-use Rattle.pim_addr.specs.declared.family.AddressFamily.TheVariants.{Ipv4, Ipv6}
-use Rattle.pim_jp.specs.declared.entry.Entry.{Entry}
+use Rattle.pim_form.proofs.Words.{◌≡◌, ◌∙◌, ℕ, ◌+◌, ◌*◌, ◌^◌, ◌≤◌, ◌<◌, true, false, List, [], ◌∷◌, ◌++◌, Option, None, Some, map}
+use Rattle.pim_form.proofs.Words.{length, refl, sym, ap, arith, length-append, w16, to_be_bytes, AllByRecursion, list_any}
+use Rattle.pim_form.proofs.Words.{length-map, AddressFamily, Ipv4, Ipv6, Entry, IsMessageEntry, IsMessageSet, IsMessage}
+use Rattle.pim_form.proofs.Words.{canonical, canonical_head_length, canonical_sets_length, framed, JoinPrune, IsGroupAddress}
+use Rattle.pim_form.proofs.Words.{IsSourceAddress, GroupForm, AreAscending, AreExceptions, is_empty, IsNormalGroup, groups_of}
+use Rattle.pim_form.proofs.Words.{WantUnit, star_unit, source_unit, star_units, group_units, units_of, run_entries, run_size}
+use Rattle.pim_form.proofs.Words.{empty_message_size, empty_set_size, entry_size, fits, Writing, IsWriting, IsRp, IsRpOf, HaveRps}
+use Rattle.pim_form.proofs.Words.{star_entries, excepted_entries, written_set, written_message}
 use Rattle.pim_jp.specs.declared.entry.Entry.TheVariants.{Source, Rpt}
 use Rattle.pim_jp.specs.Spelling.{same_source, star_count, IsLegalSet}
-use Rattle.pim_jp.specs.Canonical.{IsMessageEntry, IsMessageSet, IsMessage, canonical, canonical_head_length, canonical_sets_length}
-use Rattle.pim_frame.specs.Seal.{framed}
-use Rattle.pim_frame.specs.declared.frame.MessageType.TheVariants.{JoinPrune}
-use Rattle.pim_addr.specs.Address.{IsGroupAddress, IsSourceAddress}
-use Rattle.pim_form.specs.NormalForm.{GroupForm, AreAscending, AreExceptions, is_empty, IsNormalGroup, groups_of}
-use Rattle.pim_form.specs.Units.{WantUnit, star_unit, source_unit, star_units, group_units, units_of, run_entries, run_size, empty_message_size, empty_set_size, entry_size}
-use Rattle.pim_form.specs.Packing.{fits}
-use Rattle.pim_form.specs.Messages.{Writing, IsWriting, IsRp, IsRpOf, HaveRps, star_entries, excepted_entries, written_set, written_message}
 use Rattle.pim_form.proofs.Lists.{all_append, all_front, all_behind, all_map, all_mapped}
 use Rattle.pim_form.proofs.Units.{IsSome, count_groups}
 use Rattle.pim_form.proofs.OnePacking.{entries_append, fits_parts}

@@ -1,11 +1,8 @@
 -- The size of a star alone.
-use Rattle.std.proofs.Common.{◌≡◌, ◌∙◌, ℕ, ◌+◌, ◌*◌, Bool, true, false, ◌&&◌, List, [], ◌∷◌, Option, None, Some, length, nat_le, is_some, refl, sym, ap, arith}
-use Rattle.std.proofs.lemmas.Bool.{false≢true}
-use Rattle.pim_addr.specs.declared.family.AddressFamily.{AddressFamily}
-use Rattle.pim_form.specs.Units.{star_unit, run_entries, groups_behind, run_groups, run_size, empty_message_size, empty_set_size, entry_size}
-use Rattle.pim_form.specs.Packing.{most_groups}
-use Rattle.pim_form.specs.Rows.{exceptions_of}
-use Rattle.pim_form.specs.TooBig.{star_fits}
+use Rattle.pim_form.proofs.Words.{◌≡◌, ◌∙◌, ℕ, ◌+◌, ◌*◌, Bool, true, false, ◌&&◌, List, [], ◌∷◌, Option, None, Some}
+use Rattle.pim_form.proofs.Words.{length, nat_le, is_some, refl, sym, ap, arith, false≢true, AddressFamily, star_unit}
+use Rattle.pim_form.proofs.Words.{run_entries, groups_behind, run_groups, run_size, empty_message_size, empty_set_size}
+use Rattle.pim_form.proofs.Words.{entry_size, most_groups, exceptions_of, star_fits}
 
 and_true : (b : Bool) → b ≡ b && true
 and_true true = refl

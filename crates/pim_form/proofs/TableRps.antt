@@ -1,13 +1,9 @@
 -- What a sound route table leads to.
-use Rattle.std.proofs.Common.{◌≡◌, ℕ, Bool, true, false, List, [], ◌∷◌, Option, None, Some, option_map, if◌then◌else◌, nat_lt, is_some, refl}
-use Rattle.std.proofs.lemmas.Bool.{false≢true}
-use Rattle.std.specs.List.{AllByRecursion, filter}
-use Rattle.pim_addr.specs.declared.family.AddressFamily.{AddressFamily}
-use Rattle.pim_addr.specs.Address.{IsSourceAddress}
-use Rattle.pim_addr.specs.Routes.{Row, RouteTable, matches, longer_of, longest, led_to, rp_of, IsRealRow, IsRouteTable}
-use Rattle.pim_form.specs.NormalForm.{GroupForm}
-use Rattle.pim_form.specs.Messages.{IsRp, IsRpOf, HaveRps}
-use Rattle.pim_form.specs.Toward.{star_rpf_neighbour, is_neighbour, is_star_toward, is_group_toward, is_toward}
+use Rattle.pim_form.proofs.Words.{◌≡◌, ℕ, Bool, true, false, List, [], ◌∷◌, Option, None, Some, option_map}
+use Rattle.pim_form.proofs.Words.{if◌then◌else◌, nat_lt, is_some, refl, false≢true, AllByRecursion, filter}
+use Rattle.pim_form.proofs.Words.{AddressFamily, IsSourceAddress, Row, RouteTable, matches, longer_of, longest, led_to}
+use Rattle.pim_form.proofs.Words.{rp_of, IsRealRow, IsRouteTable, GroupForm, IsRp, IsRpOf, HaveRps, star_rpf_neighbour}
+use Rattle.pim_form.proofs.Words.{is_neighbour, is_star_toward, is_group_toward, is_toward}
 use Rattle.pim_form.proofs.KeptForm.{all_filter}
 use Rattle.pim_form.proofs.AskedForAll.{first_true, second_true}
 

@@ -1,18 +1,11 @@
 -- Canonical messages tell their normal form.
-use Rattle.std.proofs.Common.{◌≡◌, ◌∙◌, ℕ, true, List, [], ◌∷◌, ◌++◌, Option, None, Some, map, refl, sym, ap, subst}
-use Rattle.std.specs.List.{AllByRecursion}
-use Rattle.pim_addr.specs.declared.family.AddressFamily.{AddressFamily}
-use Rattle.pim_frame.specs.Frame.{join_prune, content, all_routers}
-use Rattle.pim_frame.specs.Seal.{OneChecksum, IsSealed}
-use Rattle.pim_frame.specs.declared.frame.MessageType.TheVariants.{JoinPrune}
-use Rattle.pim_jp.specs.declared.entry.Entry.{Entry}
+use Rattle.pim_form.proofs.Words.{◌≡◌, ◌∙◌, ℕ, true, List, [], ◌∷◌, ◌++◌, Option, None, Some, map, refl, sym, ap, subst}
+use Rattle.pim_form.proofs.Words.{AllByRecursion, AddressFamily, join_prune, content, all_routers, OneChecksum}
+use Rattle.pim_form.proofs.Words.{IsSealed, JoinPrune, Entry, IsMessage, canonical, GroupForm, IsNormal, WantUnit}
+use Rattle.pim_form.proofs.Words.{units_of, fits, joined, AreRuns, Writing, IsWriting, IsRpOf, HaveRps, star_entries}
+use Rattle.pim_form.proofs.Words.{excepted_entries, written_set, written_message, CarriesRun, CarryRuns, AreCanonical}
 use Rattle.pim_jp.specs.declared.entry.Entry.TheVariants.{Star, Source, Rpt}
 use Rattle.pim_jp.specs.Message.{GroupSet, Message, message_of}
-use Rattle.pim_jp.specs.Canonical.{IsMessage, canonical}
-use Rattle.pim_form.specs.NormalForm.{GroupForm, IsNormal}
-use Rattle.pim_form.specs.Units.{WantUnit, units_of}
-use Rattle.pim_form.specs.Packing.{fits, joined, AreRuns}
-use Rattle.pim_form.specs.Messages.{Writing, IsWriting, IsRpOf, HaveRps, star_entries, excepted_entries, written_set, written_message, CarriesRun, CarryRuns, AreCanonical}
 use Rattle.pim_form.proofs.Lists.{all_front, all_behind, one_mapped}
 use Rattle.pim_form.proofs.Normal.{groups_some}
 use Rattle.pim_form.proofs.Units.{one_of_units}

@@ -1,26 +1,12 @@
 -- How many units a form has: no more than there are records of which it is told.
-use Rattle.std.proofs.Common.{◌≡◌, ◌∙◌, ℕ, zero, suc, ◌+◌, ◌*◌, ◌≤◌, Bool, true, false, cond, List, [], ◌∷◌, ◌++◌, Option, None, Some, map, length, refl, arith, length-append}
-use Rattle.std.specs.declared.cmp.Ordering.TheVariants.{Less, Equal, Greater}
-use Rattle.std.specs.List.{filter}
-use Rattle.std.specs.Ordering.{nat_cmp}
-use Rattle.std.specs.Cmp.Lexicographic.{slice_cmp}
-use Rattle.std.proofs.lemmas.List.{length-map}
-use Rattle.pim_addr.specs.declared.family.AddressFamily.{AddressFamily}
-use Rattle.pim_addr.specs.Routes.{RouteTable, rp_of}
-use Rattle.pim_down.specs.declared.machines.key.What.{What}
-use Rattle.pim_down.specs.declared.machines.key.What.TheVariants.{Star, Source, Rpt}
-use Rattle.pim_down.specs.declared.machines.machine.State.{State}
-use Rattle.pim_down.specs.declared.machines.machine.Record.{Record}
-use Rattle.pim_down.specs.Sound.{IsSound}
-use Rattle.pim_down.specs.Time.{Downstream}
-use Rattle.pim_form.specs.NormalForm.{GroupForm, same_address, is_empty}
-use Rattle.pim_form.specs.Wants.{is_joined, is_pruned}
-use Rattle.pim_form.specs.Collect.{fresh, with_exception, star_with, sources_with, added, closed, collected_behind, collected, of_port}
-use Rattle.pim_form.specs.Merge.{by_order, merged_into, merged_by, itself, first_of, united, both_stars, both_groups, group_of, merged}
-use Rattle.pim_form.specs.Toward.{via_of, star_rpf_neighbour, is_neighbour}
-use Rattle.pim_form.specs.KeptToward.{is_reached, star_toward, group_toward, form_toward}
-use Rattle.pim_form.specs.Units.{star_units, source_unit, group_units, units_of}
-use Rattle.pim_form.specs.Demanded.{form_below, demanded_form}
+use Rattle.pim_form.proofs.Words.{◌≡◌, ◌∙◌, ℕ, zero, suc, ◌+◌, ◌*◌, ◌≤◌, Bool, true, false, cond, List, [], ◌∷◌, ◌++◌, Option}
+use Rattle.pim_form.proofs.Words.{None, Some, map, length, refl, arith, length-append, Less, Equal, Greater, filter, nat_cmp}
+use Rattle.pim_form.proofs.Words.{slice_cmp, length-map, AddressFamily, RouteTable, rp_of, What, Star, Source, Rpt, State, Record}
+use Rattle.pim_form.proofs.Words.{IsSound, Downstream, GroupForm, same_address, is_empty, is_joined, is_pruned, fresh}
+use Rattle.pim_form.proofs.Words.{with_exception, star_with, sources_with, added, closed, collected_behind, collected, of_port}
+use Rattle.pim_form.proofs.Words.{by_order, merged_into, merged_by, itself, first_of, united, both_stars, both_groups, group_of}
+use Rattle.pim_form.proofs.Words.{merged, via_of, star_rpf_neighbour, is_neighbour, is_reached, star_toward, group_toward}
+use Rattle.pim_form.proofs.Words.{form_toward, star_units, source_unit, group_units, units_of, form_below, demanded_form}
 use Rattle.pim_form.proofs.PortDemand.{are_of_port}
 
 -- ---- lists whose items have a size

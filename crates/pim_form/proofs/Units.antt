@@ -1,13 +1,8 @@
 -- Normal forms with the same units are one, and how many groups their units have.
-use Rattle.std.proofs.Common.{◌≡◌, ◌∙◌, ℕ, ◌+◌, true, false, List, [], ◌∷◌, ◌++◌, Option, None, Some, map, length, refl, sym, ap, subst, arith}
-use Rattle.std.specs.List.{AllByRecursion}
-use Rattle.std.specs.List.Sorted.{IsStrictlySortedBy}
-use Rattle.std.specs.Ordering.{nat_cmp}
-use Rattle.std.specs.declared.cmp.Ordering.TheVariants.{Less}
-use Rattle.std.specs.Cmp.Lexicographic.{slice_cmp}
-use Rattle.std.proofs.lemmas.Bool.{false≢true}
-use Rattle.pim_form.specs.NormalForm.{GroupForm, AreAscending, same_address, is_empty, groups_of}
-use Rattle.pim_form.specs.Units.{WantUnit, star_unit, source_unit, unit_group, star_units, group_units, units_of, is_of_group, groups_behind, run_groups}
+use Rattle.pim_form.proofs.Words.{◌≡◌, ◌∙◌, ℕ, ◌+◌, true, false, List, [], ◌∷◌, ◌++◌, Option, None, Some, map, length, refl, sym}
+use Rattle.pim_form.proofs.Words.{ap, subst, arith, AllByRecursion, IsStrictlySortedBy, nat_cmp, Less, slice_cmp, false≢true}
+use Rattle.pim_form.proofs.Words.{GroupForm, AreAscending, same_address, is_empty, groups_of, WantUnit, star_unit, source_unit}
+use Rattle.pim_form.proofs.Words.{unit_group, star_units, group_units, units_of, is_of_group, groups_behind, run_groups}
 use Rattle.pim_form.proofs.Addresses.{same_itself, less_apart}
 
 abbrev pub IsSome : GroupForm → Type 0

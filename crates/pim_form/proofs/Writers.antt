@@ -1,14 +1,10 @@
 -- Which writer is refused, and what is true of one that isn't.
-use Rattle.std.proofs.Common.{◌≡◌, ◌∙◌, ◌≤◌, ◌<◌, ◌^◌, Bool, true, false, ◌||◌, not, nat_lt, ◌++◌, Result, Ok, Err, refl, sym, subst}
-use Rattle.std.proofs.lemmas.Bool.{false≢true, not-false, lt-ltb, le-ltb, ltb-false}
-use Rattle.pim_addr.specs.declared.family.AddressFamily.{AddressFamily}
-use Rattle.pim_addr.specs.Address.{IsAddress, is_source}
+use Rattle.pim_form.proofs.Words.{◌≡◌, ◌∙◌, ◌≤◌, ◌<◌, ◌^◌, Bool, true, false, ◌||◌, not, nat_lt, ◌++◌, Result, Ok, Err, refl, sym}
+use Rattle.pim_form.proofs.Words.{subst, false≢true, not-false, lt-ltb, le-ltb, ltb-false, AddressFamily, IsAddress, is_source}
+use Rattle.pim_form.proofs.Words.{same_address, Writing, IsWriting, has_bad_address, writer_faults}
 use Rattle.pim_addr.specs.Faults.{fault_if, judged}
 use Rattle.pim_form.specs.declared.writer.WriterFault.{WriterFault}
 use Rattle.pim_form.specs.declared.writer.WriterFault.TheVariants.{Address, Holdtime, Budget}
-use Rattle.pim_form.specs.NormalForm.{same_address}
-use Rattle.pim_form.specs.Messages.{Writing, IsWriting}
-use Rattle.pim_form.specs.Writer.{has_bad_address, writer_faults}
 use Rattle.pim_form.proofs.Addresses.{same_itself}
 
 or_parts : (a b : Bool) → (a || b) ≡ false → (a ≡ false) × (b ≡ false)

@@ -1,29 +1,16 @@
 -- How many machines are held, and how many a delivery needs.
-use Rattle.std.proofs.Common.{◌≡◌, ℕ, ◌+◌, ◌-◌, Bool, true, false, cond, ◌&&◌, ◌||◌, not, List, [], ◌∷◌, ◌++◌, Option, Some, None, map, length, eqb, refl, sym, ap, subst, ◌∙◌, arith}
-use Rattle.std.specs.Option.{is_some}
+use Rattle.pim_fresh.proofs.Words.{◌≡◌, ℕ, ◌+◌, ◌-◌, Bool, true, false, cond, ◌&&◌, ◌||◌, not, List, [], ◌∷◌, ◌++◌, Option, Some}
+use Rattle.pim_fresh.proofs.Words.{None, map, length, eqb, refl, sym, ap, subst, ◌∙◌, arith, is_some, AllByRecursion, IsDistinct}
+use Rattle.pim_fresh.proofs.Words.{IsEquivalence, false≢true, eq-eqb, list_any-append, What, Star, Source, Rpt, Key, PrunePending}
+use Rattle.pim_fresh.proofs.Words.{Prune, same_key, IsBelow, IsAscending, machine_at, count_on, machine_in, Event, key_of}
+use Rattle.pim_fresh.proofs.Words.{creates, is_new, count_new, needed, Downstream, KeysAreDistinct, Exchange, HasUnitsOnce}
+use Rattle.pim_fresh.proofs.Words.{has_unit_of, AreUnits, Delivery, last_of, is_delivered, Span, span_of, time_left, is_waiting}
+use Rattle.pim_fresh.proofs.Words.{unit_of, units_of, HoldsTheUnits, NeedsTheUnits}
 use Rattle.std.specs.Ordering.{is_eq}
-use Rattle.std.specs.List.{AllByRecursion, IsDistinct}
 use Rattle.std.specs.Set.{is_member}
-use Rattle.std.specs.Cmp.{IsEquivalence}
-use Rattle.std.proofs.lemmas.Bool.{false≢true, eq-eqb}
 use Rattle.std.proofs.lemmas.List.{length-map, length-append}
-use Rattle.std.proofs.lemmas.List.Folds.{list_any-append}
 use Rattle.std.proofs.lemmas.Map.Made.{length-from_same_keys}
-use Rattle.pim_down.specs.declared.machines.key.What.{What}
-use Rattle.pim_down.specs.declared.machines.key.What.TheVariants.{Star, Source, Rpt}
-use Rattle.pim_down.specs.declared.machines.key.Key.{Key}
-use Rattle.pim_down.specs.declared.machines.machine.State.TheVariants.{PrunePending, Prune}
 use Rattle.pim_down.specs.declared.machines.machine.Record.{Record}
-use Rattle.pim_down.specs.Key.{same_key}
-use Rattle.pim_down.specs.Records.{IsBelow, IsAscending, machine_at, count_on}
-use Rattle.pim_down.specs.Tables.{machine_in}
-use Rattle.pim_down.specs.Hearing.{Event, key_of, creates, is_new, count_new, needed}
-use Rattle.pim_down.specs.Time.{Downstream}
-use Rattle.pim_down.specs.Laws.{KeysAreDistinct}
-use Rattle.pim_fresh.specs.Exchange.{Exchange, HasUnitsOnce, has_unit_of, AreUnits}
-use Rattle.pim_fresh.specs.Deliveries.{Delivery, last_of, is_delivered}
-use Rattle.pim_fresh.specs.Expected.{Span, span_of, time_left, is_waiting, unit_of, units_of}
-use Rattle.pim_fresh.specs.Laws.{HoldsTheUnits, NeedsTheUnits}
 use Rattle.pim_fresh.proofs.Named.{or_true, or_false, same_itself, named_port, apart}
 use Rattle.pim_fresh.proofs.Spans.{names, comes, span_named, span_other}
 use Rattle.pim_fresh.proofs.Staying.{was_named}

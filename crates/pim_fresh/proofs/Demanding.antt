@@ -1,25 +1,15 @@
 -- The events of a message that asks for traffic tell units.
-use Rattle.std.proofs.Common.{◌≡◌, ℕ, Bool, true, false, cond, ◌||◌, not, List, [], ◌∷◌, ◌++◌, Option, Some, None, map, refl, sym, ap, subst, ◌∙◌}
-use Rattle.std.specs.Prelude.{nat_eq}
-use Rattle.std.specs.List.{AllByRecursion, IsDistinct, flat_map}
-use Rattle.std.specs.Cmp.{nat_eq_equiv}
-use Rattle.std.specs.Cmp.Lexicographic.{pointwise, lists_equiv}
-use Rattle.std.proofs.lemmas.Bool.{false≢true}
+use Rattle.pim_fresh.proofs.Words.{◌≡◌, ℕ, Bool, true, false, cond, ◌||◌, not, List, [], ◌∷◌, ◌++◌, Option, Some, None, map, refl}
+use Rattle.pim_fresh.proofs.Words.{sym, ap, subst, ◌∙◌, nat_eq, AllByRecursion, IsDistinct, flat_map, nat_eq_equiv, pointwise}
+use Rattle.pim_fresh.proofs.Words.{lists_equiv, false≢true, flat_map-map, list_any-append, What, Star, Source, Rpt, Key}
+use Rattle.pim_fresh.proofs.Words.{source_of, same_key, Event, key_of, is_rpt, is_star, creates_by, is_known, entry_events}
+use Rattle.pim_fresh.proofs.Words.{list_events, set_events, KeysAreDistinct, has_unit_of, star_at, AreUnits, DemandingHasUnits}
 use Rattle.std.proofs.lemmas.Grind.{flat_map-append}
 use Rattle.std.proofs.lemmas.List.Concat.{flat_map_single}
-use Rattle.std.proofs.lemmas.List.Folds.{flat_map-map, list_any-append}
 use Rattle.pim_jp.specs.declared.entry.Entry.{Entry}
 use Rattle.pim_jp.specs.declared.entry.Entry.TheVariants as entry
 use Rattle.pim_jp.specs.Message.{GroupSet}
-use Rattle.pim_down.specs.declared.machines.key.What.{What}
-use Rattle.pim_down.specs.declared.machines.key.What.TheVariants.{Star, Source, Rpt}
-use Rattle.pim_down.specs.declared.machines.key.Key.{Key}
-use Rattle.pim_down.specs.Key.{source_of, same_key}
-use Rattle.pim_down.specs.Hearing.{Event, key_of, is_rpt, is_star, creates_by, is_known, entry_events, list_events, set_events}
-use Rattle.pim_down.specs.Laws.{KeysAreDistinct}
-use Rattle.pim_fresh.specs.Exchange.{has_unit_of, star_at, AreUnits}
 use Rattle.pim_fresh.specs.Demanding.{AreDifferent, star_entries, excepted, IsKnownRp, Demands}
-use Rattle.pim_fresh.specs.Laws.{DemandingHasUnits}
 use Rattle.pim_fresh.proofs.Named.{or_true, same_keys, same_itself}
 
 none_of : (a b : Bool) → a ≡ false → b ≡ false → (a || b) ≡ false

@@ -1,23 +1,10 @@
 -- No echo is told, so that every run of a fresh hearing reaches its moment.
-use Rattle.std.proofs.Common.{◌≡◌, ℕ, true, false, List, [], ◌∷◌, Option, Some, None, refl, sym, ap, subst, ◌∙◌}
-use Rattle.std.specs.Option.{is_some}
-use Rattle.std.proofs.lemmas.Bool.{false≢true}
-use Rattle.pim_down.specs.declared.machines.key.What.{What}
-use Rattle.pim_down.specs.declared.machines.key.What.TheVariants.{Star, Source, Rpt}
-use Rattle.pim_down.specs.declared.machines.key.Key.{Key}
+use Rattle.pim_fresh.proofs.Words.{◌≡◌, ℕ, true, false, List, [], ◌∷◌, Option, Some, None, refl, sym, ap, subst, ◌∙◌, is_some}
+use Rattle.pim_fresh.proofs.Words.{false≢true, What, Star, Source, Rpt, Key, Machine, Step, Reached, Echo, IsAscending}
+use Rattle.pim_fresh.proofs.Words.{machine_at, is_rpt, Downstream, Runs, echoes_at, EveryStateHasARun, EchoNamesAMachine}
+use Rattle.pim_fresh.proofs.Words.{Exchange, HasUnitsOnce, starts, Delivery, IsTimely, fresh, after_message, Leaves, Span}
+use Rattle.pim_fresh.proofs.Words.{span_of, unit_of, NoEchoIsDue, HasLeft, EveryHearingReaches}
 use Rattle.pim_down.specs.declared.machines.machine.Pending.{Pending}
-use Rattle.pim_down.specs.declared.machines.machine.Machine.{Machine}
-use Rattle.pim_down.specs.declared.machines.step.Step.{Step}
-use Rattle.pim_down.specs.declared.machines.step.Step.TheVariants.{Reached, Echo}
-use Rattle.pim_down.specs.Records.{IsAscending, machine_at}
-use Rattle.pim_down.specs.Hearing.{is_rpt}
-use Rattle.pim_down.specs.Time.{Downstream, Runs, echoes_at}
-use Rattle.pim_down.specs.Laws.{EveryStateHasARun, EchoNamesAMachine}
-use Rattle.pim_fresh.specs.Exchange.{Exchange, HasUnitsOnce, starts}
-use Rattle.pim_fresh.specs.Deliveries.{Delivery, IsTimely}
-use Rattle.pim_fresh.specs.Hearing.{fresh, after_message, Leaves}
-use Rattle.pim_fresh.specs.Expected.{Span, span_of, unit_of}
-use Rattle.pim_fresh.specs.Laws.{NoEchoIsDue, HasLeft, EveryHearingReaches}
 use Rattle.pim_fresh.proofs.Heard.{message_star}
 use Rattle.pim_fresh.proofs.Hearings.{Machines, IsExpected, middle_at, middle_order, is_expected}
 

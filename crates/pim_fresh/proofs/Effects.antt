@@ -1,18 +1,9 @@
 -- What the events of a message leave at a machine.
-use Rattle.std.proofs.Common.{◌≡◌, ℕ, Bool, true, false, cond, ◌&&◌, ◌||◌, List, [], ◌∷◌, Option, None, eqb, refl, sym, ap, subst, ◌∙◌}
-use Rattle.std.specs.Cmp.Lexicographic.{pointwise, same_text, lists_equiv}
-use Rattle.std.specs.Cmp.{nat_eq_equiv}
-use Rattle.std.specs.Prelude.{nat_eq}
-use Rattle.std.proofs.lemmas.Bool.{false≢true, eq-eqb}
-use Rattle.pim_down.specs.declared.machines.key.What.{What}
-use Rattle.pim_down.specs.declared.machines.key.What.TheVariants.{Star, Source, Rpt}
-use Rattle.pim_down.specs.declared.machines.key.Key.{Key}
-use Rattle.pim_down.specs.declared.machines.machine.Machine.{Machine}
-use Rattle.pim_down.specs.Key.{same_key}
-use Rattle.pim_down.specs.Tables.{Start, on_join, on_rpt_prune, on_star_join}
-use Rattle.pim_down.specs.Hearing.{Event, key_of, on_own, is_rpt, is_star, is_star_join, is_rpt_on, is_rpt_of, on_rpts, effect, effects, creates_by, creates}
-use Rattle.pim_down.specs.Laws.{KeysAreDistinct}
-use Rattle.pim_fresh.specs.Exchange.{has_unit_of, star_at, AreUnits}
+use Rattle.pim_fresh.proofs.Words.{◌≡◌, ℕ, Bool, true, false, cond, ◌&&◌, ◌||◌, List, [], ◌∷◌, Option, None, eqb, refl, sym, ap}
+use Rattle.pim_fresh.proofs.Words.{subst, ◌∙◌, pointwise, same_text, lists_equiv, nat_eq_equiv, nat_eq, false≢true, eq-eqb, What}
+use Rattle.pim_fresh.proofs.Words.{Star, Source, Rpt, Key, Machine, same_key, Start, on_join, on_rpt_prune, on_star_join, Event}
+use Rattle.pim_fresh.proofs.Words.{key_of, on_own, is_rpt, is_star, is_star_join, is_rpt_on, is_rpt_of, on_rpts, effect, effects}
+use Rattle.pim_fresh.proofs.Words.{creates_by, creates, KeysAreDistinct, has_unit_of, star_at, AreUnits}
 use Rattle.pim_fresh.proofs.Named.{or_true, or_false, star_key, star_joins, same_keys, apart}
 
 -- ---- a creating event at its own machine

@@ -1,19 +1,11 @@
 -- What a message makes of the machines that are expected when it comes.
-use Rattle.std.proofs.Common.{◌≡◌, ℕ, ◌+◌, ◌-◌, ◌≤◌, Bool, true, false, cond, ◌&&◌, List, [], ◌∷◌, Option, Some, None, ltb, eqb, refl, sym, ap, subst, ◌∙◌, arith}
-use Rattle.std.proofs.lemmas.Bool.{false≢true, ltb-true, ltb-false}
-use Rattle.std.proofs.lemmas.Bool.Decides.{nat_tests}
-use Rattle.pim_down.specs.declared.machines.key.What.{What}
-use Rattle.pim_down.specs.declared.machines.key.What.TheVariants.{Star, Source, Rpt}
-use Rattle.pim_down.specs.declared.machines.key.Key.{Key}
-use Rattle.pim_down.specs.declared.machines.machine.State.TheVariants.{Join, PrunePending, Prune}
-use Rattle.pim_down.specs.declared.machines.machine.Machine.{Machine}
-use Rattle.pim_down.specs.Tables.{greater, machine_in, on_join, on_rpt_prune, on_star_join, on_end}
-use Rattle.pim_down.specs.Hearing.{is_rpt, is_rpt_on, effects, at_end, heard_at}
-use Rattle.pim_down.specs.Time.{expiry_after, settled_at, machine_after, after_silence}
-use Rattle.pim_down.specs.Laws.{KeysAreDistinct}
-use Rattle.pim_fresh.specs.Exchange.{Exchange, HasUnitsOnce, starts, has_unit_of, star_at}
-use Rattle.pim_fresh.specs.Deliveries.{Delivery, IsShorter, IsTimely}
-use Rattle.pim_fresh.specs.Expected.{Span, up_to, span_of, time_left, is_waiting, unit_at, unit_of, expected}
+use Rattle.pim_fresh.proofs.Words.{◌≡◌, ℕ, ◌+◌, ◌-◌, ◌≤◌, Bool, true, false, cond, ◌&&◌, List, [], ◌∷◌, Option, Some, None, ltb}
+use Rattle.pim_fresh.proofs.Words.{eqb, refl, sym, ap, subst, ◌∙◌, arith, false≢true, ltb-true, ltb-false, nat_tests, What, Star}
+use Rattle.pim_fresh.proofs.Words.{Source, Rpt, Key, Join, PrunePending, Prune, Machine, greater, machine_in, on_join}
+use Rattle.pim_fresh.proofs.Words.{on_rpt_prune, on_star_join, on_end, is_rpt, is_rpt_on, effects, at_end, heard_at, expiry_after}
+use Rattle.pim_fresh.proofs.Words.{settled_at, machine_after, after_silence, KeysAreDistinct, Exchange, HasUnitsOnce, starts}
+use Rattle.pim_fresh.proofs.Words.{has_unit_of, star_at, Delivery, IsShorter, IsTimely, Span, up_to, span_of, time_left}
+use Rattle.pim_fresh.proofs.Words.{is_waiting, unit_at, unit_of, expected}
 use Rattle.pim_fresh.proofs.Named.{named_port, star_is_named}
 use Rattle.pim_fresh.proofs.Effects.{quiet, none, joined, starred}
 use Rattle.pim_fresh.proofs.Waiting.{expiry_renewed, unit_later, pending_later, pruned_later}

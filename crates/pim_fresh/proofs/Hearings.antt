@@ -1,15 +1,9 @@
 -- Fresh hearing, by induction on the deliveries.
-use Rattle.std.proofs.Common.{◌≡◌, ℕ, ◌-◌, List, [], ◌∷◌, refl, ap, ◌∙◌, arith}
-use Rattle.pim_down.specs.declared.machines.key.Key.{Key}
-use Rattle.pim_down.specs.declared.machines.step.Step.TheVariants.{Reached}
-use Rattle.pim_down.specs.Records.{IsAscending, machine_at}
-use Rattle.pim_down.specs.Time.{Downstream, Runs, after_silence}
-use Rattle.pim_down.specs.Laws.{KeysAreDistinct, HearingKeepsTheOrder, HearingActsAtEachKey, RunKeepsTheOrder, RunKeepsItsBounds, SilenceActsAtEachKey}
-use Rattle.pim_fresh.specs.Exchange.{Exchange, HasUnitsOnce, starts}
-use Rattle.pim_fresh.specs.Deliveries.{Delivery, IsTimely}
-use Rattle.pim_fresh.specs.Hearing.{fresh, after_message, Leaves}
-use Rattle.pim_fresh.specs.Expected.{span_of, expected, IsAsExpected}
-use Rattle.pim_fresh.specs.Laws.{FreshHearing}
+use Rattle.pim_fresh.proofs.Words.{◌≡◌, ℕ, ◌-◌, List, [], ◌∷◌, refl, ap, ◌∙◌, arith, Key, Reached, IsAscending}
+use Rattle.pim_fresh.proofs.Words.{machine_at, Downstream, Runs, after_silence, KeysAreDistinct, HearingKeepsTheOrder}
+use Rattle.pim_fresh.proofs.Words.{HearingActsAtEachKey, RunKeepsTheOrder, RunKeepsItsBounds, SilenceActsAtEachKey}
+use Rattle.pim_fresh.proofs.Words.{Exchange, HasUnitsOnce, starts, Delivery, IsTimely, fresh, after_message, Leaves}
+use Rattle.pim_fresh.proofs.Words.{span_of, expected, IsAsExpected, FreshHearing}
 use Rattle.pim_fresh.proofs.Heard.{message_at, delivered}
 
 -- the laws of the machines that this rests on

@@ -1,12 +1,7 @@
 -- The span of a machine is that of its message.
-use Rattle.std.proofs.Common.{◌≡◌, ℕ, Bool, true, false, cond, List, [], ◌∷◌, Option, Some, None, eqb, refl, sym, ap, subst, ◌∙◌}
-use Rattle.std.specs.Prelude.{option_map}
-use Rattle.std.proofs.lemmas.Bool.{false≢true, eq-eqb, eqb-true}
-use Rattle.pim_down.specs.declared.machines.key.Key.{Key}
-use Rattle.pim_fresh.specs.Exchange.{Exchange, HasUnitsOnce, has_unit_of}
-use Rattle.pim_fresh.specs.Deliveries.{Delivery, earlier_or, first_of, last_of}
-use Rattle.pim_fresh.specs.Expected.{Span, up_to, span_of}
-use Rattle.pim_fresh.specs.Laws.{SpanIsOfItsMessage}
+use Rattle.pim_fresh.proofs.Words.{◌≡◌, ℕ, Bool, true, false, cond, List, [], ◌∷◌, Option, Some, None, eqb, refl, sym, ap, subst}
+use Rattle.pim_fresh.proofs.Words.{◌∙◌, option_map, false≢true, eq-eqb, eqb-true, Key, Exchange, HasUnitsOnce, has_unit_of}
+use Rattle.pim_fresh.proofs.Words.{Delivery, earlier_or, first_of, last_of, Span, up_to, span_of, SpanIsOfItsMessage}
 use Rattle.pim_fresh.proofs.Spans.{names, span_named, span_other}
 
 first_in : Span → ℕ

@@ -1,3 +1,4 @@
+pub mod Words
 pub mod Named
 pub mod Effects
 pub mod Waiting

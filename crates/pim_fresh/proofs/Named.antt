@@ -1,13 +1,7 @@
 -- Which machines the events of a message name.
-use Rattle.std.proofs.Common.{◌≡◌, ℕ, Bool, true, false, ◌&&◌, ◌||◌, List, [], ◌∷◌, refl, sym, ap, subst, ◌∙◌}
-use Rattle.std.proofs.lemmas.Bool.{false≢true}
-use Rattle.pim_down.specs.declared.machines.key.What.{What}
-use Rattle.pim_down.specs.declared.machines.key.What.TheVariants.{Star, Source, Rpt}
-use Rattle.pim_down.specs.declared.machines.key.Key.{Key}
-use Rattle.pim_down.specs.Key.{same_key}
-use Rattle.pim_down.specs.Hearing.{Event, key_of, is_rpt, is_star, is_star_join, creates_by, creates}
-use Rattle.pim_down.specs.Laws.{KeysAreDistinct}
-use Rattle.pim_fresh.specs.Exchange.{has_unit_of, star_at, AreUnits}
+use Rattle.pim_fresh.proofs.Words.{◌≡◌, ℕ, Bool, true, false, ◌&&◌, ◌||◌, List, [], ◌∷◌, refl, sym, ap, subst, ◌∙◌}
+use Rattle.pim_fresh.proofs.Words.{false≢true, What, Star, Source, Rpt, Key, same_key, Event, key_of, is_rpt, is_star}
+use Rattle.pim_fresh.proofs.Words.{is_star_join, creates_by, creates, KeysAreDistinct, has_unit_of, star_at, AreUnits}
 
 -- ---- tests
 

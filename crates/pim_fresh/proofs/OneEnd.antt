@@ -1,10 +1,6 @@
 -- Deliveries have one end.
-use Rattle.std.proofs.Common.{◌≡◌, [], ◌∷◌, sym, subst}
-use Rattle.pim_down.specs.declared.machines.step.Step.TheVariants.{Reached}
-use Rattle.pim_down.specs.Time.{Downstream, Runs}
-use Rattle.pim_down.specs.Laws.{RunHasOneEnd}
-use Rattle.pim_fresh.specs.Hearing.{fresh, after_message, Leaves}
-use Rattle.pim_fresh.specs.Laws.{HearingHasOneEnd}
+use Rattle.pim_fresh.proofs.Words.{◌≡◌, [], ◌∷◌, sym, subst, Reached, Downstream, Runs, RunHasOneEnd, fresh}
+use Rattle.pim_fresh.proofs.Words.{after_message, Leaves, HearingHasOneEnd}
 
 pub one_end : RunHasOneEnd → HearingHasOneEnd
 unfolding Leaves

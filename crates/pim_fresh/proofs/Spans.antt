@@ -1,11 +1,7 @@
 -- The span of a machine in a list of timely deliveries.
-use Rattle.std.proofs.Common.{◌≡◌, ℕ, ◌-◌, ◌≤◌, Bool, true, false, cond, List, [], ◌∷◌, Option, Some, None, eqb, refl, sym, ap, subst, ◌∙◌, arith}
-use Rattle.std.specs.Option.{is_some}
-use Rattle.std.proofs.lemmas.Bool.{false≢true, eq-eqb, eqb-true}
-use Rattle.pim_down.specs.declared.machines.key.Key.{Key}
-use Rattle.pim_fresh.specs.Exchange.{Exchange, has_unit_of}
-use Rattle.pim_fresh.specs.Deliveries.{Delivery, last_of, IsShorter, AreAlive, IsTimely}
-use Rattle.pim_fresh.specs.Expected.{Span, up_to, span_of}
+use Rattle.pim_fresh.proofs.Words.{◌≡◌, ℕ, ◌-◌, ◌≤◌, Bool, true, false, cond, List, [], ◌∷◌, Option, Some, None, eqb, refl, sym}
+use Rattle.pim_fresh.proofs.Words.{ap, subst, ◌∙◌, arith, is_some, false≢true, eq-eqb, eqb-true, Key, Exchange, has_unit_of}
+use Rattle.pim_fresh.proofs.Words.{Delivery, last_of, IsShorter, AreAlive, IsTimely, Span, up_to, span_of}
 
 pub the_span : (a b : Span) → Some a ≡ Some b → a ≡ b
 the_span a b e = cc

@@ -1,24 +1,11 @@
 -- From the final moment on the machines stay as they are asked for.
-use Rattle.std.proofs.Common.{◌≡◌, ℕ, ◌+◌, ◌-◌, ◌≤◌, Bool, true, false, cond, ◌&&◌, ◌||◌, List, [], ◌∷◌, Option, Some, None, ltb, eqb, max, refl, sym, ap, subst, ◌∙◌, arith}
-use Rattle.std.specs.Option.{is_some}
-use Rattle.std.specs.Prelude.{option_map}
-use Rattle.std.proofs.lemmas.Bool.{false≢true, eqb-true}
-use Rattle.std.proofs.lemmas.Bool.Decides.{nat_tests}
-use Rattle.pim_down.specs.declared.machines.key.What.{What}
-use Rattle.pim_down.specs.declared.machines.key.What.TheVariants.{Star, Source, Rpt}
-use Rattle.pim_down.specs.declared.machines.key.Key.{Key}
-use Rattle.pim_down.specs.declared.machines.machine.State.TheVariants.{PrunePending, Prune}
-use Rattle.pim_down.specs.declared.machines.step.Step.{Step}
-use Rattle.pim_down.specs.declared.machines.step.Step.TheVariants.{Reached}
-use Rattle.pim_down.specs.Records.{machine_at, state_of_machine}
-use Rattle.pim_down.specs.Tables.{machine_in}
-use Rattle.pim_down.specs.Time.{Downstream, machine_after, Runs}
-use Rattle.pim_down.specs.Laws.{RunGoesOn, EchoNamesAMachine}
-use Rattle.pim_fresh.specs.Exchange.{Exchange, HasUnitsOnce, starts, has_unit_of}
-use Rattle.pim_fresh.specs.Deliveries.{Delivery, IsShorter, IsTimely, is_delivered, final_moment}
-use Rattle.pim_fresh.specs.Hearing.{fresh, after_message, Leaves}
-use Rattle.pim_fresh.specs.Expected.{Span, up_to, span_of, time_left, unit_of, state_wanted, machine_wanted}
-use Rattle.pim_fresh.specs.Laws.{Stays, StaysAsWanted}
+use Rattle.pim_fresh.proofs.Words.{◌≡◌, ℕ, ◌+◌, ◌-◌, ◌≤◌, Bool, true, false, cond, ◌&&◌, ◌||◌, List, [], ◌∷◌, Option, Some, None}
+use Rattle.pim_fresh.proofs.Words.{ltb, eqb, max, refl, sym, ap, subst, ◌∙◌, arith, is_some, option_map, false≢true, eqb-true}
+use Rattle.pim_fresh.proofs.Words.{nat_tests, What, Star, Source, Rpt, Key, PrunePending, Prune, Step, Reached, machine_at}
+use Rattle.pim_fresh.proofs.Words.{state_of_machine, machine_in, Downstream, machine_after, Runs, RunGoesOn, EchoNamesAMachine}
+use Rattle.pim_fresh.proofs.Words.{Exchange, HasUnitsOnce, starts, has_unit_of, Delivery, IsShorter, IsTimely, is_delivered}
+use Rattle.pim_fresh.proofs.Words.{final_moment, fresh, after_message, Leaves, Span, up_to, span_of, time_left, unit_of}
+use Rattle.pim_fresh.proofs.Words.{state_wanted, machine_wanted, Stays, StaysAsWanted}
 use Rattle.pim_fresh.proofs.Waiting.{left_later}
 use Rattle.pim_fresh.proofs.Spans.{the_span, no_span, names, span_named, span_other, in_order}
 use Rattle.pim_fresh.proofs.Hearings.{Machines, IsExpected, is_expected}

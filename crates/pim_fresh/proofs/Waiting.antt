@@ -1,17 +1,9 @@
 -- What silence makes of the machines that are expected.
-use Rattle.std.proofs.Common.{◌≡◌, ℕ, ◌+◌, ◌-◌, ◌≤◌, Bool, true, false, cond, ◌&&◌, List, Option, Some, None, ltb, eqb, max, refl, sym, ap, ◌∙◌, arith}
-use Rattle.std.proofs.lemmas.Bool.{ltb-true, ltb-false}
-use Rattle.std.proofs.lemmas.Bool.Decides.{nat_tests}
-use Rattle.pim_down.specs.declared.machines.key.What.{What}
-use Rattle.pim_down.specs.declared.machines.key.What.TheVariants.{Star, Source, Rpt}
-use Rattle.pim_down.specs.declared.machines.key.Key.{Key}
+use Rattle.pim_fresh.proofs.Words.{◌≡◌, ℕ, ◌+◌, ◌-◌, ◌≤◌, Bool, true, false, cond, ◌&&◌, List, Option, Some, None, ltb, eqb, max}
+use Rattle.pim_fresh.proofs.Words.{refl, sym, ap, ◌∙◌, arith, ltb-true, ltb-false, nat_tests, What, Star, Source, Rpt, Key, Join}
+use Rattle.pim_fresh.proofs.Words.{PrunePending, Prune, greater, machine_in, expiry_after, machine_after, expiry_due, settled_at}
+use Rattle.pim_fresh.proofs.Words.{after_silence, Exchange, starts, IsShorter, Span, time_left, unit_at}
 use Rattle.pim_down.specs.declared.machines.machine.State.{State}
-use Rattle.pim_down.specs.declared.machines.machine.State.TheVariants.{Join, PrunePending, Prune}
-use Rattle.pim_down.specs.Tables.{greater, machine_in}
-use Rattle.pim_down.specs.Time.{expiry_after, machine_after, expiry_due, settled_at, after_silence}
-use Rattle.pim_fresh.specs.Exchange.{Exchange, starts}
-use Rattle.pim_fresh.specs.Deliveries.{IsShorter}
-use Rattle.pim_fresh.specs.Expected.{Span, time_left, unit_at}
 
 -- ---- ET
 

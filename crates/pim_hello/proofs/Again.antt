@@ -1,23 +1,15 @@
 -- What is written is read.
 use Rattle.std.proofs.Common.{◌≡◌, ℕ, ◌+◌, ◌<◌, ◌^◌, ◌%◌, Bool, true, false, cond, eqb, leb, not, List, [], ◌∷◌, ◌++◌, length, drop, Option, Some, None, refl, sym, ap, ◌∙◌, arith, length-append}
 use Rattle.std.specs.Option.{option_map, option_or, unwrap_or, IfSome}
-use Rattle.std.specs.List.{list_all, flat_map}
-use Rattle.std.proofs.lemmas.Bool.{le-ltb, le-leb, lt-leb, and_from, cond-true}
-use Rattle.std.proofs.lemmas.List.{take_at, drop_at, append-nil}
+use Rattle.pim_hello.proofs.Words.{list_all, flat_map, le-ltb, le-leb, lt-leb, and_from, cond-true, take_at, drop_at, append-nil}
+use Rattle.pim_hello.proofs.Words.{big_number, big_bytes, AddressFamily, Ipv4, Ipv6, address_length, unicast_length}
+use Rattle.pim_hello.proofs.Words.{unicast_address, Address, Delays, is_whole, option_type, value_length, option_value}
+use Rattle.pim_hello.proofs.Words.{behind_option, Content, whole, content_at, Part, part_then, parts_within, parts, last_of}
+use Rattle.pim_hello.proofs.Words.{begins_with, Listed, native, row, is_native, is_row, if_of, addresses_of, kinds_at, faults_of}
+use Rattle.pim_hello.proofs.Words.{delays_of, hello_of, option_spelled, if_there, delays_spelled, address_spelled, row_spelled}
+use Rattle.pim_hello.proofs.Words.{row_there, spelling_of, AreAddresses, ReadsBack}
 use Rattle.std.proofs.lemmas.List.Concat.{flat_map-append}
-use Rattle.byteorder.specs.Endian.{big_number, big_bytes}
 use Rattle.byteorder.specs.Numbers.{big_number-reads_back}
-use Rattle.pim_addr.specs.declared.family.AddressFamily.{AddressFamily}
-use Rattle.pim_addr.specs.declared.family.AddressFamily.TheVariants.{Ipv4, Ipv6}
-use Rattle.pim_addr.specs.Address.{address_length}
-use Rattle.pim_addr.specs.Encoded.{unicast_length, unicast_address}
-use Rattle.pim_hello.specs.declared.fault.HelloKind.TheVariants.{Address}
-use Rattle.pim_hello.specs.Hello.{Delays}
-use Rattle.pim_hello.specs.Options.{is_whole, option_type, value_length, option_value, behind_option, Content, whole, content_at, Part, part_then, parts_within, parts, last_of}
-use Rattle.pim_hello.specs.Row.{begins_with, Listed, native, row, is_native, is_row, if_of, addresses_of}
-use Rattle.pim_hello.specs.Faults.{kinds_at, faults_of}
-use Rattle.pim_hello.specs.Value.{delays_of, hello_of}
-use Rattle.pim_hello.specs.Spelling.{option_spelled, if_there, delays_spelled, address_spelled, row_spelled, row_there, spelling_of, AreAddresses, ReadsBack}
 use Rattle.pim_hello.proofs.Rows.{one_family, row_at, row_empty}
 use Rattle.pim_hello.proofs.Parts.{parts_first, parts_empty, same_hello, or_none}
 

@@ -1,10 +1,8 @@
 -- A list of addresses, written one after the other.
 use Rattle.std.proofs.Common.{◌≡◌, ℕ, ◌+◌, ◌*◌, ◌<◌, ◌≤◌, List, [], ◌∷◌, ◌++◌, length, map, take, get_or, sym, ap, subst, ◌∙◌, arith, mul-le-mul_left}
-use Rattle.std.proofs.lemmas.List.{take_more, map-append, append-nil}
+use Rattle.pim_hello.proofs.Words.{take_more, map-append, append-nil, AddressFamily, address_length, address_spelled}
+use Rattle.pim_hello.proofs.Words.{row_spelled, AreAddresses}
 use Rattle.std.proofs.lemmas.Grind.{flat_map-append}
-use Rattle.pim_addr.specs.declared.family.AddressFamily.{AddressFamily}
-use Rattle.pim_addr.specs.Address.{address_length}
-use Rattle.pim_hello.specs.Spelling.{address_spelled, row_spelled, AreAddresses}
 
 -- there is room for one more
 pub room : (i n size at more total : ℕ) → i < n → at ≡ i * size → more ≡ size → total ≡ n * size → at + more ≤ total

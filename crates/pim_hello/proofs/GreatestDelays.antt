@@ -1,23 +1,11 @@
 -- What the delays come to as Hellos come and go.
-use Rattle.std.proofs.Common.{◌≡◌, ℕ, Bool, true, false, cond, List, [], ◌∷◌, Option, Some, None, refl, sym, ap, ◌∙◌, arith}
+use Rattle.pim_hello.proofs.Words.{◌≡◌, ℕ, Bool, true, false, cond, List, [], ◌∷◌, Option, Some, None, refl, sym, ap}
+use Rattle.pim_hello.proofs.Words.{◌∙◌, arith, IfNone, false≢true, and_parts, leb-true, is_eq, match_ordering, Ordering}
+use Rattle.pim_hello.proofs.Words.{Less, Equal, Greater, IsTotalOrder, AllByRecursion, IsStrictlySortedBy, is_at}
+use Rattle.pim_hello.proofs.Words.{insert_entry, lookup, remove_entry, keys_of, values_of, Parameters, Delays, greatest}
+use Rattle.pim_hello.proofs.Words.{delays_sent, all_sent_delays, delays_seen, hello_of_kept, ComesTo, Kept}
 use Rattle.std.specs.Prelude.{map, max, option_map, IfSome, IsSome, nat_le, ◌&&◌, ◌≤◌}
-use Rattle.std.specs.Option.{IfNone}
-use Rattle.std.proofs.lemmas.Bool.{false≢true, and_parts, leb-true}
-use Rattle.std.specs.Ordering.{is_eq, match_ordering}
-use Rattle.std.specs.declared.cmp.Ordering.{Ordering}
-use Rattle.std.specs.declared.cmp.Ordering.TheVariants.{Less, Equal, Greater}
-use Rattle.std.specs.Cmp.{IsTotalOrder}
-use Rattle.std.specs.List.{AllByRecursion}
-use Rattle.std.specs.List.Sorted.{IsStrictlySortedBy}
-use Rattle.std.specs.BTreeMap.{is_at, insert_entry}
-use Rattle.std.specs.Map.{lookup, remove_entry, keys_of, values_of}
-use Rattle.pim_hello.specs.Hello.{Parameters, Delays}
-use Rattle.pim_hello.specs.Interval.{greatest, delays_sent, all_sent_delays}
-use Rattle.pim_hello.specs.Delays.{delays_seen}
-use Rattle.pim_hello.specs.Kept.{hello_of_kept}
-use Rattle.pim_hello.specs.KeptDelays.{ComesTo}
 use Rattle.pim_hello.specs.declared.delay.LanDelay.{LanDelay}
-use Rattle.pim_hello.specs.declared.parameters.Kept.{Kept}
 use Rattle.pim_hello.specs.declared.delays_heard.DelaysHeard.{DelaysHeard}
 use Rattle.pim_hello.specs.declared.delays_heard.DelaysHeard.TheVariants.{NotByAll, ByAll}
 

@@ -1,17 +1,9 @@
 -- The index of the ends follows the neighbours.
 use Rattle.std.proofs.Common.{◌≡◌, ℕ, ◌+◌, ◌<◌, ◌≤◌, [], ◌∷◌, length, arith, Bool, true, false, cond, List, Option, Some, None, is_some, refl, sym, ap, ◌∙◌}
-use Rattle.std.specs.Prelude.{not, ◌&&◌, ◌||◌, ◌==◌}
-use Rattle.std.specs.List.{list_any}
-use Rattle.std.specs.Ordering.{nat_cmp, is_eq, is_gt, ordering_then}
-use Rattle.std.specs.declared.cmp.Ordering.{Ordering}
-use Rattle.std.specs.declared.cmp.Ordering.TheVariants.{Less, Equal, Greater}
-use Rattle.std.specs.Cmp.{tied_then, unsigned_tied}
-use Rattle.std.specs.BTreeMap.{is_at}
-use Rattle.std.specs.Map.{lookup}
-use Rattle.std.proofs.lemmas.Bool.{lt-leb, le-leb, eq-eqb, eqb-true, false≢true}
-use Rattle.std.proofs.lemmas.Map.Keys.{le_from_not_gt}
-use Rattle.pim_hello.specs.Index.{ends_at, end_kept, ended_by, kept_ends_at, NoneEnded, by_end, has_end, IndexesEnds, AddsEnd, RemovesEnd}
-use Rattle.pim_hello.specs.declared.parameters.Kept.{Kept}
+use Rattle.pim_hello.proofs.Words.{not, ◌&&◌, ◌||◌, ◌==◌, list_any, nat_cmp, is_eq, is_gt, ordering_then, Ordering}
+use Rattle.pim_hello.proofs.Words.{Less, Equal, Greater, tied_then, unsigned_tied, is_at, lookup, lt-leb, le-leb}
+use Rattle.pim_hello.proofs.Words.{eq-eqb, eqb-true, false≢true, le_from_not_gt, ends_at, end_kept, ended_by}
+use Rattle.pim_hello.proofs.Words.{kept_ends_at, NoneEnded, by_end, has_end, IndexesEnds, AddsEnd, RemovesEnd, Kept}
 
 -- two ends of the index are one where the moments and the addresses are
 pub same_end : {A : Type 0} (cmp : A → A → Ordering) (d e : ℕ) (a b : A) → is_at (by_end cmp (d, a)) (e, b) ≡ ((d == e) && is_at (cmp a) b)

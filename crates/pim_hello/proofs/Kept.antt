@@ -1,24 +1,14 @@
 -- What is kept, seen as a table: look-ups, changes and time commute with the view.
-use Rattle.std.proofs.Common.{◌≡◌, ℕ, ◌+◌, ◌-◌, suc, arith, Bool, true, false, cond, List, [], ◌∷◌, length, Option, Some, None, refl, sym, ap, ⊎_elim, ◌∙◌}
-use Rattle.std.specs.Prelude.{not, ◌&&◌, nat_le, map, filter, max, option_map, is_some}
-use Rattle.std.specs.Ordering.{nat_cmp, is_eq, match_ordering}
-use Rattle.std.specs.Cmp.Lexicographic.{slice_cmp}
-use Rattle.std.specs.declared.cmp.Ordering.{Ordering}
-use Rattle.std.specs.declared.cmp.Ordering.TheVariants.{Less, Equal, Greater}
-use Rattle.std.specs.Cmp.{IsTotalOrder}
-use Rattle.std.specs.List.{AllByRecursion}
-use Rattle.std.proofs.lemmas.Bool.{false≢true, ne_eqb, eq-eqb, lt-leb, le-leb, cases_lt}
-use Rattle.std.proofs.lemmas.List.Elements.{recursion_from_All}
-use Rattle.std.proofs.lemmas.Map.Views.{All-found}
-use Rattle.std.specs.BTreeMap.{BTreeMap, IsOrdered, is_at, insert_entry}
-use Rattle.std.specs.Map.{lookup, remove_entry, keys_of, values_of}
-use Rattle.std.specs.List.Sorted.{IsStrictlySortedBy}
-use Rattle.pim_hello.specs.Hello.{Parameters}
-use Rattle.pim_hello.specs.Neighbours.{Neighbour, Table, is_address, waited, passed_to, is_over, without_ended, lifetime, says_goodbye, heard_unless_goodbye, heard_as, is_full, needs_no_memory, IsAscending, heard_from, hellos_of}
-use Rattle.pim_hello.specs.Index.{end_kept, ended_by, NoneEnded}
-use Rattle.pim_hello.specs.Kept.{parameters_seen, kept_seen, entry_seen, table_seen, hello_of_kept}
+use Rattle.pim_hello.proofs.Words.{◌≡◌, ℕ, ◌+◌, ◌-◌, suc, arith, Bool, true, false, cond, List, [], ◌∷◌, length, Option, Some}
+use Rattle.pim_hello.proofs.Words.{None, refl, sym, ap, ⊎_elim, ◌∙◌, not, ◌&&◌, nat_le, map, filter, max, option_map, is_some}
+use Rattle.pim_hello.proofs.Words.{nat_cmp, is_eq, match_ordering, slice_cmp, Ordering, Less, Equal, Greater, IsTotalOrder}
+use Rattle.pim_hello.proofs.Words.{AllByRecursion, false≢true, ne_eqb, eq-eqb, lt-leb, le-leb, cases_lt, recursion_from_All}
+use Rattle.pim_hello.proofs.Words.{All-found, BTreeMap, IsOrdered, is_at, insert_entry, lookup, remove_entry, keys_of, values_of}
+use Rattle.pim_hello.proofs.Words.{IsStrictlySortedBy, Parameters, Neighbour, Table, is_address, waited, passed_to, is_over}
+use Rattle.pim_hello.proofs.Words.{without_ended, lifetime, says_goodbye, heard_unless_goodbye, heard_as, is_full}
+use Rattle.pim_hello.proofs.Words.{needs_no_memory, IsAscending, heard_from, hellos_of, end_kept, ended_by, NoneEnded}
+use Rattle.pim_hello.proofs.Words.{parameters_seen, kept_seen, entry_seen, table_seen, hello_of_kept, Kept}
 use Rattle.pim_hello.specs.declared.parameters.Parameters.{Parameters as Sent}
-use Rattle.pim_hello.specs.declared.parameters.Kept.{Kept}
 
 -- the addresses are ordered as their bytes
 abbrev pub OrderOfBytes : {A : Type 0} → (A → A → Ordering) → (A → List ℕ) → Type 0

@@ -1,3 +1,4 @@
+pub mod Words
 pub mod Rows
 pub mod Parts
 pub mod Spelled

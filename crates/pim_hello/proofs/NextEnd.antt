@@ -1,21 +1,12 @@
 -- The first moment at which a neighbour's time is over.
-use Rattle.std.proofs.Common.{◌≡◌, ℕ, ◌+◌, ◌-◌, ◌≤◌, arith, Bool, true, false, cond, List, [], ◌∷◌, Option, Some, None, refl, sym, ap, ◌∙◌}
-use Rattle.std.specs.Prelude.{◌||◌, nat_le, min, max, map, option_map}
-use Rattle.std.specs.List.{list_any, AllByRecursion}
-use Rattle.std.specs.Cmp.{IsTotalOrder}
-use Rattle.std.specs.declared.cmp.Ordering.{Ordering}
-use Rattle.std.specs.BTreeMap.{BTreeMap, IsOrdered, is_at}
-use Rattle.std.specs.Map.{lookup}
-use Rattle.std.proofs.lemmas.Bool.{false≢true, eq-eqb, eqb-true}
+use Rattle.pim_hello.proofs.Words.{◌≡◌, ℕ, ◌+◌, ◌-◌, ◌≤◌, arith, Bool, true, false, cond, List, [], ◌∷◌, Option, Some, None, refl}
+use Rattle.pim_hello.proofs.Words.{sym, ap, ◌∙◌, ◌||◌, nat_le, min, max, map, option_map, list_any, AllByRecursion, IsTotalOrder}
+use Rattle.pim_hello.proofs.Words.{Ordering, BTreeMap, IsOrdered, is_at, lookup, false≢true, eq-eqb, eqb-true, recursion_from_All}
+use Rattle.pim_hello.proofs.Words.{All-found, Neighbour, Table, waited, passed_to, is_over, sooner, least_left, next_end}
+use Rattle.pim_hello.proofs.Words.{entry_at, ends_at, kept_ends_at, has_end, IndexesEnds, least_end, kept_seen, entry_seen}
+use Rattle.pim_hello.proofs.Words.{table_seen, comes_by, Kept}
 use Rattle.std.proofs.lemmas.Bool.Decides.{nat_tests}
-use Rattle.std.proofs.lemmas.List.Elements.{recursion_from_All}
-use Rattle.std.proofs.lemmas.Map.Views.{All-found}
-use Rattle.pim_hello.specs.Neighbours.{Neighbour, Table, waited, passed_to, is_over, sooner, least_left, next_end, entry_at}
-use Rattle.pim_hello.specs.Index.{ends_at, kept_ends_at, has_end, IndexesEnds, least_end}
-use Rattle.pim_hello.specs.Kept.{kept_seen, entry_seen, table_seen}
-use Rattle.pim_hello.specs.Laws.{comes_by}
 use Rattle.pim_hello.proofs.Kept.{OrderOfBytes, lookup_seen}
-use Rattle.pim_hello.specs.declared.parameters.Kept.{Kept}
 
 -- ---- the least end
 

@@ -1,22 +1,13 @@
 -- What the changes of a table mean for one address.
-use Rattle.std.proofs.Common.{◌≡◌, ℕ, ◌-◌, Bool, true, false, cond, List, [], ◌∷◌, Option, Some, None, refl, sym, ap, ◌∙◌}
-use Rattle.std.specs.Prelude.{not, map, option_map}
-use Rattle.std.specs.List.{AllByRecursion}
-use Rattle.std.specs.List.Sorted.{IsStrictlySortedBy}
-use Rattle.std.specs.Ordering.{nat_cmp, is_eq, eq_by_cmp, match_ordering, ordering_reverse}
-use Rattle.std.specs.Cmp.{IsTotalOrder, eq_by_cmp_equiv, Equal-is}
-use Rattle.std.specs.Cmp.Lexicographic.{slice_cmp, nat_list_cmp_total}
-use Rattle.std.specs.declared.cmp.Ordering.{Ordering}
-use Rattle.std.specs.declared.cmp.Ordering.TheVariants.{Less, Equal, Greater}
-use Rattle.std.specs.BTreeMap.{is_at, insert_entry}
-use Rattle.std.specs.Map.{lookup, remove_entry, keys_of}
-use Rattle.std.proofs.lemmas.Bool.{false_from_ne_true, cond-false, cond-true}
+use Rattle.pim_hello.proofs.Words.{◌≡◌, ℕ, ◌-◌, Bool, true, false, cond, List, [], ◌∷◌, Option, Some, None, refl, sym, ap, ◌∙◌}
+use Rattle.pim_hello.proofs.Words.{not, map, option_map, AllByRecursion, IsStrictlySortedBy, nat_cmp, is_eq, eq_by_cmp}
+use Rattle.pim_hello.proofs.Words.{match_ordering, ordering_reverse, IsTotalOrder, eq_by_cmp_equiv, Equal-is, slice_cmp}
+use Rattle.pim_hello.proofs.Words.{nat_list_cmp_total, Ordering, Less, Equal, Greater, is_at, insert_entry, lookup, remove_entry}
+use Rattle.pim_hello.proofs.Words.{keys_of, false_from_ne_true, cond-false, cond-true, IsDistinct-from_sorted, exact_bytes}
+use Rattle.pim_hello.proofs.Words.{Neighbour, is_address, neighbour_at, waited, is_over, says_goodbye, lifetime, kept_of_sender}
+use Rattle.pim_hello.proofs.Words.{unless_ended, HearingChangesItsSenderAlone, TimePassesForAll, ExactlyTheEndedGo}
 use Rattle.std.proofs.lemmas.Map.{lookup-remove_entry}
 use Rattle.std.proofs.lemmas.Map.Entries.{option_filter, lookup-filter-values}
-use Rattle.std.proofs.lemmas.Map.Keys.{IsDistinct-from_sorted}
-use Rattle.std.proofs.lemmas.Map.Lookups.{exact_bytes}
-use Rattle.pim_hello.specs.Neighbours.{Neighbour, is_address, neighbour_at, waited, is_over, says_goodbye, lifetime}
-use Rattle.pim_hello.specs.Laws.{kept_of_sender, unless_ended, HearingChangesItsSenderAlone, TimePassesForAll, ExactlyTheEndedGo}
 
 cond_again : {X : Type 0} (b : Bool) (x y z : X) → cond b x z ≡ cond b x (cond b y z)
 cond_again true x y z = refl

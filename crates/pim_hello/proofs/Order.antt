@@ -1,17 +1,10 @@
 -- The parts of a body stand one behind the other, and the kinds at each in the order of their numbers.
 use Rattle.std.proofs.Common.{◌≡◌, ℕ, zero, suc, ◌+◌, ◌≤◌, Bool, true, false, cond, not, ◌&&◌, List, [], ◌∷◌, ◌++◌, length, map, refl, sym, ap, subst, ◌∙◌, arith}
-use Rattle.std.specs.Prelude.{◌==◌}
-use Rattle.std.specs.List.{AllByRecursion}
-use Rattle.std.proofs.lemmas.List.{map-append}
-use Rattle.pim_addr.specs.Faults.{fault_if}
+use Rattle.pim_hello.proofs.Words.{◌==◌, AllByRecursion, map-append, fault_if, OptionLength, Address, HelloFault, Content, whole}
+use Rattle.pim_hello.proofs.Words.{partial, content_at, Part, part_then, parts_within, parts, value_length, behind_option, is_row}
+use Rattle.pim_hello.proofs.Words.{number_of, has_other_length, kinds_at, part_faults, faults_of, faults, place, ReportedBefore}
 use Rattle.pim_addr.specs.Order.{Place, IsReportedBefore, FirstIsLeast, NumbersRise, OffsetsRise, places_at, places, FirstOfPartsIsLeast}
 use Rattle.pim_hello.specs.declared.fault.HelloKind.{HelloKind}
-use Rattle.pim_hello.specs.declared.fault.HelloKind.TheVariants.{OptionLength, Address}
-use Rattle.pim_hello.specs.declared.fault.HelloFault.{HelloFault}
-use Rattle.pim_hello.specs.Options.{Content, whole, partial, content_at, Part, part_then, parts_within, parts, value_length, behind_option}
-use Rattle.pim_hello.specs.Row.{is_row}
-use Rattle.pim_hello.specs.Faults.{number_of, has_other_length, kinds_at, part_faults, faults_of, faults}
-use Rattle.pim_hello.specs.Laws.{place, ReportedBefore}
 
 -- a part as the order sees it
 abbrev numbered : Part → ℕ × List ℕ

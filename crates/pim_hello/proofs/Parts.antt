@@ -1,19 +1,13 @@
 -- A body, option by option from its front.
-use Rattle.std.proofs.Common.{◌≡◌, ℕ, zero, suc, ◌+◌, ◌-◌, ◌<◌, ◌≤◌, Bool, true, false, cond, eqb, leb, List, [], ◌∷◌, ◌++◌, length, take, drop, Option, Some, None, Result, Ok, Err, refl, sym, ap, ◌∙◌, arith, inl, inr, length-drop}
+use Rattle.pim_hello.proofs.Words.{◌≡◌, ℕ, zero, suc, ◌+◌, ◌-◌, ◌<◌, ◌≤◌, Bool, true, false, cond, eqb, leb, List, [], ◌∷◌, ◌++◌}
+use Rattle.pim_hello.proofs.Words.{length, take, drop, Option, Some, None, Result, Ok, Err, refl, sym, ap, ◌∙◌, arith, inl, inr}
+use Rattle.pim_hello.proofs.Words.{length-drop, flat_map, cases_Bool, and_parts, eq-eqb, eqb-false, ne_eqb, leb-true, cond-true}
+use Rattle.pim_hello.proofs.Words.{cond-false, big_number, AddressFamily, judged, HelloFault, Delays, Hello, is_whole}
+use Rattle.pim_hello.proofs.Words.{value_length, behind_option, Content, whole, partial, content_at, Part, part_then}
+use Rattle.pim_hello.proofs.Words.{parts_within, last_of, parts, part_faults, faults_of, faults, addresses_of, if_of, delays_of}
+use Rattle.pim_hello.proofs.Words.{hello_of, with_option, over}
 use Rattle.std.specs.Option.{option_map, option_or, unwrap_or}
-use Rattle.std.specs.List.{flat_map}
-use Rattle.std.proofs.lemmas.Bool.{cases_Bool, and_parts, eq-eqb, eqb-false, ne_eqb, leb-true, cond-true, cond-false}
-use Rattle.byteorder.specs.Endian.{big_number}
-use Rattle.pim_addr.specs.declared.family.AddressFamily.{AddressFamily}
-use Rattle.pim_addr.specs.Faults.{judged}
-use Rattle.pim_hello.specs.declared.fault.HelloFault.{HelloFault}
-use Rattle.pim_hello.specs.Hello.{Delays, Hello}
-use Rattle.pim_hello.specs.Options.{is_whole, value_length, behind_option, Content, whole, partial, content_at, Part, part_then, parts_within, last_of, parts}
-use Rattle.pim_hello.specs.Faults.{part_faults, faults_of, faults}
-use Rattle.pim_hello.specs.Row.{addresses_of, if_of}
 use Rattle.pim_hello.proofs.Rows.{row_empty}
-use Rattle.pim_hello.specs.Value.{delays_of, hello_of}
-use Rattle.pim_hello.specs.Steps.{with_option, over}
 
 -- the parts of what is left of a body
 abbrev pub parts_left : List ℕ → List ℕ → List Part

@@ -1,16 +1,12 @@
 -- A row of addresses, address by address from its front.
 use Rattle.std.proofs.Common.{◌≡◌, ◌⊎◌, ℕ, zero, suc, ◌<◌, ◌≤◌, Bool, true, false, cond, eqb, ltb, not, List, [], ◌∷◌, ◌++◌, length, drop, get_or, Option, Some, None, Ok, Err, refl, sym, ap, ◌∙◌, arith, inl, inr, length-drop}
 use Rattle.std.specs.Option.{option_map}
-use Rattle.std.specs.List.{list_all, flat_map}
-use Rattle.std.proofs.lemmas.Bool.{cases_Bool, eq-eqb, eqb-true, eqb-false, ne_eqb, ltb-false, not-false, cond-true, cond-false}
-use Rattle.pim_addr.specs.declared.family.AddressFamily.{AddressFamily}
-use Rattle.pim_addr.specs.declared.family.AddressFamily.TheVariants.{Ipv4, Ipv6}
+use Rattle.pim_hello.proofs.Words.{list_all, flat_map, cases_Bool, eq-eqb, eqb-true, eqb-false, ne_eqb, ltb-false, not-false}
+use Rattle.pim_hello.proofs.Words.{cond-true, cond-false, AddressFamily, Ipv4, Ipv6, fault_if, judged, family_byte}
+use Rattle.pim_hello.proofs.Words.{unicast_faults, unicast_length, unicast_address, begins_with, first_family, Listed, native}
+use Rattle.pim_hello.proofs.Words.{other, address_then, row_within, row, is_native, is_row, if_of, addresses_of}
 use Rattle.pim_addr.specs.declared.encoded.AddrFault.{AddrFault}
 use Rattle.pim_addr.specs.declared.encoded.AddrFault.TheVariants.{Short, Family, Encoding}
-use Rattle.pim_addr.specs.Faults.{fault_if, judged}
-use Rattle.pim_addr.specs.Address.{family_byte}
-use Rattle.pim_addr.specs.Encoded.{unicast_faults, unicast_length, unicast_address}
-use Rattle.pim_hello.specs.Row.{begins_with, first_family, Listed, native, other, address_then, row_within, row, is_native, is_row, if_of, addresses_of}
 
 -- ---- the bound on the number of addresses doesn't matter, once there is one for each byte
 

@@ -1,15 +1,10 @@
 -- The addresses of a row, written.
-use Rattle.std.proofs.Common.{◌≡◌, ℕ, zero, suc, ◌+◌, ◌-◌, ◌*◌, ◌<◌, ◌≤◌, eqb, List, [], ◌∷◌, ◌++◌, length, take, drop, Option, Some, None, refl, sym, ap, subst, ◌∙◌, append_assoc, arith, inl, inr, length-drop, length-append}
-use Rattle.std.specs.List.{flat_map}
-use Rattle.std.proofs.lemmas.Bool.{cases_Bool}
-use Rattle.std.proofs.lemmas.List.{length-take, take_at}
-use Rattle.byteorder.specs.Endian.{big_bytes}
-use Rattle.pim_addr.specs.declared.family.AddressFamily.{AddressFamily}
-use Rattle.pim_addr.specs.declared.family.AddressFamily.TheVariants.{Ipv4, Ipv6}
-use Rattle.pim_addr.specs.Address.{address_length}
-use Rattle.pim_addr.specs.Encoded.{unicast_length, unicast_address}
-use Rattle.pim_hello.specs.Row.{first_family, Listed, native, address_then, row_within, if_of, addresses_of}
-use Rattle.pim_hello.specs.Spelling.{address_spelled, row_spelled, AreAddresses, row_there, if_there}
+use Rattle.pim_hello.proofs.Words.{◌≡◌, ℕ, zero, suc, ◌+◌, ◌-◌, ◌*◌, ◌<◌, ◌≤◌, eqb, List, [], ◌∷◌, ◌++◌, length, take}
+use Rattle.pim_hello.proofs.Words.{drop, Option, Some, None, refl, sym, ap, subst, ◌∙◌, append_assoc, arith, inl, inr}
+use Rattle.pim_hello.proofs.Words.{length-drop, length-append, flat_map, cases_Bool, length-take, take_at, big_bytes}
+use Rattle.pim_hello.proofs.Words.{AddressFamily, Ipv4, Ipv6, address_length, unicast_length, unicast_address}
+use Rattle.pim_hello.proofs.Words.{first_family, Listed, native, address_then, row_within, if_of, addresses_of}
+use Rattle.pim_hello.proofs.Words.{address_spelled, row_spelled, AreAddresses, row_there, if_there}
 use Rattle.pim_hello.proofs.Rows.{front_fits, first_is}
 
 -- addresses of the family's length, that take no more than so many bytes

@@ -1,20 +1,10 @@
 -- Laws on whole tables: expiry twice, and tables that agree at every address.
 use Rattle.std.proofs.Common.{◌≡◌, ℕ, ◌+◌, ◌-◌, Bool, true, false, cond, T, List, [], ◌∷◌, Option, Some, None, refl, sym, ap, subst, ◌∙◌, arith, max}
-use Rattle.std.specs.Prelude.{not, ◌&&◌, map, filter, option_map}
-use Rattle.std.specs.List.{AllByRecursion}
-use Rattle.std.specs.List.Sorted.{IsStrictlySortedBy}
-use Rattle.std.specs.Ordering.{nat_cmp, is_lt}
-use Rattle.std.specs.Cmp.Lexicographic.{slice_cmp, nat_list_cmp_total}
-use Rattle.std.specs.BTreeMap.{is_at}
-use Rattle.std.specs.Map.{lookup, keys_of}
+use Rattle.pim_hello.proofs.Words.{not, ◌&&◌, map, filter, option_map, AllByRecursion, IsStrictlySortedBy, nat_cmp}
+use Rattle.pim_hello.proofs.Words.{is_lt, slice_cmp, nat_list_cmp_total, is_at, lookup, keys_of, Ordering, Less, eq-eqb}
+use Rattle.pim_hello.proofs.Words.{eqb-true, exact_bytes, Parameters, Neighbour, Table, waited, is_over}
+use Rattle.pim_hello.proofs.Words.{ExpiringTwiceIsExpiringOnce, TablesThatAgreeAreOne}
 use Rattle.std.specs.FinMap.Entries.{find, below_all, is_sorted, same_entries}
-use Rattle.std.specs.declared.cmp.Ordering.{Ordering}
-use Rattle.std.specs.declared.cmp.Ordering.TheVariants.{Less}
-use Rattle.std.proofs.lemmas.Bool.{eq-eqb, eqb-true}
-use Rattle.std.proofs.lemmas.Map.Lookups.{exact_bytes}
-use Rattle.pim_hello.specs.Hello.{Parameters}
-use Rattle.pim_hello.specs.Neighbours.{Neighbour, Table, waited, is_over}
-use Rattle.pim_hello.specs.Laws.{ExpiringTwiceIsExpiringOnce, TablesThatAgreeAreOne}
 
 -- ---- expiry
 

@@ -1,19 +1,10 @@
 -- The spelling that is written is one, and what is spelled is within the ranges of the format.
-use Rattle.std.proofs.Common.{◌≡◌, ℕ, suc, ◌<◌, ◌^◌, List, [], ◌∷◌, ◌++◌, length, slice_index, refl, sym, subst, append_assoc}
-use Rattle.std.specs.List.{AllByRecursion, flat_map}
-use Rattle.byteorder.specs.Endian.{big_bytes}
-use Rattle.pim_addr.specs.declared.family.AddressFamily.{AddressFamily}
-use Rattle.pim_addr.specs.Address.{AreBytes, IsAddress, address_length, mask_length, family_byte}
-use Rattle.pim_addr.specs.Encoded.{SourceValue, IsUnicast, IsGroup, IsSource}
-use Rattle.pim_addr.specs.Canonical.{canonical_unicast}
-use Rattle.pim_jp.specs.declared.entry.Entry.{Entry}
-use Rattle.pim_jp.specs.declared.entry.Entry.TheVariants.{Star, Source, Rpt}
-use Rattle.pim_jp.specs.Message.{GroupSet, Message, message_of}
-use Rattle.pim_jp.specs.Spelling.{source_of, IsEntry, AreEntries, IsSet, AreSets, Spells}
-use Rattle.pim_jp.specs.Canonical.{IsMessageEntry, IsMessageSet, IsMessage, canonical_entry, canonical_set, canonical_head, canonical}
-use Rattle.pim_jp.specs.Parts.{set_parts}
-use Rattle.pim_jp.specs.Faults.{faults_of, faults}
-use Rattle.pim_jp.specs.Laws.{ReadsHead, ReadsSet}
+use Rattle.pim_jp.proofs.Words.{◌≡◌, ℕ, suc, ◌<◌, ◌^◌, List, [], ◌∷◌, ◌++◌, length, slice_index, refl, sym, subst, append_assoc}
+use Rattle.pim_jp.proofs.Words.{AllByRecursion, flat_map, big_bytes, AddressFamily, AreBytes, IsAddress, address_length}
+use Rattle.pim_jp.proofs.Words.{mask_length, family_byte, SourceValue, IsUnicast, IsGroup, IsSource, canonical_unicast, Entry}
+use Rattle.pim_jp.proofs.Words.{Star, Source, Rpt, GroupSet, Message, message_of, source_of, IsEntry, AreEntries, IsSet, AreSets}
+use Rattle.pim_jp.proofs.Words.{Spells, IsMessageEntry, IsMessageSet, IsMessage, canonical_entry, canonical_set, canonical_head}
+use Rattle.pim_jp.proofs.Words.{canonical, set_parts, faults_of, faults, ReadsHead, ReadsSet}
 use Rattle.pim_jp.proofs.Counts.{AreBytes-first, AreBytes-others}
 use Rattle.pim_jp.proofs.SetParts.{set_spelled}
 use Rattle.pim_jp.proofs.Legal.{message_spelled}

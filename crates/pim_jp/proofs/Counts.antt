@@ -1,9 +1,6 @@
 -- Lists of bytes, and the numbers of two bytes that stand in them.
-use Rattle.std.proofs.Common.{◌≡◌, ℕ, zero, suc, ◌+◌, ◌*◌, ◌/◌, ◌%◌, ◌≤◌, ◌<◌, ◌^◌, List, [], ◌∷◌, ◌++◌, length, take, drop, refl, arith, get_or-drop}
-use Rattle.std.proofs.lemmas.List.{get_or-append-add}
-use Rattle.byteorder.specs.Endian.{big_number, big_bytes}
-use Rattle.byteorder.specs.Numbers.{big_from-lt}
-use Rattle.pim_addr.specs.Address.{AreBytes}
+use Rattle.pim_jp.proofs.Words.{◌≡◌, ℕ, zero, suc, ◌+◌, ◌*◌, ◌/◌, ◌%◌, ◌≤◌, ◌<◌, ◌^◌, List, [], ◌∷◌, ◌++◌, length, take, drop}
+use Rattle.pim_jp.proofs.Words.{refl, arith, get_or-drop, get_or-append-add, big_number, big_bytes, big_from-lt, AreBytes}
 
 pub AreBytes-drop : (n : ℕ) (bytes : List ℕ) → AreBytes bytes → AreBytes (drop n bytes)
 AreBytes-drop n bytes are i = rw (get_or-drop n bytes i 0) (are (n + i))

@@ -1,15 +1,8 @@
 -- How the reader goes over the entries of one list.
-use Rattle.std.proofs.Common.{◌≡◌, ◌∙◌, sym, ap, ℕ, zero, suc, ◌+◌, ◌*◌, ◌≤◌, ◌<◌, Bool, true, false, ◌||◌, List, [], ◌∷◌, ◌++◌, length, drop, refl, ⊎_elim, arith, length-drop}
-use Rattle.std.specs.List.{list_any}
-use Rattle.std.proofs.lemmas.List.{drop-drop}
-use Rattle.std.proofs.lemmas.List.Folds.{list_any-append}
-use Rattle.std.proofs.lemmas.Bool.{cases_lt}
-use Rattle.pim_addr.specs.declared.family.AddressFamily.{AddressFamily}
-use Rattle.pim_addr.specs.Encoded.{source_length, source_value}
-use Rattle.pim_jp.specs.declared.entry.Entry.{Entry}
-use Rattle.pim_jp.specs.Message.{entry_of, entries_of}
-use Rattle.pim_jp.specs.Spelling.{is_star}
-use Rattle.pim_jp.specs.Reading.{lone_kinds, kinds_at_place, entry_at, AreClean, is_source_entry, is_rpt_entry}
+use Rattle.pim_jp.proofs.Words.{◌≡◌, ◌∙◌, sym, ap, ℕ, zero, suc, ◌+◌, ◌*◌, ◌≤◌, ◌<◌, Bool, true, false, ◌||◌, List, [], ◌∷◌, ◌++◌}
+use Rattle.pim_jp.proofs.Words.{length, drop, refl, ⊎_elim, arith, length-drop, list_any, drop-drop, list_any-append, cases_lt}
+use Rattle.pim_jp.proofs.Words.{AddressFamily, source_length, source_value, Entry, entry_of, entries_of, is_star, lone_kinds}
+use Rattle.pim_jp.proofs.Words.{kinds_at_place, entry_at, AreClean, is_source_entry, is_rpt_entry}
 
 pub drop_no : (size : ℕ) (bytes : List ℕ) → bytes ≡ drop (0 * size) bytes
 drop_no size bytes = let none : 0 * size ≡ 0 = omega arith in rw none refl

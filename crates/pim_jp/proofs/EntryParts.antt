@@ -1,19 +1,9 @@
 -- The entries of a list: those of a legal body are spelled by its bytes.
 use Rattle.std.proofs.Common.{◌≡◌, ℕ, zero, suc, ◌+◌, ◌*◌, ◌≤◌, Bool, true, false, not, ◌&&◌, ◌||◌, ltb, List, [], ◌∷◌, ◌++◌, length, map, take, drop, refl, sym, ap, subst, ◌∙◌, arith, append_assoc, append-nil, length-drop, take-append-drop, drop-drop, suc-mul}
-use Rattle.std.specs.Prelude.{⊤}
-use Rattle.std.specs.List.{list_any}
-use Rattle.std.proofs.lemmas.Bool.{le-ltb, not-false}
-use Rattle.pim_addr.specs.declared.family.AddressFamily.{AddressFamily}
-use Rattle.pim_addr.specs.Address.{is_source}
-use Rattle.pim_addr.specs.Encoded.{SourceValue, IsSource, source_length, source_faults, source_value}
-use Rattle.pim_addr.specs.Faults.{fault_if}
-use Rattle.pim_jp.specs.declared.entry.Entry.{Entry}
-use Rattle.pim_jp.specs.declared.fault.JpKind.{JpKind}
-use Rattle.pim_jp.specs.declared.fault.JpKind.TheVariants.{Flags, NotSource, SecondStar, BothLists}
-use Rattle.pim_jp.specs.Message.{entry_of, entries_of}
-use Rattle.pim_jp.specs.Spelling.{source_of, AreEntries, is_star, same_source}
-use Rattle.pim_jp.specs.Parts.{Shape, entry, Part, part_then, is_typeless, entry_of_bytes, entry_parts}
-use Rattle.pim_jp.specs.Faults.{address_kind, entry_kinds, kinds_at, faults_of}
+use Rattle.pim_jp.proofs.Words.{⊤, list_any, le-ltb, not-false, AddressFamily, is_source, SourceValue, IsSource, source_length}
+use Rattle.pim_jp.proofs.Words.{source_faults, source_value, fault_if, Entry, JpKind, Flags, NotSource, SecondStar, BothLists}
+use Rattle.pim_jp.proofs.Words.{entry_of, entries_of, source_of, AreEntries, is_star, same_source, Shape, entry, Part, part_then}
+use Rattle.pim_jp.proofs.Words.{is_typeless, entry_of_bytes, entry_parts, address_kind, entry_kinds, kinds_at, faults_of}
 use Rattle.pim_jp.proofs.Front.{append_none, map_none, none_if}
 use Rattle.pim_jp.proofs.Forms.{source_legal}
 

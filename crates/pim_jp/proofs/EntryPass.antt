@@ -1,23 +1,13 @@
 -- What the reader finds in one list, told of the parts of the body.
-use Rattle.std.proofs.Common.{◌≡◌, ◌∙◌, sym, ap, ℕ, zero, suc, ◌+◌, ◌-◌, ◌*◌, ◌≤◌, ◌<◌, Bool, true, false, ◌||◌, ◌&&◌, not, List, [], ◌∷◌, ◌++◌, length, drop, nat_lt, refl, ⊎_elim, arith, append_assoc, append-nil, map, if◌then◌else◌}
+use Rattle.pim_jp.proofs.Words.{◌≡◌, ◌∙◌, sym, ap, ℕ, zero, suc, ◌+◌, ◌-◌, ◌*◌, ◌≤◌, ◌<◌, Bool, true, false, ◌||◌, ◌&&◌, not}
+use Rattle.pim_jp.proofs.Words.{List, [], ◌∷◌, ◌++◌, length, drop, nat_lt, refl, ⊎_elim, arith, append_assoc, append-nil, map}
+use Rattle.pim_jp.proofs.Words.{if◌then◌else◌, list_any, le-ltb, or_parts, cases_lt, list_any-append, AddressFamily, is_source}
+use Rattle.pim_jp.proofs.Words.{fault_if, judged, source_faults, source_length, source_value, Entry, Star, Source, Rpt, JpKind}
+use Rattle.pim_jp.proofs.Words.{Flags, NotSource, SecondStar, BothLists, JpFault, entry_of, entries_of, is_star, same_source}
+use Rattle.pim_jp.proofs.Words.{Part, entry, entry_parts, is_typeless, entry_of_bytes, address_kind, kinds_at, part_faults}
+use Rattle.pim_jp.proofs.Words.{faults_of, Reports, Stops, own_kinds, lone_kinds, kinds_at_place, entry_at, AreClean, StopsAt}
+use Rattle.pim_jp.proofs.Words.{is_in, AreApart, ClashesAt, is_source_entry, is_rpt_entry, EntriesPass}
 use Rattle.std.specs.Prelude.{Result, Ok, Err, IfOk, IfErr}
-use Rattle.std.specs.List.{list_any}
-use Rattle.std.proofs.lemmas.Bool.{le-ltb, or_parts, cases_lt}
-use Rattle.std.proofs.lemmas.List.Folds.{list_any-append}
-use Rattle.pim_addr.specs.declared.family.AddressFamily.{AddressFamily}
-use Rattle.pim_addr.specs.Address.{is_source}
-use Rattle.pim_addr.specs.Faults.{fault_if, judged}
-use Rattle.pim_addr.specs.Encoded.{source_faults, source_length, source_value}
-use Rattle.pim_jp.specs.declared.entry.Entry.{Entry}
-use Rattle.pim_jp.specs.declared.entry.Entry.TheVariants.{Star, Source, Rpt}
-use Rattle.pim_jp.specs.declared.fault.JpKind.{JpKind}
-use Rattle.pim_jp.specs.declared.fault.JpKind.TheVariants.{Flags, NotSource, SecondStar, BothLists}
-use Rattle.pim_jp.specs.declared.fault.JpFault.{JpFault}
-use Rattle.pim_jp.specs.Message.{entry_of, entries_of}
-use Rattle.pim_jp.specs.Spelling.{is_star, same_source}
-use Rattle.pim_jp.specs.Parts.{Part, entry, entry_parts, is_typeless, entry_of_bytes}
-use Rattle.pim_jp.specs.Faults.{address_kind, kinds_at, part_faults, faults_of}
-use Rattle.pim_jp.specs.Reading.{Reports, Stops, own_kinds, lone_kinds, kinds_at_place, entry_at, AreClean, StopsAt, is_in, AreApart, ClashesAt, is_source_entry, is_rpt_entry, EntriesPass}
 use Rattle.pim_jp.proofs.Front.{append_none, map_none, none_if}
 use Rattle.pim_jp.proofs.Forms.{source_legal}
 use Rattle.pim_jp.proofs.Judged.{judged_first}

@@ -1,7 +1,6 @@
 -- Where a search for two numbers may go on.
-use Rattle.std.proofs.Common.{◌≡◌, ◌∙◌, ap, ℕ, ◌+◌, ◌-◌, ◌*◌, ◌%◌, ◌^◌, ◌≤◌, ◌<◌, Bool, true, false, min, arith}
-use Rattle.std.specs.Int.{from_bool}
-use Rattle.std.proofs.Math.Nat.{one-mul, mod-eq_of_lt, pow-le-pow_right}
+use Rattle.pim_jp.proofs.Words.{◌≡◌, ◌∙◌, ap, ℕ, ◌+◌, ◌-◌, ◌*◌, ◌%◌, ◌^◌, ◌≤◌, ◌<◌, Bool, true, false, min, arith}
+use Rattle.pim_jp.proofs.Words.{from_bool, one-mul, mod-eq_of_lt, pow-le-pow_right}
 use Rattle.std.proofs.Math.Pow.{pow-lt}
 
 one_shifted : (shift : ℕ) → shift < 64 → 1 * 2 ^ shift % 2 ^ 64 ≡ 2 ^ shift

@@ -1,13 +1,9 @@
 -- A body without a fault is spelled by the value that is read from it.
-use Rattle.std.proofs.Common.{◌≡◌, ℕ, ◌+◌, ◌≤◌, List, [], ◌∷◌, ◌++◌, length, take, drop, slice_index, refl, sym, ap, subst, ◌∙◌, arith, length-drop, take-append-drop, suc, zero}
-use Rattle.byteorder.specs.Endian.{big_number}
-use Rattle.pim_addr.specs.declared.family.AddressFamily.{AddressFamily}
-use Rattle.pim_addr.specs.Address.{AreBytes}
-use Rattle.pim_addr.specs.Encoded.{IsUnicast, unicast_length, unicast_faults, unicast_address}
-use Rattle.pim_jp.specs.Message.{Message, set_count, head_of, after_set, sets_of, message_of}
-use Rattle.pim_jp.specs.Spelling.{IsHead, AreSets, Spells}
-use Rattle.pim_jp.specs.Parts.{Part, upstream, head, part_then, set_parts}
-use Rattle.pim_jp.specs.Faults.{address_kind, faults_of, faults}
+use Rattle.pim_jp.proofs.Words.{◌≡◌, ℕ, ◌+◌, ◌≤◌, List, [], ◌∷◌, ◌++◌, length, take, drop, slice_index, refl, sym, ap}
+use Rattle.pim_jp.proofs.Words.{subst, ◌∙◌, arith, length-drop, take-append-drop, suc, zero, big_number, AddressFamily}
+use Rattle.pim_jp.proofs.Words.{AreBytes, IsUnicast, unicast_length, unicast_faults, unicast_address, Message}
+use Rattle.pim_jp.proofs.Words.{set_count, head_of, after_set, sets_of, message_of, IsHead, AreSets, Spells, Part}
+use Rattle.pim_jp.proofs.Words.{upstream, head, part_then, set_parts, address_kind, faults_of, faults}
 use Rattle.pim_jp.proofs.Front.{map_none}
 use Rattle.pim_jp.proofs.Forms.{unicast_legal}
 use Rattle.pim_jp.proofs.Counts.{AreBytes-drop, count_fits, count_bytes}

@@ -1,15 +1,9 @@
 -- How long the spelling is that is written.
-use Rattle.std.proofs.Common.{◌≡◌, ◌∙◌, ℕ, ◌+◌, ◌*◌, List, [], ◌∷◌, ◌++◌, length, refl, ap, arith, length-append, suc-mul}
-use Rattle.std.specs.List.{AllByRecursion, flat_map}
-use Rattle.byteorder.specs.Endian.{big_bytes}
-use Rattle.pim_addr.specs.declared.family.AddressFamily.{AddressFamily}
-use Rattle.pim_addr.specs.Address.{address_length}
-use Rattle.pim_addr.specs.Encoded.{source_length}
-use Rattle.pim_addr.specs.Canonical.{canonical_group}
-use Rattle.pim_jp.specs.declared.entry.Entry.{Entry}
-use Rattle.pim_jp.specs.Message.{GroupSet, Message}
-use Rattle.pim_jp.specs.Spelling.{source_of}
-use Rattle.pim_jp.specs.Canonical.{IsMessageEntry, IsMessageSet, IsMessage, canonical_entry, canonical_set, canonical_head, canonical, canonical_head_length, canonical_set_length, canonical_sets_length}
+use Rattle.pim_jp.proofs.Words.{◌≡◌, ◌∙◌, ℕ, ◌+◌, ◌*◌, List, [], ◌∷◌, ◌++◌, length, refl, ap, arith, length-append}
+use Rattle.pim_jp.proofs.Words.{suc-mul, AllByRecursion, flat_map, big_bytes, AddressFamily, address_length}
+use Rattle.pim_jp.proofs.Words.{source_length, canonical_group, Entry, GroupSet, Message, source_of, IsMessageEntry}
+use Rattle.pim_jp.proofs.Words.{IsMessageSet, IsMessage, canonical_entry, canonical_set, canonical_head, canonical}
+use Rattle.pim_jp.proofs.Words.{canonical_head_length, canonical_set_length, canonical_sets_length}
 
 pub head_size : (family : AddressFamily) (upstream : List ℕ) (sets holdtime : ℕ) → length upstream ≡ address_length family → length (canonical_head family upstream sets holdtime) ≡ canonical_head_length family
 head_size family upstream sets holdtime h =

@@ -1,3 +1,4 @@
+pub mod Words
 pub mod Front
 pub mod Forms
 pub mod Counts

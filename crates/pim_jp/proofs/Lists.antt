@@ -1,10 +1,7 @@
 -- Which entries may stand in a set: told entry by entry, as the parts do, and of its two lists as a whole.
-use Rattle.std.proofs.Common.{◌≡◌, ℕ, ◌+◌, ◌≤◌, true, false, cond, ◌&&◌, List, [], ◌∷◌, ◌++◌, refl, ⊎_elim, arith, append_assoc, append-nil}
-use Rattle.std.specs.List.{list_any}
-use Rattle.std.proofs.lemmas.Bool.{cases_Bool, or_parts, or_from, and_left, and_right}
-use Rattle.pim_jp.specs.declared.entry.Entry.{Entry}
-use Rattle.pim_jp.specs.Spelling.{is_star, same_source, star_count, IsLegalSet}
-use Rattle.pim_jp.specs.Message.{GroupSet}
+use Rattle.pim_jp.proofs.Words.{◌≡◌, ℕ, ◌+◌, ◌≤◌, true, false, cond, ◌&&◌, List, [], ◌∷◌, ◌++◌, refl, ⊎_elim, arith}
+use Rattle.pim_jp.proofs.Words.{append_assoc, append-nil, list_any, cases_Bool, or_parts, or_from, and_left, and_right}
+use Rattle.pim_jp.proofs.Words.{Entry, is_star, same_source, star_count, IsLegalSet, GroupSet}
 use Rattle.pim_jp.proofs.EntryParts.{AllAllowed}
 
 star_count-append : (xs ys : List (Entry (List ℕ))) → star_count (xs ++ ys) ≡ star_count xs + star_count ys

@@ -1,17 +1,8 @@
 -- Numbers of a list in order that get a mark.
-use Rattle.std.proofs.Common.{◌≡◌, ◌∙◌, sym, ap, refl, ℕ, zero, suc, ◌+◌, ◌≤◌, ◌<◌, Bool, true, false, ◌&&◌, ◌||◌, List, [], ◌∷◌, length, length-drop, take, drop, get_or, set, nat_eq, replicate, arith}
-use Rattle.std.proofs.lemmas.Bool.{eqb-true}
-use Rattle.std.proofs.lemmas.List.{drop_more, take_more_set, take-set}
-use Rattle.std.proofs.lemmas.List.Folds.{list_any-append}
-use Rattle.std.proofs.lemmas.List.Sorted.{list_any-IsPermutation}
-use Rattle.std.specs.List.Sorted.{IsPermutation}
-use Rattle.std.specs.Int.{from_bool}
-use Rattle.pim_addr.specs.Address.{number_of}
-use Rattle.pim_jp.specs.declared.entry.Entry.{Entry}
-use Rattle.pim_jp.specs.declared.entry.Entry.TheVariants.{Star, Source, Rpt}
-use Rattle.pim_jp.specs.Spelling.{is_star}
-use Rattle.pim_jp.specs.Reading.{is_in}
-use Rattle.pim_jp.specs.Sources.{is_among, is_listed, is_marked, has_mark}
+use Rattle.pim_jp.proofs.Words.{◌≡◌, ◌∙◌, sym, ap, refl, ℕ, zero, suc, ◌+◌, ◌≤◌, ◌<◌, Bool, true, false, ◌&&◌, ◌||◌, List, []}
+use Rattle.pim_jp.proofs.Words.{◌∷◌, length, length-drop, take, drop, get_or, set, nat_eq, replicate, arith, eqb-true, drop_more}
+use Rattle.pim_jp.proofs.Words.{take_more_set, take-set, list_any-append, list_any-IsPermutation, IsPermutation, from_bool}
+use Rattle.pim_jp.proofs.Words.{number_of, Entry, Star, Source, Rpt, is_star, is_in, is_among, is_listed, is_marked, has_mark}
 use Rattle.pim_jp.proofs.OtherWay.{star_in_none}
 
 or_false : (a : Bool) → (a || false) ≡ a

@@ -1,24 +1,15 @@
 -- The faults of a body stand in the order in which they are told.
-use Rattle.std.proofs.Common.{◌≡◌, ℕ, zero, suc, ◌+◌, ◌≤◌, ◌<◌, Bool, true, false, cond, not, ◌&&◌, ltb, List, [], ◌∷◌, ◌++◌, length, map, drop, slice_index, refl, sym, ap, subst, ◌∙◌, arith}
-use Rattle.std.specs.Prelude.{⊤}
-use Rattle.std.specs.List.{AllByRecursion, list_any}
-use Rattle.std.proofs.lemmas.List.{map-append}
-use Rattle.byteorder.specs.Endian.{big_number}
-use Rattle.pim_addr.specs.declared.family.AddressFamily.{AddressFamily}
+use Rattle.pim_jp.proofs.Words.{◌≡◌, ℕ, zero, suc, ◌+◌, ◌≤◌, ◌<◌, Bool, true, false, cond, not, ◌&&◌, ltb, List, [], ◌∷◌, ◌++◌}
+use Rattle.pim_jp.proofs.Words.{length, map, drop, slice_index, refl, sym, ap, subst, ◌∙◌, arith, ⊤, AllByRecursion, list_any}
+use Rattle.pim_jp.proofs.Words.{map-append, big_number, AddressFamily, is_source, fault_if, SourceValue, unicast_length}
+use Rattle.pim_jp.proofs.Words.{group_length, source_length, family_faults, mask_faults, unicast_faults, source_value, Entry}
+use Rattle.pim_jp.proofs.Words.{JpKind, Short, NotGroup, Flags, NotSource, SecondStar, BothLists, Trailing, JpFault, is_star}
+use Rattle.pim_jp.proofs.Words.{same_source, Shape, upstream, head, group, counts, entry, rest, Part, part_then, is_typeless}
+use Rattle.pim_jp.proofs.Words.{entry_of_bytes, entry_parts, set_parts, body_parts, place, ReportedBefore}
 use Rattle.pim_addr.specs.declared.encoded.AddrFault.{AddrFault}
 use Rattle.pim_addr.specs.declared.encoded.AddrFault.TheVariants as address
-use Rattle.pim_addr.specs.Address.{is_source}
-use Rattle.pim_addr.specs.Faults.{fault_if}
 use Rattle.pim_addr.specs.Order.{Place, IsReportedBefore, FirstIsLeast, NumbersRise, OffsetsRise, places_at, places, FirstOfPartsIsLeast}
-use Rattle.pim_addr.specs.Encoded.{SourceValue, unicast_length, group_length, source_length, family_faults, mask_faults, unicast_faults, source_value}
-use Rattle.pim_jp.specs.declared.entry.Entry.{Entry}
-use Rattle.pim_jp.specs.declared.fault.JpKind.{JpKind}
-use Rattle.pim_jp.specs.declared.fault.JpKind.TheVariants.{Short, NotGroup, Flags, NotSource, SecondStar, BothLists, Trailing}
-use Rattle.pim_jp.specs.declared.fault.JpFault.{JpFault}
-use Rattle.pim_jp.specs.Spelling.{is_star, same_source}
-use Rattle.pim_jp.specs.Parts.{Shape, upstream, head, group, counts, entry, rest, Part, part_then, is_typeless, entry_of_bytes, entry_parts, set_parts, body_parts}
 use Rattle.pim_jp.specs.Faults.{number_of, address_kind, entry_kinds, kinds_at, part_faults, faults_of, faults}
-use Rattle.pim_jp.specs.Laws.{place, ReportedBefore}
 
 -- ---- the numbers at one part rise
 

@@ -1,9 +1,6 @@
 -- Sources that are looked for the other way: those of the joined entries among the sorted pruned ones.
-use Rattle.std.proofs.Common.{◌≡◌, ◌∙◌, ℕ, Bool, true, false, ◌||◌, List, [], ◌∷◌, refl}
-use Rattle.pim_jp.specs.declared.entry.Entry.{Entry}
-use Rattle.pim_jp.specs.declared.entry.Entry.TheVariants.{Star, Source, Rpt}
-use Rattle.pim_jp.specs.Spelling.{is_star}
-use Rattle.pim_jp.specs.Reading.{is_in}
+use Rattle.pim_jp.proofs.Words.{◌≡◌, ◌∙◌, ℕ, Bool, true, false, ◌||◌, List, [], ◌∷◌, refl, Entry, Star, Source, Rpt}
+use Rattle.pim_jp.proofs.Words.{is_star, is_in}
 
 -- some entries were passed, none of which is wanted
 pub passed_by : (all these left wanted : Bool) → all ≡ (these || left) → (these ≡ true → wanted ≡ false) → wanted ≡ true → all ≡ left

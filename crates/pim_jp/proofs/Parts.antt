@@ -1,11 +1,6 @@
 -- The faults of one part, and then of those behind it.
-use Rattle.std.proofs.Common.{◌≡◌, ℕ, ◌+◌, ◌≤◌, false, List, [], length, drop, nat_lt, refl}
-use Rattle.std.proofs.lemmas.Bool.{le-ltb}
-use Rattle.pim_addr.specs.declared.family.AddressFamily.{AddressFamily}
-use Rattle.pim_jp.specs.declared.fault.JpFault.{JpFault}
-use Rattle.pim_jp.specs.Parts.{Shape, Part, part_then}
-use Rattle.pim_jp.specs.Faults.{part_faults, faults_of}
-use Rattle.pim_jp.specs.Reading.{Reports}
+use Rattle.pim_jp.proofs.Words.{◌≡◌, ℕ, ◌+◌, ◌≤◌, false, List, [], length, drop, nat_lt, refl, le-ltb, AddressFamily}
+use Rattle.pim_jp.proofs.Words.{JpFault, Shape, Part, part_then, part_faults, faults_of, Reports}
 use Rattle.pim_jp.proofs.Judged.{judged_first}
 
 pub part_passes : (family : AddressFamily) (shape : Shape) (size at : ℕ) (bytes : List ℕ) (next : ℕ → List ℕ → List Part)

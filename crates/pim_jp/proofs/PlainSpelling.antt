@@ -1,16 +1,9 @@
 -- Of the spellings of a message one alone has its ignored bits as they are written.
-use Rattle.std.proofs.Common.{◌≡◌, ℕ, zero, suc, ◌+◌, ◌/◌, ◌%◌, ◌<◌, Bool, List, [], ◌∷◌, ◌++◌, length, slice_index, refl, sym, ap, ap₂, ◌∙◌, ◌↔◌, subst, arith, append_assoc}
-use Rattle.std.specs.List.{AllByRecursion, flat_map}
-use Rattle.byteorder.specs.Endian.{big_bytes}
-use Rattle.pim_addr.specs.declared.family.AddressFamily.{AddressFamily}
-use Rattle.pim_addr.specs.Address.{mask_length, family_byte}
-use Rattle.pim_addr.specs.Encoded.{wildcard_bit, rpt_bit}
-use Rattle.pim_addr.specs.Canonical.{canonical_unicast, canonical_flags, canonical_group}
-use Rattle.pim_jp.specs.declared.entry.Entry.{Entry}
-use Rattle.pim_jp.specs.declared.entry.Entry.TheVariants.{Star, Source, Rpt}
-use Rattle.pim_jp.specs.Message.{GroupSet, Message}
-use Rattle.pim_jp.specs.Spelling.{source_of}
-use Rattle.pim_jp.specs.Canonical.{IsMessageEntry, IsMessageSet, IsMessage, canonical_entry, canonical_set, canonical}
+use Rattle.pim_jp.proofs.Words.{◌≡◌, ℕ, zero, suc, ◌+◌, ◌/◌, ◌%◌, ◌<◌, Bool, List, [], ◌∷◌, ◌++◌, length, slice_index, refl, sym}
+use Rattle.pim_jp.proofs.Words.{ap, ap₂, ◌∙◌, ◌↔◌, subst, arith, append_assoc, AllByRecursion, flat_map, big_bytes, AddressFamily}
+use Rattle.pim_jp.proofs.Words.{mask_length, family_byte, wildcard_bit, rpt_bit, canonical_unicast, canonical_flags}
+use Rattle.pim_jp.proofs.Words.{canonical_group, Entry, Star, Source, Rpt, GroupSet, Message, source_of, IsMessageEntry}
+use Rattle.pim_jp.proofs.Words.{IsMessageSet, IsMessage, canonical_entry, canonical_set, canonical}
 use Rattle.pim_jp.specs.Plain.{IsPlainGroup, IsPlainEntry, ArePlainEntries, IsPlainSet, ArePlainSets, SpellsPlainly}
 use Rattle.pim_jp.proofs.Canonical.{entry_written, five_in_a_row, message_written}
 

@@ -1,14 +1,8 @@
 -- How the reader goes over the sets of a body.
-use Rattle.std.proofs.Common.{◌≡◌, ◌∙◌, sym, ap, ℕ, suc, ◌+◌, ◌-◌, ◌*◌, ◌≤◌, ◌<◌, List, [], length, drop, refl, arith, length-drop, append-nil}
-use Rattle.pim_addr.specs.declared.family.AddressFamily.{AddressFamily}
-use Rattle.pim_addr.specs.Faults.{judged}
-use Rattle.pim_addr.specs.Encoded.{group_length, source_length}
-use Rattle.pim_jp.specs.declared.fault.JpFault.{JpFault}
-use Rattle.pim_jp.specs.Message.{joined_count, pruned_count, after_set}
-use Rattle.pim_jp.specs.Parts.{group, rest, set_parts}
-use Rattle.pim_jp.specs.Faults.{part_faults, faults_of}
-use Rattle.pim_jp.specs.Whole.{set_length, HoldsSets}
-use Rattle.pim_jp.specs.Reading.{Reports, Passes, Stops, lists_then, lists_end, set_then}
+use Rattle.pim_jp.proofs.Words.{◌≡◌, ◌∙◌, sym, ap, ℕ, suc, ◌+◌, ◌-◌, ◌*◌, ◌≤◌, ◌<◌, List, [], length, drop, refl, arith}
+use Rattle.pim_jp.proofs.Words.{length-drop, append-nil, AddressFamily, judged, group_length, source_length, JpFault}
+use Rattle.pim_jp.proofs.Words.{joined_count, pruned_count, after_set, group, rest, set_parts, part_faults, faults_of}
+use Rattle.pim_jp.proofs.Words.{set_length, HoldsSets, Reports, Passes, Stops, lists_then, lists_end, set_then}
 use Rattle.pim_jp.proofs.Parts.{part_passes}
 
 -- ---- a set

@@ -1,18 +1,11 @@
 -- The sets of a legal body are spelled by its bytes.
-use Rattle.std.proofs.Common.{◌≡◌, ℕ, zero, suc, ◌+◌, ◌*◌, ◌≤◌, ◌<◌, ◌^◌, true, false, not, ◌&&◌, ltb, List, [], ◌++◌, length, map, take, drop, refl, sym, ap, ap₂, ◌∙◌, arith, append_assoc, length-drop, take-append-drop}
-use Rattle.std.proofs.lemmas.Bool.{le-ltb, ltb-false, not-false}
-use Rattle.std.proofs.lemmas.List.{nil_from_length}
-use Rattle.byteorder.specs.Endian.{big_number, big_bytes}
-use Rattle.pim_addr.specs.declared.family.AddressFamily.{AddressFamily}
-use Rattle.pim_addr.specs.Address.{AreBytes, is_group}
-use Rattle.pim_addr.specs.Encoded.{IsGroup, group_length, source_length, group_faults, masked_address}
-use Rattle.pim_addr.specs.Faults.{fault_if}
-use Rattle.pim_jp.specs.declared.entry.Entry.{Entry}
-use Rattle.pim_jp.specs.declared.fault.JpKind.TheVariants.{NotGroup, Short, Trailing}
-use Rattle.pim_jp.specs.Message.{GroupSet, entries_of, counts_of, joined_count, pruned_count, joined_bytes, pruned_bytes, after_set, set_of, sets_of}
-use Rattle.pim_jp.specs.Spelling.{AreEntries, IsLegalSet, IsSet, AreSets}
-use Rattle.pim_jp.specs.Parts.{Part, group, counts, part_then, entry_parts, set_parts}
-use Rattle.pim_jp.specs.Faults.{address_kind, kinds_at, faults_of}
+use Rattle.pim_jp.proofs.Words.{◌≡◌, ℕ, zero, suc, ◌+◌, ◌*◌, ◌≤◌, ◌<◌, ◌^◌, true, false, not, ◌&&◌, ltb, List, [], ◌++◌, length}
+use Rattle.pim_jp.proofs.Words.{map, take, drop, refl, sym, ap, ap₂, ◌∙◌, arith, append_assoc, length-drop, take-append-drop}
+use Rattle.pim_jp.proofs.Words.{le-ltb, ltb-false, not-false, nil_from_length, big_number, big_bytes, AddressFamily, AreBytes}
+use Rattle.pim_jp.proofs.Words.{is_group, IsGroup, group_length, source_length, group_faults, masked_address, fault_if, Entry}
+use Rattle.pim_jp.proofs.Words.{NotGroup, Short, Trailing, GroupSet, entries_of, counts_of, joined_count, pruned_count}
+use Rattle.pim_jp.proofs.Words.{joined_bytes, pruned_bytes, after_set, set_of, sets_of, AreEntries, IsLegalSet, IsSet, AreSets}
+use Rattle.pim_jp.proofs.Words.{Part, group, counts, part_then, entry_parts, set_parts, address_kind, kinds_at, faults_of}
 use Rattle.pim_jp.proofs.Front.{append_none, map_none, none_if}
 use Rattle.pim_jp.proofs.Forms.{group_legal}
 use Rattle.pim_jp.proofs.Counts.{AreBytes-drop, count_fits, count_bytes, take_four}

@@ -1,27 +1,17 @@
 -- Sources that are sorted, and looked for.
-use Rattle.std.proofs.Common.{◌≡◌, ◌∙◌, sym, ap, ℕ, zero, suc, ◌+◌, ◌-◌, ◌*◌, ◌≤◌, ◌<◌, ◌↔◌, Bool, true, false, ◌&&◌, ◌||◌, IsTrue, List, [], ◌∷◌, Ordering, length, get_or, nat_eq, refl, subst, take, drop, length-drop, take-append-drop, length-take-le, ⊎_elim, ◌⊎◌, inl, inr, arith}
-use Rattle.std.proofs.lemmas.Bool.{cases_lt, ne_eqb, eq-eqb, eqb-true}
-use Rattle.std.specs.Int.{from_bool}
+use Rattle.pim_jp.proofs.Words.{◌≡◌, ◌∙◌, sym, ap, ℕ, zero, suc, ◌+◌, ◌-◌, ◌*◌, ◌≤◌, ◌<◌, ◌↔◌, Bool, true, false, ◌&&◌, ◌||◌}
+use Rattle.pim_jp.proofs.Words.{IsTrue, List, [], ◌∷◌, Ordering, length, get_or, nat_eq, refl, subst, take, drop, length-drop}
+use Rattle.pim_jp.proofs.Words.{take-append-drop, length-take-le, ⊎_elim, ◌⊎◌, inl, inr, arith, cases_lt, ne_eqb, eq-eqb}
+use Rattle.pim_jp.proofs.Words.{eqb-true, from_bool, IsSorted, IsSortedBy, IsPartitionPoint, nat_cmp, is_lt, is_eq}
+use Rattle.pim_jp.proofs.Words.{ordering_index, MatchOrdering, get_or_default, drop-drop, list_any_none, list_any_at}
+use Rattle.pim_jp.proofs.Words.{searchable_from_sorted, AddressFamily, AreBytes, IsAddress, address_length, number_of}
+use Rattle.pim_jp.proofs.Words.{NumbersAreInOrder, source_length, source_value, Entry, Star, Source, Rpt, entry_of, entries_of}
+use Rattle.pim_jp.proofs.Words.{source_of, is_star, same_source, is_in, entry_at, AreSame, is_among, is_listed}
 use Rattle.std.specs.Cmp.{ranks}
-use Rattle.std.specs.List.Sorted.{IsSorted, IsSortedBy, IsPartitionPoint}
-use Rattle.std.specs.Ordering.{nat_cmp, is_lt, is_eq, ordering_index, MatchOrdering}
 use Rattle.std.specs.declared.cmp.Ordering.TheVariants.{Less, Equal, Greater}
 use Rattle.std.specs.Cmp.Lexicographic.{pointwise, texts_ties}
-use Rattle.std.proofs.lemmas.List.{get_or_default, drop-drop}
-use Rattle.std.proofs.lemmas.List.Folds.{list_any_none, list_any_at}
-use Rattle.std.proofs.lemmas.List.Sorted.{searchable_from_sorted}
 use Rattle.std.proofs.lemmas.Cmp.{nat_cmp_total}
-use Rattle.pim_addr.specs.declared.family.AddressFamily.{AddressFamily}
 use Rattle.pim_addr.specs.declared.family.AddressFamily.TheVariants.{Ipv4, Ipv6}
-use Rattle.pim_addr.specs.Address.{AreBytes, IsAddress, address_length, number_of, NumbersAreInOrder}
-use Rattle.pim_addr.specs.Encoded.{source_length, source_value}
-use Rattle.pim_jp.specs.declared.entry.Entry.{Entry}
-use Rattle.pim_jp.specs.declared.entry.Entry.TheVariants.{Star, Source, Rpt}
-use Rattle.pim_jp.specs.Message.{entry_of, entries_of}
-use Rattle.pim_jp.specs.Spelling.{source_of, is_star, same_source}
-use Rattle.pim_jp.specs.Reading.{is_in, entry_at}
-use Rattle.pim_jp.specs.Merging.{AreSame}
-use Rattle.pim_jp.specs.Sources.{is_among, is_listed}
 use Rattle.pim_jp.proofs.Counts.{AreBytes-drop, AreBytes-first}
 use Rattle.pim_jp.proofs.EntryLoop.{any_more}
 

@@ -1,18 +1,13 @@
 -- What spells a message is read as that message, and has no fault.
-use Rattle.std.proofs.Common.{◌≡◌, ℕ, zero, suc, ◌+◌, ◌*◌, ◌≤◌, ◌<◌, ◌^◌, true, false, ltb, List, [], ◌∷◌, ◌++◌, length, drop, slice_index, refl, sym, ap, ap₂, ◌∙◌, arith, append_assoc, append-nil, length-append, drop_at, suc-mul}
-use Rattle.std.proofs.lemmas.Bool.{le-ltb}
-use Rattle.byteorder.specs.Endian.{big_number, big_bytes}
-use Rattle.byteorder.specs.Numbers.{big_number-reads_back}
-use Rattle.pim_addr.specs.declared.family.AddressFamily.{AddressFamily}
-use Rattle.pim_addr.specs.Address.{is_group, is_source}
-use Rattle.pim_addr.specs.Encoded.{IsUnicast, unicast_length, group_length, source_length, group_faults, unicast_faults, unicast_address, masked_address, source_value}
-use Rattle.pim_jp.specs.declared.entry.Entry.{Entry}
-use Rattle.pim_jp.specs.declared.entry.Entry.TheVariants.{Star, Source, Rpt}
-use Rattle.pim_jp.specs.Message.{GroupSet, Message, entry_of, entries_of, counts_of, joined_count, pruned_count, joined_bytes, pruned_bytes, after_set, set_of, sets_of, head_of, set_count, message_of}
-use Rattle.pim_jp.specs.Spelling.{source_of, AreEntries, IsSet, AreSets, IsHead, Spells}
-use Rattle.pim_jp.specs.Laws.{ReadsHead}
-use Rattle.pim_jp.specs.Parts.{Part, upstream, head, group, counts, entry, part_then, entry_of_bytes, entry_parts, set_parts}
-use Rattle.pim_jp.specs.Faults.{entry_kinds, kinds_at, faults_of, faults}
+use Rattle.pim_jp.proofs.Words.{◌≡◌, ℕ, zero, suc, ◌+◌, ◌*◌, ◌≤◌, ◌<◌, ◌^◌, true, false, ltb, List, [], ◌∷◌, ◌++◌, length, drop}
+use Rattle.pim_jp.proofs.Words.{slice_index, refl, sym, ap, ap₂, ◌∙◌, arith, append_assoc, append-nil, length-append, drop_at}
+use Rattle.pim_jp.proofs.Words.{suc-mul, le-ltb, big_number, big_bytes, big_number-reads_back, AddressFamily, is_group, is_source}
+use Rattle.pim_jp.proofs.Words.{IsUnicast, unicast_length, group_length, source_length, group_faults, unicast_faults}
+use Rattle.pim_jp.proofs.Words.{unicast_address, masked_address, source_value, Entry, Star, Source, Rpt, GroupSet, Message}
+use Rattle.pim_jp.proofs.Words.{entry_of, entries_of, counts_of, joined_count, pruned_count, joined_bytes, pruned_bytes}
+use Rattle.pim_jp.proofs.Words.{after_set, set_of, sets_of, head_of, set_count, message_of, source_of, AreEntries, IsSet, AreSets}
+use Rattle.pim_jp.proofs.Words.{IsHead, Spells, ReadsHead, Part, upstream, head, group, counts, entry, part_then, entry_of_bytes}
+use Rattle.pim_jp.proofs.Words.{entry_parts, set_parts, entry_kinds, kinds_at, faults_of, faults}
 use Rattle.pim_jp.proofs.Forms.{unicast_spelled, group_spelled, source_spelled}
 use Rattle.pim_jp.proofs.EntryParts.{part_spelled, Allowed, AllAllowed}
 use Rattle.pim_jp.proofs.Lists.{allowed_from_legal}

@@ -1,11 +1,8 @@
 -- How the lists of a message are walked: one item, and then the others.
-use Rattle.std.proofs.Common.{◌≡◌, ℕ, zero, suc, ◌+◌, ◌-◌, ◌*◌, ◌≤◌, ◌<◌, List, [], ◌∷◌, length, drop, refl, sym, ap, ◌∙◌, arith}
-use Rattle.std.proofs.lemmas.List.{drop-drop}
+use Rattle.pim_jp.proofs.Words.{◌≡◌, ℕ, zero, suc, ◌+◌, ◌-◌, ◌*◌, ◌≤◌, ◌<◌, List, [], ◌∷◌, length, drop, refl, sym, ap}
+use Rattle.pim_jp.proofs.Words.{◌∙◌, arith, drop-drop, AddressFamily, source_length, source_value, entry_of, entries_of}
+use Rattle.pim_jp.proofs.Words.{set_of, sets_of, after_set, set_length, HoldsSets}
 use Rattle.std.proofs.Math.Nat.{suc-mul, add-mul}
-use Rattle.pim_addr.specs.declared.family.AddressFamily.{AddressFamily}
-use Rattle.pim_addr.specs.Encoded.{source_length, source_value}
-use Rattle.pim_jp.specs.Message.{entry_of, entries_of, set_of, sets_of, after_set}
-use Rattle.pim_jp.specs.Whole.{set_length, HoldsSets}
 
 pub entries_count : (family : AddressFamily) (count : ℕ) (bytes : List ℕ) → length (entries_of family count bytes) ≡ count
 unfolding entries_of

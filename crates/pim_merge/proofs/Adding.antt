@@ -1,10 +1,7 @@
 -- An item goes into the slot with the number of its place.
-use Rattle.std.proofs.Common.{◌≡◌, ◌∙◌, ◌≤◌, ◌&&◌, ℕ, zero, suc, Bool, true, false, List, [], ◌∷◌, Option, None, Some, length, ap, sym, refl, bytes_eq, slice_set, if◌then◌else◌, arith}
-use Rattle.std.proofs.lemmas.Bool.{false≢true}
-use Rattle.std.proofs.lemmas.Slice.Eq.{bytes_eq-Decides}
-use Rattle.pim_merge.specs.declared.census.StarJoin.{StarJoin}
-use Rattle.pim_merge.specs.CensusSlots.{added, same_star}
-use Rattle.pim_merge.specs.CensusPlaces.{place_of}
+use Rattle.pim_merge.proofs.Words.{◌≡◌, ◌∙◌, ◌≤◌, ◌&&◌, ℕ, zero, suc, Bool, true, false, List, [], ◌∷◌, Option, None}
+use Rattle.pim_merge.proofs.Words.{Some, length, ap, sym, refl, bytes_eq, slice_set, if◌then◌else◌, arith, false≢true}
+use Rattle.pim_merge.proofs.Words.{bytes_eq-Decides, StarJoin, added, same_star, place_of}
 
 set_or_later : {A : Type 0} (b : Bool) (item held : A) (slots : List (Option A)) (place : ℕ) (later : List (Option A)) → (b ≡ true → item ≡ held) → slice_set slots place (Some item) ≡ later
     → slice_set (Some held ∷ slots) (if b then 0 else suc place) (Some item) ≡ Some held ∷ (if b then slots else later)

@@ -1,23 +1,13 @@
 -- One turn more of a run.
-use Rattle.std.proofs.Common.{◌≡◌, ◌∙◌, ℕ, zero, suc, List, [], ◌∷◌, ◌++◌, Option, None, Some, Result, Ok, Err, IfErr}
-use Rattle.std.proofs.Common.{get_or, refl, sym, ap, subst, ◌⊎◌, inl, inr}
-use Rattle.std.specs.Bool.{⊤}
-use Rattle.pim_capture.specs.declared.fault.CaptureFault.{CaptureFault}
-use Rattle.pim_capture.specs.Capture.{Answer}
-use Rattle.pim_capture.specs.Next.{IsRefusal}
-use Rattle.pim_time.specs.declared.reading.Time.{Time}
-use Rattle.pim_merge.specs.declared.clock.Clock.{Clock}
+use Rattle.pim_merge.proofs.Words.{◌≡◌, ◌∙◌, ℕ, zero, suc, List, [], ◌∷◌, ◌++◌, Option, None, Some, Result, Ok, Err, IfErr}
+use Rattle.pim_merge.proofs.Words.{get_or, refl, sym, ap, subst, ◌⊎◌, inl, inr, ⊤, CaptureFault, Answer, IsRefusal, Time, Clock}
+use Rattle.pim_merge.proofs.Words.{MergeFault, Turn, LaneState, IsComing, lane_at, failures_of, tallies_of, RecordPlace}
+use Rattle.pim_merge.proofs.Words.{tallies_with, place_next, Taken, Outcome, IsMergeBy, turn, turn_by, until, takes, fails}
+use Rattle.pim_merge.proofs.Words.{ending, after_turn, clock_after, moment_of, event_time, MergeState, GivesTurnBy, IsCause}
+use Rattle.pim_merge.proofs.Words.{CountsFailures, KeepsTime, with_fault, KeepsTallies, IsNumbered}
 use Rattle.pim_merge.specs.declared.end.End.{End}
-use Rattle.pim_merge.specs.declared.merge.MergeFault.{MergeFault}
-use Rattle.pim_merge.specs.declared.merge.Turn.{Turn}
 use Rattle.pim_merge.specs.Ends.{last_of, clock_of, Takes, AreAll}
-use Rattle.pim_merge.specs.Lane.{LaneState, IsComing, lane_at, failures_of, tallies_of}
-use Rattle.pim_merge.specs.declared.tally.RecordPlace.{RecordPlace}
-use Rattle.pim_merge.specs.Tally.{tallies_with, place_next}
 use Rattle.pim_merge.proofs.Tallies.{tallies_more}
-use Rattle.pim_merge.specs.Merge.{Taken, Outcome, IsMergeBy, turn, turn_by, until, takes, fails, ending, after_turn}
-use Rattle.pim_merge.specs.Merge.{clock_after, moment_of, event_time}
-use Rattle.pim_merge.specs.Next.{MergeState, GivesTurnBy, IsCause, CountsFailures, KeepsTime, with_fault, KeepsTallies, IsNumbered}
 use Rattle.pim_merge.specs.Run.{taken_by, IsBehind, HasTaken, Advances, IsTallied}
 
 -- ---- one turn more

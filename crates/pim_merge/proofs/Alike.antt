@@ -1,17 +1,13 @@
 -- A merge of classic captures, and of the same as any container gives them.
-use Rattle.std.proofs.Common.{◌≡◌, ◌∙◌, ◌⊎◌, ◌+◌, ℕ, zero, suc, nat_lt, Bool, true, false, ◌||◌, List, [], ◌∷◌, map, Option, None, Some, Ok, Err, ap, sym, refl, subst, inl, inr, slice_index_or, if◌then◌else◌, arith}
-use Rattle.std.specs.List.{list_any, AllByRecursion}
-use Rattle.std.proofs.lemmas.Bool.{false≢true}
-use Rattle.pim_addr.specs.declared.family.AddressFamily.{AddressFamily}
-use Rattle.pim_time.specs.declared.reading.Time.{Time}
-use Rattle.pim_capture.specs.declared.fault.CaptureFault.{CaptureFault}
+use Rattle.pim_merge.proofs.Words.{◌≡◌, ◌∙◌, ◌⊎◌, ◌+◌, ℕ, zero, suc, nat_lt, Bool, true, false, ◌||◌, List, [], ◌∷◌, map, Option}
+use Rattle.pim_merge.proofs.Words.{None, Some, Ok, Err, ap, sym, refl, subst, inl, inr, slice_index_or, if◌then◌else◌, arith}
+use Rattle.pim_merge.proofs.Words.{list_any, AllByRecursion, false≢true, AddressFamily, Time, CaptureFault, EventSeen, packet}
+use Rattle.pim_merge.proofs.Words.{skipped, ended, Answer, in_front, Clock, head_of, behind_head, event_time, event_rank, rank_of}
+use Rattle.pim_merge.proofs.Words.{or_fault, fault_from, sooner, numbered, earliest_from, Outcome, fails, takes, ends, taken}
+use Rattle.pim_merge.proofs.Words.{turn_at, turn_or, turn, after_turn, clock_after, moment_of, is_past, until, turn_by, Taken}
+use Rattle.pim_merge.proofs.Words.{ending, IsMergeBy, content_in, event_as_any, as_any, all_as_any, is_truncated, IsWhole}
+use Rattle.pim_merge.proofs.Words.{taken_as_any}
 use Rattle.pim_capture.specs.declared.fault.CaptureFault.TheVariants as fault
-use Rattle.pim_capture.specs.Capture.{EventSeen, packet, skipped, ended, Answer}
-use Rattle.pim_capture.specs.Next.{in_front}
-use Rattle.pim_merge.specs.declared.clock.Clock.{Clock}
-use Rattle.pim_merge.specs.Merge.{head_of, behind_head, event_time, event_rank, rank_of, or_fault, fault_from, sooner, numbered, earliest_from, Outcome, fails, takes, ends, taken, turn_at, turn_or, turn, after_turn, clock_after, moment_of, is_past, until, turn_by, Taken, ending, IsMergeBy}
-use Rattle.pim_merge.specs.Content.{content_in}
-use Rattle.pim_merge.specs.OneLink.{event_as_any, as_any, all_as_any, is_truncated, IsWhole, taken_as_any}
 
 -- ---- one head
 

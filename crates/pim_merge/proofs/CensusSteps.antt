@@ -1,11 +1,7 @@
 -- The first Join(*,G) without an RP, slot by slot, and the Joins(*,G) of a message, set by set.
-use Rattle.std.proofs.Common.{◌≡◌, ◌∙◌, ◌≤◌, ◌<◌, ◌+◌, ℕ, List, [], ◌∷◌, Option, None, Some, length, drop, get_or, ap, sym}
-use Rattle.std.proofs.lemmas.List.{at_drop_more, at_drop_all}
-use Rattle.pim_addr.specs.declared.family.AddressFamily.{AddressFamily}
-use Rattle.pim_addr.specs.Routes.{RouteTable}
-use Rattle.pim_jp.specs.Message.{GroupSet}
-use Rattle.pim_merge.specs.declared.census.StarJoin.{StarJoin}
-use Rattle.pim_merge.specs.Census.{stars_after, stars_with}
+use Rattle.pim_merge.proofs.Words.{◌≡◌, ◌∙◌, ◌≤◌, ◌<◌, ◌+◌, ℕ, List, [], ◌∷◌, Option, None, Some, length, drop, get_or}
+use Rattle.pim_merge.proofs.Words.{ap, sym, at_drop_more, at_drop_all, AddressFamily, RouteTable, GroupSet, StarJoin}
+use Rattle.pim_merge.proofs.Words.{stars_after, stars_with}
 use Rattle.pim_merge.specs.Missing.{first_of, group_without_rp, first_without_rp}
 
 module _ (family : AddressFamily) (table : RouteTable) (own : List ℕ) (stars : List (Option StarJoin)) (i : ℕ) where

@@ -1,27 +1,19 @@
 -- The records of any container: what one piece gives, and what pieces give one after the other.
-use Rattle.std.proofs.Common.{◌≡◌, ◌∙◌, ◌⊎◌, ◌≤◌, ◌<◌, ◌+◌, ℕ, Bool, true, false, if◌then◌else◌, IfOk, IfSome, List, [], ◌∷◌, Option, None, Some, Result, Ok, Err, refl, sym, ap, subst, arith, inl, inr}
-use Rattle.std.specs.Bool.{⊤}
-use Rattle.std.proofs.lemmas.Bool.{false≢true}
-use Rattle.std.specs.Option.{option_map}
-use Rattle.pim_capture.specs.declared.fault.CaptureFault.{CaptureFault}
+use Rattle.pim_merge.proofs.Words.{◌≡◌, ◌∙◌, ◌⊎◌, ◌≤◌, ◌<◌, ◌+◌, ℕ, Bool, true, false, if◌then◌else◌, IfOk, IfSome}
+use Rattle.pim_merge.proofs.Words.{List, [], ◌∷◌, Option, None, Some, Result, Ok, Err, refl, sym, ap, subst, arith, inl}
+use Rattle.pim_merge.proofs.Words.{inr, ⊤, false≢true, option_map, CaptureFault, Event, CutShort, NextFile, Answer}
+use Rattle.pim_merge.proofs.Words.{skipped, ended, IsNext, IsRefusal, CountsReads, PayloadLiesIn, IsBy, latest_moment}
+use Rattle.pim_merge.proofs.Words.{ContainerFault, Origin, Choice, ReaderState, fault_of, is_cut, fault_given}
+use Rattle.pim_merge.proofs.Words.{event_given, first_then, put, chosen, next_files, known_too, IsGiven, StaysComing}
+use Rattle.pim_merge.proofs.Words.{Steps, unless_cut, none_left, chosen_known, is_end, cut_left, step_count, failed}
 use Rattle.pim_capture.specs.declared.fault.CaptureFault.TheVariants as fault
-use Rattle.pim_capture.specs.declared.event.Event.{Event}
 use Rattle.pim_capture.specs.declared.event.Event.TheVariants as event
-use Rattle.pim_capture.specs.declared.event.Why.TheVariants.{CutShort, NextFile}
-use Rattle.pim_capture.specs.Capture.{Answer, skipped, ended}
-use Rattle.pim_capture.specs.Next.{IsNext, IsRefusal, CountsReads, PayloadLiesIn, IsBy, latest_moment}
-use Rattle.pim_container.specs.declared.fault.ContainerFault.{ContainerFault}
 use Rattle.pim_container.specs.declared.fault.ContainerFault.TheVariants as of_any
 use Rattle.pim_container.specs.declared.event.ContainerEvent as piece
 use Rattle.pim_container.specs.declared.event.ContainerEvent.TheVariants as piece_kind
-use Rattle.pim_container.specs.declared.event.Origin.{Origin}
-use Rattle.pim_container.specs.declared.choice.Choice.{Choice}
-use Rattle.pim_container.specs.declared.reader.ReaderState.{ReaderState}
 use Rattle.pim_container.specs.EventSeen as any
 use Rattle.pim_container.specs.Pieces as pieces
 use Rattle.pim_container.specs.Next as next
-use Rattle.pim_merge.specs.Chosen.{fault_of, is_cut, fault_given, event_given, first_then, put, chosen, next_files, known_too}
-use Rattle.pim_merge.specs.Source.{IsGiven, StaysComing, Steps, unless_cut, none_left, chosen_known, is_end, cut_left, step_count, failed}
 use Rattle.pim_merge.proofs.Failures.{Moves}
 
 -- ---- the results of a container

@@ -1,9 +1,7 @@
 -- The moment of a clock.
-use Rattle.std.proofs.Common.{◌≡◌, ◌≤◌, ◌-◌, max, ℕ, Option, None, Some, refl, sym, subst, arith}
+use Rattle.pim_merge.proofs.Words.{◌≡◌, ◌≤◌, ◌-◌, max, ℕ, Option, None, Some, refl, sym, subst, arith, common_steps}
+use Rattle.pim_merge.proofs.Words.{Clock, clock_by, clock_after, moment_of}
 use Rattle.std.specs.Option.{IfSome}
-use Rattle.std.proofs.lemmas.Grind.{common_steps}
-use Rattle.pim_merge.specs.declared.clock.Clock.{Clock}
-use Rattle.pim_merge.specs.Merge.{clock_by, clock_after, moment_of}
 
 pub by_bound : (clock : Option Clock) (time latest : ℕ) (result : Clock) → result ≡ clock_by clock time → moment_of clock ≤ latest →
     time ≤ latest → result.moment ≤ latest

@@ -1,11 +1,8 @@
 -- What a record holds, by the addresses of its packet.
-use Rattle.std.proofs.Common.{◌≡◌, ◌∙◌, ℕ, Bool, true, false, if◌then◌else◌, List, Option, None, Some, sym, ap, refl}
-use Rattle.std.specs.Option.{option_map}
-use Rattle.pim_addr.specs.declared.family.AddressFamily.{AddressFamily}
-use Rattle.pim_addr.specs.Families.{is_same}
-use Rattle.pim_capture.specs.Frame.{Datagram}
+use Rattle.pim_merge.proofs.Words.{◌≡◌, ◌∙◌, ℕ, Bool, true, false, if◌then◌else◌, List, Option, None, Some, sym, ap}
+use Rattle.pim_merge.proofs.Words.{refl, option_map, AddressFamily, is_same, Datagram, holds, of_other_family}
+use Rattle.pim_merge.proofs.Words.{datagram_in, ends_seen, ends_in}
 use Rattle.pim_merge.specs.declared.content.ContentEnds.{ContentEnds}
-use Rattle.pim_merge.specs.Content.{holds, of_other_family, datagram_in, ends_seen, ends_in}
 
 abbrev Pair : Type 0
 Pair = List ℕ × List ℕ

@@ -1,28 +1,20 @@
 -- What a census holds of the messages that it counted.
-use Rattle.std.proofs.Common.{◌≡◌, ◌∙◌, ◌<◌, ◌+◌, ℕ, zero, suc, Bool, true, false, ◌&&◌, ◌||◌, not, cond, List, [], ◌∷◌, length, take, drop, Option, None, Some, ap, sym, refl, subst, bytes_eq, if◌then◌else◌, arith, get_or-drop, replicate, ◌==◌}
+use Rattle.pim_merge.proofs.Words.{◌≡◌, ◌∙◌, ◌<◌, ◌+◌, ℕ, zero, suc, Bool, true, false, ◌&&◌, ◌||◌, not, cond, List, []}
+use Rattle.pim_merge.proofs.Words.{◌∷◌, length, take, drop, Option, None, Some, ap, sym, refl, subst, bytes_eq}
+use Rattle.pim_merge.proofs.Words.{if◌then◌else◌, arith, get_or-drop, replicate, ◌==◌, list_any, cons_option}
+use Rattle.pim_merge.proofs.Words.{AllByRecursion, false≢true, take_at, bytes_eq-Decides, AddressFamily, is_same}
+use Rattle.pim_merge.proofs.Words.{judged, RouteTable, rp_of, GroupSet, Message, message_of, Spells, Datagram, StarJoin}
+use Rattle.pim_merge.proofs.Words.{added, field_of, same_star, no_names, sound, content_message, opened_message}
+use Rattle.pim_merge.proofs.Words.{message_in, joins_star, star_of, stars_with, stars_after, with_message}
 use Rattle.std.specs.Prelude.{⊤}
-use Rattle.std.specs.List.{list_any, cons_option, AllByRecursion}
-use Rattle.std.proofs.lemmas.Bool.{false≢true}
-use Rattle.std.proofs.lemmas.List.{take_at}
-use Rattle.std.proofs.lemmas.Slice.Eq.{bytes_eq-Decides}
-use Rattle.pim_addr.specs.declared.family.AddressFamily.{AddressFamily}
 use Rattle.pim_addr.specs.declared.family.AddressFamily.TheVariants.{Ipv4, Ipv6}
 use Rattle.pim_addr.specs.Address.{address_length, IsAddress, AreBytes}
-use Rattle.pim_addr.specs.Families.{is_same}
-use Rattle.pim_addr.specs.Faults.{judged}
-use Rattle.pim_addr.specs.Routes.{RouteTable, rp_of}
 use Rattle.pim_frame.specs.declared.frame.FrameFault.{FrameFault}
 use Rattle.pim_frame.specs.Frame.{Content, hello, join_prune, other, content, frame_faults, message_type}
 use Rattle.pim_jp.specs.declared.fault.JpFault.{JpFault}
 use Rattle.pim_jp.specs.Faults.{faults}
-use Rattle.pim_jp.specs.Message.{GroupSet, Message, message_of}
-use Rattle.pim_jp.specs.Spelling.{Spells}
 use Rattle.pim_jp.specs.Canonical.{IsMessage, IsMessageSet}
-use Rattle.pim_capture.specs.Frame.{Datagram}
 use Rattle.pim_merge.specs.declared.census.Census.{Census}
-use Rattle.pim_merge.specs.declared.census.StarJoin.{StarJoin}
-use Rattle.pim_merge.specs.CensusSlots.{added, field_of, same_star}
-use Rattle.pim_merge.specs.Census.{no_names, sound, content_message, opened_message, message_in, joins_star, star_of, stars_with, stars_after, with_message}
 use Rattle.pim_merge.specs.Missing.{has, is_taken, misses, unless_served, group_without_rp, first_of, first_without_rp, without_rp}
 use Rattle.pim_merge.specs.CensusLaws.{census_over, census_of, message_counted, messages_counted, is_for, joins_group}
 

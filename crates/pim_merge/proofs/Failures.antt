@@ -1,9 +1,7 @@
 -- The failures of several devices together.
-use Rattle.std.proofs.Common.{◌≡◌, ◌∙◌, ◌+◌, min, ℕ, List, [], ◌∷◌, sym, ap, subst, arith}
+use Rattle.pim_merge.proofs.Words.{◌≡◌, ◌∙◌, ◌+◌, min, ℕ, List, [], ◌∷◌, sym, ap, subst, arith, sum_by, all_failures}
 use Rattle.std.proofs.lemmas.List.Sums.{sum_by-cons}
-use Rattle.std.specs.List.{sum_by}
 use Rattle.pim_device.specs.Device.{FailedIn, top_count}
-use Rattle.pim_merge.specs.Chosen.{all_failures}
 
 -- The count of one device moved from n to n', and that of all with it from m to m'.
 pub record Moves (n n' m m' : ℕ) : Type 0 where

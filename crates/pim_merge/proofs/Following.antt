@@ -1,10 +1,8 @@
 -- The files that follow the one that is read.
-use Rattle.std.proofs.Common.{◌≡◌, ◌≤◌, ◌<◌, ◌+◌, ℕ, List, [], ◌∷◌, length, get_or, set, drop, Option, None, Some, refl, ap, arith}
-use Rattle.std.specs.Option.{option_map}
-use Rattle.std.proofs.lemmas.List.{drop_all, drop_more, drop-set-lt}
-use Rattle.pim_container.specs.declared.choice.Choice.{Choice}
+use Rattle.pim_merge.proofs.Words.{◌≡◌, ◌≤◌, ◌<◌, ◌+◌, ℕ, List, [], ◌∷◌, length, get_or, set, drop, Option, None, Some}
+use Rattle.pim_merge.proofs.Words.{refl, ap, arith, option_map, drop_all, drop_more, drop-set-lt, Choice, known_too}
+use Rattle.pim_merge.proofs.Words.{all_known, answers_by, answers_of_files}
 use Rattle.pim_container.specs.Pieces as pieces
-use Rattle.pim_merge.specs.Chosen.{known_too, all_known, answers_by, answers_of_files}
 
 module _ {R : Type 0} (remaining : R → Option (List ℕ)) (others : List R) (read : ℕ) where
   pub none_follow : length others ≤ read → all_known remaining (drop read others) ≡ Some []

@@ -1,16 +1,10 @@
 -- No record that is told is longer than a record may be.
-use Rattle.std.proofs.Common.{◌≡◌, ◌≤◌, ◌||◌, ℕ, Bool, true, false, List, Option, None, Some, Result, Ok, Err, nat_lt, if◌then◌else◌, refl, arith, ◌==◌, take, drop, length, inl, inr, is_some, IfSome}
-use Rattle.std.proofs.lemmas.Bool.Decides.{nat_tests}
-use Rattle.std.specs.Option.{option_map}
-use Rattle.pim_capture.specs.declared.fault.CaptureFault.{CaptureFault}
-use Rattle.pim_capture.specs.declared.header.Format.{Format}
-use Rattle.pim_capture.specs.declared.event.Event.{Event}
-use Rattle.pim_capture.specs.declared.event.Event.TheVariants.{Packet, Skipped, End}
+use Rattle.pim_merge.proofs.Words.{◌≡◌, ◌≤◌, ◌||◌, ℕ, Bool, true, false, List, Option, None, Some, Result, Ok, Err, nat_lt}
+use Rattle.pim_merge.proofs.Words.{if◌then◌else◌, refl, arith, ◌==◌, take, drop, length, inl, inr, is_some, IfSome, nat_tests}
+use Rattle.pim_merge.proofs.Words.{option_map, CaptureFault, Format, Event, Packet, Skipped, End, judge_header, most_captured}
+use Rattle.pim_merge.proofs.Words.{captured_length, most_records, stated_length, first_length, length_in, HasLength, FitsRecord}
 use Rattle.pim_capture.specs.declared.capture.CaptureState.{CaptureState}
 use Rattle.pim_capture.specs.declared.capture.CaptureState.TheVariants.{Unbegun, Records, Ended, Failed}
-use Rattle.pim_capture.specs.Header.{judge_header}
-use Rattle.pim_capture.specs.Capture.{most_captured, captured_length, most_records}
-use Rattle.pim_capture.specs.Next.{stated_length, first_length, length_in, HasLength, FitsRecord}
 
 unless_over : (a b c : Bool) (m n : ℕ) → c ≡ nat_lt most_captured m → (if a || b || c then None else Some m) ≡ Some n → n ≤ most_captured
 unless_over true b c m n over is = absurd cc

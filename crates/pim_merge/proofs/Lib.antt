@@ -1,3 +1,4 @@
+pub mod Words
 pub mod Lengths
 pub mod Looking
 pub mod OneEnd

@@ -1,12 +1,10 @@
 -- Reading the heads of captures, one after the other.
-use Rattle.std.proofs.Common.{◌≡◌, ◌<◌, ◌≤◌, ◌+◌, ◌∙◌, ◌∷◌, ◌++◌, [], ℕ, zero, suc, List, None, Some, length, get_or, set, take, drop, map, refl, sym, ap, subst, arith, inl, inr, ◌⊎◌, ⊎_elim, add-zero}
-use Rattle.std.specs.List.{AllByRecursion}
-use Rattle.std.proofs.lemmas.Bool.{cases_eq}
+use Rattle.pim_merge.proofs.Words.{◌≡◌, ◌<◌, ◌≤◌, ◌+◌, ◌∙◌, ◌∷◌, ◌++◌, [], ℕ, zero, suc, List, None, Some, length}
+use Rattle.pim_merge.proofs.Words.{get_or, set, take, drop, map, refl, sym, ap, subst, arith, inl, inr, ◌⊎◌, ⊎_elim}
+use Rattle.pim_merge.proofs.Words.{add-zero, AllByRecursion, cases_eq, Answer, LaneState, coming_on, IsComing, IsLooked}
+use Rattle.pim_merge.proofs.Words.{lane_left, records_to_come, failures_of, lane_at, no_lane, KeepsRoom, KeepRooms}
+use Rattle.pim_merge.proofs.Words.{HasFailed, FailsAt, tallies_of, no_tally, StillComes}
 use Rattle.std.proofs.lemmas.List.{map-set, set-get_or, get_or-map, take_more_set, drop-set-lt, drop-drop, get_or-drop, get_or_default, get_or-set_same, get_or-set_other}
-use Rattle.pim_capture.specs.Capture.{Answer}
-use Rattle.pim_merge.specs.Lane.{LaneState, coming_on, IsComing, IsLooked, lane_left, records_to_come, failures_of, lane_at, no_lane, KeepsRoom, KeepRooms, HasFailed, FailsAt, tallies_of}
-use Rattle.pim_merge.specs.Tally.{no_tally}
-use Rattle.pim_merge.specs.Looks.{StillComes}
 use Rattle.pim_merge.proofs.Needing.{within_same}
 
 -- ---- lists of captures

@@ -1,32 +1,24 @@
 -- What memory is asked for up to the next record of any container.
-use Rattle.std.proofs.Common.{◌≡◌, ◌∙◌, ◌⊎◌, ◌≤◌, ◌<◌, max, ℕ, zero, suc, Bool, true, false, nat_lt, if◌then◌else◌, IfOk, IfSome, List, [], ◌∷◌, drop, length, Option, None, Some, Result, Ok, Err, unwrap_or, refl, sym, ap, subst, arith, inl, inr}
-use Rattle.std.proofs.lemmas.Bool.{false≢true}
-use Rattle.std.proofs.lemmas.Grind.{common_steps}
-use Rattle.std.specs.Option.{option_map}
-use Rattle.pim_capture.specs.declared.fault.CaptureFault.{CaptureFault}
+use Rattle.pim_merge.proofs.Words.{◌≡◌, ◌∙◌, ◌⊎◌, ◌≤◌, ◌<◌, max, ℕ, zero, suc, Bool, true, false, nat_lt, if◌then◌else◌, IfOk}
+use Rattle.pim_merge.proofs.Words.{IfSome, List, [], ◌∷◌, drop, length, Option, None, Some, Result, Ok, Err, unwrap_or, refl, sym}
+use Rattle.pim_merge.proofs.Words.{ap, subst, arith, inl, inr, false≢true, common_steps, option_map, CaptureFault, Event, Answer}
+use Rattle.pim_merge.proofs.Words.{packet, skipped, ended, most_records, OnMemory, IsNext, IsRefusal, ContainerFault, Origin}
+use Rattle.pim_merge.proofs.Words.{Choice, ReaderState, is_section, event_given, first_then, put, chosen, next_files, IsGiven}
+use Rattle.pim_merge.proofs.Words.{is_end, failed, SomeExceeds, PassesNeeds, GrowsWithin, longest, Allocates, IsLonger}
+use Rattle.pim_merge.proofs.Words.{first_answer, needs_unless, StaysComing, chosen_known, unless_cut}
 use Rattle.pim_capture.specs.declared.fault.CaptureFault.TheVariants as fault
-use Rattle.pim_capture.specs.declared.event.Event.{Event}
-use Rattle.pim_capture.specs.Capture.{Answer, packet, skipped, ended, most_records}
-use Rattle.pim_capture.specs.Next.{OnMemory, IsNext, IsRefusal}
 use Rattle.pim_container.specs.declared.link.BlockEndianness.TheVariants.{Big}
-use Rattle.pim_container.specs.declared.fault.ContainerFault.{ContainerFault}
 use Rattle.pim_container.specs.declared.fault.ContainerFault.TheVariants as of_any
 use Rattle.pim_container.specs.declared.event.ContainerEvent as piece
 use Rattle.pim_container.specs.declared.event.ContainerEvent.TheVariants as piece_kind
-use Rattle.pim_container.specs.declared.event.Origin.{Origin}
-use Rattle.pim_container.specs.declared.choice.Choice.{Choice}
 use Rattle.pim_container.specs.declared.interface.Interface.{Interface}
 use Rattle.pim_container.specs.declared.container.Container.{Container}
 use Rattle.pim_container.specs.declared.container.Container.TheVariants.{Classic, Blocks}
-use Rattle.pim_container.specs.declared.reader.ReaderState.{ReaderState}
 use Rattle.pim_container.specs.declared.reader.ReaderState.TheVariants.{Unbegun, Pieces, Ended, Failed}
 use Rattle.pim_container.specs.EventSeen as any
 use Rattle.pim_container.specs.Pieces as pieces
-use Rattle.pim_container.specs.Block.{is_section}
 use Rattle.pim_container.specs.Next as next
 use Rattle.pim_container.specs.Room.{Need, LacksRoom, GrowsBy, GrowsFor, GrowsList, length_in, first_length, next_length, count_in, DescribesFirst, DescribesNext, PassesNeed, describes, first_need, needs, needs_in, header_need, classic_needs}
-use Rattle.pim_merge.specs.Chosen.{event_given, first_then, put, chosen, next_files}
-use Rattle.pim_merge.specs.Source.{IsGiven, is_end, failed, SomeExceeds, PassesNeeds, GrowsWithin, longest, Allocates, IsLonger, first_answer, needs_unless, StaysComing, chosen_known, unless_cut}
 use Rattle.pim_merge.proofs.Choosing.{put_is, not_end, next_after}
 
 -- ---- a fault that isn't refused memory

@@ -1,10 +1,7 @@
 -- A merge has one end.
-use Rattle.std.proofs.Common.{◌≡◌, ◌∙◌, ◌∷◌, [], ℕ, List, Option, None, Some, refl, sym, ap, subst}
-use Rattle.pim_capture.specs.declared.fault.CaptureFault.{CaptureFault}
-use Rattle.pim_capture.specs.Capture.{EventSeen, Answer}
-use Rattle.pim_time.specs.declared.reading.Time.{Time}
-use Rattle.pim_merge.specs.declared.clock.Clock.{Clock}
-use Rattle.pim_merge.specs.Merge.{Taken, IsMerge, IsMergeBy, ending, fails, takes, clock_after, moment_of, event_time, after_turn}
+use Rattle.pim_merge.proofs.Words.{◌≡◌, ◌∙◌, ◌∷◌, [], ℕ, List, Option, None, Some, refl, sym, ap, subst, CaptureFault}
+use Rattle.pim_merge.proofs.Words.{EventSeen, Answer, Time, Clock, Taken, IsMerge, IsMergeBy, ending, fails, takes}
+use Rattle.pim_merge.proofs.Words.{clock_after, moment_of, event_time, after_turn}
 
 takes_capture : (c d : ℕ) (t u : EventSeen) → takes c t ≡ takes d u → c ≡ d
 takes_capture c d t u same = cc

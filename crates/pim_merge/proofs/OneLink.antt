@@ -1,28 +1,18 @@
 -- A classic file of one link, result by result.
-use Rattle.std.proofs.Common.{◌≡◌, ◌∙◌, ℕ, zero, suc, Bool, true, false, not, ◌&&◌, ◌==◌, List, [], ◌∷◌, take, drop, Option, None, Some, Result, Ok, Err, ap, sym, refl, subst, eq-eqb}
+use Rattle.pim_merge.proofs.Words.{◌≡◌, ◌∙◌, ℕ, zero, suc, Bool, true, false, not, ◌&&◌, ◌==◌, List, [], ◌∷◌, take, drop, Option}
+use Rattle.pim_merge.proofs.Words.{None, Some, Result, Ok, Err, ap, sym, refl, subst, eq-eqb, false≢true, AllByRecursion, judged}
+use Rattle.pim_merge.proofs.Words.{fault_if, Why, CaptureFault, Format, Datagram, judge_frame, EventSeen, packet, skipped, ended}
+use Rattle.pim_merge.proofs.Words.{Answer, answers, records, most_records, event_by, unless_fault, record_faults, record_event}
+use Rattle.pim_merge.proofs.Words.{millis_of, frame_of, after_record, judge_header, in_front, Origin, ContainerFault, is_section}
+use Rattle.pim_merge.proofs.Words.{judge_origin, first_after, is_same_vlan, chosen, next_files, answers_by, fault_given}
+use Rattle.pim_merge.proofs.Words.{packet_given, no_choice, IsOfVlan, as_any, all_as_any}
 use Rattle.std.specs.Prelude.{⊤}
-use Rattle.std.proofs.lemmas.Bool.{false≢true}
-use Rattle.std.specs.List.{AllByRecursion}
-use Rattle.pim_addr.specs.Faults.{judged, fault_if}
-use Rattle.pim_capture.specs.declared.event.Why.{Why}
-use Rattle.pim_capture.specs.declared.fault.CaptureFault.{CaptureFault}
 use Rattle.pim_capture.specs.declared.fault.CaptureFault.TheVariants as fault
-use Rattle.pim_capture.specs.declared.header.Format.{Format}
 use Rattle.pim_capture.specs.declared.vlan.Vlan.{Vlan}
-use Rattle.pim_capture.specs.Frame.{Datagram, judge_frame}
-use Rattle.pim_capture.specs.Capture.{EventSeen, packet, skipped, ended, Answer, answers, records, most_records, event_by, unless_fault, record_faults, record_event, millis_of, frame_of, after_record}
-use Rattle.pim_capture.specs.Header.{judge_header}
-use Rattle.pim_capture.specs.Next.{in_front}
 use Rattle.pim_container.specs.declared.choice.Mixed.TheVariants.{Vlans}
-use Rattle.pim_container.specs.declared.event.Origin.{Origin}
-use Rattle.pim_container.specs.declared.fault.ContainerFault.{ContainerFault}
 use Rattle.pim_container.specs.Agreement.{SameFault, of_vlan, ExactAnswers, ExactAfterSection, lacks_further_tags, AgreesExactly}
-use Rattle.pim_container.specs.Block.{is_section}
-use Rattle.pim_container.specs.Choice.{judge_origin, first_after, is_same_vlan}
 use Rattle.pim_container.specs.EventSeen as any
 use Rattle.pim_container.specs.Pieces as pieces
-use Rattle.pim_merge.specs.Chosen.{chosen, next_files, answers_by, fault_given, packet_given}
-use Rattle.pim_merge.specs.OneLink.{no_choice, IsOfVlan, as_any, all_as_any}
 
 -- ---- nothing follows the end of a classic capture
 

@@ -1,14 +1,8 @@
 -- A call after a fault.
-use Rattle.std.proofs.Common.{◌≡◌, ◌<◌, ◌≤◌, ◌∙◌, ◌∷◌, ◌++◌, [], ℕ, zero, suc, List, Option, None, Some, IsSome, Err, length, get_or, take, drop, sym, ap, subst, arith, ⊎_elim}
-use Rattle.std.specs.List.{AllByRecursion}
-use Rattle.std.specs.Bool.{⊤}
-use Rattle.std.proofs.lemmas.Bool.{cases_lt, false≢true}
-use Rattle.std.proofs.lemmas.List.{get_or_past, length-drop, take_at}
-use Rattle.pim_capture.specs.declared.fault.CaptureFault.{CaptureFault}
-use Rattle.pim_capture.specs.Capture.{EventSeen}
-use Rattle.pim_merge.specs.declared.tally.RecordPlace.{RecordPlace}
-use Rattle.pim_merge.specs.Lane.{LaneState, IsLooked, HasFailed, FailsAt, lane_at, no_lane, IsFailedHead}
-use Rattle.pim_merge.specs.Next.{IsFailed}
+use Rattle.pim_merge.proofs.Words.{◌≡◌, ◌<◌, ◌≤◌, ◌∙◌, ◌∷◌, ◌++◌, [], ℕ, zero, suc, List, Option, None, Some, IsSome, Err, length}
+use Rattle.pim_merge.proofs.Words.{get_or, take, drop, sym, ap, subst, arith, ⊎_elim, AllByRecursion, ⊤, cases_lt, false≢true}
+use Rattle.pim_merge.proofs.Words.{get_or_past, length-drop, take_at, CaptureFault, EventSeen, RecordPlace, LaneState, IsLooked}
+use Rattle.pim_merge.proofs.Words.{HasFailed, FailsAt, lane_at, no_lane, IsFailedHead, IsFailed}
 use Rattle.pim_merge.proofs.Looking.{as_before, IsLookedUpTo}
 
 looked_at : (lanes : List LaneState) (i n : ℕ) (d : LaneState) → AllByRecursion IsLooked (take n lanes) → i < n → i < length lanes → IsLooked (get_or lanes i d)

@@ -1,9 +1,7 @@
 -- The first of several heads of least time.
-use Rattle.std.proofs.Common.{◌≡◌, ◌∷◌, ◌<◌, ◌≤◌, ◌+◌, ◌∙◌, ℕ, suc, List, Option, None, Some, length, get_or, drop, map, refl, ap, arith, add-one}
-use Rattle.std.proofs.lemmas.Bool.Decides.{nat_tests}
-use Rattle.std.proofs.lemmas.List.{drop_more, drop_all}
-use Rattle.pim_merge.specs.Merge.{sooner, numbered, earliest_from}
-use Rattle.pim_merge.specs.Lane.{LaneState, head_rank}
+use Rattle.pim_merge.proofs.Words.{◌≡◌, ◌∷◌, ◌<◌, ◌≤◌, ◌+◌, ◌∙◌, ℕ, suc, List, Option, None, Some, length, get_or, drop}
+use Rattle.pim_merge.proofs.Words.{map, refl, ap, arith, add-one, nat_tests, drop_more, drop_all, sooner, numbered}
+use Rattle.pim_merge.proofs.Words.{earliest_from, LaneState, head_rank}
 
 sooner_once_more : (a b c : Option (ℕ × ℕ)) → sooner (sooner a b) c ≡ sooner a (sooner b c)
 sooner_once_more None b c = refl

@@ -1,16 +1,9 @@
 -- Where the head of a capture can't be read.
-use Rattle.std.proofs.Common.{◌≡◌, ◌<◌, ◌≤◌, ◌∙◌, ◌∷◌, [], ℕ, List, Err, length, get_or, set, sym, ap, subst, arith, inl, inr}
-use Rattle.std.specs.Bool.{⊤}
-use Rattle.std.proofs.lemmas.List.{map-set, set-get_or, get_or-set_same}
-use Rattle.pim_capture.specs.declared.fault.CaptureFault.{CaptureFault}
-use Rattle.pim_capture.specs.Capture.{Answer}
-use Rattle.pim_capture.specs.Next.{IsRefusal, CountsReads, OnMemory}
-use Rattle.pim_merge.specs.Merge.{turn, fails}
-use Rattle.pim_merge.specs.Lane.{LaneState, IsComing, lane_left, records_to_come, lane_at, no_lane, failures_of, LacksHeadRoom, HadAll, KeepsRoom, KeepRooms, tallies_of}
-use Rattle.pim_merge.specs.Looks.{IsReadOrRefused}
-use Rattle.pim_merge.specs.declared.tally.RecordPlace.{RecordPlace}
-use Rattle.pim_merge.specs.Tally.{next_place}
-use Rattle.pim_merge.specs.Next.{IsCause, CountsFailures, LacksMemory, IsNumbered}
+use Rattle.pim_merge.proofs.Words.{◌≡◌, ◌<◌, ◌≤◌, ◌∙◌, ◌∷◌, [], ℕ, List, Err, length, get_or, set, sym, ap, subst, arith, inl}
+use Rattle.pim_merge.proofs.Words.{inr, ⊤, map-set, set-get_or, get_or-set_same, CaptureFault, Answer, IsRefusal, CountsReads}
+use Rattle.pim_merge.proofs.Words.{OnMemory, turn, fails, LaneState, IsComing, lane_left, records_to_come, lane_at, no_lane}
+use Rattle.pim_merge.proofs.Words.{failures_of, LacksHeadRoom, HadAll, KeepsRoom, KeepRooms, tallies_of, IsReadOrRefused}
+use Rattle.pim_merge.proofs.Words.{RecordPlace, next_place, IsCause, CountsFailures, LacksMemory, IsNumbered}
 use Rattle.pim_merge.proofs.Looking.{one_comes, total_with, as_before, set_keeps, same_tallies, IsLookedUpTo}
 use Rattle.pim_merge.proofs.Tallies.{tally_there}
 use Rattle.pim_merge.proofs.Turning.{turns_to_fault}

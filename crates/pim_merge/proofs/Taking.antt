@@ -1,17 +1,13 @@
 -- The turn that takes the head that was found.
-use Rattle.std.proofs.Common.{◌≡◌, ◌<◌, ◌≤◌, ◌∙◌, [], ℕ, List, Option, None, Some, Ok, length, get_or, set, map, refl, sym, ap, subst, arith}
-use Rattle.std.specs.List.{AllByRecursion}
+use Rattle.pim_merge.proofs.Words.{◌≡◌, ◌<◌, ◌≤◌, ◌∙◌, [], ℕ, List, Option, None, Some, Ok, length, get_or, set, map, refl, sym}
+use Rattle.pim_merge.proofs.Words.{ap, subst, arith, AllByRecursion, map-set, set-get_or, get_or-map, get_or-set_same}
+use Rattle.pim_merge.proofs.Words.{get_or_default, length-set, Event, Packet, Skipped, End, Why, Cut, NotIp, BadHeader, NotPim}
+use Rattle.pim_merge.proofs.Words.{Fragment, NoTime, LinkType, NotChosen, CutShort, NextFile, EventSeen, packet, skipped, ended}
+use Rattle.pim_merge.proofs.Words.{Answer, in_front, event_seen, IsBy, behind_head, event_time, time_by, event_rank}
+use Rattle.pim_merge.proofs.Words.{earliest_from, taken, turn, takes, ends, after_turn, LaneState, with_head, IsComing, IsLooked}
+use Rattle.pim_merge.proofs.Words.{rank_at, head_rank, time_at, head_time, without_head, counted, records_to_come, no_lane}
+use Rattle.pim_merge.proofs.Words.{lane_at, failures_of, KeepRooms, tallies_of, tallies_with}
 use Rattle.std.specs.Option.{option_map, IfSome}
-use Rattle.std.proofs.lemmas.List.{map-set, set-get_or, get_or-map, get_or-set_same, get_or_default, length-set}
-use Rattle.pim_capture.specs.declared.event.Event.{Event}
-use Rattle.pim_capture.specs.declared.event.Event.TheVariants.{Packet, Skipped, End}
-use Rattle.pim_capture.specs.declared.event.Why.{Why}
-use Rattle.pim_capture.specs.declared.event.Why.TheVariants.{Cut, NotIp, BadHeader, NotPim, Fragment, NoTime, LinkType, NotChosen, CutShort, NextFile}
-use Rattle.pim_capture.specs.Capture.{EventSeen, packet, skipped, ended, Answer}
-use Rattle.pim_capture.specs.Next.{in_front, event_seen, IsBy}
-use Rattle.pim_merge.specs.Merge.{behind_head, event_time, time_by, event_rank, earliest_from, taken, turn, takes, ends, after_turn}
-use Rattle.pim_merge.specs.Lane.{LaneState, with_head, IsComing, IsLooked, rank_at, head_rank, time_at, head_time, without_head, counted, records_to_come, no_lane, lane_at, failures_of, KeepRooms, tallies_of}
-use Rattle.pim_merge.specs.Tally.{tallies_with}
 use Rattle.pim_merge.proofs.Tallies.{tallies_moved}
 use Rattle.pim_merge.proofs.Looking.{one_comes, set_comes, total_with, set_keeps}
 use Rattle.pim_merge.proofs.Turning.{some_list, told_comes, turns_by_times, Stands, found_stands}

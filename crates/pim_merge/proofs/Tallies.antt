@@ -1,11 +1,8 @@
 -- The tallies of captures.
-use Rattle.std.proofs.Common.{◌≡◌, ◌∙◌, ℕ, zero, suc, List, [], ◌∷◌, ◌++◌, set, Some, refl, ap}
-use Rattle.std.proofs.lemmas.List.{map-set}
-use Rattle.pim_capture.specs.Capture.{EventSeen}
+use Rattle.pim_merge.proofs.Words.{◌≡◌, ◌∙◌, ℕ, zero, suc, List, [], ◌∷◌, ◌++◌, set, Some, refl, ap, map-set, EventSeen}
+use Rattle.pim_merge.proofs.Words.{Taken, LaneState, lane_at, tallies_of, without_head, tally_at, tally_after}
+use Rattle.pim_merge.proofs.Words.{tally_taken, tallies_with, tallies_after}
 use Rattle.pim_merge.specs.declared.tally.Tally.{Tally}
-use Rattle.pim_merge.specs.Merge.{Taken}
-use Rattle.pim_merge.specs.Lane.{LaneState, lane_at, tallies_of, without_head}
-use Rattle.pim_merge.specs.Tally.{tally_at, tally_after, tally_taken, tallies_with, tallies_after}
 
 pub tally_there : (lanes : List LaneState) (number : ℕ) → (lane_at number lanes).tally ≡ tally_at number (tallies_of lanes)
 tally_there [] number = refl

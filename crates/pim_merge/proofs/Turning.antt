@@ -1,12 +1,10 @@
 -- What the turn of a merge is, by what was read of its captures.
-use Rattle.std.proofs.Common.{◌≡◌, ◌<◌, ◌+◌, ◌∙◌, ◌∷◌, [], ℕ, zero, suc, List, Option, None, Some, Ok, Err, Bool, true, false, length, get_or, set, take, drop, map, is_some, nat_lt, if◌then◌else◌, refl, sym, ap, subst, arith, ◌⊎◌, inl, inr}
-use Rattle.std.specs.List.{AllByRecursion}
-use Rattle.std.specs.Option.{option_map}
-use Rattle.pim_capture.specs.declared.fault.CaptureFault.{CaptureFault}
-use Rattle.pim_capture.specs.Capture.{EventSeen, packet, skipped, ended, Answer}
-use Rattle.pim_capture.specs.Next.{in_front}
-use Rattle.pim_merge.specs.Merge.{head_of, rank_of, or_fault, fault_from, sooner, numbered, earliest_from, turn_at, turn, fails}
-use Rattle.pim_merge.specs.Lane.{LaneState, coming_on, IsComing, IsLooked, rank_at, head_rank, with_head}
+use Rattle.pim_merge.proofs.Words.{◌≡◌, ◌<◌, ◌+◌, ◌∙◌, ◌∷◌, [], ℕ, zero, suc, List, Option, None, Some, Ok, Err, Bool}
+use Rattle.pim_merge.proofs.Words.{true, false, length, get_or, set, take, drop, map, is_some, nat_lt, if◌then◌else◌}
+use Rattle.pim_merge.proofs.Words.{refl, sym, ap, subst, arith, ◌⊎◌, inl, inr, AllByRecursion, option_map, CaptureFault}
+use Rattle.pim_merge.proofs.Words.{EventSeen, packet, skipped, ended, Answer, in_front, head_of, rank_of, or_fault}
+use Rattle.pim_merge.proofs.Words.{fault_from, sooner, numbered, earliest_from, turn_at, turn, fails, LaneState}
+use Rattle.pim_merge.proofs.Words.{coming_on, IsComing, IsLooked, rank_at, head_rank, with_head}
 
 -- ---- the head that was read is the head of what comes
 

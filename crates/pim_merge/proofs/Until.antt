@@ -1,14 +1,9 @@
 -- The turn of a merge that ends at a time.
-use Rattle.std.proofs.Common.{◌≡◌, ◌∙◌, [], ℕ, List, Option, None, Some, Result, Ok, Err, true, false, get_or, map, refl, sym, ap, cond}
-use Rattle.std.specs.List.{AllByRecursion}
-use Rattle.pim_capture.specs.Capture.{EventSeen, Answer}
-use Rattle.pim_time.specs.declared.reading.Time.{Time}
-use Rattle.pim_merge.specs.declared.clock.Clock.{Clock}
-use Rattle.pim_merge.specs.declared.merge.Turn.{Turn}
-use Rattle.pim_merge.specs.declared.merge.MergeFault.{MergeFault}
-use Rattle.pim_merge.specs.Merge.{Outcome, takes, ends, taken, turn, turn_by, until, is_past, clock_after, event_time, earliest_from}
-use Rattle.pim_merge.specs.Lane.{LaneState, IsComing, IsLooked, with_head, time_at, head_time, head_rank, lane_at, no_lane}
-use Rattle.pim_merge.specs.Next.{MergeState, GivesTurn, GivesTurnBy}
+use Rattle.pim_merge.proofs.Words.{◌≡◌, ◌∙◌, [], ℕ, List, Option, None, Some, Result, Ok, Err, true, false, get_or, map}
+use Rattle.pim_merge.proofs.Words.{refl, sym, ap, cond, AllByRecursion, EventSeen, Answer, Time, Clock, Turn}
+use Rattle.pim_merge.proofs.Words.{MergeFault, Outcome, takes, ends, taken, turn, turn_by, until, is_past, clock_after}
+use Rattle.pim_merge.proofs.Words.{event_time, earliest_from, LaneState, IsComing, IsLooked, with_head, time_at}
+use Rattle.pim_merge.proofs.Words.{head_time, head_rank, lane_at, no_lane, MergeState, GivesTurn, GivesTurnBy}
 use Rattle.pim_merge.proofs.Looking.{one_comes}
 use Rattle.pim_merge.proofs.Turning.{told_comes, turns_by_times}
 use Rattle.pim_merge.proofs.Taking.{found_within, found_head}

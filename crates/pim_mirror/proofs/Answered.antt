@@ -1,15 +1,7 @@
 -- The clauses of `mirror`, from the meaning of its result.
-use Rattle.std.proofs.Common.{◌∙◌, ℕ, List, Result, Ok, Err, sym}
-use Rattle.pim_addr.specs.declared.family.AddressFamily.{AddressFamily}
-use Rattle.pim_addr.specs.Routes.{IsRouteTable}
-use Rattle.pim_form.specs.Messages.{Writing, IsWriting}
-use Rattle.pim_router.specs.State.{RouterState}
-use Rattle.pim_mirror.specs.Config.{Fresh}
-use Rattle.pim_mirror.specs.Fits.{Fits}
-use Rattle.pim_mirror.specs.Headline.{MirrorAnswersForTheForm}
-use Rattle.pim_mirror.specs.Mirror.{Mirrors}
+use Rattle.pim_mirror.proofs.Words.{◌∙◌, ℕ, List, Result, Ok, Err, sym, AddressFamily, IsRouteTable, Writing, IsWriting}
+use Rattle.pim_mirror.proofs.Words.{RouterState, Fresh, Fits, MirrorAnswersForTheForm, Mirrors, MirrorFault}
 use Rattle.pim_mirror.specs.MirrorResult.{StandsInTheWindow, HoldsTheRecords, WantsTheDemand, WritesTheMessages, HasNoEcho, KnowsTheWriter, HadRoom, HadNoRoom}
-use Rattle.pim_mirror.specs.declared.mirroring.MirrorFault.{MirrorFault}
 use Rattle.pim_mirror.specs.declared.mirroring.MirrorFault.TheVariants as fault
 
 module _ (law : MirrorAnswersForTheForm) (family : AddressFamily) (writing : Writing) (messages : List (List ℕ)) (fresh : Fresh) (sound : IsRouteTable family fresh.routes) (is_writing : IsWriting family writing)

@@ -1,19 +1,11 @@
 -- The message of a part asks for traffic.
-use Rattle.std.proofs.Common.{◌≡◌, ℕ, false, List, [], ◌∷◌, ◌++◌, Option, None, Some, map, refl, sym, ap, subst}
-use Rattle.std.specs.declared.cmp.Ordering.TheVariants.{Less}
-use Rattle.std.specs.List.{AllByRecursion, IsDistinct}
-use Rattle.std.specs.List.Sorted.{IsStrictlySortedBy}
-use Rattle.std.specs.Ordering.{nat_cmp}
-use Rattle.std.specs.Cmp.Lexicographic.{slice_cmp}
-use Rattle.pim_addr.specs.declared.family.AddressFamily.{AddressFamily}
-use Rattle.pim_jp.specs.declared.entry.Entry.{Entry}
+use Rattle.pim_mirror.proofs.Words.{◌≡◌, ℕ, false, List, [], ◌∷◌, ◌++◌, Option, None, Some, map, refl, sym, ap, subst}
+use Rattle.pim_mirror.proofs.Words.{Less, AllByRecursion, IsDistinct, IsStrictlySortedBy, nat_cmp, slice_cmp}
+use Rattle.pim_mirror.proofs.Words.{AddressFamily, Entry, GroupSet, GroupForm, AreAscending, same_address, groups_of}
+use Rattle.pim_mirror.proofs.Words.{exceptions_of, HasListsInOrder, IsInOrder}
 use Rattle.pim_jp.specs.declared.entry.Entry.TheVariants.{Source, Rpt}
-use Rattle.pim_jp.specs.Message.{GroupSet}
-use Rattle.pim_form.specs.NormalForm.{GroupForm, AreAscending, same_address, groups_of}
-use Rattle.pim_form.specs.Rows.{exceptions_of}
 use Rattle.pim_form.specs.Messages.{Writing, IsRpOf, HaveRps, star_entries as told_star, excepted_entries, written_set, written_message}
 use Rattle.pim_fresh.specs.Demanding.{AreDifferent, star_entries, excepted, IsKnownRp, Demands, IsDemanding}
-use Rattle.pim_mirror.specs.CanonicalParts.{HasListsInOrder, IsInOrder}
 use Rattle.pim_mirror.proofs.ListParts.{all_known}
 use Rattle.pim_mirror.proofs.SameAddresses.{less_apart}
 

@@ -1,22 +1,11 @@
 -- A fresh router behind its Hellos: it goes on with the deliveries.
 use Rattle.std.proofs.Common.{◌≡◌, ◌∙◌, ℕ, ◌<◌, List, [], ◌∷◌, ◌++◌, length, map, Option, sym, ap, subst, append-nil, append_assoc}
 use mathlib.Core.List.{reverse_aux}
-use Rattle.std.specs.List.{AllByRecursion, flat_map}
-use Rattle.pim_addr.specs.declared.family.AddressFamily.{AddressFamily}
-use Rattle.pim_addr.specs.Routes.{RouteTable, IsRouteTable, rp_of}
-use Rattle.pim_down.specs.Time.{Downstream}
-use Rattle.pim_form.specs.Messages.{Writing, IsWriting, HaveRps, AreCanonical}
-use Rattle.pim_fresh.specs.Deliveries.{Delivery}
-use Rattle.pim_router.specs.Course.{Input, RouterReport, runs_to, takes, IsCourse}
-use Rattle.pim_router.specs.State.{RouterState, new_router}
-use Rattle.pim_mirror.specs.Config.{Fresh, newest_first, end_of, setup_of}
-use Rattle.pim_mirror.specs.Fits.{Fits}
-use Rattle.pim_mirror.specs.CanonicalCourse.{AreOf, inputs_of}
-use Rattle.pim_mirror.specs.Hellos.{HasMet}
-use Rattle.pim_mirror.specs.HelloLaws.{WrittenHellosAreRead, HellosAreHeard}
-use Rattle.pim_mirror.specs.Laws.{DemandedStarsHaveRps}
-use Rattle.pim_mirror.specs.Mirror.{delivery_inputs, GoesThrough}
-use Rattle.pim_mirror.specs.Headline.{AreMessagesOf}
+use Rattle.pim_mirror.proofs.Words.{AllByRecursion, flat_map, AddressFamily, RouteTable, IsRouteTable, rp_of, Downstream, Writing}
+use Rattle.pim_mirror.proofs.Words.{IsWriting, HaveRps, AreCanonical, Delivery, Input, RouterReport, runs_to, takes, IsCourse}
+use Rattle.pim_mirror.proofs.Words.{RouterState, new_router, Fresh, newest_first, end_of, setup_of, Fits, AreOf, inputs_of}
+use Rattle.pim_mirror.proofs.Words.{HasMet, WrittenHellosAreRead, HellosAreHeard, DemandedStarsHaveRps, delivery_inputs}
+use Rattle.pim_mirror.proofs.Words.{GoesThrough, AreMessagesOf}
 use Rattle.pim_mirror.proofs.CourseSteps.{parts}
 
 all_turned : {X : Type 0} (P : X → Type 0) (xs ys : List X) → AllByRecursion P xs → AllByRecursion P ys → AllByRecursion P (reverse_aux xs ys)

@@ -1,16 +1,10 @@
 -- The conditions of a mirror, and the tests that tell them.
-use Rattle.std.proofs.Common.{◌≡◌, ◌≢◌, ◌∙◌, ℕ, ◌<◌, ◌≤◌, ◌^◌, Bool, true, false, ◌==◌, leb, ltb, List, [], ◌∷◌, length, map, Option, None, refl, sym, ap, subst, arith}
-use Rattle.std.proofs.lemmas.List.{length-map}
-use Rattle.std.specs.Prelude.{nat_eq}
-use Rattle.std.specs.List.{AllByRecursion, IsDistinct, list_all, list_any}
-use Rattle.std.specs.Cmp.Lexicographic.{pointwise}
-use Rattle.std.proofs.lemmas.Bool.{leb-true, ltb-true, le-leb, lt-ltb}
-use Rattle.pim_hello.specs.Neighbours.{lifetime}
-use Rattle.pim_fresh.specs.Deliveries.{Delivery, IsShorter, IsTimely, is_delivered}
+use Rattle.pim_mirror.proofs.Words.{◌≡◌, ◌≢◌, ◌∙◌, ℕ, ◌<◌, ◌≤◌, ◌^◌, Bool, true, false, ◌==◌, leb, ltb, List, [], ◌∷◌, length}
+use Rattle.pim_mirror.proofs.Words.{map, Option, None, refl, sym, ap, subst, arith, length-map, nat_eq, AllByRecursion}
+use Rattle.pim_mirror.proofs.Words.{IsDistinct, list_all, list_any, pointwise, leb-true, ltb-true, le-leb, lt-ltb, lifetime}
+use Rattle.pim_mirror.proofs.Words.{Delivery, IsShorter, IsTimely, is_delivered, OtherNeighbour, Neighbour, neighbour_seen}
+use Rattle.pim_mirror.proofs.Words.{delivery_seen, is_shorter, is_kept, is_in_order, are_different, AreEarly}
 use Rattle.pim_mirror.specs.declared.config.Delivery as code
-use Rattle.pim_mirror.specs.declared.config.OtherNeighbour.{OtherNeighbour}
-use Rattle.pim_mirror.specs.Config.{Neighbour, neighbour_seen, delivery_seen}
-use Rattle.pim_mirror.specs.Tests.{is_shorter, is_kept, is_in_order, are_different, AreEarly}
 use Rattle.pim_mirror.proofs.Finals.{newest, delivered_newest}
 use Rattle.pim_mirror.proofs.Listed.{each_seen_is, all_seen_pass, none_seen_is, none_seen_pass, they_differ, test_tells, other_address, another_address}
 use Rattle.pim_mirror.proofs.Timely.{shorter, is_less, timely, in_order, each_kept}

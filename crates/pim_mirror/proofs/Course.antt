@@ -1,29 +1,17 @@
 -- A router that hears deliveries leaves the machines of a port that hears them.
-use Rattle.std.proofs.Common.{◌≡◌, ◌∙◌, ℕ, ◌<◌, ◌≤◌, List, [], ◌∷◌, if◌then◌else◌, Option, length, refl, ap, subst, arith, length-append}
-use Rattle.pim_addr.specs.declared.family.AddressFamily.{AddressFamily}
-use Rattle.pim_addr.specs.Routes.{RouteTable, rp_of}
-use Rattle.pim_down.specs.declared.machines.event.Timing.{Timing}
+use Rattle.pim_mirror.proofs.Words.{◌≡◌, ◌∙◌, ℕ, ◌<◌, ◌≤◌, List, [], ◌∷◌, if◌then◌else◌, Option, length, refl, ap, subst, arith}
+use Rattle.pim_mirror.proofs.Words.{length-append, AddressFamily, RouteTable, rp_of, Timing, Event, start_of, needed}
+use Rattle.pim_mirror.proofs.Words.{RunKeepsItsBounds, RunHasOneEnd, GroupForm, IsNormal, Writing, IsWriting, HaveRps}
+use Rattle.pim_mirror.proofs.Words.{AreCanonical, Exchange, HasUnitsOnce, Delivery, is_delivered, IsTimely, fresh, after_message}
+use Rattle.pim_mirror.proofs.Words.{Leaves, NoEchoIsDue, EveryHearingReaches, NeedsTheUnits, Reaches, RouterState, with_machines}
+use Rattle.pim_mirror.proofs.Words.{Verdict, HearsAll, IsTaken, AreOf, HoldsNothing, exchange_in, packet_of, HearsWriter, IsHeard}
+use Rattle.pim_mirror.proofs.Words.{CanonicalMessagesCarryForm, CanonicalPacketIsHeard, RouterLeavesItsPort, DeliveryIsTaken}
 use Rattle.pim_down.specs.declared.machines.step.Step.{Step}
 use Rattle.pim_down.specs.declared.machines.step.Step.TheVariants.{Reached}
-use Rattle.pim_down.specs.Hearing.{Event, start_of, needed}
 use Rattle.pim_down.specs.Time.{Downstream, Runs}
-use Rattle.pim_down.specs.Laws.{RunKeepsItsBounds, RunHasOneEnd}
-use Rattle.pim_form.specs.NormalForm.{GroupForm, IsNormal}
-use Rattle.pim_form.specs.Messages.{Writing, IsWriting, HaveRps, AreCanonical}
-use Rattle.pim_fresh.specs.Exchange.{Exchange, HasUnitsOnce}
-use Rattle.pim_fresh.specs.Deliveries.{Delivery, is_delivered, IsTimely}
 use Rattle.pim_fresh.specs.Expected.{units_of}
-use Rattle.pim_fresh.specs.Hearing.{fresh, after_message, Leaves}
-use Rattle.pim_fresh.specs.Laws.{NoEchoIsDue, EveryHearingReaches, NeedsTheUnits}
-use Rattle.pim_router.specs.Course.{Reaches}
-use Rattle.pim_router.specs.State.{RouterState, with_machines}
-use Rattle.pim_router.specs.declared.verdict.Verdict.{Verdict}
 use Rattle.pim_router.specs.declared.verdict.Verdict.TheVariants.{Full}
 use Rattle.pim_router.specs.declared.verdict.Store.TheVariants.{Records}
-use Rattle.pim_mirror.specs.CanonicalCourse.{HearsAll, IsTaken, AreOf, HoldsNothing}
-use Rattle.pim_mirror.specs.CanonicalExchange.{exchange_in}
-use Rattle.pim_mirror.specs.CanonicalPackets.{packet_of, HearsWriter, IsHeard}
-use Rattle.pim_mirror.specs.Laws.{CanonicalMessagesCarryForm, CanonicalPacketIsHeard, RouterLeavesItsPort, DeliveryIsTaken}
 use Rattle.pim_mirror.proofs.RouterRuns.{reaches_as}
 
 pub leaves_bounds : RunKeepsItsBounds → (exchange : Exchange) (ports limit : ℕ) (deliveries : List Delivery) (moment : ℕ) (after : Downstream) → Leaves exchange ports limit deliveries moment after

@@ -1,23 +1,11 @@
 -- The course of a router over deliveries is a hearing of all of them.
-use Rattle.std.proofs.Common.{◌≡◌, ◌∙◌, ℕ, ◌≤◌, List, [], ◌∷◌, ◌++◌, Option, length, refl, sym, ap, subst, arith, append_assoc}
-use Rattle.pim_addr.specs.declared.family.AddressFamily.{AddressFamily}
-use Rattle.pim_down.specs.declared.machines.event.Timing.{Timing}
-use Rattle.pim_down.specs.Hearing.{start_of}
-use Rattle.pim_addr.specs.Routes.{rp_of}
-use Rattle.pim_down.specs.Time.{Downstream}
-use Rattle.pim_form.specs.NormalForm.{GroupForm, IsNormal}
-use Rattle.pim_form.specs.Messages.{Writing, IsWriting, HaveRps, AreCanonical}
-use Rattle.pim_fresh.specs.Exchange.{Exchange}
-use Rattle.pim_fresh.specs.Deliveries.{Delivery, IsTimely}
+use Rattle.pim_mirror.proofs.Words.{◌≡◌, ◌∙◌, ℕ, ◌≤◌, List, [], ◌∷◌, ◌++◌, Option, length, refl, sym, ap, subst, arith}
+use Rattle.pim_mirror.proofs.Words.{append_assoc, AddressFamily, Timing, start_of, rp_of, Downstream, GroupForm, IsNormal}
+use Rattle.pim_mirror.proofs.Words.{Writing, IsWriting, HaveRps, AreCanonical, Exchange, Delivery, IsTimely, after_message, Input}
+use Rattle.pim_mirror.proofs.Words.{runs_to, takes, RouterReport, Reaches, IsCourse, received, RouterState, with_machines}
+use Rattle.pim_mirror.proofs.Words.{Verdict, HearsAll, AreOf, HoldsNothing, Lasts, inputs_of, packet_of, HearsWriter}
+use Rattle.pim_mirror.proofs.Words.{heard_exchange, DeliveryIsTaken, WriterStaysHeard, CourseHearsAll}
 use Rattle.pim_fresh.specs.Expected.{units_of}
-use Rattle.pim_fresh.specs.Hearing.{after_message}
-use Rattle.pim_router.specs.Course.{Input, runs_to, takes, RouterReport, Reaches, IsCourse}
-use Rattle.pim_router.specs.Packets.{received}
-use Rattle.pim_router.specs.State.{RouterState, with_machines}
-use Rattle.pim_router.specs.declared.verdict.Verdict.{Verdict}
-use Rattle.pim_mirror.specs.CanonicalCourse.{HearsAll, AreOf, HoldsNothing, Lasts, inputs_of}
-use Rattle.pim_mirror.specs.CanonicalPackets.{packet_of, HearsWriter, heard_exchange}
-use Rattle.pim_mirror.specs.Laws.{DeliveryIsTaken, WriterStaysHeard, CourseHearsAll}
 use Rattle.pim_mirror.proofs.Course.{fewer_units, timely_before}
 
 -- ---- a course in two parts

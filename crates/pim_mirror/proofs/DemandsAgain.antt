@@ -1,13 +1,11 @@
 -- A router whose course was over all canonical messages asks again for what their form asks for.
-use Rattle.std.proofs.Common.{ℕ, ◌≤◌, List, [], ◌∷◌, sym, subst, arith}
+use Rattle.pim_mirror.proofs.Words.{ℕ, ◌≤◌, List, [], ◌∷◌, sym, subst, arith, Exchange, Delivery, fresh, after_message}
+use Rattle.pim_mirror.proofs.Words.{Leaves, DemandedStarsHaveRps, HeardMessagesAreDemandedAgain, RouterLeavesItsPort}
+use Rattle.pim_mirror.proofs.Words.{CourseHearsAll, RouterDemandsAgain}
 use Rattle.pim_down.specs.declared.machines.step.Step.{Step}
 use Rattle.pim_down.specs.declared.machines.step.Step.TheVariants.{Reached}
 use Rattle.pim_down.specs.Time.{Downstream, Runs}
 use Rattle.pim_down.specs.Laws.{EveryStateHasARun, RunGoesOn, RunHasOneEnd}
-use Rattle.pim_fresh.specs.Exchange.{Exchange}
-use Rattle.pim_fresh.specs.Deliveries.{Delivery}
-use Rattle.pim_fresh.specs.Hearing.{fresh, after_message, Leaves}
-use Rattle.pim_mirror.specs.Laws.{DemandedStarsHaveRps, HeardMessagesAreDemandedAgain, RouterLeavesItsPort, CourseHearsAll, RouterDemandsAgain}
 
 module _ (every : EveryStateHasARun) (goes_on : RunGoesOn) (one_end : RunHasOneEnd) where
   -- where a run reached its moment, another one to it does nothing

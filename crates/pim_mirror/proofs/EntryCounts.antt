@@ -1,13 +1,8 @@
 -- Where each message was delivered, the units of those that were are the entries of all.
-use Rattle.std.proofs.Common.{◌≡◌, ◌∙◌, ℕ, zero, suc, ◌+◌, ◌<◌, ◌≤◌, Bool, true, false, ◌==◌, ◌||◌, if◌then◌else◌, List, [], ◌∷◌, length, refl, sym, ap, arith, length-append}
-use Rattle.std.proofs.lemmas.Bool.{eqb-true, eqb-false}
-use Rattle.pim_down.specs.Hearing.{Event}
-use Rattle.pim_fresh.specs.Deliveries.{Delivery, is_delivered}
-use Rattle.pim_fresh.specs.Exchange.{Exchange}
+use Rattle.pim_mirror.proofs.Words.{◌≡◌, ◌∙◌, ℕ, zero, suc, ◌+◌, ◌<◌, ◌≤◌, Bool, true, false, ◌==◌, ◌||◌, if◌then◌else◌}
+use Rattle.pim_mirror.proofs.Words.{List, [], ◌∷◌, length, refl, sym, ap, arith, length-append, eqb-true, eqb-false}
+use Rattle.pim_mirror.proofs.Words.{Event, Delivery, is_delivered, Exchange, AreOf, AllCame, entries_of}
 use Rattle.pim_fresh.specs.Expected.{units_of}
-use Rattle.pim_mirror.specs.CanonicalCourse.{AreOf}
-use Rattle.pim_mirror.specs.CanonicalMirror.{AllCame}
-use Rattle.pim_mirror.specs.Headline.{entries_of}
 
 module _ (exchange : Exchange) where
   abbrev size : ℕ → ℕ

@@ -1,12 +1,9 @@
 -- The final moment, from the newest delivery back.
-use Rattle.std.proofs.Common.{◌≡◌, ◌∙◌, ℕ, ◌+◌, ◌≤◌, ◌^◌, max, cond, ◌||◌, ◌==◌, List, [], ◌∷◌, ◌++◌, length, map, reverse, refl, sym, ap, subst, arith}
-use Rattle.std.specs.List.{AllByRecursion, list_any}
-use Rattle.std.proofs.lemmas.List.{reverse-append, map-append}
-use Rattle.std.proofs.lemmas.List.Sorted.{list_any-IsPermutation, IsPermutation-reverse}
-use Rattle.pim_fresh.specs.Deliveries.{Delivery, is_delivered, final_moment}
+use Rattle.pim_mirror.proofs.Words.{◌≡◌, ◌∙◌, ℕ, ◌+◌, ◌≤◌, ◌^◌, max, cond, ◌||◌, ◌==◌, List, [], ◌∷◌, ◌++◌, length, map}
+use Rattle.pim_mirror.proofs.Words.{reverse, refl, sym, ap, subst, arith, AllByRecursion, list_any, reverse-append}
+use Rattle.pim_mirror.proofs.Words.{map-append, list_any-IsPermutation, IsPermutation-reverse, Delivery, is_delivered}
+use Rattle.pim_mirror.proofs.Words.{final_moment, delivery_seen, AreEarly}
 use Rattle.pim_mirror.specs.declared.config.Delivery as code
-use Rattle.pim_mirror.specs.Config.{delivery_seen}
-use Rattle.pim_mirror.specs.Tests.{AreEarly}
 
 abbrev pub newest : List code.Delivery → List Delivery
 newest deliveries = reverse (map delivery_seen deliveries)

@@ -1,28 +1,14 @@
 -- A new router that takes the Hellos of its neighbours knows them all.
 use Rattle.std.proofs.Common.{◌≡◌, ◌≢◌, ◌∙◌, ℕ, suc, ◌+◌, ◌-◌, ◌≤◌, ◌<◌, Bool, true, false, ◌&&◌, not, leb, ltb, nat_eq, cond, slice_index_or, List, [], ◌∷◌, ◌++◌, length, map, replicate, Option, None, Some, if◌then◌else◌, refl, sym, ap, ap₂, subst, arith, zero-le}
-use Rattle.std.specs.Option.{is_some, option_eq}
-use Rattle.std.specs.List.{AllByRecursion, IsDistinct}
-use Rattle.std.specs.Map.{lookup, remove_entry}
-use Rattle.std.specs.Cmp.{eq_by_cmp_equiv}
-use Rattle.std.specs.Cmp.Lexicographic.{nat_list_cmp_total, pointwise}
-use Rattle.std.proofs.lemmas.Bool.{false≢true, eqb-true, leb-true}
-use Rattle.pim_addr.specs.declared.family.AddressFamily.{AddressFamily}
-use Rattle.pim_hello.specs.Interval.{jp_override_interval}
-use Rattle.pim_hello.specs.Neighbours.{no_neighbours, is_address, without_ended, lifetime, says_goodbye, is_full}
-use Rattle.pim_form.specs.Messages.{Writing}
-use Rattle.pim_form.specs.NormalForm.{same_address}
-use Rattle.pim_fresh.specs.Demanding.{AreDifferent}
-use Rattle.pim_fresh.specs.Deliveries.{IsShorter}
+use Rattle.pim_mirror.proofs.Words.{is_some, option_eq, AllByRecursion, IsDistinct, lookup, remove_entry}
+use Rattle.pim_mirror.proofs.Words.{eq_by_cmp_equiv, nat_list_cmp_total, pointwise, false≢true, eqb-true, leb-true}
+use Rattle.pim_mirror.proofs.Words.{AddressFamily, jp_override_interval, no_neighbours, is_address, without_ended}
+use Rattle.pim_mirror.proofs.Words.{lifetime, says_goodbye, is_full, Writing, same_address, AreDifferent, IsShorter}
+use Rattle.pim_mirror.proofs.Words.{takes, RouterReport, IsCourse, Packet, own_address, neighbours_on, timing_on}
+use Rattle.pim_mirror.proofs.Words.{hello_heard, Port, RouterState, new_router, refresh_period, Verdict, Neighbour}
+use Rattle.pim_mirror.proofs.Words.{Fresh, first_port, port_of, sender_hello, neighbours, interval_of, end_of, setup_of}
+use Rattle.pim_mirror.proofs.Words.{Fits, OthersStay, Lasts, AreHellosFrom, timing_of, HasMet, HellosAreHeard}
 use Rattle.pim_fresh.specs.Hearing.{fresh as no_machines}
-use Rattle.pim_router.specs.Course.{takes, RouterReport, IsCourse}
-use Rattle.pim_router.specs.Packets.{Packet, own_address, neighbours_on, timing_on, hello_heard}
-use Rattle.pim_router.specs.State.{Port, RouterState, new_router, refresh_period}
-use Rattle.pim_router.specs.declared.verdict.Verdict.{Verdict}
-use Rattle.pim_mirror.specs.Config.{Neighbour, Fresh, first_port, port_of, sender_hello, neighbours, interval_of, end_of, setup_of}
-use Rattle.pim_mirror.specs.Fits.{Fits, OthersStay}
-use Rattle.pim_mirror.specs.CanonicalCourse.{Lasts}
-use Rattle.pim_mirror.specs.Hellos.{AreHellosFrom, timing_of, HasMet}
-use Rattle.pim_mirror.specs.HelloLaws.{HellosAreHeard}
 use Rattle.pim_mirror.proofs.SameAddresses.{same_itself, same_is, and_false}
 use Rattle.pim_mirror.proofs.StaysHeard.{AllLast, all_stay}
 use Rattle.pim_mirror.proofs.HelloPackets.{received_is}

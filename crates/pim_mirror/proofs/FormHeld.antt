@@ -1,21 +1,11 @@
 -- The machines that a fresh port holds are those of the form.
-use Rattle.std.proofs.Common.{◌≡◌, ◌∙◌, ℕ, ◌-◌, Bool, true, false, ◌==◌, ◌||◌, if◌then◌else◌, List, [], ◌∷◌, Option, None, Some, option_map, refl, sym, ap}
-use Rattle.std.specs.Option.{is_some}
-use Rattle.std.proofs.lemmas.Bool.{false≢true}
-use Rattle.pim_down.specs.declared.machines.key.What.{What}
-use Rattle.pim_down.specs.declared.machines.key.Key.{Key}
+use Rattle.pim_mirror.proofs.Words.{◌≡◌, ◌∙◌, ℕ, ◌-◌, Bool, true, false, ◌==◌, ◌||◌, if◌then◌else◌, List, [], ◌∷◌}
+use Rattle.pim_mirror.proofs.Words.{Option, None, Some, option_map, refl, sym, ap, is_some, false≢true, What, Key}
+use Rattle.pim_mirror.proofs.Words.{Downstream, expiry_after, GroupForm, Delivery, last_of, is_delivered, Exchange}
+use Rattle.pim_mirror.proofs.Words.{has_unit_of, Span, up_to, span_of, state_wanted, machine_wanted, IsAsWanted}
+use Rattle.pim_mirror.proofs.Words.{SpanIsOfItsMessage, IsCarried, CarriesForm, AllCame, expiry_of, HoldsTheForm}
 use Rattle.pim_down.specs.declared.machines.machine.Machine.{Machine}
 use Rattle.pim_down.specs.Tables.{machine_in}
-use Rattle.pim_down.specs.Time.{Downstream, expiry_after}
-use Rattle.pim_form.specs.NormalForm.{GroupForm}
-use Rattle.pim_fresh.specs.Deliveries.{Delivery, last_of, is_delivered}
-use Rattle.pim_fresh.specs.Exchange.{Exchange, has_unit_of}
-use Rattle.pim_fresh.specs.Expected.{Span, up_to, span_of, state_wanted, machine_wanted, IsAsWanted}
-use Rattle.pim_fresh.specs.Laws.{SpanIsOfItsMessage}
-use Rattle.pim_mirror.specs.CanonicalExchange.{IsCarried, CarriesForm}
-use Rattle.pim_mirror.specs.CanonicalMirror.{AllCame}
-use Rattle.pim_mirror.specs.Fits.{expiry_of}
-use Rattle.pim_mirror.specs.Headline.{HoldsTheForm}
 
 -- when a message that was delivered came last
 record CameLast (message : ℕ) (deliveries : List Delivery) : Type 0 where

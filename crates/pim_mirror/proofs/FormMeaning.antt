@@ -1,18 +1,8 @@
 -- What a form wants, said of the machines that it names.
-use Rattle.std.proofs.Common.{◌≡◌, ℕ, Bool, true, false, ◌&&◌, ◌||◌, not, List, [], ◌∷◌, Option, None, Some, refl, sym, subst}
-use Rattle.std.specs.Option.{is_some}
-use Rattle.std.specs.declared.cmp.Ordering.TheVariants.{Less}
-use Rattle.std.specs.List.{AllByRecursion}
-use Rattle.std.specs.List.Sorted.{IsStrictlySortedBy}
-use Rattle.std.specs.Ordering.{nat_cmp}
-use Rattle.std.specs.Cmp.Lexicographic.{slice_cmp}
-use Rattle.std.proofs.lemmas.Bool.{false≢true}
-use Rattle.pim_down.specs.declared.machines.key.What.{What}
-use Rattle.pim_down.specs.declared.machines.key.What.TheVariants.{Star, Rpt}
-use Rattle.pim_form.specs.declared.tree.Tree.TheVariants.{Shared}
-use Rattle.pim_form.specs.NormalForm.{GroupForm, AreAscending, same_address, is_listed, groups_of, is_excepted, form_wants}
-use Rattle.pim_form.specs.Rows.{exceptions_of}
-use Rattle.pim_mirror.specs.CanonicalUnits.{form_names}
+use Rattle.pim_mirror.proofs.Words.{◌≡◌, ℕ, Bool, true, false, ◌&&◌, ◌||◌, not, List, [], ◌∷◌, Option, None, Some, refl}
+use Rattle.pim_mirror.proofs.Words.{sym, subst, is_some, Less, AllByRecursion, IsStrictlySortedBy, nat_cmp, slice_cmp}
+use Rattle.pim_mirror.proofs.Words.{false≢true, What, Star, Rpt, Shared, GroupForm, AreAscending, same_address}
+use Rattle.pim_mirror.proofs.Words.{is_listed, groups_of, is_excepted, form_wants, exceptions_of, form_names}
 use Rattle.pim_mirror.proofs.SameAddresses.{same_is, less_apart}
 
 abbrev IsBelow : List ℕ → List GroupForm → Type 0

@@ -1,29 +1,19 @@
 -- A fresh router that hears canonical messages alone, and the headline.
-use Rattle.std.proofs.Common.{◌≡◌, ◌∙◌, ℕ, ◌≤◌, List, [], ◌∷◌, length, map, Option, None, sym, subst, arith, refl}
-use Rattle.pim_addr.specs.declared.family.AddressFamily.{AddressFamily}
-use Rattle.pim_addr.specs.Routes.{RouteTable, IsRouteTable, rp_of}
+use Rattle.pim_mirror.proofs.Words.{◌≡◌, ◌∙◌, ℕ, ◌≤◌, List, [], ◌∷◌, length, map, Option, None, sym, subst, arith, refl}
+use Rattle.pim_mirror.proofs.Words.{AddressFamily, RouteTable, IsRouteTable, rp_of, RunHasOneEnd, RunKeepsItsBounds, Writing}
+use Rattle.pim_mirror.proofs.Words.{IsWriting, OneNormalForm, SameMessagesSameDemandToward, Delivery, IsTimely, AreAlive}
+use Rattle.pim_mirror.proofs.Words.{Exchange, HasUnitsOnce, Leaves, SpanIsOfItsMessage, NoEchoIsDue, EveryHearingReaches}
+use Rattle.pim_mirror.proofs.Words.{RouterReport, takes, IsCourse, Packet, RouterState, new_router, Fresh, newest_first, end_of}
+use Rattle.pim_mirror.proofs.Words.{setup_of, OthersStay, expiry_of, exchange_in, CarriesForm, timing_of, WrittenHellosAreRead}
+use Rattle.pim_mirror.proofs.Words.{HellosAreHeard, DemandedStarsHaveRps, CanonicalMessagesCarryForm}
+use Rattle.pim_mirror.proofs.Words.{HeardMessagesAreDemandedAgain, RouterLeavesItsPort, CourseHearsAll, DeliveryIsTaken}
+use Rattle.pim_mirror.proofs.Words.{AreMessagesOf, fresh_exchange, HearsAlone, IsInWindow, IsAt, MirrorsForm}
+use Rattle.pim_mirror.proofs.Words.{NormalisingTwiceIsOnce, RoomIsForTheUnits, FreshRouterMirrors, FreshRouterSendsNoEcho}
+use Rattle.pim_mirror.proofs.Words.{KnowsItsWriter, FreshRouterKnowsTheWriter, Headline}
 use Rattle.pim_down.specs.declared.machines.step.Step.{Step as Fires}
 use Rattle.pim_down.specs.declared.machines.step.Step.TheVariants as fires
-use Rattle.pim_down.specs.Laws.{RunHasOneEnd, RunKeepsItsBounds}
 use Rattle.pim_down.specs.Time.{Downstream, Runs as MachineRuns}
-use Rattle.pim_form.specs.Messages.{Writing, IsWriting}
-use Rattle.pim_form.specs.Laws.{OneNormalForm}
-use Rattle.pim_form.specs.TowardLaws.{SameMessagesSameDemandToward}
-use Rattle.pim_fresh.specs.Deliveries.{Delivery, IsTimely, AreAlive}
-use Rattle.pim_fresh.specs.Exchange.{Exchange, HasUnitsOnce}
 use Rattle.pim_fresh.specs.Expected.{units_of}
-use Rattle.pim_fresh.specs.Hearing.{Leaves}
-use Rattle.pim_fresh.specs.Laws.{SpanIsOfItsMessage, NoEchoIsDue, EveryHearingReaches}
-use Rattle.pim_router.specs.Course.{RouterReport, takes, IsCourse}
-use Rattle.pim_router.specs.Packets.{Packet}
-use Rattle.pim_router.specs.State.{RouterState, new_router}
-use Rattle.pim_mirror.specs.Config.{Fresh, newest_first, end_of, setup_of}
-use Rattle.pim_mirror.specs.Fits.{OthersStay, expiry_of}
-use Rattle.pim_mirror.specs.CanonicalExchange.{exchange_in, CarriesForm}
-use Rattle.pim_mirror.specs.Hellos.{timing_of}
-use Rattle.pim_mirror.specs.HelloLaws.{WrittenHellosAreRead, HellosAreHeard}
-use Rattle.pim_mirror.specs.Laws.{DemandedStarsHaveRps, CanonicalMessagesCarryForm, HeardMessagesAreDemandedAgain, RouterLeavesItsPort, CourseHearsAll, DeliveryIsTaken}
-use Rattle.pim_mirror.specs.Headline.{AreMessagesOf, fresh_exchange, HearsAlone, IsInWindow, IsAt, MirrorsForm, NormalisingTwiceIsOnce, RoomIsForTheUnits, FreshRouterMirrors, FreshRouterSendsNoEcho, KnowsItsWriter, FreshRouterKnowsTheWriter, Headline}
 use Rattle.pim_mirror.proofs.Begun.{Begun, begun}
 use Rattle.pim_mirror.proofs.Course.{fresh_quiet, leaves_bounds}
 use Rattle.pim_mirror.proofs.FormHeld.{holds_the_form}

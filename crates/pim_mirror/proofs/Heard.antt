@@ -1,16 +1,10 @@
 -- What a router hears in a row: deliveries, and a fresh router's whole course.
-use Rattle.std.proofs.Common.{◌≡◌, ◌≤◌, ◌<◌, ◌+◌, ◌^◌, ℕ, zero, suc, List, [], ◌∷◌, ◌++◌, length, map, drop, Option, None, Some, Result, Ok, Err, slice_index_or, refl, sym, subst, arith, add-one}
-use Rattle.std.specs.List.{AllByRecursion, flat_map, slice_get}
-use Rattle.pim_addr.specs.declared.family.AddressFamily.{AddressFamily}
-use Rattle.pim_frame.specs.Frame.{all_routers}
-use Rattle.pim_router.specs.Course.{runs_to, takes, IsCourse}
-use Rattle.pim_router.specs.Laws.{CourseGoesOn, EveryListHasACourse}
-use Rattle.pim_router.specs.State.{RouterState, new_router}
-use Rattle.pim_fresh.specs.Deliveries.{Delivery}
-use Rattle.pim_mirror.specs.Config.{Fresh, delivery_seen, neighbours, setup_of, end_of}
-use Rattle.pim_mirror.specs.Tests.{AreEarly}
+use Rattle.pim_mirror.proofs.Words.{◌≡◌, ◌≤◌, ◌<◌, ◌+◌, ◌^◌, ℕ, zero, suc, List, [], ◌∷◌, ◌++◌, length, map, drop}
+use Rattle.pim_mirror.proofs.Words.{Option, None, Some, Result, Ok, Err, slice_index_or, refl, sym, subst, arith}
+use Rattle.pim_mirror.proofs.Words.{add-one, AllByRecursion, flat_map, slice_get, AddressFamily, all_routers, runs_to}
+use Rattle.pim_mirror.proofs.Words.{takes, IsCourse, CourseGoesOn, EveryListHasACourse, RouterState, new_router}
+use Rattle.pim_mirror.proofs.Words.{Delivery, Fresh, delivery_seen, neighbours, setup_of, end_of, AreEarly, MirrorFault}
 use Rattle.pim_mirror.specs.declared.config.Delivery as code
-use Rattle.pim_mirror.specs.declared.mirroring.MirrorFault.{MirrorFault}
 use Rattle.pim_mirror.specs.declared.mirroring.MirrorFault.TheVariants as fault
 use Rattle.pim_mirror.specs.Mirror.{Passes, PassesHellos, HasReached, Mirrors, delivery_inputs, inputs_of}
 use Rattle.pim_mirror.proofs.Ways.{reached_passes, then_passes, then_stops}

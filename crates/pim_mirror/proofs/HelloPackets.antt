@@ -1,27 +1,14 @@
 -- What becomes of the packet of a Hello.
-use Rattle.std.proofs.Common.{◌≡◌, ◌∙◌, ℕ, false, List, [], ◌++◌, map, ap, ap₂, arith, ◌∷◌}
-use Rattle.pim_addr.specs.Faults.{fault_if}
-use Rattle.pim_addr.specs.declared.family.AddressFamily.{AddressFamily}
-use Rattle.pim_frame.specs.Frame.{content, frame_faults}
-use Rattle.pim_frame.specs.Seal.{SealedOpens}
-use Rattle.pim_frame.specs.declared.frame.FrameFault.{FrameFault}
-use Rattle.pim_frame.specs.declared.frame.MessageType.TheVariants.{Hello}
+use Rattle.pim_mirror.proofs.Words.{◌≡◌, ◌∙◌, ℕ, false, List, [], ◌++◌, map, ap, ap₂, arith, ◌∷◌, fault_if, AddressFamily}
+use Rattle.pim_mirror.proofs.Words.{content, frame_faults, SealedOpens, FrameFault, Hello, spelling_of, AreAddresses, ReadsBack}
+use Rattle.pim_mirror.proofs.Words.{hello_of, is_full, same_address, Verdict, Packet, causes, received, own_address}
+use Rattle.pim_mirror.proofs.Words.{neighbours_on, unless, body_causes, hello_causes, body_heard, hello_heard, RouterState}
+use Rattle.pim_mirror.proofs.Words.{Neighbour, IsHelloFrom, AreHellosFrom, IsHelloOf, AreHellosOf, WrittenHellosAreRead}
 use Rattle.pim_hello.specs.Hello.{Hello as Said}
-use Rattle.pim_hello.specs.Spelling.{spelling_of, AreAddresses, ReadsBack}
-use Rattle.pim_hello.specs.Value.{hello_of}
-use Rattle.pim_hello.specs.Neighbours.{is_full}
 use Rattle.pim_hello.specs.declared.fault.HelloFault.{HelloFault}
-use Rattle.pim_form.specs.NormalForm.{same_address}
-use Rattle.pim_router.specs.declared.verdict.Verdict.{Verdict}
 use Rattle.pim_router.specs.declared.verdict.Verdict.TheVariants as verdict
 use Rattle.pim_router.specs.declared.verdict.Malformed.TheVariants as malformed
 use Rattle.pim_router.specs.declared.verdict.Store.TheVariants as store
-use Rattle.pim_router.specs.Packets.{Packet, causes, received, own_address, neighbours_on, unless, body_causes, hello_causes, body_heard, hello_heard}
-use Rattle.pim_router.specs.State.{RouterState}
-use Rattle.pim_mirror.specs.Config.{Neighbour}
-use Rattle.pim_mirror.specs.Hellos.{IsHelloFrom, AreHellosFrom}
-use Rattle.pim_mirror.specs.Mirror.{IsHelloOf, AreHellosOf}
-use Rattle.pim_mirror.specs.HelloLaws.{WrittenHellosAreRead}
 
 module _ (family : AddressFamily) (neighbour : Neighbour) (packet : Packet) (state : RouterState) (is : IsHelloFrom family neighbour packet)
     (not_mine : same_address neighbour.address (own_address 0 state) ≡ false) (room : is_full neighbour.address neighbour.hello (neighbours_on 0 state) ≡ false) where

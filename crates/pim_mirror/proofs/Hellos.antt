@@ -1,32 +1,21 @@
 -- Hellos without an Address List: they are short, and the router never wants room for records at them.
-use Rattle.std.proofs.Common.{◌≡◌, ◌≤◌, ◌∙◌, ℕ, Bool, true, false, List, [], ◌∷◌, ◌++◌, length, map, Option, None, Some, Result, Ok, Err, refl, sym, ap, subst, arith}
-use Rattle.std.specs.List.{AllByRecursion}
-use Rattle.std.specs.Prelude.{nat_eq}
-use Rattle.std.specs.Cmp.Lexicographic.{pointwise}
-use Rattle.pim_addr.specs.Faults.{fault_if}
-use Rattle.pim_addr.specs.declared.family.AddressFamily.{AddressFamily}
-use Rattle.pim_frame.specs.Frame.{Content, hello, content, frame_faults, all_routers}
-use Rattle.pim_frame.specs.Seal.{IsSealed, SealedOpens}
+use Rattle.pim_mirror.proofs.Words.{◌≡◌, ◌≤◌, ◌∙◌, ℕ, Bool, true, false, List, [], ◌∷◌, ◌++◌, length, map, Option, None, Some}
+use Rattle.pim_mirror.proofs.Words.{Result, Ok, Err, refl, sym, ap, subst, arith, AllByRecursion, nat_eq, pointwise, fault_if}
+use Rattle.pim_mirror.proofs.Words.{AddressFamily, Content, hello, content, frame_faults, all_routers, IsSealed, SealedOpens}
+use Rattle.pim_mirror.proofs.Words.{spelling_of, ParametersFit, is_full, hello_of, Verdict, CourseGoesOn, EveryListHasACourse}
+use Rattle.pim_mirror.proofs.Words.{Packet, neighbours_on, own_address, body_causes, body_heard, unless, received, Port, Setup}
+use Rattle.pim_mirror.proofs.Words.{RouterState, new_router, length-map, Neighbour, IsHelloOf, AreHellosOf, needed_by, or_later}
+use Rattle.pim_mirror.proofs.Words.{first_needed, PassesHello, PassesHellos}
 use Rattle.pim_frame.specs.declared.frame.MessageType.TheVariants as message_type
 use Rattle.pim_hello.specs.Faults.{faults as hello_faults}
 use Rattle.pim_hello.specs.Hello.{Delays, Hello}
-use Rattle.pim_hello.specs.Spelling.{spelling_of, ParametersFit}
-use Rattle.pim_hello.specs.Neighbours.{is_full}
-use Rattle.pim_hello.specs.Value.{hello_of}
 use Rattle.pim_router.specs.Config.{IsMadeUnless}
 use Rattle.pim_router.specs.declared.config.ConfigFault.{ConfigFault}
 use Rattle.pim_router.specs.declared.verdict.Malformed.{Malformed}
 use Rattle.pim_router.specs.declared.verdict.Malformed.TheVariants as malformed
 use Rattle.pim_router.specs.declared.verdict.Store.TheVariants as store
-use Rattle.pim_router.specs.declared.verdict.Verdict.{Verdict}
 use Rattle.pim_router.specs.declared.verdict.Verdict.TheVariants as verdict
 use Rattle.pim_router.specs.Course.{takes, verdict as carries, IsCourse}
-use Rattle.pim_router.specs.Laws.{CourseGoesOn, EveryListHasACourse}
-use Rattle.pim_router.specs.Packets.{Packet, neighbours_on, own_address, body_causes, body_heard, unless, received}
-use Rattle.pim_router.specs.State.{Port, Setup, RouterState, new_router}
-use Rattle.std.proofs.lemmas.List.{length-map}
-use Rattle.pim_mirror.specs.Config.{Neighbour}
-use Rattle.pim_mirror.specs.Mirror.{IsHelloOf, AreHellosOf, needed_by, or_later, first_needed, PassesHello, PassesHellos}
 use Rattle.pim_mirror.proofs.Ways.{then_passes, nothing_passes}
 
 -- ---- how long

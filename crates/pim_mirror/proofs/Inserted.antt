@@ -1,15 +1,9 @@
 -- Entries of a table of neighbours that are inserted in the order of their addresses, none of which stands in it.
-use Rattle.std.proofs.Common.{◌≡◌, ◌≢◌, ◌∙◌, ℕ, suc, ◌+◌, max, Bool, true, false, cond, List, [], ◌∷◌, ◌++◌, length, map, Option, None, Some, refl, ap, arith}
-use Rattle.std.specs.Option.{is_some}
-use Rattle.std.specs.List.{AllByRecursion}
+use Rattle.pim_mirror.proofs.Words.{◌≡◌, ◌≢◌, ◌∙◌, ℕ, suc, ◌+◌, max, Bool, true, false, cond, List, [], ◌∷◌, ◌++◌, length, map}
+use Rattle.pim_mirror.proofs.Words.{Option, None, Some, refl, ap, arith, is_some, AllByRecursion, lookup, Less, Equal, Greater}
+use Rattle.pim_mirror.proofs.Words.{nat_cmp, match_ordering, slice_cmp, slice_cmp-IsAntisymmetric, nat_cmp-IsAntisymmetric}
+use Rattle.pim_mirror.proofs.Words.{Parameters, Delays, greatest, delays_sent, all_sent_delays, jp_override_interval}
 use Rattle.std.specs.BTreeMap.{insert_entry}
-use Rattle.std.specs.Map.{lookup}
-use Rattle.std.specs.declared.cmp.Ordering.TheVariants.{Less, Equal, Greater}
-use Rattle.std.specs.Ordering.{nat_cmp, match_ordering}
-use Rattle.std.specs.Cmp.Lexicographic.{slice_cmp}
-use Rattle.std.specs.FinMap.{slice_cmp-IsAntisymmetric, nat_cmp-IsAntisymmetric}
-use Rattle.pim_hello.specs.Hello.{Parameters, Delays}
-use Rattle.pim_hello.specs.Interval.{greatest, delays_sent, all_sent_delays, jp_override_interval}
 use Rattle.pim_hello.specs.Neighbours.{Neighbour, is_address}
 
 abbrev pub Entry : Type 0

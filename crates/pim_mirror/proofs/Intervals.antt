@@ -1,10 +1,7 @@
 -- The override interval of a port that has heard the sender and others.
-use Rattle.std.proofs.Common.{◌≡◌, ℕ, max, Bool, cond, List, ◌∷◌, map, ap, arith}
-use Rattle.pim_hello.specs.Hello.{Parameters, Delays}
-use Rattle.pim_hello.specs.Interval.{greatest, delays_sent, all_sent_delays, jp_override_interval}
-use Rattle.pim_router.specs.State.{Port}
-use Rattle.pim_mirror.specs.declared.config.OtherNeighbour.{OtherNeighbour}
-use Rattle.pim_mirror.specs.Config.{Neighbour, sender_hello, neighbour_seen}
+use Rattle.pim_mirror.proofs.Words.{◌≡◌, ℕ, max, Bool, cond, List, ◌∷◌, map, ap, arith, Parameters, Delays, greatest}
+use Rattle.pim_mirror.proofs.Words.{delays_sent, all_sent_delays, jp_override_interval, Port, OtherNeighbour, Neighbour}
+use Rattle.pim_mirror.proofs.Words.{sender_hello, neighbour_seen}
 
 max_again : (a b : ℕ) → max a (max a b) ≡ max a b
 max_again a b = omega arith

@@ -1,3 +1,4 @@
+pub mod Words
 pub mod ListParts
 pub mod SameAddresses
 pub mod Asks

@@ -1,6 +1,5 @@
 -- What holds of all elements of a list.
-use Rattle.std.proofs.Common.{List, [], ◌∷◌, ◌++◌, map}
-use Rattle.std.specs.List.{AllByRecursion}
+use Rattle.pim_mirror.proofs.Words.{List, [], ◌∷◌, ◌++◌, map, AllByRecursion}
 
 module _ {A : Type 0} where
   pub all_append : (P : A → Type 0) (xs ys : List A) → AllByRecursion P xs → AllByRecursion P ys → AllByRecursion P (xs ++ ys)

@@ -1,11 +1,7 @@
 -- Tests of the elements of a list, and what they say of each.
-use Rattle.std.proofs.Common.{◌≡◌, ◌≢◌, ◌∙◌, ℕ, Bool, true, false, List, [], ◌∷◌, ◌&&◌, ◌||◌, map, not, refl, sym, ap, subst}
-use Rattle.std.specs.List.{list_all, list_any, AllByRecursion, IsDistinct}
-use Rattle.std.specs.Cmp.Lexicographic.{pointwise, same_text, lists_equiv}
-use Rattle.std.specs.Prelude.{nat_eq}
-use Rattle.std.specs.Cmp.{nat_eq_equiv}
-use Rattle.std.proofs.lemmas.Bool.{false≢true}
-use Rattle.pim_mirror.specs.Tests.{are_different}
+use Rattle.pim_mirror.proofs.Words.{◌≡◌, ◌≢◌, ◌∙◌, ℕ, Bool, true, false, List, [], ◌∷◌, ◌&&◌, ◌||◌, map, not, refl, sym}
+use Rattle.pim_mirror.proofs.Words.{ap, subst, list_all, list_any, AllByRecursion, IsDistinct, pointwise, same_text}
+use Rattle.pim_mirror.proofs.Words.{lists_equiv, nat_eq, nat_eq_equiv, false≢true, are_different}
 
 pub both : (a b : Bool) → (a && b) ≡ true → (a ≡ true) × (b ≡ true)
 both true b e = (refl, e)

@@ -1,36 +1,20 @@
 -- A port that heard all the messages of a form asks again for what the form asks for.
-use Rattle.std.proofs.Common.{◌≡◌, ◌∙◌, ℕ, Bool, true, false, ◌&&◌, ◌||◌, ◌==◌, not, if◌then◌else◌, List, [], ◌∷◌, Option, None, Some, length, refl, sym, ap, ap₂, subst}
-use Rattle.std.specs.Option.{is_some}
-use Rattle.std.specs.List.{list_any}
-use Rattle.std.proofs.lemmas.Bool.{false≢true, eqb-true}
-use Rattle.pim_addr.specs.declared.family.AddressFamily.{AddressFamily}
-use Rattle.pim_addr.specs.Routes.{RouteTable, rp_of}
-use Rattle.pim_down.specs.declared.machines.key.What.{What}
-use Rattle.pim_down.specs.declared.machines.key.What.TheVariants.{Star, Source, Rpt}
-use Rattle.pim_down.specs.declared.machines.key.Key.{Key}
+use Rattle.pim_mirror.proofs.Words.{◌≡◌, ◌∙◌, ℕ, Bool, true, false, ◌&&◌, ◌||◌, ◌==◌, not, if◌then◌else◌, List, [], ◌∷◌, Option}
+use Rattle.pim_mirror.proofs.Words.{None, Some, length, refl, sym, ap, ap₂, subst, is_some, list_any, false≢true, eqb-true}
+use Rattle.pim_mirror.proofs.Words.{AddressFamily, RouteTable, rp_of, What, Star, Source, Rpt, Key, Downstream, RunKeepsItsBounds}
+use Rattle.pim_mirror.proofs.Words.{GroupForm, AreAscending, groups_of, Agree, form_wants, IsFormOf, Writing, AreCanonical}
+use Rattle.pim_mirror.proofs.Words.{via_of, rpf_neighbour, is_neighbour, demand_toward, is_joined, is_pruned, state_on, wants_on}
+use Rattle.pim_mirror.proofs.Words.{some_below, wants, OneNormalForm, OneListOfMessages, Exchange, has_unit_of, Delivery}
+use Rattle.pim_mirror.proofs.Words.{is_delivered, fresh, after_message, Leaves, StaysAsWanted, form_names, exchange_in, IsCarried}
+use Rattle.pim_mirror.proofs.Words.{CarriesForm, AllCame, DemandsAgain, CanonicalMessagesCarryForm, DemandedStarsHaveRps}
+use Rattle.pim_mirror.proofs.Words.{HeardMessagesAreDemandedAgain}
 use Rattle.pim_down.specs.declared.machines.machine.State.{State}
 use Rattle.pim_down.specs.declared.machines.machine.State.TheVariants.{Join, Prune}
 use Rattle.pim_down.specs.declared.machines.step.Step.TheVariants.{Reached}
 use Rattle.pim_down.specs.Records.{state_of, state_of_machine}
-use Rattle.pim_down.specs.Time.{Downstream}
-use Rattle.pim_down.specs.Laws.{RunKeepsItsBounds}
 use Rattle.pim_form.specs.declared.tree.Tree.{Tree}
 use Rattle.pim_form.specs.declared.tree.Tree.TheVariants.{Shared, Source as OwnTree}
-use Rattle.pim_form.specs.NormalForm.{GroupForm, AreAscending, groups_of, Agree, form_wants, IsFormOf}
-use Rattle.pim_form.specs.Messages.{Writing, AreCanonical}
-use Rattle.pim_form.specs.Toward.{via_of, rpf_neighbour, is_neighbour}
-use Rattle.pim_form.specs.TowardLaws.{demand_toward}
-use Rattle.pim_form.specs.Wants.{is_joined, is_pruned, state_on, wants_on, some_below, wants}
-use Rattle.pim_form.specs.Laws.{OneNormalForm, OneListOfMessages}
-use Rattle.pim_fresh.specs.Exchange.{Exchange, has_unit_of}
-use Rattle.pim_fresh.specs.Deliveries.{Delivery, is_delivered}
-use Rattle.pim_fresh.specs.Hearing.{fresh, after_message, Leaves}
 use Rattle.pim_fresh.specs.Expected.{Span, up_to, span_of, state_wanted, machine_wanted as asked_machine, IsAsWanted}
-use Rattle.pim_fresh.specs.Laws.{StaysAsWanted}
-use Rattle.pim_mirror.specs.CanonicalUnits.{form_names}
-use Rattle.pim_mirror.specs.CanonicalExchange.{exchange_in, IsCarried, CarriesForm}
-use Rattle.pim_mirror.specs.CanonicalMirror.{AllCame, DemandsAgain}
-use Rattle.pim_mirror.specs.Laws.{CanonicalMessagesCarryForm, DemandedStarsHaveRps, HeardMessagesAreDemandedAgain}
 use Rattle.pim_mirror.proofs.SameAddresses.{second_true, or_none}
 use Rattle.pim_mirror.proofs.FormMeaning.{shared_wants}
 

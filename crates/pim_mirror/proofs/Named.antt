@@ -1,25 +1,13 @@
 -- Which machines the events of a part's message name.
-use Rattle.std.proofs.Common.{◌≡◌, ◌∙◌, ℕ, Bool, true, false, ◌&&◌, ◌||◌, ◌==◌, not, cond, List, [], ◌∷◌, ◌++◌, Option, None, Some, map, refl, sym, ap, ap₂}
-use Rattle.std.specs.Option.{is_some}
-use Rattle.std.specs.Ordering.{nat_cmp, ordering_then, is_eq}
-use Rattle.std.specs.Cmp.{both_tied, unsigned_ties}
-use Rattle.std.specs.Cmp.Lexicographic.{slice_cmp, texts_ties}
-use Rattle.std.specs.List.{list_any, flat_map}
+use Rattle.pim_mirror.proofs.Words.{◌≡◌, ◌∙◌, ℕ, Bool, true, false, ◌&&◌, ◌||◌, ◌==◌, not, cond, List, [], ◌∷◌, ◌++◌, Option}
+use Rattle.pim_mirror.proofs.Words.{None, Some, map, refl, sym, ap, ap₂, is_some, nat_cmp, ordering_then, is_eq, both_tied}
+use Rattle.pim_mirror.proofs.Words.{unsigned_ties, slice_cmp, texts_ties, list_any, flat_map, list_any-append, AddressFamily}
+use Rattle.pim_mirror.proofs.Words.{Entry, What, Star, Source, Rpt, Key, Event, event, is_known, entry_events, list_events}
+use Rattle.pim_mirror.proofs.Words.{set_events, GroupForm, same_address, is_listed, exceptions_of, IsRpOf, HaveRps, star_entries}
+use Rattle.pim_mirror.proofs.Words.{excepted_entries, written_set, has_unit_of, group_names, form_names}
 use Rattle.std.proofs.lemmas.Grind.{flat_map-append}
-use Rattle.std.proofs.lemmas.List.Folds.{list_any-append}
-use Rattle.pim_addr.specs.declared.family.AddressFamily.{AddressFamily}
-use Rattle.pim_jp.specs.declared.entry.Entry.{Entry}
 use Rattle.pim_jp.specs.declared.entry.Entry.TheVariants as entry
-use Rattle.pim_down.specs.declared.machines.key.What.{What}
-use Rattle.pim_down.specs.declared.machines.key.What.TheVariants.{Star, Source, Rpt}
-use Rattle.pim_down.specs.declared.machines.key.Key.{Key}
 use Rattle.pim_down.specs.Key.{what_cmp, key_cmp, same_key}
-use Rattle.pim_down.specs.Hearing.{Event, event, is_known, entry_events, list_events, set_events}
-use Rattle.pim_form.specs.NormalForm.{GroupForm, same_address, is_listed}
-use Rattle.pim_form.specs.Rows.{exceptions_of}
-use Rattle.pim_form.specs.Messages.{IsRpOf, HaveRps, star_entries, excepted_entries, written_set}
-use Rattle.pim_fresh.specs.Exchange.{has_unit_of}
-use Rattle.pim_mirror.specs.CanonicalUnits.{group_names, form_names}
 use Rattle.pim_mirror.proofs.SameAddresses.{same_itself, same_flips, and_false, or_none, and_or, and_and}
 
 abbrev key_at : ℕ → List ℕ → What (List ℕ) → Key (List ℕ)

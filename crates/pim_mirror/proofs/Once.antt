@@ -1,22 +1,11 @@
 -- The messages of the parts of a normal form tell its units, each once.
-use Rattle.std.proofs.Common.{◌≡◌, ◌∙◌, ℕ, zero, suc, ◌<◌, Bool, true, false, ◌&&◌, ◌||◌, ◌==◌, List, [], ◌∷◌, Option, None, Some, map, get_or, length, refl, sym, ap, subst, arith}
-use Rattle.std.specs.List.{AllByRecursion, list_any, flat_map}
-use Rattle.std.specs.List.Sorted.{IsStrictlySortedBy}
-use Rattle.std.proofs.lemmas.Bool.{false≢true, eqb-true, eq-eqb}
-use Rattle.pim_addr.specs.declared.family.AddressFamily.{AddressFamily}
-use Rattle.pim_down.specs.declared.machines.key.What.{What}
-use Rattle.pim_down.specs.declared.machines.key.Key.{Key}
-use Rattle.pim_down.specs.declared.machines.event.Timing.{Timing}
-use Rattle.pim_form.specs.NormalForm.{GroupForm, AreAscending, AreExceptions, IsNormalGroup, IsNormal}
-use Rattle.pim_form.specs.Rows.{exceptions_of}
-use Rattle.pim_form.specs.Units.{units_of}
-use Rattle.pim_form.specs.Messages.{Writing, HaveRps, written_message}
-use Rattle.pim_fresh.specs.Exchange.{Exchange, has_unit_of, AreUnits}
-use Rattle.pim_fresh.specs.Laws.{DemandingHasUnits}
-use Rattle.pim_mirror.specs.CanonicalParts.{HasListsInOrder, IsInOrder, AreParts}
-use Rattle.pim_mirror.specs.CanonicalUnits.{form_names}
-use Rattle.pim_mirror.specs.CanonicalExchange.{events_at, exchange_of, IsCarried, CarriesForm}
-use Rattle.pim_mirror.specs.Laws.{PartsHaveUnitsOnce}
+use Rattle.pim_mirror.proofs.Words.{◌≡◌, ◌∙◌, ℕ, zero, suc, ◌<◌, Bool, true, false, ◌&&◌, ◌||◌, ◌==◌, List, [], ◌∷◌, Option, None}
+use Rattle.pim_mirror.proofs.Words.{Some, map, get_or, length, refl, sym, ap, subst, arith, AllByRecursion, list_any, flat_map}
+use Rattle.pim_mirror.proofs.Words.{IsStrictlySortedBy, false≢true, eqb-true, eq-eqb, AddressFamily, What, Key, Timing, GroupForm}
+use Rattle.pim_mirror.proofs.Words.{AreAscending, AreExceptions, IsNormalGroup, IsNormal, exceptions_of, units_of, Writing}
+use Rattle.pim_mirror.proofs.Words.{HaveRps, written_message, Exchange, has_unit_of, AreUnits, DemandingHasUnits, HasListsInOrder}
+use Rattle.pim_mirror.proofs.Words.{IsInOrder, AreParts, form_names, events_at, exchange_of, IsCarried, CarriesForm}
+use Rattle.pim_mirror.proofs.Words.{PartsHaveUnitsOnce}
 use Rattle.pim_mirror.proofs.SameAddresses.{first_true, second_true, both, and_false}
 use Rattle.pim_mirror.proofs.Asks.{part_demands}
 use Rattle.pim_mirror.proofs.UnitOrder.{AreOrdered, ordered_behind}

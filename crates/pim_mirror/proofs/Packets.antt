@@ -1,30 +1,17 @@
 -- A packet whose bytes are read as a message is heard, and so is that of a canonical message.
-use Rattle.std.proofs.Common.{◌≡◌, ◌∙◌, ℕ, zero, suc, ◌<◌, Bool, true, false, not, nat_lt, List, [], ◌∷◌, ◌++◌, map, get_or, length, refl, sym, ap, subst, arith, Option}
-use Rattle.std.proofs.lemmas.Bool.{lt-ltb, le-ltb}
-use Rattle.pim_addr.specs.Faults.{fault_if}
-use Rattle.pim_addr.specs.declared.family.AddressFamily.{AddressFamily}
-use Rattle.pim_frame.specs.Frame.{content, frame_faults, all_routers}
-use Rattle.pim_frame.specs.declared.frame.FrameFault.{FrameFault}
+use Rattle.pim_mirror.proofs.Words.{◌≡◌, ◌∙◌, ℕ, zero, suc, ◌<◌, Bool, true, false, not, nat_lt, List, [], ◌∷◌, ◌++◌, map, get_or}
+use Rattle.pim_mirror.proofs.Words.{length, refl, sym, ap, subst, arith, Option, lt-ltb, le-ltb, fault_if, AddressFamily, content}
+use Rattle.pim_mirror.proofs.Words.{frame_faults, all_routers, FrameFault, Message, message_of, Timing, Event, events_of}
+use Rattle.pim_mirror.proofs.Words.{start_of, hearing, needed, rp_of, with_records, GroupForm, same_address, Writing, IsWriting}
+use Rattle.pim_mirror.proofs.Words.{written_message, IsReadAs, Exchange, after_message, Verdict, Packet, causes, received}
+use Rattle.pim_mirror.proofs.Words.{own_address, knows, timing_on, unless, body_causes, message_causes, room_causes, body_heard}
+use Rattle.pim_mirror.proofs.Words.{message_heard, RouterState, with_machines, message_in, events_at, AreReadAs, HearsWriter}
+use Rattle.pim_mirror.proofs.Words.{heard_exchange, needed_records, IsHeard, CanonicalMessagesCarryParts, MessagesAreRead}
+use Rattle.pim_mirror.proofs.Words.{CanonicalPacketIsHeard, ReadPacketIsHeard}
 use Rattle.pim_jp.specs.declared.fault.JpFault.{JpFault}
-use Rattle.pim_jp.specs.Message.{Message, message_of}
-use Rattle.pim_down.specs.declared.machines.event.Timing.{Timing}
-use Rattle.pim_down.specs.Hearing.{Event, events_of, start_of, hearing, needed}
-use Rattle.pim_addr.specs.Routes.{rp_of}
-use Rattle.pim_down.specs.Time.{with_records}
-use Rattle.pim_form.specs.NormalForm.{GroupForm, same_address}
-use Rattle.pim_form.specs.Messages.{Writing, IsWriting, written_message}
-use Rattle.pim_form.specs.Laws.{IsReadAs}
-use Rattle.pim_fresh.specs.Exchange.{Exchange}
-use Rattle.pim_fresh.specs.Hearing.{after_message}
-use Rattle.pim_router.specs.declared.verdict.Verdict.{Verdict}
 use Rattle.pim_router.specs.declared.verdict.Verdict.TheVariants as verdict
 use Rattle.pim_router.specs.declared.verdict.Malformed.TheVariants as malformed
 use Rattle.pim_router.specs.declared.verdict.Store.TheVariants as store
-use Rattle.pim_router.specs.Packets.{Packet, causes, received, own_address, knows, timing_on, unless, body_causes, message_causes, room_causes, body_heard, message_heard}
-use Rattle.pim_router.specs.State.{RouterState, with_machines}
-use Rattle.pim_mirror.specs.CanonicalExchange.{message_in, events_at, AreReadAs}
-use Rattle.pim_mirror.specs.CanonicalPackets.{HearsWriter, heard_exchange, needed_records, IsHeard}
-use Rattle.pim_mirror.specs.Laws.{CanonicalMessagesCarryParts, MessagesAreRead, CanonicalPacketIsHeard, ReadPacketIsHeard}
 use Rattle.pim_mirror.proofs.SameAddresses.{same_itself, same_is}
 use Rattle.pim_mirror.proofs.ReadBack.{read_message}
 

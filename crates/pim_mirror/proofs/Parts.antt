@@ -1,15 +1,9 @@
 -- The canonical messages of a normal form tell parts of it.
-use Rattle.std.proofs.Common.{◌≡◌, ◌∙◌, ℕ, true, false, List, [], ◌∷◌, ◌++◌, Option, None, Some, map, refl, sym, ap, subst}
-use Rattle.std.specs.List.{AllByRecursion, flat_map}
-use Rattle.std.proofs.lemmas.Bool.{false≢true}
-use Rattle.pim_addr.specs.declared.family.AddressFamily.{AddressFamily}
-use Rattle.pim_addr.specs.Address.{IsGroupAddress, IsSourceAddress}
-use Rattle.pim_form.specs.NormalForm.{GroupForm, AreAscending, AreExceptions, is_empty, IsNormalGroup, IsNormal}
-use Rattle.pim_form.specs.Units.{WantUnit, star_unit, source_unit, star_units, group_units, units_of}
-use Rattle.pim_form.specs.Packing.{fits, joined, AreRuns}
-use Rattle.pim_form.specs.Messages.{Writing, IsRp, IsRpOf, HaveRps, CarriesRun, CarryRuns}
-use Rattle.pim_mirror.specs.CanonicalParts.{CarryParts}
-use Rattle.pim_mirror.specs.Laws.{CanonicalMessagesCarryParts}
+use Rattle.pim_mirror.proofs.Words.{◌≡◌, ◌∙◌, ℕ, true, false, List, [], ◌∷◌, ◌++◌, Option, None, Some, map, refl, sym, ap, subst}
+use Rattle.pim_mirror.proofs.Words.{AllByRecursion, flat_map, false≢true, AddressFamily, IsGroupAddress, IsSourceAddress}
+use Rattle.pim_mirror.proofs.Words.{GroupForm, AreAscending, AreExceptions, is_empty, IsNormalGroup, IsNormal, WantUnit}
+use Rattle.pim_mirror.proofs.Words.{star_unit, source_unit, star_units, group_units, units_of, fits, joined, AreRuns, Writing}
+use Rattle.pim_mirror.proofs.Words.{IsRp, IsRpOf, HaveRps, CarriesRun, CarryRuns, CarryParts, CanonicalMessagesCarryParts}
 use Rattle.pim_mirror.proofs.ListParts.{all_append, all_front, all_behind, all_known, all_map, all_mapped}
 use Rattle.pim_mirror.proofs.UnitOrder.{AreOrdered, ordered_front, ordered_behind, sources_ascend, form_ordered}
 

@@ -1,28 +1,14 @@
 -- A router that hears deliveries tells no echo on its whole course.
-use Rattle.std.proofs.Common.{◌≡◌, ◌∙◌, ℕ, ◌≤◌, Bool, true, false, ◌||◌, List, [], ◌∷◌, ◌++◌, length, refl, sym, ap, ap₂, subst, arith, append_assoc}
-use Rattle.std.specs.List.{list_any}
-use Rattle.pim_addr.specs.declared.family.AddressFamily.{AddressFamily}
-use Rattle.pim_down.specs.declared.machines.event.Timing.{Timing}
+use Rattle.pim_mirror.proofs.Words.{◌≡◌, ◌∙◌, ℕ, ◌≤◌, Bool, true, false, ◌||◌, List, [], ◌∷◌, ◌++◌, length, refl, sym, ap, ap₂}
+use Rattle.pim_mirror.proofs.Words.{subst, arith, append_assoc, list_any, AddressFamily, Timing, start_of, rp_of, GroupForm}
+use Rattle.pim_mirror.proofs.Words.{IsNormal, Writing, IsWriting, HaveRps, AreCanonical, Exchange, HasUnitsOnce, Delivery}
+use Rattle.pim_mirror.proofs.Words.{IsTimely, after_message, NoEchoIsDue, Input, RouterReport, takes, runs_to, IsCourse, verdict}
+use Rattle.pim_mirror.proofs.Words.{Packet, received, RouterState, Verdict, AreOf, HoldsNothing, Lasts, inputs_of, packet_of}
+use Rattle.pim_mirror.proofs.Words.{HearsWriter, heard_exchange, DeliveryIsTaken, RouterLeavesItsPort, CourseHearsAll, is_echo}
 use Rattle.pim_down.specs.declared.machines.step.Step.{Step as Fires}
 use Rattle.pim_down.specs.declared.machines.step.Step.TheVariants as fires
-use Rattle.pim_down.specs.Hearing.{start_of}
-use Rattle.pim_addr.specs.Routes.{rp_of}
 use Rattle.pim_down.specs.Time.{Downstream, Runs as MachineRuns}
-use Rattle.pim_form.specs.NormalForm.{GroupForm, IsNormal}
-use Rattle.pim_form.specs.Messages.{Writing, IsWriting, HaveRps, AreCanonical}
-use Rattle.pim_fresh.specs.Exchange.{Exchange, HasUnitsOnce}
-use Rattle.pim_fresh.specs.Deliveries.{Delivery, IsTimely}
 use Rattle.pim_fresh.specs.Expected.{units_of}
-use Rattle.pim_fresh.specs.Hearing.{after_message}
-use Rattle.pim_fresh.specs.Laws.{NoEchoIsDue}
-use Rattle.pim_router.specs.Course.{Input, RouterReport, takes, runs_to, IsCourse, verdict}
-use Rattle.pim_router.specs.Packets.{Packet, received}
-use Rattle.pim_router.specs.State.{RouterState}
-use Rattle.pim_router.specs.declared.verdict.Verdict.{Verdict}
-use Rattle.pim_mirror.specs.CanonicalCourse.{AreOf, HoldsNothing, Lasts, inputs_of}
-use Rattle.pim_mirror.specs.CanonicalPackets.{packet_of, HearsWriter, heard_exchange}
-use Rattle.pim_mirror.specs.Laws.{DeliveryIsTaken, RouterLeavesItsPort, CourseHearsAll}
-use Rattle.pim_mirror.specs.Headline.{is_echo}
 use Rattle.pim_mirror.proofs.Course.{fewer_units, timely_before}
 use Rattle.pim_mirror.proofs.CourseSteps.{parts, last_run, first_by}
 use Rattle.pim_mirror.proofs.RouterRuns.{reaches_quietly}

@@ -1,17 +1,9 @@
 -- The bytes of the messages are read back.
-use Rattle.std.proofs.Common.{◌≡◌, ◌∙◌, ℕ, true, List, [], ◌∷◌, map, length, refl, sym, ap, ap₂, subst, Option}
-use Rattle.std.specs.List.{AllByRecursion}
-use Rattle.std.proofs.lemmas.List.{length-map}
-use Rattle.pim_addr.specs.declared.family.AddressFamily.{AddressFamily}
-use Rattle.pim_jp.specs.Message.{Message, message_of}
-use Rattle.pim_form.specs.NormalForm.{GroupForm, IsNormal}
-use Rattle.pim_form.specs.Units.{units_of}
-use Rattle.pim_form.specs.Packing.{fits}
-use Rattle.pim_form.specs.Messages.{Writing, IsWriting, HaveRps, written_message}
-use Rattle.pim_form.specs.Laws.{SealedMessageIsRead, IsReadAs}
-use Rattle.pim_mirror.specs.CanonicalParts.{CarryParts}
-use Rattle.pim_mirror.specs.CanonicalExchange.{body_of, message_in, exchange_of, exchange_in, CarriesForm, AreReadAs}
-use Rattle.pim_mirror.specs.Laws.{CanonicalMessagesCarryParts, PartsHaveUnitsOnce, MessagesAreRead, CanonicalMessagesCarryForm}
+use Rattle.pim_mirror.proofs.Words.{◌≡◌, ◌∙◌, ℕ, true, List, [], ◌∷◌, map, length, refl, sym, ap, ap₂, subst, Option}
+use Rattle.pim_mirror.proofs.Words.{AllByRecursion, length-map, AddressFamily, Message, message_of, GroupForm, IsNormal, units_of}
+use Rattle.pim_mirror.proofs.Words.{fits, Writing, IsWriting, HaveRps, written_message, SealedMessageIsRead, IsReadAs, CarryParts}
+use Rattle.pim_mirror.proofs.Words.{body_of, message_in, exchange_of, exchange_in, CarriesForm, AreReadAs}
+use Rattle.pim_mirror.proofs.Words.{CanonicalMessagesCarryParts, PartsHaveUnitsOnce, MessagesAreRead, CanonicalMessagesCarryForm}
 use Rattle.pim_mirror.proofs.Spellable.{is_message}
 
 module _ (family : AddressFamily) (writing : Writing) (rps : List ℕ → Option (List ℕ)) (is : IsWriting family writing) (reads : SealedMessageIsRead) where

@@ -1,21 +1,13 @@
 -- A delivery that a router refuses: what was heard before it.
-use Rattle.std.proofs.Common.{◌≡◌, ◌∙◌, ℕ, List, [], ◌∷◌, ◌++◌, map, Option, None, Some, Result, Ok, Err, IfErr, OnErr, refl, sym, ap, subst}
-use Rattle.std.specs.List.{flat_map}
-use Rattle.pim_addr.specs.declared.family.AddressFamily.{AddressFamily}
-use Rattle.pim_frame.specs.Frame.{Content, hello, join_prune, other, content}
-use Rattle.pim_fresh.specs.Deliveries.{Delivery}
-use Rattle.pim_router.specs.Course.{runs_to}
-use Rattle.pim_router.specs.Laws.{CourseGoesOn, EveryListHasACourse}
-use Rattle.pim_router.specs.Packets.{Packet, causes, body_heard, unless, received, Receives}
-use Rattle.pim_router.specs.State.{RouterState}
-use Rattle.pim_router.specs.declared.verdict.Verdict.{Verdict}
+use Rattle.pim_mirror.proofs.Words.{◌≡◌, ◌∙◌, ℕ, List, [], ◌∷◌, ◌++◌, map, Option, None, Some, Result, Ok, Err, IfErr, OnErr}
+use Rattle.pim_mirror.proofs.Words.{refl, sym, ap, subst, flat_map, AddressFamily, Content, hello, join_prune, other, content}
+use Rattle.pim_mirror.proofs.Words.{Delivery, runs_to, CourseGoesOn, EveryListHasACourse, Packet, causes, body_heard, unless}
+use Rattle.pim_mirror.proofs.Words.{received, Receives, RouterState, Verdict, delivery_seen, delivery_inputs, delivery_packet}
+use Rattle.pim_mirror.proofs.Words.{needed_by, outcome_if, outcome_of, IsRefused, StopsAt, Passes, HasReached, MirrorFault}
 use Rattle.pim_router.specs.declared.verdict.Verdict.TheVariants as verdict
 use Rattle.pim_router.specs.declared.verdict.Store.{Store}
 use Rattle.pim_router.specs.declared.verdict.Store.TheVariants as store
-use Rattle.pim_mirror.specs.Config.{delivery_seen}
-use Rattle.pim_mirror.specs.Mirror.{delivery_inputs, delivery_packet, needed_by, outcome_if, outcome_of, IsRefused, StopsAt, Passes, HasReached}
 use Rattle.pim_mirror.specs.declared.config.Delivery as code
-use Rattle.pim_mirror.specs.declared.mirroring.MirrorFault.{MirrorFault}
 use Rattle.pim_mirror.specs.declared.mirroring.MirrorFault.TheVariants as fault
 use Rattle.pim_mirror.proofs.Ways.{reached_passes, then_passes}
 

@@ -1,30 +1,16 @@
 -- A message has no room exactly where the units of the different messages pass the limit.
-use Rattle.std.proofs.Common.{◌≡◌, ◌∙◌, ℕ, ◌≤◌, Bool, true, false, nat_lt, if◌then◌else◌, List, [], ◌∷◌, ◌++◌, length, map, Option, None, Some, refl, sym, ap, ap₂, subst, arith, append_assoc, zero-le}
-use Rattle.std.proofs.lemmas.Bool.{le-ltb, ltb-false, ltb-true}
-use Rattle.pim_addr.specs.declared.family.AddressFamily.{AddressFamily}
-use Rattle.pim_addr.specs.Routes.{RouteTable, IsRouteTable, rp_of}
-use Rattle.pim_down.specs.declared.machines.event.Timing.{Timing}
-use Rattle.pim_down.specs.Hearing.{start_of}
-use Rattle.pim_form.specs.NormalForm.{GroupForm, IsNormal}
-use Rattle.pim_form.specs.Messages.{Writing, IsWriting, HaveRps, AreCanonical}
-use Rattle.pim_fresh.specs.Exchange.{Exchange}
-use Rattle.pim_fresh.specs.Deliveries.{Delivery, IsTimely}
+use Rattle.pim_mirror.proofs.Words.{◌≡◌, ◌∙◌, ℕ, ◌≤◌, Bool, true, false, nat_lt, if◌then◌else◌, List, [], ◌∷◌, ◌++◌, length, map}
+use Rattle.pim_mirror.proofs.Words.{Option, None, Some, refl, sym, ap, ap₂, subst, arith, append_assoc, zero-le, le-ltb}
+use Rattle.pim_mirror.proofs.Words.{ltb-false, ltb-true, AddressFamily, RouteTable, IsRouteTable, rp_of, Timing, start_of}
+use Rattle.pim_mirror.proofs.Words.{GroupForm, IsNormal, Writing, IsWriting, HaveRps, AreCanonical, Exchange, Delivery, IsTimely}
+use Rattle.pim_mirror.proofs.Words.{Input, RouterReport, echo, refresh, verdict, takes, runs_to, Reaches, IsCourse, Packet}
+use Rattle.pim_mirror.proofs.Words.{received, RouterState, new_router, Verdict, Neighbour, Fresh, newest_first, end_of, setup_of}
+use Rattle.pim_mirror.proofs.Words.{neighbours, AreOf, HoldsNothing, Lasts, inputs_of, IsTaken, exchange_in, packet_of}
+use Rattle.pim_mirror.proofs.Words.{HearsWriter, heard_exchange, AreHellosFrom, timing_of, WrittenHellosAreRead, HellosAreHeard}
+use Rattle.pim_mirror.proofs.Words.{DemandedStarsHaveRps, DeliveryIsTaken, CourseHearsAll, needed_by, or_later, first_needed}
+use Rattle.pim_mirror.proofs.Words.{GoesThrough, Fits, Downstream, AreMessagesOf, fresh_exchange, all_entries, if_over}
+use Rattle.pim_mirror.proofs.Words.{first_over, RoomIsForTheUnits}
 use Rattle.pim_fresh.specs.Expected.{units_of}
-use Rattle.pim_router.specs.Course.{Input, RouterReport, echo, refresh, verdict, takes, runs_to, Reaches, IsCourse}
-use Rattle.pim_router.specs.Packets.{Packet, received}
-use Rattle.pim_router.specs.State.{RouterState, new_router}
-use Rattle.pim_router.specs.declared.verdict.Verdict.{Verdict}
-use Rattle.pim_mirror.specs.Config.{Neighbour, Fresh, newest_first, end_of, setup_of, neighbours}
-use Rattle.pim_mirror.specs.CanonicalCourse.{AreOf, HoldsNothing, Lasts, inputs_of, IsTaken}
-use Rattle.pim_mirror.specs.CanonicalExchange.{exchange_in}
-use Rattle.pim_mirror.specs.CanonicalPackets.{packet_of, HearsWriter, heard_exchange}
-use Rattle.pim_mirror.specs.Hellos.{AreHellosFrom, timing_of}
-use Rattle.pim_mirror.specs.HelloLaws.{WrittenHellosAreRead, HellosAreHeard}
-use Rattle.pim_mirror.specs.Laws.{DemandedStarsHaveRps, DeliveryIsTaken, CourseHearsAll}
-use Rattle.pim_mirror.specs.Mirror.{needed_by, or_later, first_needed, GoesThrough}
-use Rattle.pim_mirror.specs.Fits.{Fits}
-use Rattle.pim_down.specs.Time.{Downstream}
-use Rattle.pim_mirror.specs.Headline.{AreMessagesOf, fresh_exchange, all_entries, if_over, first_over, RoomIsForTheUnits}
 use Rattle.pim_mirror.proofs.EntryCounts.{units_are_entries}
 use Rattle.pim_mirror.proofs.Begun.{Begun, begun}
 use Rattle.pim_mirror.proofs.Course.{fewer_units, timely_before}

@@ -1,22 +1,15 @@
 -- A run of a router is a run of its machines, in which refreshes and neighbours that go are passed over.
-use Rattle.std.proofs.Common.{◌≡◌, ◌∙◌, ℕ, zero, suc, true, false, ◌==◌, if◌then◌else◌, nat_lt, List, [], ◌∷◌, map, Option, None, Some, refl, ap, subst}
-use Rattle.std.specs.List.{list_any}
-use Rattle.pim_addr.specs.Routes.{RouteTable}
-use Rattle.pim_hello.specs.Neighbours.{without_ended}
-use Rattle.pim_down.specs.declared.machines.key.What.{What}
-use Rattle.pim_down.specs.declared.machines.machine.Record.{Record}
+use Rattle.pim_mirror.proofs.Words.{◌≡◌, ◌∙◌, ℕ, zero, suc, true, false, ◌==◌, if◌then◌else◌, nat_lt, List, [], ◌∷◌}
+use Rattle.pim_mirror.proofs.Words.{map, Option, None, Some, refl, ap, subst, list_any, RouteTable, without_ended, What}
+use Rattle.pim_mirror.proofs.Words.{Record, Step, Echo, Refresh, Reached, RouterReport, echo, refresh, verdict, Reaches}
+use Rattle.pim_mirror.proofs.Words.{RouterState, with_machines, with_tables, with_refresh, refresh_period, is_echo}
+use Rattle.pim_mirror.proofs.Words.{RouterRunsAsItsMachines, has_ended, tick, reported, moves, rests, stops_with}
+use Rattle.pim_mirror.proofs.Words.{turn_of_time, turn_of_refresh, turn_of_timers, turn, run_on, run_within, Runs}
 use Rattle.pim_down.specs.declared.machines.step.Step.{Step as Fires}
 use Rattle.pim_down.specs.declared.machines.step.Step.TheVariants as fires
 use Rattle.pim_down.specs.Time.{Downstream, fired, with_records, tick as machines_tick, Outcome as MachineOutcome, moves as machines_move, rests as machines_rest, echoes, turn_by, turn as machine_turn, run_on as machine_run_on, run_within as machine_run_within, Runs as MachineRuns}
-use Rattle.pim_router.specs.declared.step.Step.{Step}
-use Rattle.pim_router.specs.declared.step.Step.TheVariants.{Echo, Refresh, Reached}
-use Rattle.pim_router.specs.Course.{RouterReport, echo, refresh, verdict, Reaches}
-use Rattle.pim_router.specs.State.{RouterState, with_machines, with_tables, with_refresh, refresh_period}
-use Rattle.pim_mirror.specs.Headline.{is_echo}
-use Rattle.pim_mirror.specs.Laws.{RouterRunsAsItsMachines}
 use Rattle.pim_mirror.specs.MachineRuns.{MachinesArrive}
 use Rattle.pim_mirror.proofs.Ways.{runs_keep}
-use Rattle.pim_router.specs.Time.{has_ended, tick, reported, moves, rests, stops_with, turn_of_time, turn_of_refresh, turn_of_timers, turn, run_on, run_within, Runs}
 
 -- ---- one turn of the machines
 

@@ -1,12 +1,8 @@
 -- When two addresses are the same.
-use Rattle.std.proofs.Common.{◌≡◌, ◌∙◌, ℕ, Bool, true, false, ◌&&◌, ◌||◌, List, refl, sym, ap}
-use Rattle.std.specs.declared.cmp.Ordering.TheVariants.{Less, Equal, Greater}
-use Rattle.std.specs.Ordering.{nat_cmp, is_eq}
-use Rattle.std.specs.Cmp.Lexicographic.{slice_cmp, texts_ties}
-use Rattle.std.specs.FinMap.{slice_cmp-IsAntisymmetric, nat_cmp-IsAntisymmetric}
+use Rattle.pim_mirror.proofs.Words.{◌≡◌, ◌∙◌, ℕ, Bool, true, false, ◌&&◌, ◌||◌, List, refl, sym, ap, Less, Equal}
+use Rattle.pim_mirror.proofs.Words.{Greater, nat_cmp, is_eq, slice_cmp, texts_ties, slice_cmp-IsAntisymmetric}
+use Rattle.pim_mirror.proofs.Words.{nat_cmp-IsAntisymmetric, false≢true, same_address}
 use Rattle.std.proofs.lemmas.Cmp.{nat_list_eq_equiv}
-use Rattle.std.proofs.lemmas.Bool.{false≢true}
-use Rattle.pim_form.specs.NormalForm.{same_address}
 
 pub same_itself : (a : List ℕ) → same_address a a ≡ true
 same_itself a = nat_list_eq_equiv.refl a

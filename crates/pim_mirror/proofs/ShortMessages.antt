@@ -1,16 +1,8 @@
 -- Canonical messages are within their writer's budget.
-use Rattle.std.proofs.Common.{◌≡◌, ◌≤◌, ℕ, true, List, [], ◌∷◌, length, nat_le, arith, Option}
-use Rattle.std.specs.List.{AllByRecursion}
-use Rattle.std.proofs.lemmas.Bool.{leb-true}
-use Rattle.pim_addr.specs.declared.family.AddressFamily.{AddressFamily}
-use Rattle.pim_form.specs.Laws.{SizeIsLength}
-use Rattle.pim_form.specs.Messages.{Writing, IsWriting, HaveRps}
-use Rattle.pim_form.specs.NormalForm.{GroupForm, IsNormal}
-use Rattle.pim_form.specs.Packing.{fits, most_groups}
-use Rattle.pim_form.specs.Units.{units_of, run_size, run_groups}
-use Rattle.pim_mirror.specs.CanonicalParts.{CarryParts}
-use Rattle.pim_mirror.specs.Laws.{CanonicalMessagesCarryParts}
-use Rattle.pim_mirror.specs.MirrorLaws.{CanonicalMessagesAreShort}
+use Rattle.pim_mirror.proofs.Words.{◌≡◌, ◌≤◌, ℕ, true, List, [], ◌∷◌, length, nat_le, arith, Option, AllByRecursion}
+use Rattle.pim_mirror.proofs.Words.{leb-true, AddressFamily, SizeIsLength, Writing, IsWriting, HaveRps, GroupForm}
+use Rattle.pim_mirror.proofs.Words.{IsNormal, fits, most_groups, units_of, run_size, run_groups, CarryParts}
+use Rattle.pim_mirror.proofs.Words.{CanonicalMessagesCarryParts, CanonicalMessagesAreShort}
 use Rattle.pim_mirror.proofs.Listed.{both}
 
 module _ (size : SizeIsLength) (family : AddressFamily) (writing : Writing) (rps : List ℕ → Option (List ℕ)) (is : IsWriting family writing) where

@@ -1,15 +1,6 @@
 -- Neighbours whose numbers are in their ranges have Hellos.
-use Rattle.std.proofs.Common.{List, [], ◌∷◌, refl}
-use Rattle.std.specs.List.{AllByRecursion}
-use Rattle.pim_addr.specs.declared.family.AddressFamily.{AddressFamily}
-use Rattle.pim_frame.specs.Frame.{all_routers}
-use Rattle.pim_frame.specs.Seal.{SomeMessageIsSealed}
-use Rattle.pim_frame.specs.declared.frame.MessageType.TheVariants.{Hello}
-use Rattle.pim_hello.specs.Spelling.{spelling_of, ParametersFit}
-use Rattle.pim_router.specs.Packets.{Packet}
-use Rattle.pim_mirror.specs.Config.{Neighbour}
-use Rattle.pim_mirror.specs.Mirror.{IsHelloOf, AreHellosOf}
-use Rattle.pim_mirror.specs.HelloLaws.{NeighboursHaveHellos}
+use Rattle.pim_mirror.proofs.Words.{List, [], ◌∷◌, refl, AllByRecursion, AddressFamily, all_routers, SomeMessageIsSealed, Hello}
+use Rattle.pim_mirror.proofs.Words.{spelling_of, ParametersFit, Packet, Neighbour, IsHelloOf, AreHellosOf, NeighboursHaveHellos}
 
 abbrev InRange : Neighbour → Type 0
 InRange neighbour = ParametersFit neighbour.hello

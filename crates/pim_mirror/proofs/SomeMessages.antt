@@ -1,16 +1,9 @@
 -- A sound state has canonical messages exactly if no star of what it asks is too big.
-use Rattle.std.proofs.Common.{◌≡◌, ◌∙◌, ℕ, List, None, sym, ap}
-use Rattle.pim_addr.specs.Routes.{RouteTable, rp_of}
-use Rattle.pim_addr.specs.declared.family.AddressFamily.{AddressFamily}
-use Rattle.pim_down.specs.Time.{Downstream}
+use Rattle.pim_mirror.proofs.Words.{◌≡◌, ◌∙◌, ℕ, List, None, sym, ap, RouteTable, rp_of, AddressFamily, Downstream}
+use Rattle.pim_mirror.proofs.Words.{OneNormalForm, MessagesAreThereUnlessTooBig, Writing, IsWriting, GroupForm}
+use Rattle.pim_mirror.proofs.Words.{IsFormOf, demand_toward, AreMessagesOf, StateHasMessagesUnlessTooBig}
 use Rattle.pim_form.specs.Demanded.{DemandedFormIsDemanded, demanded_form}
-use Rattle.pim_form.specs.Laws.{OneNormalForm, MessagesAreThereUnlessTooBig}
-use Rattle.pim_form.specs.Messages.{Writing, IsWriting}
-use Rattle.pim_form.specs.NormalForm.{GroupForm, IsFormOf}
 use Rattle.pim_form.specs.TooBig.{too_big}
-use Rattle.pim_form.specs.TowardLaws.{demand_toward}
-use Rattle.pim_mirror.specs.Headline.{AreMessagesOf}
-use Rattle.pim_mirror.specs.MirrorLaws.{StateHasMessagesUnlessTooBig}
 
 module _ (sole : OneNormalForm) (there : MessagesAreThereUnlessTooBig) (family : AddressFamily) (table : RouteTable) (writing : Writing) (state : Downstream) (is_writing : IsWriting family writing) where
   none_too_big : (messages : List (List ℕ)) → AreMessagesOf family table writing state messages → (form : List GroupForm) → IsFormOf family (demand_toward family table writing.upstream state) form

@@ -1,23 +1,15 @@
 -- The message of a part that fits can be spelled.
-use Rattle.std.proofs.Common.{◌≡◌, ◌∙◌, ℕ, ◌+◌, ◌^◌, ◌≤◌, ◌<◌, true, false, List, [], ◌∷◌, ◌++◌, Option, None, Some, map, length, nat_le, refl, sym, arith, length-append}
-use Rattle.std.specs.declared.cmp.Ordering.TheVariants.{Less}
-use Rattle.std.specs.List.{AllByRecursion, list_any}
-use Rattle.std.specs.List.Sorted.{IsStrictlySortedBy}
-use Rattle.std.specs.Ordering.{nat_cmp}
-use Rattle.std.specs.Cmp.Lexicographic.{slice_cmp}
-use Rattle.std.proofs.lemmas.Bool.{false≢true, leb-true}
-use Rattle.std.proofs.lemmas.List.{length-map}
-use Rattle.pim_addr.specs.declared.family.AddressFamily.{AddressFamily}
+use Rattle.pim_mirror.proofs.Words.{◌≡◌, ◌∙◌, ℕ, ◌+◌, ◌^◌, ◌≤◌, ◌<◌, true, false, List, [], ◌∷◌, ◌++◌, Option, None, Some, map}
+use Rattle.pim_mirror.proofs.Words.{length, nat_le, refl, sym, arith, length-append, Less, AllByRecursion, list_any}
+use Rattle.pim_mirror.proofs.Words.{IsStrictlySortedBy, nat_cmp, slice_cmp, false≢true, leb-true, length-map, AddressFamily}
+use Rattle.pim_mirror.proofs.Words.{IsSourceAddress, Entry, GroupForm, AreAscending, AreExceptions, is_empty, IsNormalGroup}
+use Rattle.pim_mirror.proofs.Words.{groups_of, IsNormal, WantUnit, source_unit, star_units, group_units, units_of, is_of_group}
+use Rattle.pim_mirror.proofs.Words.{groups_behind, run_groups, run_entries, run_size, fits, most_groups, Writing, IsWriting}
+use Rattle.pim_mirror.proofs.Words.{IsRpOf, HaveRps, star_entries, excepted_entries, written_set, written_message}
 use Rattle.pim_addr.specs.declared.family.AddressFamily.TheVariants.{Ipv4, Ipv6}
-use Rattle.pim_addr.specs.Address.{IsSourceAddress}
-use Rattle.pim_jp.specs.declared.entry.Entry.{Entry}
 use Rattle.pim_jp.specs.declared.entry.Entry.TheVariants.{Source, Rpt}
 use Rattle.pim_jp.specs.Spelling.{same_source, star_count, IsLegalSet}
 use Rattle.pim_jp.specs.Canonical.{IsMessageEntry, IsMessageSet, IsMessage}
-use Rattle.pim_form.specs.NormalForm.{GroupForm, AreAscending, AreExceptions, is_empty, IsNormalGroup, groups_of, IsNormal}
-use Rattle.pim_form.specs.Units.{WantUnit, source_unit, star_units, group_units, units_of, is_of_group, groups_behind, run_groups, run_entries, run_size}
-use Rattle.pim_form.specs.Packing.{fits, most_groups}
-use Rattle.pim_form.specs.Messages.{Writing, IsWriting, IsRpOf, HaveRps, star_entries, excepted_entries, written_set, written_message}
 use Rattle.pim_mirror.proofs.ListParts.{all_append, all_map}
 use Rattle.pim_mirror.proofs.SameAddresses.{same_itself, less_apart, first_true, second_true}
 

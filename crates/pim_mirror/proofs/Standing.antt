@@ -1,24 +1,15 @@
 -- A fresh router that hears messages alone is there, stands at its final moment, and goes on from there.
-use Rattle.std.proofs.Common.{◌≡◌, ℕ, List, [], ◌∷◌, ◌++◌, map, Option, None, Some, refl, sym, subst, arith, append_assoc, Ok, Err, ◌<◌, ◌≤◌, Bool, true, false, nat_lt}
-use Rattle.std.specs.List.{flat_map}
-use Rattle.std.proofs.lemmas.Bool.{ltb-true, ltb-false}
-use Rattle.pim_addr.specs.declared.family.AddressFamily.{AddressFamily}
-use Rattle.pim_addr.specs.Routes.{RouteTable, IsRouteTable}
-use Rattle.pim_down.specs.declared.machines.key.What.{What}
-use Rattle.pim_down.specs.Time.{Downstream}
-use Rattle.pim_form.specs.Messages.{Writing, IsWriting}
+use Rattle.pim_mirror.proofs.Words.{◌≡◌, ℕ, List, [], ◌∷◌, ◌++◌, map, Option, None, Some, refl, sym, subst, arith, append_assoc}
+use Rattle.pim_mirror.proofs.Words.{Ok, Err, ◌<◌, ◌≤◌, Bool, true, false, nat_lt, flat_map, ltb-true, ltb-false, AddressFamily}
+use Rattle.pim_mirror.proofs.Words.{RouteTable, IsRouteTable, What, Downstream, Writing, IsWriting, Delivery, IsTimely, AreAlive}
+use Rattle.pim_mirror.proofs.Words.{last_of, Step, Echo, Refresh, Reached, Input, RouterReport, echo, refresh, verdict, runs_to}
+use Rattle.pim_mirror.proofs.Words.{takes, Reaches, IsCourse, RouterState, new_router, Runs, Fresh, newest_first, end_of}
+use Rattle.pim_mirror.proofs.Words.{setup_of, Fits, expiry_of, AreMessagesOf, all_entries, HearsAlone, IsInWindow, IsAt}
+use Rattle.pim_mirror.proofs.Words.{RoomIsForTheUnits, FreshRouterMirrors, FreshRouterSendsNoEcho, FreshRouterKnowsTheWriter}
+use Rattle.pim_mirror.proofs.Words.{FreshRouterIsThere, IsMirrorOf, MirrorAnswersForTheForm}
 use Rattle.pim_mirror.specs.declared.mirroring.MirrorFault.TheVariants as fault
-use Rattle.pim_fresh.specs.Deliveries.{Delivery, IsTimely, AreAlive, last_of}
-use Rattle.pim_router.specs.declared.step.Step.{Step}
-use Rattle.pim_router.specs.declared.step.Step.TheVariants.{Echo, Refresh, Reached}
-use Rattle.pim_router.specs.Course.{Input, RouterReport, echo, refresh, verdict, runs_to, takes, Reaches, IsCourse}
 use Rattle.pim_router.specs.Laws.{RunHasOneEnd, RunGoesOn, EveryListHasACourse}
-use Rattle.pim_router.specs.State.{RouterState, new_router}
-use Rattle.pim_router.specs.Time.{Runs}
-use Rattle.pim_mirror.specs.Config.{Fresh, newest_first, end_of, setup_of}
-use Rattle.pim_mirror.specs.Fits.{Fits, expiry_of}
 use Rattle.pim_mirror.specs.Mirror.{delivery_inputs, inputs_of, first_needed, GoesThrough}
-use Rattle.pim_mirror.specs.Headline.{AreMessagesOf, all_entries, HearsAlone, IsInWindow, IsAt, RoomIsForTheUnits, FreshRouterMirrors, FreshRouterSendsNoEcho, FreshRouterKnowsTheWriter, FreshRouterIsThere, IsMirrorOf, MirrorAnswersForTheForm}
 use Rattle.pim_mirror.proofs.CourseSteps.{parts, last_run}
 
 -- at its last delivery's moment no message is missed

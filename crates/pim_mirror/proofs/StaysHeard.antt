@@ -1,25 +1,15 @@
 -- Who hears the writer hears it still while none of its neighbours' times is over.
-use Rattle.std.proofs.Common.{◌≡◌, ◌∙◌, ℕ, zero, suc, ◌+◌, ◌-◌, ◌≤◌, Bool, true, false, ◌==◌, not, if◌then◌else◌, nat_lt, filter, List, [], ◌∷◌, map, length, Option, None, Some, option_map, slice_index_or, refl, sym, ap, ap₂, subst, arith}
-use Rattle.std.specs.Option.{is_some}
-use Rattle.std.specs.List.{AllByRecursion, list_any}
-use Rattle.std.proofs.lemmas.Bool.{ltb-true, eqb-true}
+use Rattle.pim_mirror.proofs.Words.{◌≡◌, ◌∙◌, ℕ, zero, suc, ◌+◌, ◌-◌, ◌≤◌, Bool, true, false, ◌==◌, not, if◌then◌else◌, nat_lt}
+use Rattle.pim_mirror.proofs.Words.{filter, List, [], ◌∷◌, map, length, Option, None, Some, option_map, slice_index_or, refl, sym}
+use Rattle.pim_mirror.proofs.Words.{ap, ap₂, subst, arith, is_some, AllByRecursion, list_any, ltb-true, eqb-true}
+use Rattle.pim_mirror.proofs.Words.{jp_override_interval, Timing, Record, fired, with_records, Writing, IsShorter, Step, Echo}
+use Rattle.pim_mirror.proofs.Words.{Refresh, Reached, RouterReport, echo, refresh, verdict, Reaches, RouterState, with_machines}
+use Rattle.pim_mirror.proofs.Words.{with_refresh, refresh_period, port_at, has_ended, tick, moves, rests, stops_with}
+use Rattle.pim_mirror.proofs.Words.{turn_of_time, turn_of_refresh, turn_of_timers, turn, run_on, run_within, Runs, Lasts}
+use Rattle.pim_mirror.proofs.Words.{HearsWriter, WriterStaysHeard}
 use Rattle.pim_hello.specs.Neighbours.{Neighbour, Table, no_neighbours, neighbour_at, is_address, hellos_of, waited, passed_to, is_over, without_ended}
-use Rattle.pim_hello.specs.Interval.{jp_override_interval}
-use Rattle.pim_down.specs.declared.machines.event.Timing.{Timing}
-use Rattle.pim_down.specs.declared.machines.machine.Record.{Record}
 use Rattle.pim_down.specs.declared.machines.step.Step.{Step as Fires}
 use Rattle.pim_down.specs.declared.machines.step.Step.TheVariants as fires
-use Rattle.pim_down.specs.Time.{fired, with_records}
-use Rattle.pim_form.specs.Messages.{Writing}
-use Rattle.pim_fresh.specs.Deliveries.{IsShorter}
-use Rattle.pim_router.specs.declared.step.Step.{Step}
-use Rattle.pim_router.specs.declared.step.Step.TheVariants.{Echo, Refresh, Reached}
-use Rattle.pim_router.specs.Course.{RouterReport, echo, refresh, verdict, Reaches}
-use Rattle.pim_router.specs.State.{RouterState, with_machines, with_refresh, refresh_period, port_at}
-use Rattle.pim_router.specs.Time.{has_ended, tick, moves, rests, stops_with, turn_of_time, turn_of_refresh, turn_of_timers, turn, run_on, run_within, Runs}
-use Rattle.pim_mirror.specs.CanonicalCourse.{Lasts}
-use Rattle.pim_mirror.specs.CanonicalPackets.{HearsWriter}
-use Rattle.pim_mirror.specs.Laws.{WriterStaysHeard}
 
 abbrev Entry : Type 0
 Entry = List ℕ × Neighbour

@@ -1,16 +1,9 @@
 -- The stars that are asked of a neighbour under a route table have RPs.
-use Rattle.std.proofs.Common.{◌≡◌, ◌∙◌, ℕ, Bool, true, false, List, [], ◌∷◌, Option, None, Some, option_map, if◌then◌else◌, nat_lt, filter}
-use Rattle.std.specs.List.{AllByRecursion, list_all}
-use Rattle.std.proofs.lemmas.Bool.{false≢true}
-use Rattle.pim_addr.specs.declared.family.AddressFamily.{AddressFamily}
-use Rattle.pim_addr.specs.Address.{IsSourceAddress}
-use Rattle.pim_addr.specs.Routes.{Row, RouteTable, matches, longer_of, longest, led_to, rp_of, IsRealRow, IsRouteTable}
-use Rattle.pim_form.specs.NormalForm.{GroupForm}
-use Rattle.pim_form.specs.Messages.{IsRpOf, HaveRps}
-use Rattle.pim_form.specs.Toward.{via_of, star_rpf_neighbour, rpf_neighbour, is_neighbour, is_star_toward, is_group_toward, is_toward}
-use Rattle.pim_form.specs.TowardLaws.{TestFindsTheNeighbour}
-use Rattle.pim_form.specs.Wants.{wants}
-use Rattle.pim_mirror.specs.Laws.{DemandedStarsHaveRps}
+use Rattle.pim_mirror.proofs.Words.{◌≡◌, ◌∙◌, ℕ, Bool, true, false, List, [], ◌∷◌, Option, None, Some, option_map, if◌then◌else◌}
+use Rattle.pim_mirror.proofs.Words.{nat_lt, filter, AllByRecursion, list_all, false≢true, AddressFamily, IsSourceAddress, Row}
+use Rattle.pim_mirror.proofs.Words.{RouteTable, matches, longer_of, longest, led_to, rp_of, IsRealRow, IsRouteTable, GroupForm}
+use Rattle.pim_mirror.proofs.Words.{IsRpOf, HaveRps, via_of, star_rpf_neighbour, rpf_neighbour, is_neighbour, is_star_toward}
+use Rattle.pim_mirror.proofs.Words.{is_group_toward, is_toward, TestFindsTheNeighbour, wants, DemandedStarsHaveRps}
 use Rattle.pim_mirror.proofs.SameAddresses.{first_true, second_true}
 
 abbrev IfRow : (Row → Type 0) → Option Row → Type 0

@@ -1,11 +1,10 @@
 -- The tests that go over the deliveries once, from the oldest on, and what is said of them from the newest on.
-use Rattle.std.proofs.Common.{◌≡◌, ◌∙◌, ℕ, ◌-◌, ◌<◌, ◌≤◌, Bool, true, false, ◌&&◌, leb, ltb, eqb, List, [], ◌∷◌, reverse, Option, None, Some, refl, sym, ap, subst, arith}
+use Rattle.pim_mirror.proofs.Words.{◌≡◌, ◌∙◌, ℕ, ◌-◌, ◌<◌, ◌≤◌, Bool, true, false, ◌&&◌, leb, ltb, eqb, List, [], ◌∷◌}
+use Rattle.pim_mirror.proofs.Words.{reverse, Option, None, Some, refl, sym, ap, subst, arith, AllByRecursion, eqb-true}
+use Rattle.pim_mirror.proofs.Words.{leb-true, ltb-true, le-leb, lt-ltb, ltb-false, Delivery, last_of, IsShorter}
+use Rattle.pim_mirror.proofs.Words.{AreAlive, IsTimely, is_shorter, is_alive, last_with, is_kept, is_in_order}
 use mathlib.Core.List.{reverse_aux}
-use Rattle.std.specs.List.{AllByRecursion}
-use Rattle.std.proofs.lemmas.Bool.{eqb-true, leb-true, ltb-true, le-leb, lt-ltb, ltb-false}
 use Rattle.std.proofs.Math.Dec.{leb-zero}
-use Rattle.pim_fresh.specs.Deliveries.{Delivery, last_of, IsShorter, AreAlive, IsTimely}
-use Rattle.pim_mirror.specs.Tests.{is_shorter, is_alive, last_with, is_kept, is_in_order}
 use Rattle.pim_mirror.proofs.Listed.{both, together}
 
 turned : (a b c : Bool) → (a && (b && c)) ≡ ((b && a) && c)

@@ -1,13 +1,8 @@
 -- Which machines units name: a form names those of its units, and in the order of a form no two units name one.
-use Rattle.std.proofs.Common.{◌≡◌, ◌∙◌, ℕ, Bool, true, false, ◌&&◌, ◌||◌, List, [], ◌∷◌, ◌++◌, Option, None, Some, map, refl, sym, ap, ap₂}
-use Rattle.std.specs.List.{AllByRecursion, list_any, flat_map}
-use Rattle.std.proofs.lemmas.Bool.{false≢true}
-use Rattle.std.proofs.lemmas.List.Folds.{list_any-append}
-use Rattle.pim_down.specs.declared.machines.key.What.{What}
-use Rattle.pim_down.specs.declared.machines.key.What.TheVariants.{Star, Source, Rpt}
-use Rattle.pim_form.specs.NormalForm.{GroupForm, same_address, is_listed}
-use Rattle.pim_form.specs.Units.{WantUnit, star_unit, source_unit, star_units, group_units, units_of}
-use Rattle.pim_mirror.specs.CanonicalUnits.{group_names, form_names}
+use Rattle.pim_mirror.proofs.Words.{◌≡◌, ◌∙◌, ℕ, Bool, true, false, ◌&&◌, ◌||◌, List, [], ◌∷◌, ◌++◌, Option, None, Some, map}
+use Rattle.pim_mirror.proofs.Words.{refl, sym, ap, ap₂, AllByRecursion, list_any, flat_map, false≢true, list_any-append, What}
+use Rattle.pim_mirror.proofs.Words.{Star, Source, Rpt, GroupForm, same_address, is_listed, WantUnit, star_unit, source_unit}
+use Rattle.pim_mirror.proofs.Words.{star_units, group_units, units_of, group_names, form_names}
 use Rattle.pim_mirror.proofs.ListParts.{all_behind}
 use Rattle.pim_mirror.proofs.SameAddresses.{same_both, less_apart, first_true, second_true, and_false, or_none, and_or}
 use Rattle.pim_mirror.proofs.UnitOrder.{Comes, AreOrdered}

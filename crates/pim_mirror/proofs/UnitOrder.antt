@@ -1,13 +1,8 @@
 -- The units of a form stand in an order in which no two name one machine; so do those of its parts.
-use Rattle.std.proofs.Common.{◌≡◌, ◌∙◌, ℕ, true, false, List, [], ◌∷◌, ◌++◌, Option, None, Some, map, refl, sym, subst}
-use Rattle.std.specs.declared.cmp.Ordering.TheVariants.{Less}
-use Rattle.std.specs.List.{AllByRecursion}
-use Rattle.std.specs.List.Sorted.{IsStrictlySortedBy}
-use Rattle.std.specs.Ordering.{nat_cmp}
-use Rattle.std.specs.Cmp.Lexicographic.{slice_cmp}
-use Rattle.std.proofs.lemmas.Bool.{false≢true}
-use Rattle.pim_form.specs.NormalForm.{GroupForm, AreAscending, same_address, groups_of}
-use Rattle.pim_form.specs.Units.{WantUnit, star_unit, source_unit, unit_group, star_units, group_units, units_of}
+use Rattle.pim_mirror.proofs.Words.{◌≡◌, ◌∙◌, ℕ, true, false, List, [], ◌∷◌, ◌++◌, Option, None, Some, map, refl, sym}
+use Rattle.pim_mirror.proofs.Words.{subst, Less, AllByRecursion, IsStrictlySortedBy, nat_cmp, slice_cmp, false≢true}
+use Rattle.pim_mirror.proofs.Words.{GroupForm, AreAscending, same_address, groups_of, WantUnit, star_unit, source_unit}
+use Rattle.pim_mirror.proofs.Words.{unit_group, star_units, group_units, units_of}
 use Rattle.pim_mirror.proofs.ListParts.{all_append, all_front, all_known, all_map, all_mapped}
 use Rattle.pim_mirror.proofs.SameAddresses.{same_itself, less_apart}
 

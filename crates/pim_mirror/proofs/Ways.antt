@@ -1,27 +1,18 @@
 -- The way of a router over packets and moments: its ports stay, and what it tells on the way is joined.
-use Rattle.std.proofs.Common.{◌≡◌, ◌∙◌, ℕ, zero, suc, Bool, true, false, ◌==◌, List, [], ◌∷◌, ◌++◌, Option, None, Some, Result, Ok, Err, nat_lt, refl, sym, ap, subst}
-use Rattle.std.proofs.lemmas.List.{append-nil}
-use Rattle.std.specs.List.{list_any}
-use Rattle.pim_addr.specs.declared.family.AddressFamily.{AddressFamily}
-use Rattle.pim_frame.specs.Frame.{Content, hello, join_prune, other, content}
+use Rattle.pim_mirror.proofs.Words.{◌≡◌, ◌∙◌, ℕ, zero, suc, Bool, true, false, ◌==◌, List, [], ◌∷◌, ◌++◌, Option, None, Some}
+use Rattle.pim_mirror.proofs.Words.{Result, Ok, Err, nat_lt, refl, sym, ap, subst, append-nil, list_any, AddressFamily, Content}
+use Rattle.pim_mirror.proofs.Words.{hello, join_prune, other, content, What, Record, fired, Step, Echo, Refresh, Reached, Verdict}
+use Rattle.pim_mirror.proofs.Words.{Input, runs_to, takes, RouterReport, echo, refresh, verdict, Reaches, IsCourse, CourseGoesOn}
+use Rattle.pim_mirror.proofs.Words.{EveryListHasACourse, Packet, causes, body_heard, unless, received, Receives, Port}
+use Rattle.pim_mirror.proofs.Words.{RouterState, Outcome, rests, moves, stops_with, reported, has_ended, turn, turn_of_time}
+use Rattle.pim_mirror.proofs.Words.{turn_of_refresh, turn_of_timers, run_on, run_within, Runs, MirrorFault, needed_of}
+use Rattle.pim_mirror.proofs.Words.{first_needed, or_later, IsPassed, Passes, HasReached, is_reached, needed_by, outcome_if}
+use Rattle.pim_mirror.proofs.Words.{outcome_of}
 use Rattle.pim_down.specs.Seen.{what_seen, step_seen as fires_seen}
-use Rattle.pim_down.specs.declared.machines.key.What.{What}
-use Rattle.pim_down.specs.declared.machines.machine.Record.{Record}
 use Rattle.pim_down.specs.declared.machines.step.Step.{Step as Fires}
 use Rattle.pim_down.specs.declared.machines.step.Step.TheVariants as fires
-use Rattle.pim_down.specs.Time.{fired}
-use Rattle.pim_router.specs.declared.step.Step.{Step}
-use Rattle.pim_router.specs.declared.step.Step.TheVariants.{Echo, Refresh, Reached}
-use Rattle.pim_router.specs.declared.verdict.Verdict.{Verdict}
-use Rattle.pim_router.specs.Course.{Input, runs_to, takes, RouterReport, echo, refresh, verdict, Reaches, IsCourse}
-use Rattle.pim_router.specs.Laws.{CourseGoesOn, EveryListHasACourse}
-use Rattle.pim_router.specs.Packets.{Packet, causes, body_heard, unless, received, Receives}
 use Rattle.pim_router.specs.Refreshes.{RunsPast, fires_behind}
-use Rattle.pim_router.specs.State.{Port, RouterState}
-use Rattle.pim_router.specs.Time.{Outcome, rests, moves, stops_with, reported, has_ended, turn, turn_of_time, turn_of_refresh, turn_of_timers, run_on, run_within, Runs}
-use Rattle.pim_mirror.specs.declared.mirroring.MirrorFault.{MirrorFault}
 use Rattle.pim_mirror.specs.declared.mirroring.MirrorFault.TheVariants as fault
-use Rattle.pim_mirror.specs.Mirror.{needed_of, first_needed, or_later, IsPassed, Passes, HasReached, is_reached, needed_by, outcome_if, outcome_of}
 
 -- ---- the ports stay
 

@@ -1,23 +1,10 @@
 -- The turns that a run took, as those of a replay.
-use Rattle.std.proofs.Common.{◌≡◌, ◌⊎◌, ◌≤◌, ◌+◌, ◌∙◌, ℕ, List, [], ◌∷◌, ◌++◌, Option, Err, refl, sym, ap, subst, inl, inr, arith}
-use Rattle.std.specs.Io.KnownBytes.{Appends}
-use Rattle.std.proofs.KnownBytes.{Appends-nil}
-use Rattle.pim_addr.specs.declared.family.AddressFamily.{AddressFamily}
-use Rattle.pim_device.specs.Device.{top_count}
-use Rattle.pim_merge.specs.declared.end.End.{End}
-use Rattle.pim_merge.specs.Ends.{clock_of, end_moment, AreFirst}
-use Rattle.pim_merge.specs.Merge.{Taken}
-use Rattle.pim_merge.specs.Next.{MergeState}
-use Rattle.pim_merge.specs.Run.{CountsAll}
-use Rattle.pim_router.specs.State.{RouterState}
-use Rattle.pim_report.specs.declared.state_text.Counts.{Counts}
-use Rattle.pim_run.specs.declared.fault.RunFault.{RunFault}
-use Rattle.pim_run.specs.declared.fault.RunFault.TheVariants.{Capture, Output, Memory}
+use Rattle.pim_replay.proofs.Words.{◌≡◌, ◌⊎◌, ◌≤◌, ◌+◌, ◌∙◌, ℕ, List, [], ◌∷◌, ◌++◌, Option, Err, refl, sym, ap, subst, inl, inr}
+use Rattle.pim_replay.proofs.Words.{arith, Appends, Appends-nil, AddressFamily, top_count, End, clock_of, end_moment, AreFirst}
+use Rattle.pim_replay.proofs.Words.{Taken, MergeState, CountsAll, RouterState, Counts, RunFault, Capture, Output, Memory, Event}
+use Rattle.pim_replay.proofs.Words.{Account, nothing, joined, counted, Follows, HasWritten, HasBegun, PassesTime, WritesTurn}
+use Rattle.pim_replay.proofs.Words.{WritesTurns, PassesToEnd, WritesFirst, WritesAll, Begins, Stops, none_yet}
 use Rattle.pim_run.specs.Run.{AreTaken, RunsThrough, BreaksOff, Runs}
-use Rattle.pim_replay.specs.Events.{Event, Account, nothing, joined, counted, Follows, HasWritten, HasBegun}
-use Rattle.pim_replay.specs.Passing.{PassesTime}
-use Rattle.pim_replay.specs.Turn.{WritesTurn}
-use Rattle.pim_replay.specs.Replay.{WritesTurns, PassesToEnd, WritesFirst, WritesAll, Begins, Stops, none_yet}
 use Rattle.pim_replay.proofs.Told.{nothing_first, nothing_last, regroup, both, same_counts, told_more, begun_more, happens_then, told_begun}
 
 -- ---- one turn more

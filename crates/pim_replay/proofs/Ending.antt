@@ -1,23 +1,12 @@
 -- The end of a replay: what it returns, and the state's text.
-use Rattle.std.proofs.Common.{◌≡◌, ℕ, Bool, List, [], ◌++◌, Option, Some, Ok, Err, refl, sym, subst, arith, inl, inr}
-use Rattle.std.specs.Io.KnownBytes.{Appends}
-use Rattle.std.proofs.KnownBytes.{Appends-trans}
-use Rattle.pim_addr.specs.declared.family.AddressFamily.{AddressFamily}
-use Rattle.pim_device.specs.Device.{AppendsFront}
-use Rattle.pim_merge.specs.declared.end.End.{End}
-use Rattle.pim_merge.specs.Next.{MergeState}
-use Rattle.pim_merge.specs.Run.{IsTallied}
-use Rattle.pim_router.specs.State.{RouterState}
-use Rattle.pim_run.specs.declared.fault.RunFault.{RunFault}
-use Rattle.pim_run.specs.declared.fault.RunFault.TheVariants.{Capture, Output, Memory}
-use Rattle.pim_report.specs.declared.state_text.Counts.{Counts}
+use Rattle.pim_replay.proofs.Words.{◌≡◌, ℕ, Bool, List, [], ◌++◌, Option, Some, Ok, Err, refl, sym, subst, arith, inl}
+use Rattle.pim_replay.proofs.Words.{inr, Appends, Appends-trans, AddressFamily, AppendsFront, End, MergeState}
+use Rattle.pim_replay.proofs.Words.{IsTallied, RouterState, RunFault, Capture, Output, Memory, Counts, IsStateText}
+use Rattle.pim_replay.proofs.Words.{WritesState, text_with, Account, nothing, counted, HasWritten, WritesAll, Stops}
+use Rattle.pim_replay.proofs.Words.{none_yet, of_text, event_line, lines_of, Reports, Replays}
 use Rattle.pim_report.specs.declared.state_text.StateFault.{StateFault}
 use Rattle.pim_report.specs.declared.state_text.StateFault.TheVariants as text
-use Rattle.pim_report.specs.StateText.{IsStateText, WritesState, text_with}
-use Rattle.pim_replay.specs.Events.{Account, nothing, counted, HasWritten}
-use Rattle.pim_replay.specs.Replay.{WritesAll, Stops, none_yet}
 use Rattle.pim_run.specs.Faults.{failures_of_device}
-use Rattle.pim_replay.specs.Report.{of_text, event_line, lines_of, Reports, Replays}
 use Rattle.pim_replay.specs.Quiet.{RunsQuietly}
 use Rattle.pim_replay.proofs.Told.{nothing_last, none_is_front, begun_more}
 use Rattle.pim_replay.proofs.Written.{front-more}

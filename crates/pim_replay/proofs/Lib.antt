@@ -1,3 +1,4 @@
+pub mod Words
 pub mod Ending
 pub mod OneReport
 pub mod OnTheWay

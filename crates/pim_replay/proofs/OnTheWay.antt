@@ -1,21 +1,12 @@
 -- On the way to a moment, run by run.
-use Rattle.std.proofs.Common.{◌≡◌, ◌≤◌, ◌+◌, ◌∙◌, ℕ, zero, suc, min, List, [], ◌∷◌, Option, refl, sym, ap, subst, arith}
-use Rattle.std.specs.Io.KnownBytes.{Appends}
-use Rattle.std.proofs.KnownBytes.{Appends-nil}
-use Rattle.pim_addr.specs.declared.family.AddressFamily.{AddressFamily}
-use Rattle.pim_device.specs.Device.{AppendsFront, top_count}
-use Rattle.pim_down.specs.declared.machines.key.What.{What}
-use Rattle.pim_report.specs.declared.state_text.Counts.{Counts}
+use Rattle.pim_replay.proofs.Words.{◌≡◌, ◌≤◌, ◌+◌, ◌∙◌, ℕ, zero, suc, min, List, [], ◌∷◌, Option, refl, sym, ap, subst}
+use Rattle.pim_replay.proofs.Words.{arith, Appends, Appends-nil, AddressFamily, AppendsFront, top_count, What, Counts}
+use Rattle.pim_replay.proofs.Words.{Echo, Reached, RunsPast, RouterReport, echo, refresh, verdict, runs_to, Reaches}
+use Rattle.pim_replay.proofs.Words.{IsCourse, RouterState, EveryListHasACourse, Event, Account, nothing, of_event}
+use Rattle.pim_replay.proofs.Words.{of_refreshes, joined, HasWritten, HasBegun, Passes, PassesTime}
 use Rattle.pim_router.specs.declared.step.Step.{Step}
-use Rattle.pim_router.specs.declared.step.Step.TheVariants.{Echo, Reached}
-use Rattle.pim_router.specs.Refreshes.{RunsPast}
-use Rattle.pim_router.specs.Course.{RouterReport, echo, refresh, verdict, runs_to, Reaches, IsCourse}
-use Rattle.pim_router.specs.State.{RouterState}
 use Rattle.pim_router.specs.Time.{Runs}
-use Rattle.pim_router.specs.Laws.{EveryListHasACourse}
 use Rattle.pim_replay.specs.declared.event.ReplayEvent.TheVariants as event
-use Rattle.pim_replay.specs.Events.{Event, Account, nothing, of_event, of_refreshes, joined, HasWritten, HasBegun}
-use Rattle.pim_replay.specs.Passing.{Passes, PassesTime}
 use Rattle.pim_replay.proofs.Told.{nothing_first, regroup, refresh_first, made_counts, same_counts, text, one_text, told_more, begun_more}
 use Rattle.pim_replay.proofs.Written.{front-longer}
 

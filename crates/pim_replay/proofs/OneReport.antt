@@ -1,34 +1,21 @@
 -- A replay has one account, and a report has one text.
-use Rattle.std.proofs.Common.{◌≡◌, ◌∙◌, ℕ, Bool, List, [], ◌∷◌, ◌++◌, Option, None, Some, refl, sym, ap, subst, append_assoc}
-use Rattle.std.proofs.lemmas.List.Concat.{flat_map-append}
-use Rattle.pim_addr.specs.declared.family.AddressFamily.{AddressFamily}
-use Rattle.pim_capture.specs.Capture.{Answer}
-use Rattle.pim_down.specs.declared.machines.key.What.{What}
+use Rattle.pim_replay.proofs.Words.{◌≡◌, ◌∙◌, ℕ, Bool, List, [], ◌∷◌, ◌++◌, Option, None, Some, refl, sym, ap, subst}
+use Rattle.pim_replay.proofs.Words.{append_assoc, flat_map-append, AddressFamily, Answer, What, EventSeen, End, Taken, IsMergeBy}
+use Rattle.pim_replay.proofs.Words.{ending, takes, clock_after, moment_of, event_time, after_turn, MergeState, last_of}
+use Rattle.pim_replay.proofs.Words.{end_moment, clock_of, Takes, Echo, Refresh, Reached, RouterReport, echo, refresh, verdict}
+use Rattle.pim_replay.proofs.Words.{RunHasOneEnd, RouterState, text_with, Account, nothing, of_event, of_refreshes, joined}
+use Rattle.pim_replay.proofs.Words.{counted, Follows, Passes, PassesTime, TakesRecord, WritesTurn, WritesTurns, PassesToEnd}
+use Rattle.pim_replay.proofs.Words.{WritesFirst, WritesAll, none_yet, event_line, lines_of, IsReport}
 use Rattle.pim_form.specs.Laws.{OneNormalForm}
 use Rattle.pim_form.specs.NormalForm.{GroupForm, IsFormOf}
 use Rattle.pim_form.specs.Wants.{wants}
 use Rattle.pim_merge.specs.Laws.{MergeByHasOneEnd}
 use Rattle.pim_merge.specs.Lane.{IsComing}
 use Rattle.pim_capture.specs.declared.fault.CaptureFault.{CaptureFault}
-use Rattle.pim_capture.specs.Capture.{EventSeen}
 use Rattle.pim_time.specs.declared.reading.Time.{Time}
 use Rattle.pim_merge.specs.declared.clock.Clock.{Clock}
-use Rattle.pim_merge.specs.declared.end.End.{End}
-use Rattle.pim_merge.specs.Merge.{Taken, IsMergeBy, ending, takes, clock_after, moment_of, event_time, after_turn}
-use Rattle.pim_merge.specs.Next.{MergeState}
-use Rattle.pim_merge.specs.Ends.{last_of, end_moment, clock_of, Takes}
-use Rattle.pim_router.specs.declared.step.Step.TheVariants.{Echo, Refresh, Reached}
-use Rattle.pim_router.specs.Course.{RouterReport, echo, refresh, verdict}
-use Rattle.pim_router.specs.Laws.{RunHasOneEnd}
-use Rattle.pim_router.specs.State.{RouterState}
-use Rattle.pim_report.specs.StateText.{text_with}
 use Rattle.pim_replay.specs.declared.event.ReplayEvent.TheVariants as event
-use Rattle.pim_replay.specs.Events.{Account, nothing, of_event, of_refreshes, joined, counted, Follows}
 use Rattle.pim_replay.specs.Laws.{BeginsWith, BeginsWithItsLines}
-use Rattle.pim_replay.specs.Passing.{Passes, PassesTime}
-use Rattle.pim_replay.specs.Turn.{TakesRecord, WritesTurn}
-use Rattle.pim_replay.specs.Replay.{WritesTurns, PassesToEnd, WritesFirst, WritesAll, none_yet}
-use Rattle.pim_replay.specs.Report.{event_line, lines_of, IsReport}
 use Rattle.pim_replay.proofs.Told.{nothing_first, nothing_last, regroup, both}
 
 echo_port : (p q : ℕ) (g h : List ℕ) (w v : What (List ℕ)) → Echo p g w ≡ Echo q h v → p ≡ q

@@ -1,22 +1,15 @@
 -- What is written of a record.
-use Rattle.std.proofs.Common.{◌≡◌, ◌≤◌, ◌+◌, ◌∙◌, ℕ, min, List, [], ◌∷◌, Option, refl, sym, ap, subst, arith}
-use Rattle.std.specs.Io.KnownBytes.{Appends}
-use Rattle.std.proofs.KnownBytes.{Appends-nil}
-use Rattle.pim_addr.specs.declared.family.AddressFamily.{AddressFamily}
-use Rattle.pim_device.specs.Device.{AppendsFront, top_count}
+use Rattle.pim_replay.proofs.Words.{◌≡◌, ◌≤◌, ◌+◌, ◌∙◌, ℕ, min, List, [], ◌∷◌, Option, refl, sym, ap, subst, arith, Appends}
+use Rattle.pim_replay.proofs.Words.{Appends-nil, AddressFamily, AppendsFront, top_count, Taken, RouterState, Counts, Event}
+use Rattle.pim_replay.proofs.Words.{Account, of_event, HasWritten, HasBegun, packet_on, skips_in, taken_as, taking, TakesRecord}
 use Rattle.pim_frame.specs.Frame.{Content, hello, join_prune, other, content}
 use Rattle.pim_merge.specs.declared.content.Content.{Content as Given}
 use Rattle.pim_merge.specs.declared.content.Content.TheVariants as given
 use Rattle.pim_merge.specs.declared.content.Datagram.{Datagram as Carried}
 use Rattle.pim_merge.specs.Content.{Content as Holding, holds, content_in, content_seen}
-use Rattle.pim_merge.specs.Merge.{Taken}
 use Rattle.pim_router.specs.declared.verdict.Verdict.{Verdict}
 use Rattle.pim_router.specs.Packets.{Packet, received, unless, causes, body_heard}
-use Rattle.pim_router.specs.State.{RouterState}
-use Rattle.pim_report.specs.declared.state_text.Counts.{Counts}
 use Rattle.pim_replay.specs.declared.event.ReplayEvent.TheVariants as event
-use Rattle.pim_replay.specs.Events.{Event, Account, of_event, HasWritten, HasBegun}
-use Rattle.pim_replay.specs.Turn.{packet_on, skips_in, taken_as, taking, TakesRecord}
 use Rattle.pim_replay.proofs.Told.{made_counts, same_counts, text, one_text, keeps_same, none_is_front}
 
 -- ---- a packet leaves the moment

@@ -1,16 +1,11 @@
 -- Parts of a replay that follow one another, and what is written of them.
-use Rattle.std.proofs.Common.{◌≡◌, ◌≤◌, ◌+◌, ◌∙◌, ℕ, suc, List, [], ◌++◌, Option, None, Some, Result, Ok, Err, length, refl, sym, ap, subst, arith, append_assoc, append-nil, length-append}
+use Rattle.pim_replay.proofs.Words.{◌≡◌, ◌≤◌, ◌+◌, ◌∙◌, ℕ, suc, List, [], ◌++◌, Option, None, Some, Result, Ok, Err, length, refl}
+use Rattle.pim_replay.proofs.Words.{sym, ap, subst, arith, append_assoc, append-nil, length-append, Appends, Keeps, Appends-trans}
+use Rattle.pim_replay.proofs.Words.{take_all, flat_map-append, AppendsFront, Counts, RouterState, Event, Account, nothing}
+use Rattle.pim_replay.proofs.Words.{of_event, of_refreshes, joined, counted, Follows, HasWritten, HasBegun, Writes}
 use Rattle.std.specs.List.{flat_map}
 use Rattle.std.specs.Result.{IsErr}
 use Rattle.std.proofs.lemmas.Bool.{false≢true}
-use Rattle.std.specs.Io.KnownBytes.{Appends, Keeps}
-use Rattle.std.proofs.KnownBytes.{Appends-trans}
-use Rattle.std.proofs.lemmas.List.{take_all}
-use Rattle.std.proofs.lemmas.List.Concat.{flat_map-append}
-use Rattle.pim_device.specs.Device.{AppendsFront}
-use Rattle.pim_report.specs.declared.state_text.Counts.{Counts}
-use Rattle.pim_router.specs.State.{RouterState}
-use Rattle.pim_replay.specs.Events.{Event, Account, nothing, of_event, of_refreshes, joined, counted, Follows, HasWritten, HasBegun, Writes}
 use Rattle.pim_replay.proofs.Written.{front-longer, front-more}
 
 -- ---- accounts

@@ -1,12 +1,8 @@
 -- The texts of a group's star and of its sources.
-use Rattle.std.proofs.Common.{◌≡◌, ◌++◌, ℕ, Bool, true, List, Option, None, Some, refl}
+use Rattle.pim_report.proofs.Words.{◌≡◌, ◌++◌, ℕ, Bool, true, List, Option, None, Some, refl, flat_map, AddressFamily}
+use Rattle.pim_report.proofs.Words.{RouteTable, GroupForm, star_via, starred_text, star_text, source_line, group_text}
 use Rattle.std.specs.Option.{is_some}
-use Rattle.std.specs.List.{flat_map}
-use Rattle.pim_addr.specs.declared.family.AddressFamily.{AddressFamily}
-use Rattle.pim_addr.specs.Routes.{RouteTable}
-use Rattle.pim_form.specs.NormalForm.{GroupForm}
 use Rattle.pim_form.specs.Rows.{exceptions_of}
-use Rattle.pim_report.specs.DemandText.{star_via, starred_text, star_text, source_line, group_text}
 
 module _ (family : AddressFamily) (shows_via : Bool) (routes : RouteTable) where
   -- the text of the star that a group has

@@ -1,7 +1,6 @@
 -- The line of a message, found by its number.
-use Rattle.std.proofs.Common.{◌≡◌, ℕ, zero, suc, ◌+◌, List, [], ◌∷◌, ◌++◌, drop, refl, subst, add-one}
-use Rattle.std.specs.List.{flat_map, slice_get}
-use Rattle.pim_report.specs.MessageText.{message_line, message_line_of}
+use Rattle.pim_report.proofs.Words.{◌≡◌, ℕ, zero, suc, ◌+◌, List, [], ◌∷◌, ◌++◌, drop, refl, subst, add-one, flat_map}
+use Rattle.pim_report.proofs.Words.{slice_get, message_line, message_line_of}
 
 -- The lines from one message on are its line, if it is there, and those from the next one on.
 pub split_at : (messages : List (List ℕ)) (index : ℕ) →

@@ -1,15 +1,8 @@
 -- The texts of what a router holds.
-use Rattle.std.proofs.Common.{◌≡◌, ◌++◌, ℕ, Bool, List, refl}
-use Rattle.std.specs.List.{flat_map}
-use Rattle.pim_addr.specs.declared.family.AddressFamily.{AddressFamily}
-use Rattle.pim_addr.specs.Routes.{RouteTable}
-use Rattle.pim_down.specs.declared.machines.machine.Record.{Record}
-use Rattle.pim_down.specs.Time.{Downstream}
-use Rattle.pim_form.specs.NormalForm.{GroupForm}
+use Rattle.pim_report.proofs.Words.{◌≡◌, ◌++◌, ℕ, Bool, List, refl, flat_map, AddressFamily, RouteTable, Record, Downstream}
+use Rattle.pim_report.proofs.Words.{GroupForm, record_line, moment_line, machines_text, wants_text, text_with}
 use Rattle.pim_router.specs.State.{RouterState}
 use Rattle.pim_report.specs.declared.state_text.Counts.{Counts}
-use Rattle.pim_report.specs.RecordLine.{record_line}
-use Rattle.pim_report.specs.StateText.{moment_line, machines_text, wants_text, text_with}
 
 pub machines_are : (family : AddressFamily) (machines : Downstream) (moment : ℕ) (records : List (Record (List ℕ))) → moment ≡ machines.moment → records ≡ machines.records
     → moment_line moment ++ flat_map (record_line family) records ≡ machines_text family machines

@@ -1,9 +1,6 @@
 -- What reads leave of the two devices.
-use Rattle.std.proofs.Common.{◌≡◌, ◌∙◌, sym, ap, refl, subst, inl, inr, ◌⊎◌, ◌<◌, ℕ, List, Option, Some, None, Result, Ok, Err, OnErr}
-use Rattle.std.specs.Option.{IfSome}
-use Rattle.std.specs.Io.KnownBytes.{Keeps}
-use Rattle.pim_request.specs.Reading.{LeavesLess, PassesOn}
-use Rattle.pim_request.specs.Input.{Lines, Proceeds}
+use Rattle.pim_request.proofs.Cited.{◌≡◌, ◌∙◌, sym, ap, refl, subst, inl, inr, ◌⊎◌, ◌<◌, ℕ, List, Option, Some, None}
+use Rattle.pim_request.proofs.Cited.{Result, Ok, Err, OnErr, IfSome, Keeps, LeavesLess, PassesOn, Lines, Proceeds}
 
 -- what holds anyway, holds at an error
 pub on_err : {A E : Type 0} (P : Type 0) (result : Result A E) → P → OnErr result P

@@ -1,11 +1,8 @@
 -- The first wrong word, slot by slot.
-use Rattle.std.proofs.Common.{◌≡◌, ◌∙◌, sym, ap, subst, refl, inl, inr, ℕ, List, [], ◌∷◌, ◌++◌, map, Result, Ok, Err, IfErr}
-use Rattle.std.specs.Borrow.{Bor}
+use Rattle.pim_request.proofs.Cited.{◌≡◌, ◌∙◌, sym, ap, subst, refl, inl, inr, ℕ, List, [], ◌∷◌, ◌++◌, map, Result, Ok, Err}
+use Rattle.pim_request.proofs.Cited.{IfErr, Bor, WordsFault, Word, Address, Hex, Slot, key, digits, Fits, HasAddress, Takes}
+use Rattle.pim_request.proofs.Cited.{Begins, AreOf, IsFirst, Expects, OneOf, IsWrongBy, IsFault, IsSlotFault, IsFrontFault}
 use Rattle.std.specs.Result.{IsErrAnd}
-use Rattle.pim_request.specs.declared.command.WordsFault.{WordsFault}
-use Rattle.pim_request.specs.declared.command.WordsFault.TheVariants.{Word, Address, Hex}
-use Rattle.pim_request.specs.Forms.{Slot, key, digits, Fits, HasAddress, Takes, Begins, AreOf, IsFirst, Expects, OneOf, IsWrongBy, IsFault}
-use Rattle.pim_request.specs.Steps.{IsSlotFault, IsFrontFault}
 
 -- ---- what the exit of a `?` returns
 

@@ -1,10 +1,9 @@
 -- Bytes that are searched for a line feed.
-use Rattle.std.proofs.Common.{◌≡◌, ◌∙◌, sym, ap, refl, ℕ, zero, suc, ◌+◌, ◌-◌, ◌<◌, ◌≤◌, Bool, true, false, cond, List, [], ◌∷◌, ◌++◌, Some, None, length, take, drop, get_or, ltb, arith, ◌==◌, length-append, length-take}
-use Rattle.std.specs.List.{position, position_or_len}
-use Rattle.std.proofs.lemmas.List.{take-append-drop, drop_more, get_or-take, get_or_append_left, get_or-append_right, get_or-append-add}
-use Rattle.std.proofs.lemmas.List.Quantifiers.{position-Some}
-use Rattle.std.proofs.lemmas.Bool.{ltb-true, ltb-false, eqb-true}
-use Rattle.pim_request.specs.Input.{NoFeed, IsFeedAt}
+use Rattle.pim_request.proofs.Cited.{◌≡◌, ◌∙◌, sym, ap, refl, ℕ, zero, suc, ◌+◌, ◌-◌, ◌<◌, ◌≤◌, Bool, true, false, cond}
+use Rattle.pim_request.proofs.Cited.{List, [], ◌∷◌, ◌++◌, Some, None, length, take, drop, get_or, ltb, arith, ◌==◌}
+use Rattle.pim_request.proofs.Cited.{length-append, length-take, position, position_or_len, take-append-drop, drop_more}
+use Rattle.pim_request.proofs.Cited.{get_or-take, get_or_append_left, get_or-append_right, get_or-append-add}
+use Rattle.pim_request.proofs.Cited.{position-Some, ltb-true, ltb-false, eqb-true, NoFeed, IsFeedAt}
 
 abbrev pub is_feed : ℕ → Bool
 is_feed byte = byte == 10

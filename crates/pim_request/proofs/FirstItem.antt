@@ -1,14 +1,10 @@
 -- The first item of bytes whose first line that isn't blank was found.
-use Rattle.std.proofs.Common.{◌≡◌, ◌∙◌, sym, ap, refl, subst, ℕ, true, false, List, ◌∷◌, Option, Some, None, Ok}
-use Rattle.std.specs.Option.{IfSome}
-use Rattle.pim_request.specs.declared.input.Found.{Found}
+use Rattle.pim_request.proofs.Cited.{◌≡◌, ◌∙◌, sym, ap, refl, subst, ℕ, true, false, List, ◌∷◌, Option, Some, None, Ok}
+use Rattle.pim_request.proofs.Cited.{IfSome, Found, From, Other, a_line, a_long_line, a_text, lines_of, items_from}
+use Rattle.pim_request.proofs.Cited.{items_of, is_long, line_item, Reading, IsFirstItem, Lines, coming_lines, Held}
+use Rattle.pim_request.proofs.Cited.{IsKnown, IsSome, IsTextItem, GivesSome, GivesTextItem, reading_seen}
 use Rattle.pim_request.specs.declared.items.Item.{Item}
 use Rattle.pim_request.specs.declared.items.Item.TheVariants.{Line, LongLine}
-use Rattle.pim_request.specs.declared.sort.Sort.TheVariants.{From, Other}
-use Rattle.pim_request.specs.Items.{a_line, a_long_line, a_text, lines_of, items_from, items_of, is_long, line_item}
-use Rattle.pim_request.specs.Reading.{Reading, IsFirstItem}
-use Rattle.pim_request.specs.Input.{Lines, coming_lines}
-use Rattle.pim_request.specs.Held.{Held, IsKnown, IsSome, IsTextItem, GivesSome, GivesTextItem, reading_seen}
 use Rattle.pim_request.proofs.Itemized.{first_line, from_line, other_line}
 
 pub some_given : (bytes : List ℕ) (given : Option Found) (found : Found) (lines : Lines) → given ≡ Some found → GivesSome bytes (Ok given) lines → IsSome bytes found lines

@@ -1,12 +1,9 @@
 -- A line that is found at the front of the bytes to come.
-use Rattle.std.proofs.Common.{◌≡◌, ◌∙◌, sym, ap, refl, subst, inl, inr, ◌⊎◌, ℕ, ◌+◌, ◌<◌, ◌≤◌, true, List, [], ◌∷◌, ◌++◌, Option, Some, None, length, take, drop, arith, append_assoc, append-nil, length-append}
-use Rattle.std.proofs.lemmas.List.{take_all, drop_all}
-use Rattle.std.proofs.lemmas.Bool.{lt-ltb}
-use Rattle.std.specs.Option.{IfSome}
-use Rattle.std.specs.Io.KnownBytes.{IsAtEnd, prepend_known}
-use Rattle.pim_request.specs.declared.input.Found.{Found}
-use Rattle.pim_request.specs.Items.{is_long, line_limit}
-use Rattle.pim_request.specs.Input.{Lines, NoFeed, IsFeedAt, IsCut, IsPassed, IsFound, IsTaken, HasRead, coming_lines, sort_seen, room}
+use Rattle.pim_request.proofs.Cited.{◌≡◌, ◌∙◌, sym, ap, refl, subst, inl, inr, ◌⊎◌, ℕ, ◌+◌, ◌<◌, ◌≤◌, true, List, []}
+use Rattle.pim_request.proofs.Cited.{◌∷◌, ◌++◌, Option, Some, None, length, take, drop, arith, append_assoc, append-nil}
+use Rattle.pim_request.proofs.Cited.{length-append, take_all, drop_all, lt-ltb, IfSome, IsAtEnd, prepend_known, Found}
+use Rattle.pim_request.proofs.Cited.{is_long, line_limit, Lines, NoFeed, IsFeedAt, IsCut, IsPassed, IsFound, IsTaken}
+use Rattle.pim_request.proofs.Cited.{HasRead, coming_lines, sort_seen, room}
 use Rattle.pim_request.proofs.Feeds.{no_feed_joined}
 
 -- what is known of the bytes to come, is known of those that the device has left

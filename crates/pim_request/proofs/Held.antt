@@ -1,10 +1,9 @@
 -- A text that is held line by line.
-use Rattle.std.proofs.Common.{◌≡◌, ◌∙◌, sym, ap, refl, subst, ℕ, ◌<◌, ◌≤◌, Bool, true, false, ◌||◌, List, [], ◌∷◌, ◌++◌, length, arith, append_assoc, length-append}
-use Rattle.std.specs.List.{list_any}
+use Rattle.pim_request.proofs.Cited.{◌≡◌, ◌∙◌, sym, ap, refl, subst, ℕ, ◌<◌, ◌≤◌, Bool, true, false, ◌||◌, List, []}
+use Rattle.pim_request.proofs.Cited.{◌∷◌, ◌++◌, length, arith, append_assoc, length-append, list_any, Text, text_after}
+use Rattle.pim_request.proofs.Cited.{with_line, bytes_of_lines, has_long_line, is_long, text_limit, Holds, Held}
+use Rattle.pim_request.proofs.Cited.{HoldsText, IsKnown, KeepsLine}
 use Rattle.std.proofs.lemmas.List.Folds.{list_any-append}
-use Rattle.pim_request.specs.Items.{Text, text_after, with_line, bytes_of_lines, has_long_line, is_long, text_limit}
-use Rattle.pim_request.specs.Reading.{Holds}
-use Rattle.pim_request.specs.Held.{Held, HoldsText, IsKnown, KeepsLine}
 
 -- ---- the bytes of lines
 

@@ -1,13 +1,10 @@
 -- The items of bytes whose first line was found.
-use Rattle.std.proofs.Common.{◌≡◌, ◌∙◌, sym, ap, refl, ℕ, ◌<◌, Bool, true, false, List, [], ◌∷◌, ◌++◌, Option, Some, None, Ok, subst, length, arith, ◌==◌, ◌⊎◌, inl, inr}
-use Rattle.std.specs.List.{onto_first}
-use Rattle.std.specs.Option.{IfSome}
-use Rattle.pim_request.specs.declared.input.Found.{Found}
-use Rattle.pim_request.specs.declared.sort.Sort.TheVariants.{Blank, From, Other}
-use Rattle.pim_request.specs.Items.{lines_of, items_from, items_of, has_item, Text, a_text, sent, with_line, text_after, line_item, is_blank, begins_text, is_send}
-use Rattle.pim_request.specs.Reading.{Holds}
-use Rattle.pim_request.specs.Input.{NoFeed, IsCut, sort_seen, Lines, IsFound, GivesLine, coming_lines}
-use Rattle.pim_request.specs.Held.{Held, HoldsText, IsKnown, SameItems, Continues, EndsText, PassesLines, has_send}
+use Rattle.pim_request.proofs.Cited.{◌≡◌, ◌∙◌, sym, ap, refl, ℕ, ◌<◌, Bool, true, false, List, [], ◌∷◌, ◌++◌, Option}
+use Rattle.pim_request.proofs.Cited.{Some, None, Ok, subst, length, arith, ◌==◌, ◌⊎◌, inl, inr, onto_first, IfSome}
+use Rattle.pim_request.proofs.Cited.{Found, Blank, From, Other, lines_of, items_from, items_of, has_item, Text, a_text}
+use Rattle.pim_request.proofs.Cited.{sent, with_line, text_after, line_item, is_blank, begins_text, is_send, Holds}
+use Rattle.pim_request.proofs.Cited.{NoFeed, IsCut, sort_seen, Lines, IsFound, GivesLine, coming_lines, Held, HoldsText}
+use Rattle.pim_request.proofs.Cited.{IsKnown, SameItems, Continues, EndsText, PassesLines, has_send}
 use Rattle.pim_request.proofs.Feeds.{rest_has_none}
 use Rattle.pim_request.proofs.Sorts.{sort_blank, sort_from, sort_other}
 use Rattle.pim_request.proofs.Whole.{blank_passes, text_passes, passes_on}

@@ -1,3 +1,4 @@
+pub mod Cited
 pub mod Cut
 pub mod Faults
 pub mod Options

@@ -1,24 +1,14 @@
 -- A line states at most one command.
-use Rattle.std.proofs.Common.{◌≡◌, ◌∙◌, sym, ap, subst, refl, inl, inr, ℕ, suc, ◌≤◌, false, List, [], ◌∷◌, ◌++◌, Option, None, Some, codes, decimal, eqb, arith, if◌then◌else◌}
-use Rattle.std.specs.Str.{bytes_eq}
-use Rattle.std.proofs.lemmas.Bool.{eqb-false}
-use Rattle.std.proofs.lemmas.Fmt.{decimal_injective}
-use Rattle.pim_lines.specs.declared.either.AnyAddress.{AnyAddress}
-use Rattle.pim_lines.specs.AnyAddress.{Names}
+use Rattle.pim_request.proofs.Cited.{◌≡◌, ◌∙◌, sym, ap, subst, refl, inl, inr, ℕ, suc, ◌≤◌, false, List, [], ◌∷◌, ◌++◌, Option}
+use Rattle.pim_request.proofs.Cited.{None, Some, codes, decimal, eqb, arith, if◌then◌else◌, bytes_eq, eqb-false}
+use Rattle.pim_request.proofs.Cited.{decimal_injective, AnyAddress, Names, PortRow, RouteRow, Packet, Sender, AnyWriting}
+use Rattle.pim_request.proofs.Cited.{KeptWhat, Comparison, Command, Port, Rp, Via, Limit, Start, Run, Now, Next, State, Wants}
+use Rattle.pim_request.proofs.Cited.{Neighbours, Messages, Keep, Change, Same, Reset, most, words_of, pieces_of, Usage, usages}
+use Rattle.pim_request.proofs.Cited.{IsOption, AreDelays, IsDestination, AreOptions, IsPort, IsRow, IsPacket, IsSender, IsWriting}
+use Rattle.pim_request.proofs.Cited.{IsKept, IsComparison, IsNumber, HasCommand, AreCommand, SamePacket, SameKept, SameComparison}
+use Rattle.pim_request.proofs.Cited.{SameCommand, OneCommand, OneSender}
 use Rattle.pim_text.specs.OneReading.{OneName}
-use Rattle.pim_request.specs.declared.command.PortRow.{PortRow}
-use Rattle.pim_request.specs.declared.command.RouteRow.{RouteRow}
-use Rattle.pim_request.specs.declared.command.Packet.{Packet}
-use Rattle.pim_request.specs.declared.command.Sender.{Sender}
-use Rattle.pim_request.specs.declared.command.AnyWriting.{AnyWriting}
-use Rattle.pim_request.specs.declared.command.KeptWhat.{KeptWhat}
-use Rattle.pim_request.specs.declared.command.Comparison.{Comparison}
-use Rattle.pim_request.specs.declared.command.Command.{Command}
-use Rattle.pim_request.specs.declared.command.Command.TheVariants.{Port, Rp, Via, Limit, Start, Run, Now, Next, State, Wants, Neighbours, Messages, Keep, Change, Same, Reset}
 use Rattle.pim_request.specs.declared.command.Command.TheVariants.{Packet as Arrival}
-use Rattle.pim_request.specs.Forms.{most, words_of, pieces_of}
-use Rattle.pim_request.specs.Commands.{Usage, usages, IsOption, AreDelays, IsDestination, AreOptions, IsPort, IsRow, IsPacket, IsSender, IsWriting, IsKept, IsComparison, IsNumber, HasCommand, AreCommand}
-use Rattle.pim_request.specs.OneRequest.{SamePacket, SameKept, SameComparison, SameCommand, OneCommand, OneSender}
 
 -- ---- numbers
 

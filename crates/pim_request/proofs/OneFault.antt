@@ -1,13 +1,9 @@
 -- The words of a line have at most one fault.
-use Rattle.std.proofs.Common.{◌≡◌, ◌∙◌, ◌⊎◌, sym, ap, subst, refl, inl, inr, ℕ, Bool, true, false, ◌&&◌, not, List, [], ◌∷◌, ◌++◌, codes, if◌then◌else◌}
-use Rattle.std.specs.List.{list_all}
-use Rattle.std.specs.Str.{bytes_eq}
-use Rattle.std.proofs.lemmas.Bool.{false≢true, and_parts}
-use Rattle.pim_request.specs.declared.command.WordsFault.{WordsFault}
-use Rattle.pim_request.specs.declared.command.WordsFault.TheVariants.{Word, Address, Hex}
-use Rattle.pim_request.specs.Forms.{Slot, digits, words_of, Fits, HasAddress, Begins, AreOf, Expects, OneOf, IsWord, IsWrongBy, IsFirstWrong, IsFault}
-use Rattle.pim_request.specs.Commands.{Usage, usage, usages, sender_forms, forms_in, IsFaultOf, IsFaultAmong}
-use Rattle.pim_request.specs.OneRequest.{SameFault, OneWordsFault, OneSenderFault}
+use Rattle.pim_request.proofs.Cited.{◌≡◌, ◌∙◌, ◌⊎◌, sym, ap, subst, refl, inl, inr, ℕ, Bool, true, false, ◌&&◌, not, List, []}
+use Rattle.pim_request.proofs.Cited.{◌∷◌, ◌++◌, codes, if◌then◌else◌, list_all, bytes_eq, false≢true, and_parts, WordsFault, Word}
+use Rattle.pim_request.proofs.Cited.{Address, Hex, Slot, digits, words_of, Fits, HasAddress, Begins, AreOf, Expects, OneOf}
+use Rattle.pim_request.proofs.Cited.{IsWord, IsWrongBy, IsFirstWrong, IsFault, Usage, usage, usages, sender_forms, forms_in}
+use Rattle.pim_request.proofs.Cited.{IsFaultOf, IsFaultAmong, SameFault, OneWordsFault, OneSenderFault}
 
 -- ---- the slot that is asked for after some words
 

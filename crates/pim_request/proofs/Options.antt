@@ -1,9 +1,7 @@
 -- The words `holdtime S` and `budget N`, each optional.
-use Rattle.std.proofs.Common.{◌≡◌, ◌∙◌, sym, subst, refl, inl, inr, ℕ, List, [], ◌∷◌, codes, decimal}
-use Rattle.pim_request.specs.declared.command.WordsFault.{WordsFault}
-use Rattle.pim_request.specs.Forms.{key, number, IsFault}
-use Rattle.pim_request.specs.Commands.{budget_forms, option_forms, IsOption, AreOptions}
-use Rattle.pim_request.specs.Steps.{IsHoldtime, IsHoldtimeFault}
+use Rattle.pim_request.proofs.Cited.{◌≡◌, ◌∙◌, sym, subst, refl, inl, inr, ℕ, List, [], ◌∷◌, codes, decimal, WordsFault}
+use Rattle.pim_request.proofs.Cited.{key, number, IsFault, budget_forms, option_forms, IsOption, AreOptions, IsHoldtime}
+use Rattle.pim_request.proofs.Cited.{IsHoldtimeFault}
 use Rattle.pim_request.proofs.Faults.{Leaves, onward, each, at_slot, step, beside}
 
 not_budget : codes "holdtime" ≡ codes "budget" → ⊥

@@ -1,10 +1,8 @@
 -- Pairs of hexadecimal digits.
-use Rattle.std.proofs.Common.{◌≡◌, ◌==◌, ◌⊎◌, inl, inr, ◌∙◌, ap, refl, ℕ, ◌+◌, ◌-◌, ◌*◌, ◌%◌, ◌/◌, ◌<◌, ◌≤◌, zero, suc, Bool, true, false, List, [], ◌∷◌, length, ltb, arith}
-use Rattle.std.specs.Char.{digit_value, is_digit}
-use Rattle.std.specs.List.{list_all, onto_first}
-use Rattle.std.proofs.lemmas.Bool.{ltb-true, ltb-false, lt-ltb, le-ltb, ne_eqb, and_parts, and_from}
-use Rattle.std.proofs.lemmas.List.Splits.{slice_split-cons_no}
-use Rattle.pim_request.specs.Forms.{IsHex, pieces_of}
+use Rattle.pim_request.proofs.Cited.{◌≡◌, ◌==◌, ◌⊎◌, inl, inr, ◌∙◌, ap, refl, ℕ, ◌+◌, ◌-◌, ◌*◌, ◌%◌, ◌/◌, ◌<◌, ◌≤◌}
+use Rattle.pim_request.proofs.Cited.{zero, suc, Bool, true, false, List, [], ◌∷◌, length, ltb, arith, digit_value}
+use Rattle.pim_request.proofs.Cited.{is_digit, list_all, onto_first, ltb-true, ltb-false, lt-ltb, le-ltb, ne_eqb}
+use Rattle.pim_request.proofs.Cited.{and_parts, and_from, slice_split-cons_no, IsHex, pieces_of}
 
 -- ---- the value of a digit, by its range
 

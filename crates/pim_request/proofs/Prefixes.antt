@@ -1,17 +1,9 @@
 -- The pieces of `ADDRESS/LENGTH`.
-use Rattle.std.proofs.Common.{◌≡◌, ◌==◌, ◌∙◌, sym, ap, subst, refl, ℕ, ◌<◌, ◌≤◌, List, [], ◌∷◌, decimal, arith}
-use Rattle.std.specs.Borrow.{Bor}
-use Rattle.std.specs.Char.{digit_value}
-use Rattle.std.specs.List.{join_with_byte, onto_first}
+use Rattle.pim_request.proofs.Cited.{◌≡◌, ◌==◌, ◌∙◌, sym, ap, subst, refl, ℕ, ◌<◌, ◌≤◌, List, [], ◌∷◌, decimal, arith}
+use Rattle.pim_request.proofs.Cited.{Bor, digit_value, join_with_byte, onto_first, ne_eqb, decimal_is_IsNumeral}
+use Rattle.pim_request.proofs.Cited.{slice_split-cons_no, join_with_byte-slice_split, AnyAddress, Names, Word, Address}
+use Rattle.pim_request.proofs.Cited.{Slot, prefix, digits, HasAddress, most, pieces_of, IsPrefix, IsSlotFault}
 use Rattle.std.specs.Str.Parse.{AllDigits}
-use Rattle.std.proofs.lemmas.Bool.{ne_eqb}
-use Rattle.std.proofs.lemmas.Fmt.{decimal_is_IsNumeral}
-use Rattle.std.proofs.lemmas.List.Splits.{slice_split-cons_no, join_with_byte-slice_split}
-use Rattle.pim_lines.specs.declared.either.AnyAddress.{AnyAddress}
-use Rattle.pim_lines.specs.AnyAddress.{Names}
-use Rattle.pim_request.specs.declared.command.WordsFault.TheVariants.{Word, Address}
-use Rattle.pim_request.specs.Forms.{Slot, prefix, digits, HasAddress, most, pieces_of, IsPrefix}
-use Rattle.pim_request.specs.Steps.{IsSlotFault}
 
 not_slash : (c : ℕ) → digit_value c < 10 → c ≡ 47 → ⊥
 not_slash c h is = let v : digit_value c ≡ 36 = ap digit_value is in omega (arith, v, h)

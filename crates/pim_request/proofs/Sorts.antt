@@ -1,6 +1,5 @@
 -- What the tests of a line say where it is of a sort.
-use Rattle.std.proofs.Common.{◌≡◌, refl, Bool, true, false, if◌then◌else◌}
-use Rattle.pim_request.specs.declared.sort.Sort.TheVariants.{Blank, From, Other}
+use Rattle.pim_request.proofs.Cited.{◌≡◌, refl, Bool, true, false, if◌then◌else◌, Blank, From, Other}
 
 pub sort_blank : (blank begins : Bool) → (if blank then Blank else if begins then From else Other) ≡ Blank → blank ≡ true
 sort_blank true begins is = refl

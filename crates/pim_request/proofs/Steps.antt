@@ -1,8 +1,6 @@
 -- The steps on a buffer of bytes.
-use Rattle.std.proofs.Common.{◌≡◌, ◌∙◌, sym, ap, subst, ℕ, ◌+◌, ◌-◌, ◌≤◌, List, ◌++◌, Option, length, take, drop, arith, None, Some}
-use Rattle.std.specs.List.{position}
-use Rattle.std.specs.Io.KnownBytes.{Consumes, IsAtEnd}
-use Rattle.pim_request.specs.Input.{IsSound, NoFeed, IsFeedAt, GivesMore, room}
+use Rattle.pim_request.proofs.Cited.{◌≡◌, ◌∙◌, sym, ap, subst, ℕ, ◌+◌, ◌-◌, ◌≤◌, List, ◌++◌, Option, length, take, drop, arith}
+use Rattle.pim_request.proofs.Cited.{None, Some, position, Consumes, IsAtEnd, IsSound, NoFeed, IsFeedAt, GivesMore, room}
 use Rattle.pim_request.proofs.Feeds.{none_found, no_feed_joined, feed_found, is_feed}
 use Rattle.pim_request.proofs.Places.{searched_and_rest, length_within, kept, kept_front}
 

@@ -1,14 +1,8 @@
 -- A command that none of the usages has.
-use Rattle.std.proofs.Common.{◌≡◌, ◌∙◌, sym, ap, subst, refl, ℕ, Bool, false, cond, List, [], ◌∷◌}
-use Rattle.std.specs.Borrow.{Bor}
-use Rattle.std.specs.List.{AllByRecursion}
-use Rattle.std.specs.Str.{bytes_eq}
+use Rattle.pim_request.proofs.Cited.{◌≡◌, ◌∙◌, sym, ap, subst, refl, ℕ, Bool, false, cond, List, [], ◌∷◌, Bor, AllByRecursion}
+use Rattle.pim_request.proofs.Cited.{bytes_eq, false_from_ne_true, Word, Slot, words_of, Usage, usages, forms_in, IsFaultOf}
+use Rattle.pim_request.proofs.Cited.{IsFaultAmong, IsWordsFault, IsNone, names_of_setup, names_of_kept, names_of_router}
 use Rattle.std.proofs.lemmas.Slice.Eq.{bytes_eq-Decides}
-use Rattle.std.proofs.lemmas.Bool.{false_from_ne_true}
-use Rattle.pim_request.specs.declared.command.WordsFault.TheVariants.{Word}
-use Rattle.pim_request.specs.Forms.{Slot, words_of}
-use Rattle.pim_request.specs.Commands.{Usage, usages, forms_in, IsFaultOf, IsFaultAmong, IsWordsFault}
-use Rattle.pim_request.specs.Steps.{IsNone, names_of_setup, names_of_kept, names_of_router}
 
 no_forms : (among : List Usage) (command : List ℕ) → AllByRecursion (λ usage. command ≡ usage.command → ⊥) among → forms_in among command ≡ []
 no_forms [] command none = refl

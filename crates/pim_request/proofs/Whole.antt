@@ -1,13 +1,10 @@
 -- What lies whole in some bytes.
-use Rattle.std.proofs.Common.{◌≡◌, ◌∙◌, sym, ap, refl, ◌⊎◌, inl, inr, ℕ, Bool, true, false, List, [], ◌∷◌, ◌++◌, Option, Some, None, Ok, subst, arith, ◌==◌, append_assoc, append-nil}
-use Rattle.std.specs.List.{list_any}
-use Rattle.std.specs.Option.{IfSome}
-use Rattle.std.proofs.lemmas.Bool.{false≢true}
-use Rattle.pim_request.specs.declared.input.Found.{Found}
-use Rattle.pim_request.specs.declared.sort.Sort.TheVariants.{Blank, From, Other}
-use Rattle.pim_request.specs.Items.{is_blank, begins_text, is_send, onto_whole, whole_lines, lines_have_item, has_item, IsAfterFirst}
-use Rattle.pim_request.specs.Input.{Lines, coming_lines, NoFeed, IsCut, IsTaken, TakesLine, HasRead, Lacks, Passes, sort_seen}
-use Rattle.pim_request.specs.Held.{has_send, AtOnce, IsKnown, IsSome, IsSomeTaken, TakesSome}
+use Rattle.pim_request.proofs.Cited.{◌≡◌, ◌∙◌, sym, ap, refl, ◌⊎◌, inl, inr, ℕ, Bool, true, false, List, [], ◌∷◌, ◌++◌}
+use Rattle.pim_request.proofs.Cited.{Option, Some, None, Ok, subst, arith, ◌==◌, append_assoc, append-nil, list_any}
+use Rattle.pim_request.proofs.Cited.{IfSome, false≢true, Found, Blank, From, Other, is_blank, begins_text, is_send}
+use Rattle.pim_request.proofs.Cited.{onto_whole, whole_lines, lines_have_item, has_item, IsAfterFirst, Lines}
+use Rattle.pim_request.proofs.Cited.{coming_lines, NoFeed, IsCut, IsTaken, TakesLine, HasRead, Lacks, Passes, sort_seen}
+use Rattle.pim_request.proofs.Cited.{has_send, AtOnce, IsKnown, IsSome, IsSomeTaken, TakesSome}
 use Rattle.pim_request.proofs.Devices.{at_value}
 use Rattle.pim_request.proofs.Feeds.{rest_has_none}
 use Rattle.pim_request.proofs.Sorts.{sort_blank, sort_from, sort_other}

@@ -1,21 +1,14 @@
 -- The words that state a command are of one of its forms.
-use Rattle.std.proofs.Common.{◌≡◌, sym, subst, refl, inl, inr, ℕ, ◌≤◌, List, [], ◌∷◌, ◌++◌, map, Option, None, Some, codes, decimal, arith}
-use Rattle.pim_lines.specs.declared.either.AnyAddress.{AnyAddress}
-use Rattle.pim_request.specs.declared.command.PortRow.{PortRow}
-use Rattle.pim_request.specs.declared.command.RouteRow.{RouteRow}
-use Rattle.pim_request.specs.declared.command.Packet.{Packet}
-use Rattle.pim_request.specs.declared.command.Sender.{Sender}
-use Rattle.pim_request.specs.declared.command.AnyWriting.{AnyWriting}
-use Rattle.pim_request.specs.declared.command.KeptWhat.{KeptWhat}
-use Rattle.pim_request.specs.declared.command.Comparison.{Comparison}
-use Rattle.pim_request.specs.declared.command.Command.{Command}
-use Rattle.pim_request.specs.declared.command.Command.TheVariants.{Port, Rp, Via, Limit, Start, Run, Now, Next, State, Wants, Neighbours, Messages, Keep, Change, Same, Reset}
+use Rattle.pim_request.proofs.Cited.{◌≡◌, sym, subst, refl, inl, inr, ℕ, ◌≤◌, List, [], ◌∷◌, ◌++◌, map, Option, None, Some, codes}
+use Rattle.pim_request.proofs.Cited.{decimal, arith, AnyAddress, PortRow, RouteRow, Packet, Sender, AnyWriting, KeptWhat}
+use Rattle.pim_request.proofs.Cited.{Comparison, Command, Port, Rp, Via, Limit, Start, Run, Now, Next, State, Wants, Neighbours}
+use Rattle.pim_request.proofs.Cited.{Messages, Keep, Change, Same, Reset, WordsFault, Slot, address, number, name, most, words_of}
+use Rattle.pim_request.proofs.Cited.{Fits, AreOf, OneOf, usage, usages, delays_forms, destination_forms, option_forms, port_forms}
+use Rattle.pim_request.proofs.Cited.{row_forms, packet_forms, sender_forms, writing_forms, kept_forms, comparison_forms}
+use Rattle.pim_request.proofs.Cited.{number_forms, no_words, IsFaultAmong, IsOption, AreDelays, IsDestination, AreOptions, IsPort}
+use Rattle.pim_request.proofs.Cited.{IsRow, IsPacket, IsSender, IsWriting, IsKept, IsComparison, IsNumber, HasCommand, AreCommand}
+use Rattle.pim_request.proofs.Cited.{NoFaultIfStated, NoSenderFaultIfStated}
 use Rattle.pim_request.specs.declared.command.Command.TheVariants.{Packet as Arrival}
-use Rattle.pim_request.specs.declared.command.WordsFault.{WordsFault}
-use Rattle.pim_request.specs.Forms.{Slot, address, number, name, most, words_of, Fits, AreOf, OneOf}
-use Rattle.pim_request.specs.Commands.{usage, usages, delays_forms, destination_forms, option_forms, port_forms, row_forms, packet_forms, sender_forms, writing_forms, kept_forms, comparison_forms, number_forms, no_words, IsFaultAmong}
-use Rattle.pim_request.specs.Commands.{IsOption, AreDelays, IsDestination, AreOptions, IsPort, IsRow, IsPacket, IsSender, IsWriting, IsKept, IsComparison, IsNumber, HasCommand, AreCommand}
-use Rattle.pim_request.specs.OneRequest.{NoFaultIfStated, NoSenderFaultIfStated}
 use Rattle.pim_request.proofs.OneFault.{no_fault_among}
 
 -- The words are of one of these forms.

@@ -1,25 +1,20 @@
 -- A packet is taken as what its message reads as.
-use Rattle.std.proofs.Common.{◌≡◌, ◌∙◌, ◌↔◌, ℕ, Bool, true, false, not, nat_eq, nat_lt, List, [], ◌∷◌, ◌++◌, map, Result, Ok, Err, refl, sym, ap, subst, IsTrue, OnErr}
-use Rattle.std.specs.Cmp.Lexicographic.{pointwise}
-use Rattle.std.proofs.lemmas.Bool.{false≢true}
-use Rattle.pim_addr.specs.Faults.{fault_if, judged}
-use Rattle.pim_addr.specs.declared.family.AddressFamily.{AddressFamily}
+use Rattle.pim_router.proofs.Words.{◌≡◌, ◌∙◌, ◌↔◌, ℕ, Bool, true, false, not, nat_eq, nat_lt, List, [], ◌∷◌, ◌++◌, map, Result}
+use Rattle.pim_router.proofs.Words.{Ok, Err, refl, sym, ap, subst, IsTrue, OnErr, pointwise, false≢true, fault_if, judged}
+use Rattle.pim_router.proofs.Words.{AddressFamily, Hello, needs_no_memory, Message, message_of, Verdict, Packet, Receives, causes}
+use Rattle.pim_router.proofs.Words.{received, unless, own_address, neighbours_on, body_causes, body_heard, may_grow, new_by}
+use Rattle.pim_router.proofs.Words.{hello_causes, hello_heard, message_causes, message_heard, Reading, hello_by, message_by}
+use Rattle.pim_router.proofs.Words.{read_by, packet_read, message_refusals, read_causes, read_taken, read_received, read_may_grow}
+use Rattle.pim_router.proofs.Words.{IsTakenAsRead, RouterState}
 use Rattle.pim_frame.specs.Frame.{Content, hello, join_prune, other, content, frame_faults}
 use Rattle.pim_frame.specs.declared.frame.FrameFault.{FrameFault}
 use Rattle.pim_hello.specs.Faults.{faults as hello_faults}
 use Rattle.pim_hello.specs.declared.fault.HelloFault.{HelloFault}
-use Rattle.pim_hello.specs.Hello.{Hello}
-use Rattle.pim_hello.specs.Neighbours.{needs_no_memory}
 use Rattle.pim_hello.specs.Value.{hello_of}
 use Rattle.pim_jp.specs.Faults.{faults as join_prune_faults}
 use Rattle.pim_jp.specs.declared.fault.JpFault.{JpFault}
-use Rattle.pim_jp.specs.Message.{Message, message_of}
-use Rattle.pim_router.specs.declared.verdict.Verdict.{Verdict}
 use Rattle.pim_router.specs.declared.verdict.Verdict.TheVariants as verdict
 use Rattle.pim_router.specs.declared.verdict.Malformed.TheVariants as malformed
-use Rattle.pim_router.specs.Packets.{Packet, Receives, causes, received, unless, own_address, neighbours_on, body_causes, body_heard, may_grow, new_by, hello_causes, hello_heard, message_causes, message_heard}
-use Rattle.pim_router.specs.Reading.{Reading, hello_by, message_by, read_by, packet_read, message_refusals, read_causes, read_taken, read_received, read_may_grow, IsTakenAsRead}
-use Rattle.pim_router.specs.State.{RouterState}
 
 module _ (family : AddressFamily) (port : ℕ) (source : List ℕ) (state : RouterState) where
   -- these causes, this end and this need of memory are those of what was read

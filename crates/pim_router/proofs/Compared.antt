@@ -1,11 +1,6 @@
 -- What two routers ask of one upstream neighbour.
-use Rattle.std.proofs.Common.{◌≡◌, ◌↔◌, ℕ, List, sym, subst}
-use Rattle.pim_addr.specs.declared.family.AddressFamily.{AddressFamily}
-use Rattle.pim_addr.specs.Routes.{IsRouteTable, rp_of}
-use Rattle.pim_form.specs.Messages.{Writing, IsWriting, AreCanonical}
-use Rattle.pim_form.specs.NormalForm.{IsFormOf, Agree}
-use Rattle.pim_form.specs.TowardLaws.{demand_toward, SameMessagesSameDemandToward}
-use Rattle.pim_router.specs.State.{RouterState}
+use Rattle.pim_router.proofs.Words.{◌≡◌, ◌↔◌, ℕ, List, sym, subst, AddressFamily, IsRouteTable, rp_of, Writing, IsWriting}
+use Rattle.pim_router.proofs.Words.{AreCanonical, IsFormOf, Agree, demand_toward, SameMessagesSameDemandToward, RouterState}
 use Rattle.pim_router.specs.Canonical.{demanded, IsDemandedBy}
 
 -- The messages of two routers with one table are the same exactly if the routers want the same.

@@ -1,17 +1,8 @@
 -- The faults of a configuration, in terms of the ports as the code has them.
-use Rattle.std.proofs.Common.{◌≡◌, ◌∙◌, ℕ, Bool, Option, not, nat_lt, List, ◌++◌, length, map, Result, sym, ap}
-use Rattle.std.specs.List.{position}
-use Rattle.std.proofs.lemmas.List.{length-map}
-use Rattle.pim_addr.specs.declared.family.AddressFamily.{AddressFamily}
-use Rattle.pim_addr.specs.Address.{is_source}
-use Rattle.pim_addr.specs.Faults.{fault_if, judged}
-use Rattle.pim_addr.specs.Routes.{RouteTable}
-use Rattle.pim_router.specs.declared.config.ConfigFault.{ConfigFault}
-use Rattle.pim_router.specs.declared.config.ConfigFault.TheVariants.{Ports, Address, Delay, Limit}
-use Rattle.pim_router.specs.declared.config.PortConfig.{PortConfig}
-use Rattle.pim_router.specs.Config.{config_faults, fault_at, has_bad_count, has_bad_limit}
-use Rattle.pim_router.specs.Seen.{port_seen}
-use Rattle.pim_router.specs.State.{Port, Setup}
+use Rattle.pim_router.proofs.Words.{◌≡◌, ◌∙◌, ℕ, Bool, Option, not, nat_lt, List, ◌++◌, length, map, Result, sym, ap}
+use Rattle.pim_router.proofs.Words.{position, length-map, AddressFamily, is_source, fault_if, judged, RouteTable}
+use Rattle.pim_router.proofs.Words.{ConfigFault, Ports, Address, Delay, Limit, PortConfig, config_faults, fault_at}
+use Rattle.pim_router.proofs.Words.{has_bad_count, has_bad_limit, port_seen, Port, Setup}
 use Rattle.pim_router.proofs.Positions.{position_map}
 
 module _ {A : Type 0} (family : AddressFamily) (bytes_of : A → List ℕ) (ports : List (PortConfig A)) (routes : RouteTable) (limit : ℕ) where

@@ -1,13 +1,8 @@
 -- Courses: each list of packets and moments has one.
-use Rattle.std.proofs.Common.{◌≡◌, ◌∙◌, ℕ, List, [], ◌∷◌, ◌++◌, refl, sym, ap, subst}
+use Rattle.pim_router.proofs.Words.{◌≡◌, ◌∙◌, ℕ, List, [], ◌∷◌, ◌++◌, refl, sym, ap, subst, AddressFamily, What, Step}
+use Rattle.pim_router.proofs.Words.{Echo, Refresh, Reached, Input, runs_to, takes, RouterReport, echo, refresh, verdict}
+use Rattle.pim_router.proofs.Words.{Reaches, Gives, IsCourse, RouterState, Runs}
 use Rattle.std.proofs.lemmas.List.{append_assoc}
-use Rattle.pim_addr.specs.declared.family.AddressFamily.{AddressFamily}
-use Rattle.pim_down.specs.declared.machines.key.What.{What}
-use Rattle.pim_router.specs.declared.step.Step.{Step}
-use Rattle.pim_router.specs.declared.step.Step.TheVariants.{Echo, Refresh, Reached}
-use Rattle.pim_router.specs.Course.{Input, runs_to, takes, RouterReport, echo, refresh, verdict, Reaches, Gives, IsCourse}
-use Rattle.pim_router.specs.State.{RouterState}
-use Rattle.pim_router.specs.Time.{Runs}
 use Rattle.pim_router.proofs.Runs.{run_once}
 
 -- ---- a run to a moment until nothing is due has one end

@@ -1,19 +1,14 @@
 -- Neighbours whose time isn't over.
-use Rattle.std.proofs.Common.{◌≡◌, ◌≢◌, ◌∙◌, ◌<◌, ◌≤◌, ◌-◌, ◌+◌, ◌*◌, ◌==◌, ℕ, zero, suc, Bool, true, false, not, List, [], ◌∷◌, length, map, filter, get_or, set, Option, Some, None, refl, ap, arith, nat_eq, if◌then◌else◌}
-use Rattle.std.specs.List.{AllByRecursion}
-use Rattle.std.specs.Option.{option_eq}
+use Rattle.pim_router.proofs.Words.{◌≡◌, ◌≢◌, ◌∙◌, ◌<◌, ◌≤◌, ◌-◌, ◌+◌, ◌*◌, ◌==◌, ℕ, zero, suc, Bool, true, false, not, List, []}
+use Rattle.pim_router.proofs.Words.{◌∷◌, length, map, filter, get_or, set, Option, Some, None, refl, ap, arith, nat_eq}
+use Rattle.pim_router.proofs.Words.{if◌then◌else◌, AllByRecursion, option_eq, eqb-false, ne_eqb, set-get_or, length-map}
+use Rattle.pim_router.proofs.Words.{slice_cmp, Parameters, expired_at, Neighbour, Table, no_neighbours, is_over, without_ended}
+use Rattle.pim_router.proofs.Words.{passed_to, waited, heard_from, lifetime, says_goodbye, is_address, HasTime, IsCurrent}
 use Rattle.std.specs.Ordering.{nat_cmp, match_ordering}
-use Rattle.std.proofs.lemmas.Bool.{eqb-false, ne_eqb}
-use Rattle.std.proofs.lemmas.List.{set-get_or, length-map}
 use Rattle.std.specs.declared.cmp.Ordering.{Ordering}
 use Rattle.std.specs.declared.cmp.Ordering.TheVariants.{Less, Equal, Greater}
-use Rattle.std.specs.Cmp.Lexicographic.{slice_cmp}
 use Rattle.std.specs.BTreeMap.{insert_entry}
 use Rattle.std.specs.Map.{remove_entry}
-use Rattle.pim_hello.specs.Hello.{Parameters}
-use Rattle.pim_hello.specs.Laws.{expired_at}
-use Rattle.pim_hello.specs.Neighbours.{Neighbour, Table, no_neighbours, is_over, without_ended, passed_to, waited, heard_from, lifetime, says_goodbye, is_address}
-use Rattle.pim_router.specs.Sound.{HasTime, IsCurrent}
 
 -- ---- lists
 

@@ -1,18 +1,12 @@
 -- What happens turn by turn: turns that follow one another, and that they have one end.
-use Rattle.std.proofs.Common.{◌≡◌, ◌∙◌, ◌<◌, ◌≤◌, ℕ, zero, suc, ◌==◌, Bool, true, false, List, [], ◌++◌, Option, Some, None, nat_lt, if◌then◌else◌, refl, sym, ap, subst, arith, append_assoc}
-use Rattle.std.specs.List.{list_any}
-use Rattle.std.proofs.lemmas.Bool.{false≢true, lt-ltb, ltb-true}
-use Rattle.pim_down.specs.declared.machines.machine.Record.{Record}
+use Rattle.pim_router.proofs.Words.{◌≡◌, ◌∙◌, ◌<◌, ◌≤◌, ℕ, zero, suc, ◌==◌, Bool, true, false, List, [], ◌++◌, Option, Some, None}
+use Rattle.pim_router.proofs.Words.{nat_lt, if◌then◌else◌, refl, sym, ap, subst, arith, append_assoc, list_any, false≢true}
+use Rattle.pim_router.proofs.Words.{lt-ltb, ltb-true, Record, TimersRunOut, fired, Happening, happens_in, next_of, at_moment}
+use Rattle.pim_router.proofs.Words.{happens_then, pass_on, in_turns, Passes, HasHappened, HasPassed, PassingGoesOn}
+use Rattle.pim_router.proofs.Words.{HappeningGoesOn, HappeningHasOneEnd, RunsPastAreTurns, EveryStateGoesOn, FiringPasses}
+use Rattle.pim_router.proofs.Words.{RunsPast, Step, Refresh, Reached, RouterState, Outcome, rests, moves, stops_with, has_ended}
+use Rattle.pim_router.proofs.Words.{turn, turn_of_timers, turn_of_time, tick, run_within, turns_left}
 use Rattle.pim_down.specs.declared.machines.step.Step.{Step as Fires}
-use Rattle.pim_down.specs.Laws.{TimersRunOut}
-use Rattle.pim_down.specs.Time.{fired}
-use Rattle.pim_router.specs.Happening.{Happening, happens_in, next_of, at_moment, happens_then, pass_on, in_turns, Passes, HasHappened, HasPassed}
-use Rattle.pim_router.specs.Laws.{PassingGoesOn, HappeningGoesOn, HappeningHasOneEnd, RunsPastAreTurns, EveryStateGoesOn, FiringPasses}
-use Rattle.pim_router.specs.Refreshes.{RunsPast}
-use Rattle.pim_router.specs.declared.step.Step.{Step}
-use Rattle.pim_router.specs.declared.step.Step.TheVariants.{Refresh, Reached}
-use Rattle.pim_router.specs.State.{RouterState}
-use Rattle.pim_router.specs.Time.{Outcome, rests, moves, stops_with, has_ended, turn, turn_of_timers, turn_of_time, tick, run_within, turns_left}
 use Rattle.pim_router.proofs.Runs.{pair_of as run_pair, no_run}
 use Rattle.pim_router.proofs.Turns.{is_reached, said}
 use Rattle.pim_router.proofs.Onward.{resting, moving, echoing, refreshing, onward}

@@ -1,21 +1,15 @@
 -- A Hello that a port hears.
-use Rattle.std.proofs.Common.{◌≡◌, ◌∙◌, ◌<◌, ◌≤◌, ◌↔◌, ℕ, Bool, true, false, not, List, length, get_or, set, Result, Ok, Err, refl, sym, ap, subst, IsTrue, IsOk, OnErr}
-use Rattle.std.proofs.lemmas.Bool.{false≢true}
-use Rattle.std.proofs.lemmas.List.{set-get_or, get_or_read, length-set}
-use Rattle.std.specs.declared.alloc.AllocError.{AllocError}
-use Rattle.pim_addr.specs.Faults.{fault_if}
-use Rattle.pim_hello.specs.Hello.{Parameters}
-use Rattle.pim_hello.specs.Neighbours.{Table, Hears, no_neighbours, without_ended, is_full, heard_from, passed_to, neighbour_at, needs_no_memory, heard_as}
+use Rattle.pim_router.proofs.Words.{◌≡◌, ◌∙◌, ◌<◌, ◌≤◌, ◌↔◌, ℕ, Bool, true, false, not, List, length, get_or, set}
+use Rattle.pim_router.proofs.Words.{Result, Ok, Err, refl, sym, ap, subst, IsTrue, IsOk, OnErr, false≢true, set-get_or}
+use Rattle.pim_router.proofs.Words.{get_or_read, length-set, AllocError, fault_if, Parameters, Table, Hears}
+use Rattle.pim_router.proofs.Words.{no_neighbours, without_ended, is_full, heard_from, passed_to, neighbour_at}
+use Rattle.pim_router.proofs.Words.{needs_no_memory, heard_as, Verdict, Receives, unless, hello_causes, hello_heard}
+use Rattle.pim_router.proofs.Words.{neighbours_on, hello_verdict, IsCurrent, IsRouter, RouterState, with_tables}
 use Rattle.pim_hello.specs.declared.heard.Heard.{Heard}
 use Rattle.pim_hello.specs.declared.heard.NeighbourFault.{NeighbourFault}
 use Rattle.pim_hello.specs.declared.heard.NeighbourFault.TheVariants.{Full, Memory}
-use Rattle.pim_router.specs.declared.verdict.Verdict.{Verdict}
 use Rattle.pim_router.specs.declared.verdict.Verdict.TheVariants as verdict
 use Rattle.pim_router.specs.declared.verdict.Store.TheVariants as store
-use Rattle.pim_router.specs.Packets.{Receives, unless, hello_causes, hello_heard, neighbours_on}
-use Rattle.pim_router.specs.Written.{hello_verdict}
-use Rattle.pim_router.specs.Sound.{IsCurrent, IsRouter}
-use Rattle.pim_router.specs.State.{RouterState, with_tables}
 use Rattle.pim_router.proofs.Current.{all_at, all_set, all_there, no_time_passes, hello_keeps}
 
 module _ (state : RouterState) (port : ℕ) (sender : List ℕ) (said : Parameters) where

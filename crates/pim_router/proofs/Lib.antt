@@ -1,3 +1,4 @@
+pub mod Words
 pub mod Positions
 pub mod Configs
 pub mod Made

@@ -1,21 +1,10 @@
 -- What is true of a new router.
-use Rattle.std.proofs.Common.{not, arith, ◌≡◌, ◌∙◌, ◌≤◌, ℕ, false, nat_lt, List, [], ◌∷◌, ◌++◌, length, map, replicate, Result, Ok, Err, Option, Some, None, refl, sym, ap, subst, zero, suc}
-use Rattle.std.specs.List.{position, AllByRecursion}
-use Rattle.std.proofs.lemmas.List.{length-map, length-replicate}
-use Rattle.std.proofs.lemmas.Bool.{ltb-false}
-use Rattle.pim_addr.specs.declared.family.AddressFamily.{AddressFamily}
-use Rattle.pim_addr.specs.Address.{is_source}
-use Rattle.pim_addr.specs.Faults.{fault_if, judged}
-use Rattle.pim_addr.specs.Routes.{RouteTable}
-use Rattle.pim_hello.specs.Neighbours.{Table, no_neighbours}
-use Rattle.pim_down.specs.Time.{Downstream}
-use Rattle.pim_router.specs.declared.config.ConfigFault.{ConfigFault}
-use Rattle.pim_router.specs.declared.config.ConfigFault.TheVariants.{Ports, Address, Delay, Limit}
-use Rattle.pim_router.specs.declared.config.PortConfig.{PortConfig}
-use Rattle.pim_router.specs.Config.{config_faults, fault_at, has_bad_count, has_bad_limit, IsMadeUnless}
-use Rattle.pim_router.specs.Seen.{port_seen, setup_seen, router_seen}
-use Rattle.pim_router.specs.Sound.{IsCurrent, IsRouter}
-use Rattle.pim_router.specs.State.{Port, Setup, new_router}
+use Rattle.pim_router.proofs.Words.{not, arith, ◌≡◌, ◌∙◌, ◌≤◌, ℕ, false, nat_lt, List, [], ◌∷◌, ◌++◌, length, map, replicate}
+use Rattle.pim_router.proofs.Words.{Result, Ok, Err, Option, Some, None, refl, sym, ap, subst, zero, suc, position}
+use Rattle.pim_router.proofs.Words.{AllByRecursion, length-map, length-replicate, ltb-false, AddressFamily, is_source, fault_if}
+use Rattle.pim_router.proofs.Words.{judged, RouteTable, Table, no_neighbours, Downstream, ConfigFault, Ports, Address, Delay}
+use Rattle.pim_router.proofs.Words.{Limit, PortConfig, config_faults, fault_at, has_bad_count, has_bad_limit, IsMadeUnless}
+use Rattle.pim_router.proofs.Words.{port_seen, setup_seen, router_seen, IsCurrent, IsRouter, Port, Setup, new_router}
 use Rattle.pim_router.proofs.Positions.{none_passes}
 
 err_or_ok : {E : Type 0} (fault : E) → ◌≡◌ {A = Result (Unit {0}) E} (Err fault) (Ok (tt {0})) → ⊥

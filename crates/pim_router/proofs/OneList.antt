@@ -1,14 +1,10 @@
 -- What a router asks of a neighbour has one form, and so one list of messages.
-use Rattle.std.proofs.Common.{◌≡◌, ◌∙◌, sym, ap, subst, List}
-use Rattle.pim_addr.specs.declared.family.AddressFamily.{AddressFamily}
+use Rattle.pim_router.proofs.Words.{◌≡◌, ◌∙◌, sym, ap, subst, List, AddressFamily, OneListOfChange, rp_of, AreCanonical}
+use Rattle.pim_router.proofs.Words.{GroupForm, Demand, IsFormOf}
 use Rattle.pim_change.specs.Change.{change}
-use Rattle.pim_change.specs.Laws.{OneListOfChange}
 use Rattle.pim_change.specs.Written.{CarryChange}
 use Rattle.pim_change.specs.TooBig as changed
-use Rattle.pim_addr.specs.Routes.{rp_of}
 use Rattle.pim_form.specs.Laws.{OneNormalForm, OneListOfMessages}
-use Rattle.pim_form.specs.Messages.{AreCanonical}
-use Rattle.pim_form.specs.NormalForm.{GroupForm, Demand, IsFormOf}
 use Rattle.pim_form.specs.TooBig as form
 use Rattle.pim_router.specs.OneList.{OneListIsDemanded, OneIsTooBig, OneListIsTheChange, OneChangeIsTooBig}
 

@@ -1,21 +1,12 @@
 -- A router comes to every moment: each turn brings it nearer.
-use Rattle.std.proofs.Common.{◌≡◌, ◌≢◌, ◌<◌, ◌≤◌, ℕ, zero, suc, ◌==◌, Bool, true, false, List, [], ◌∷◌, ◌++◌, Option, None, Some, map, nat_lt, refl, sym, ap, subst, arith}
-use Rattle.std.specs.List.{list_any}
-use Rattle.std.proofs.lemmas.Bool.{ltb-true}
-use Rattle.pim_addr.specs.declared.family.AddressFamily.{AddressFamily}
-use Rattle.pim_hello.specs.Neighbours.{without_ended}
-use Rattle.pim_down.specs.declared.machines.key.What.{What}
-use Rattle.pim_down.specs.declared.machines.machine.Record.{Record}
+use Rattle.pim_router.proofs.Words.{◌≡◌, ◌≢◌, ◌<◌, ◌≤◌, ℕ, zero, suc, ◌==◌, Bool, true, false, List, [], ◌∷◌, ◌++◌, Option, None}
+use Rattle.pim_router.proofs.Words.{Some, map, nat_lt, refl, sym, ap, subst, arith, list_any, ltb-true, AddressFamily}
+use Rattle.pim_router.proofs.Words.{without_ended, What, Record, TimersRunOut, fired, with_records, Step, Echo, Refresh, Reached}
+use Rattle.pim_router.proofs.Words.{Input, runs_to, takes, RouterReport, echo, refresh, verdict, Reaches, HasCourse, IsCourse}
+use Rattle.pim_router.proofs.Words.{received, RouterState, with_machines, with_tables, with_refresh, refresh_period, rests, moves}
+use Rattle.pim_router.proofs.Words.{stops_with, has_ended, tick, turn, run_within, Runs, one_if, turns_left}
 use Rattle.pim_down.specs.declared.machines.step.Step.{Step as Fires}
 use Rattle.pim_down.specs.declared.machines.step.Step.TheVariants as fires
-use Rattle.pim_down.specs.Laws.{TimersRunOut}
-use Rattle.pim_down.specs.Time.{fired, with_records}
-use Rattle.pim_router.specs.declared.step.Step.{Step}
-use Rattle.pim_router.specs.declared.step.Step.TheVariants.{Echo, Refresh, Reached}
-use Rattle.pim_router.specs.Course.{Input, runs_to, takes, RouterReport, echo, refresh, verdict, Reaches, HasCourse, IsCourse}
-use Rattle.pim_router.specs.Packets.{received}
-use Rattle.pim_router.specs.State.{RouterState, with_machines, with_tables, with_refresh, refresh_period}
-use Rattle.pim_router.specs.Time.{rests, moves, stops_with, has_ended, tick, turn, run_within, Runs, one_if, turns_left}
 use Rattle.pim_router.proofs.Passing.{none_ended}
 use Rattle.pim_router.proofs.Runs.{pair_of, no_run, run_more, run_tells, run_rests}
 

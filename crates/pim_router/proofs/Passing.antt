@@ -1,21 +1,14 @@
 -- Time that passes: a run of the machines to a moment no later than the next Refresh is a run of the router.
-use Rattle.std.proofs.Common.{◌≡◌, ◌≢◌, ◌∙◌, ◌<◌, ◌≤◌, ℕ, zero, suc, ◌+◌, ◌-◌, Bool, true, false, not, List, [], ◌∷◌, map, filter, Option, Some, None, max, nat_lt, refl, sym, ap, subst, arith}
-use Rattle.std.specs.List.{list_any, AllByRecursion}
-use Rattle.std.proofs.lemmas.Bool.{false≢true, lt-ltb, le-ltb, ltb-true, ltb-false, ne_eqb}
-use Rattle.pim_addr.specs.Routes.{RouteTable}
-use Rattle.pim_hello.specs.Neighbours.{Neighbour, Table, is_over, without_ended, passed_to}
-use Rattle.pim_hello.specs.Laws.{expired_at, ExpiringTwiceIsExpiringOnce}
-use Rattle.pim_down.specs.declared.machines.key.What.{What}
-use Rattle.pim_down.specs.declared.machines.machine.Record.{Record}
+use Rattle.pim_router.proofs.Words.{◌≡◌, ◌≢◌, ◌∙◌, ◌<◌, ◌≤◌, ℕ, zero, suc, ◌+◌, ◌-◌, Bool, true, false, not, List, []}
+use Rattle.pim_router.proofs.Words.{◌∷◌, map, filter, Option, Some, None, max, nat_lt, refl, sym, ap, subst, arith}
+use Rattle.pim_router.proofs.Words.{list_any, AllByRecursion, false≢true, lt-ltb, le-ltb, ltb-true, ltb-false, ne_eqb}
+use Rattle.pim_router.proofs.Words.{RouteTable, Neighbour, Table, is_over, without_ended, passed_to, expired_at}
+use Rattle.pim_router.proofs.Words.{ExpiringTwiceIsExpiringOnce, What, Record, Downstream, fired, with_records, Step}
+use Rattle.pim_router.proofs.Words.{Echo, Refresh, Reached, HasTime, IsCurrent, Port, RouterState, with_tables}
+use Rattle.pim_router.proofs.Words.{with_refresh, moves, has_ended, turn, turn_of_timers, tick, Runs}
 use Rattle.pim_down.specs.declared.machines.step.Step.{Step as Fires}
 use Rattle.pim_down.specs.declared.machines.step.Step.TheVariants as fires
-use Rattle.pim_down.specs.Time.{Downstream, fired, with_records}
 use Rattle.pim_down.specs.Time as down
-use Rattle.pim_router.specs.declared.step.Step.{Step}
-use Rattle.pim_router.specs.declared.step.Step.TheVariants.{Echo, Refresh, Reached}
-use Rattle.pim_router.specs.Sound.{HasTime, IsCurrent}
-use Rattle.pim_router.specs.State.{Port, RouterState, with_tables, with_refresh}
-use Rattle.pim_router.specs.Time.{moves, has_ended, turn, turn_of_timers, tick, Runs}
 use Rattle.pim_router.proofs.Runs.{run_more, run_tells, run_rests}
 use Rattle.pim_router.proofs.Current.{all_there, no_time_passes}
 

@@ -1,26 +1,15 @@
 -- A run that goes on past its Refreshes, in terms of what the code keeps: one run of the machines up to the moment, and
 -- arithmetic.
-use Rattle.std.proofs.Common.{◌≡◌, ◌≢◌, ◌∙◌, ◌<◌, ◌≤◌, ℕ, zero, suc, ◌+◌, ◌-◌, ◌*◌, Bool, true, false, List, map, Option, Some, None, min, max, nat_lt, refl, sym, ap, subst, arith}
-use Rattle.std.proofs.lemmas.Bool.{le-ltb, ltb-true, ltb-false, ne_eqb}
-use Rattle.pim_addr.specs.Routes.{RouteTable}
-use Rattle.pim_hello.specs.Neighbours.{Table}
-use Rattle.pim_hello.specs.Laws.{expired_at, ExpiringTwiceIsExpiringOnce}
-use Rattle.pim_down.specs.declared.machines.key.What.{What}
-use Rattle.pim_down.specs.declared.machines.machine.Record.{Record}
+use Rattle.pim_router.proofs.Words.{◌≡◌, ◌≢◌, ◌∙◌, ◌<◌, ◌≤◌, ℕ, zero, suc, ◌+◌, ◌-◌, ◌*◌, Bool, true, false, List, map}
+use Rattle.pim_router.proofs.Words.{Option, Some, None, min, max, nat_lt, refl, sym, ap, subst, arith, le-ltb, ltb-true}
+use Rattle.pim_router.proofs.Words.{ltb-false, ne_eqb, RouteTable, Table, expired_at, ExpiringTwiceIsExpiringOnce, What}
+use Rattle.pim_router.proofs.Words.{Record, Downstream, fired, with_records, PortConfig, Step, Echo, Refresh, Reached}
+use Rattle.pim_router.proofs.Words.{RunsComeNearer, RunsPast, fires_behind, first_unreported, port_seen, router_seen}
+use Rattle.pim_router.proofs.Words.{IsRouter, Port, RouterState, setup_of, with_refresh, Runs, turns_left}
 use Rattle.pim_down.specs.declared.machines.step.Step.{Step as Fires}
 use Rattle.pim_down.specs.declared.machines.step.Step.TheVariants as fires
 use Rattle.pim_down.specs.Seen.{step_seen as fires_seen}
-use Rattle.pim_down.specs.Time.{Downstream, fired, with_records}
 use Rattle.pim_down.specs.Time as down
-use Rattle.pim_router.specs.declared.config.PortConfig.{PortConfig}
-use Rattle.pim_router.specs.declared.step.Step.{Step}
-use Rattle.pim_router.specs.declared.step.Step.TheVariants.{Echo, Refresh, Reached}
-use Rattle.pim_router.specs.Laws.{RunsComeNearer}
-use Rattle.pim_router.specs.Refreshes.{RunsPast, fires_behind, first_unreported}
-use Rattle.pim_router.specs.Seen.{port_seen, router_seen}
-use Rattle.pim_router.specs.Sound.{IsRouter}
-use Rattle.pim_router.specs.State.{Port, RouterState, setup_of, with_refresh}
-use Rattle.pim_router.specs.Time.{Runs, turns_left}
 use Rattle.pim_router.proofs.Passing.{quiet_turn, passes, fires_on, echoes_on, current_at_start}
 use Rattle.pim_router.proofs.RunTo.{sound_again}
 use Rattle.pim_router.proofs.Runs.{run_tells, run_rests}

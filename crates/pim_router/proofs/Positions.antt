@@ -1,8 +1,6 @@
 -- The first place that passes a test, in a list seen through a function.
-use Rattle.std.proofs.Common.{◌≡◌, Bool, true, false, List, [], ◌∷◌, map, length, ◌≤◌, ◌+◌, nat_lt, Some, None, refl, arith, if◌then◌else◌}
-use Rattle.std.specs.List.{position, position_or_len, AllByRecursion}
-use Rattle.std.proofs.lemmas.Bool.{ltb-false}
-use Rattle.std.proofs.lemmas.List.{length-map}
+use Rattle.pim_router.proofs.Words.{◌≡◌, Bool, true, false, List, [], ◌∷◌, map, length, ◌≤◌, ◌+◌, nat_lt, Some, None, refl, arith}
+use Rattle.pim_router.proofs.Words.{if◌then◌else◌, position, position_or_len, AllByRecursion, ltb-false, length-map}
 
 prefix_step : {A B : Type 0} (test : B → Bool) (see : A → B) (x : A) (xs : List A) (b : Bool) → test (see x) ≡ b →
     position_or_len test (map see xs) ≡ position_or_len (λ x. test (see x)) xs →

@@ -1,24 +1,14 @@
 -- What is told of a packet: the first cause, or else that it is taken.
-use Rattle.std.proofs.Common.{◌≡◌, ◌∙◌, ◌-◌, ℕ, List, Result, Ok, Err, nat_lt, refl, sym, ap, subst, OnOk, OnErr, IsTrue, arith}
-use Rattle.std.proofs.lemmas.Bool.{lt-ltb, le-ltb}
-use Rattle.pim_addr.specs.declared.family.AddressFamily.{AddressFamily}
-use Rattle.pim_addr.specs.Routes.{RouteTable, rp_of}
-use Rattle.pim_hello.specs.Neighbours.{Table}
-use Rattle.pim_jp.specs.Message.{Message}
-use Rattle.std.specs.declared.alloc.AllocError.{AllocError}
+use Rattle.pim_router.proofs.Words.{◌≡◌, ◌∙◌, ◌-◌, ℕ, List, Result, Ok, Err, nat_lt, refl, sym, ap, subst, OnOk, OnErr, IsTrue}
+use Rattle.pim_router.proofs.Words.{arith, lt-ltb, le-ltb, AddressFamily, RouteTable, rp_of, Table, Message, AllocError}
+use Rattle.pim_router.proofs.Words.{Downstream, PortConfig, Verdict, Receives, unless, room_causes, message_heard, needed_by}
+use Rattle.pim_router.proofs.Words.{new_by, timing_on, message_verdict, router_seen, RouterState, with_machines}
 use Rattle.pim_down.specs.declared.machines.event.Timing.{Timing}
-use Rattle.pim_down.specs.Time.{Downstream}
 use Rattle.pim_down.specs.Heard.{heard, IsWithin, MayWantMemory}
 use Rattle.pim_down.specs.declared.machines.fault.HearFault.{HearFault}
 use Rattle.pim_down.specs.declared.machines.fault.HearFault.TheVariants as machines
-use Rattle.pim_router.specs.declared.config.PortConfig.{PortConfig}
-use Rattle.pim_router.specs.declared.verdict.Verdict.{Verdict}
 use Rattle.pim_router.specs.declared.verdict.Verdict.TheVariants as verdict
 use Rattle.pim_router.specs.declared.verdict.Store.TheVariants as store
-use Rattle.pim_router.specs.Packets.{Receives, unless, room_causes, message_heard, needed_by, new_by, timing_on}
-use Rattle.pim_router.specs.Written.{message_verdict}
-use Rattle.pim_router.specs.Seen.{router_seen}
-use Rattle.pim_router.specs.State.{RouterState, with_machines}
 
 -- ---- a Join/Prune that the machines hear
 

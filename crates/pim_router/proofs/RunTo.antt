@@ -1,21 +1,11 @@
 -- A run of the router, in terms of what the code keeps.
-use Rattle.std.proofs.Common.{◌≡◌, ◌∙◌, ◌<◌, ◌≤◌, ℕ, ◌+◌, ◌-◌, List, ◌++◌, length, map, take, drop, min, max, refl, sym, ap, subst, arith}
-use Rattle.std.specs.List.{AllByRecursion}
-use Rattle.std.proofs.lemmas.List.{length-map, take_at}
-use Rattle.pim_addr.specs.Routes.{RouteTable}
-use Rattle.pim_hello.specs.Neighbours.{Table}
-use Rattle.pim_hello.specs.Laws.{expired_at, ExpiringTwiceIsExpiringOnce}
-use Rattle.pim_down.specs.declared.machines.key.What.{What}
+use Rattle.pim_router.proofs.Words.{◌≡◌, ◌∙◌, ◌<◌, ◌≤◌, ℕ, ◌+◌, ◌-◌, List, ◌++◌, length, map, take, drop, min, max}
+use Rattle.pim_router.proofs.Words.{refl, sym, ap, subst, arith, AllByRecursion, length-map, take_at, RouteTable, Table}
+use Rattle.pim_router.proofs.Words.{expired_at, ExpiringTwiceIsExpiringOnce, What, Downstream, PortConfig, Step, Echo}
+use Rattle.pim_router.proofs.Words.{Refresh, Reached, IsCurrent, IsRouter, RouterState, with_refresh, Runs}
 use Rattle.pim_down.specs.declared.machines.step.Step.TheVariants as fires
-use Rattle.pim_down.specs.Time.{Downstream}
 use Rattle.pim_down.specs.Time as down
-use Rattle.pim_router.specs.declared.config.PortConfig.{PortConfig}
-use Rattle.pim_router.specs.declared.step.Step.{Step}
-use Rattle.pim_router.specs.declared.step.Step.TheVariants.{Echo, Refresh, Reached}
 use Rattle.pim_router.specs.Seen.{port_seen, router_seen, step_seen}
-use Rattle.pim_router.specs.Sound.{IsCurrent, IsRouter}
-use Rattle.pim_router.specs.State.{RouterState, with_refresh}
-use Rattle.pim_router.specs.Time.{Runs}
 use Rattle.pim_router.proofs.Current.{few_later}
 use Rattle.pim_router.proofs.Passing.{router, current_at_start, current_later, told_echo, told_refresh, told_reached}
 

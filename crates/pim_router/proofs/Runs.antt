@@ -1,9 +1,6 @@
 -- Runs of a router: by induction on their turns.
-use Rattle.std.proofs.Common.{◌≡◌, ◌∙◌, ℕ, zero, suc, List, Option, Some, None, refl, sym, ap}
-use Rattle.pim_router.specs.declared.step.Step.{Step}
-use Rattle.pim_router.specs.declared.step.Step.TheVariants.{Reached}
-use Rattle.pim_router.specs.State.{RouterState}
-use Rattle.pim_router.specs.Time.{Outcome, rests, moves, stops_with, turn, run_on, run_within, Runs}
+use Rattle.pim_router.proofs.Words.{◌≡◌, ◌∙◌, ℕ, zero, suc, List, Option, Some, None, refl, sym, ap, Step, Reached}
+use Rattle.pim_router.proofs.Words.{RouterState, Outcome, rests, moves, stops_with, turn, run_on, run_within, Runs}
 
 abbrev pub Answer : Type 0
 Answer = Option (Step (List ℕ) × RouterState)

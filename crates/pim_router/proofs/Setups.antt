@@ -1,18 +1,12 @@
 -- What a router was made from stays as it is.
-use Rattle.std.proofs.Common.{◌≡◌, ◌∙◌, ℕ, zero, suc, ◌==◌, Bool, true, false, List, [], ◌∷◌, Option, Some, None, Result, Ok, Err, nat_lt, if◌then◌else◌, refl, sym, ap}
+use Rattle.pim_router.proofs.Words.{◌≡◌, ◌∙◌, ℕ, zero, suc, ◌==◌, Bool, true, false, List, [], ◌∷◌, Option, Some, None, Result}
+use Rattle.pim_router.proofs.Words.{Ok, Err, nat_lt, if◌then◌else◌, refl, sym, ap, list_any, AddressFamily, Record, fired, Step}
+use Rattle.pim_router.proofs.Words.{Verdict, RouterState, setup_of, Receives, unless, Reading, read_hello, read_message}
+use Rattle.pim_router.proofs.Words.{read_other, read_fault, read_causes, read_taken, read_received, Outcome, rests, moves}
+use Rattle.pim_router.proofs.Words.{stops_with, has_ended, reported, turn, turn_of_timers, turn_of_time, run_on, run_within, Runs}
 use Rattle.std.specs.Bool.{⊤}
-use Rattle.std.specs.List.{list_any}
-use Rattle.pim_addr.specs.declared.family.AddressFamily.{AddressFamily}
-use Rattle.pim_down.specs.declared.machines.machine.Record.{Record}
 use Rattle.pim_down.specs.declared.machines.step.Step.{Step as Fires}
 use Rattle.pim_down.specs.declared.machines.step.Step.TheVariants as fires
-use Rattle.pim_down.specs.Time.{fired}
-use Rattle.pim_router.specs.declared.step.Step.{Step}
-use Rattle.pim_router.specs.declared.verdict.Verdict.{Verdict}
-use Rattle.pim_router.specs.State.{RouterState, setup_of}
-use Rattle.pim_router.specs.Packets.{Receives, unless}
-use Rattle.pim_router.specs.Reading.{Reading, read_hello, read_message, read_other, read_fault, read_causes, read_taken, read_received}
-use Rattle.pim_router.specs.Time.{Outcome, rests, moves, stops_with, has_ended, reported, turn, turn_of_timers, turn_of_time, run_on, run_within, Runs}
 use Rattle.pim_router.proofs.Runs.{Answer, pair_of, no_run}
 
 -- ---- a packet

@@ -1,15 +1,11 @@
 -- The first moment at which the time of a neighbour of some port is over.
-use Rattle.std.proofs.Common.{◌≡◌, ◌∙◌, ◌<◌, ◌≤◌, ℕ, zero, suc, ◌+◌, ◌-◌, Bool, true, false, List, [], ◌∷◌, length, drop, get_or, map, min, Option, Some, None, refl, sym, ap, arith}
+use Rattle.pim_router.proofs.Words.{◌≡◌, ◌∙◌, ◌<◌, ◌≤◌, ℕ, zero, suc, ◌+◌, ◌-◌, Bool, true, false, List, [], ◌∷◌, length, drop}
+use Rattle.pim_router.proofs.Words.{get_or, map, min, Option, Some, None, refl, sym, ap, arith, AllByRecursion, list_any}
+use Rattle.pim_router.proofs.Words.{drop_more, drop_all, comes_by, TimeIsOverFromNextEnd, Neighbour, Table, waited, passed_to}
+use Rattle.pim_router.proofs.Words.{sooner, next_end, at_moment, gone_from, gone_within, first_timeout}
+use Rattle.pim_router.proofs.Words.{NobodyGoesBeforeFirstTimeout, TheEndedGoAtFirstTimeout, IsCurrent, has_ended}
 use Rattle.std.specs.Prelude.{◌||◌, nat_le, option_map}
-use Rattle.std.specs.List.{AllByRecursion, list_any}
 use Rattle.std.proofs.lemmas.Bool.Decides.{nat_tests}
-use Rattle.std.proofs.lemmas.List.{drop_more, drop_all}
-use Rattle.pim_hello.specs.Laws.{comes_by, TimeIsOverFromNextEnd}
-use Rattle.pim_hello.specs.Neighbours.{Neighbour, Table, waited, passed_to, sooner, next_end}
-use Rattle.pim_router.specs.Happening.{at_moment, gone_from, gone_within, first_timeout}
-use Rattle.pim_router.specs.Laws.{NobodyGoesBeforeFirstTimeout, TheEndedGoAtFirstTimeout}
-use Rattle.pim_router.specs.Sound.{IsCurrent}
-use Rattle.pim_router.specs.Time.{has_ended}
 use Rattle.pim_router.proofs.Current.{no_time_passes}
 use Rattle.pim_router.proofs.Passing.{nobody, now_at}
 use Rattle.pim_router.proofs.ToFiring.{none_from, gone_later}

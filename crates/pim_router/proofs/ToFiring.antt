@@ -1,30 +1,22 @@
 -- Time that passes up to the first timer that fires: quiet milliseconds of the machines are turns
 -- of the router, in which neighbours go and refreshes pass.
-use Rattle.std.proofs.Common.{◌≡◌, ◌≢◌, ◌∙◌, ◌<◌, ◌≤◌, ℕ, zero, suc, ◌+◌, ◌-◌, ◌*◌, Bool, true, false, List, [], ◌∷◌, ◌++◌, map, filter, Option, Some, None, min, max, nat_lt, refl, sym, ap, subst, arith}
-use Rattle.std.specs.List.{list_any}
+use Rattle.pim_router.proofs.Words.{◌≡◌, ◌≢◌, ◌∙◌, ◌<◌, ◌≤◌, ℕ, zero, suc, ◌+◌, ◌-◌, ◌*◌, Bool, true, false, List, [], ◌∷◌, ◌++◌}
+use Rattle.pim_router.proofs.Words.{map, filter, Option, Some, None, min, max, nat_lt, refl, sym, ap, subst, arith, list_any}
+use Rattle.pim_router.proofs.Words.{false≢true, lt-ltb, le-ltb, ltb-true, ltb-false, ne_eqb, append-nil, RouteTable, Neighbour}
+use Rattle.pim_router.proofs.Words.{Table, is_over, without_ended, passed_to, expired_at, ExpiringTwiceIsExpiringOnce, Record}
+use Rattle.pim_router.proofs.Words.{FiringSaysMore, TimersRunOut, said_of, firing_seen, Downstream, fired, with_records}
+use Rattle.pim_router.proofs.Words.{IsQuietFor, PortConfig, Refresh, Happening, timer_fired, gone_of, gone_from, happens_in}
+use Rattle.pim_router.proofs.Words.{next_of, at_moment, in_turns, Passes, Happens, FiresAfter, FiresTo, gone_within, gone_between}
+use Rattle.pim_router.proofs.Words.{first_unpassed, port_seen, router_seen, IsRouter, Port, RouterState, setup_of, with_tables}
+use Rattle.pim_router.proofs.Words.{with_refresh, rests, moves, stops_with, has_ended, reported, turn, turn_of_timers, tick}
+use Rattle.pim_router.proofs.Words.{turns_left}
 use Rattle.std.specs.Option.{is_some, option_map}
-use Rattle.std.proofs.lemmas.Bool.{false≢true, lt-ltb, le-ltb, ltb-true, ltb-false, ne_eqb}
-use Rattle.std.proofs.lemmas.List.{append-nil}
-use Rattle.pim_addr.specs.Routes.{RouteTable}
-use Rattle.pim_hello.specs.Neighbours.{Neighbour, Table, is_over, without_ended, passed_to}
-use Rattle.pim_hello.specs.Laws.{expired_at, ExpiringTwiceIsExpiringOnce}
-use Rattle.pim_down.specs.declared.machines.machine.Record.{Record}
 use Rattle.pim_down.specs.declared.machines.step.Firing.{Firing}
 use Rattle.pim_down.specs.declared.machines.step.Step.{Step as Fires}
 use Rattle.pim_down.specs.declared.machines.step.Step.TheVariants as fires
 use Rattle.pim_down.specs.Firing.{firing, fired_in, firing_in, step_of}
 use Rattle.pim_down.specs.Firing as down_firing
-use Rattle.pim_down.specs.Laws.{FiringSaysMore, TimersRunOut, said_of}
-use Rattle.pim_down.specs.Seen.{firing_seen}
-use Rattle.pim_down.specs.Time.{Downstream, fired, with_records, IsQuietFor}
 use Rattle.pim_down.specs.Time as down
-use Rattle.pim_router.specs.declared.config.PortConfig.{PortConfig}
-use Rattle.pim_router.specs.declared.step.Step.TheVariants.{Refresh}
-use Rattle.pim_router.specs.Happening.{Happening, timer_fired, gone_of, gone_from, happens_in, next_of, at_moment, in_turns, Passes, Happens, FiresAfter, FiresTo, gone_within, gone_between, first_unpassed}
-use Rattle.pim_router.specs.Seen.{port_seen, router_seen}
-use Rattle.pim_router.specs.Sound.{IsRouter}
-use Rattle.pim_router.specs.State.{Port, RouterState, setup_of, with_tables, with_refresh}
-use Rattle.pim_router.specs.Time.{rests, moves, stops_with, has_ended, reported, turn, turn_of_timers, tick, turns_left}
 use Rattle.pim_router.proofs.Passing.{none_ended, none_goes, goes, nobody_over, later_tables, ticked, quiet_turn, current_at_start}
 use Rattle.pim_router.proofs.PastRefreshes.{one_count}
 use Rattle.pim_router.proofs.RunTo.{sound_again}

@@ -1,14 +1,7 @@
 -- The star of a change that is too big, found without the change.
-use Rattle.std.proofs.Common.{◌≡◌, ◌∙◌, ℕ, List, Option, subst}
-use Rattle.pim_addr.specs.declared.family.AddressFamily.{AddressFamily}
-use Rattle.pim_addr.specs.Routes.{RouteTable}
-use Rattle.pim_down.specs.Time.{Downstream}
-use Rattle.pim_form.specs.Messages.{Writing}
-use Rattle.pim_form.specs.NormalForm.{GroupForm, IsNormal, IsFormOf}
-use Rattle.pim_form.specs.TowardLaws.{demand_toward}
+use Rattle.pim_router.proofs.Words.{◌≡◌, ◌∙◌, ℕ, List, Option, subst, AddressFamily, RouteTable, Downstream, Writing}
+use Rattle.pim_router.proofs.Words.{GroupForm, IsNormal, IsFormOf, demand_toward, NewStarsAloneAreTooBig, RouterState}
 use Rattle.pim_emit.specs.Written.{IsNewTooBig}
-use Rattle.pim_change.specs.Laws.{NewStarsAloneAreTooBig}
-use Rattle.pim_router.specs.State.{RouterState}
 use Rattle.pim_router.specs.Change.{IsChangeTooBig}
 
 pub to_tell : NewStarsAloneAreTooBig → (family : AddressFamily) (writing : Writing) (last : List GroupForm) (state : RouterState) (table : RouteTable) (machines : Downstream) (group : Option (List ℕ))

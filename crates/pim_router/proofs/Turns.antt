@@ -1,15 +1,10 @@
 -- One turn of a router, and runs that go on.
-use Rattle.std.proofs.Common.{◌≡◌, ◌∙◌, ◌<◌, ◌≤◌, ℕ, zero, suc, ◌==◌, Bool, true, false, List, Option, Some, None, nat_lt, if◌then◌else◌, refl, sym, ap, subst, arith}
-use Rattle.std.specs.List.{list_any}
-use Rattle.std.proofs.lemmas.Bool.{false≢true, lt-ltb, ltb-true}
-use Rattle.pim_down.specs.declared.machines.machine.Record.{Record}
+use Rattle.pim_router.proofs.Words.{◌≡◌, ◌∙◌, ◌<◌, ◌≤◌, ℕ, zero, suc, ◌==◌, Bool, true, false, List, Option, Some, None, nat_lt}
+use Rattle.pim_router.proofs.Words.{if◌then◌else◌, refl, sym, ap, subst, arith, list_any, false≢true, lt-ltb, ltb-true, Record}
+use Rattle.pim_router.proofs.Words.{fired, Step, Echo, Refresh, Reached, RouterState, Outcome, rests, moves, stops_with}
+use Rattle.pim_router.proofs.Words.{has_ended, reported, turn, turn_of_timers, turn_of_time, tick, run_within, Runs}
 use Rattle.pim_down.specs.declared.machines.step.Step.{Step as Fires}
 use Rattle.pim_down.specs.declared.machines.step.Step.TheVariants as fires
-use Rattle.pim_down.specs.Time.{fired}
-use Rattle.pim_router.specs.declared.step.Step.{Step}
-use Rattle.pim_router.specs.declared.step.Step.TheVariants.{Echo, Refresh, Reached}
-use Rattle.pim_router.specs.State.{RouterState}
-use Rattle.pim_router.specs.Time.{Outcome, rests, moves, stops_with, has_ended, reported, turn, turn_of_timers, turn_of_time, tick, run_within, Runs}
 use Rattle.pim_router.proofs.Runs.{pair_of, no_run, run_more}
 
 rests_moves : (next : RouterState) → rests ≡ moves next → ⊥

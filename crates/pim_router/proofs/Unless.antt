@@ -1,10 +1,6 @@
 -- The first cause, where a test comes before the others.
-use Rattle.std.proofs.Common.{◌≡◌, Bool, true, false, List, ◌++◌, Result, sym}
-use Rattle.std.proofs.lemmas.Bool.{false≢true}
-use Rattle.pim_addr.specs.Faults.{fault_if}
-use Rattle.pim_router.specs.declared.verdict.Verdict.{Verdict}
-use Rattle.pim_router.specs.Packets.{Receives, unless}
-use Rattle.pim_router.specs.State.{RouterState}
+use Rattle.pim_router.proofs.Words.{◌≡◌, Bool, true, false, List, ◌++◌, Result, sym, false≢true, fault_if, Verdict}
+use Rattle.pim_router.proofs.Words.{Receives, unless, RouterState}
 
 -- the test isn't passed
 pub not_first : (test : Bool) (cause : Verdict) (others : List Verdict) (old : RouterState) (taken : Verdict × RouterState) → test ≡ false →

@@ -1,23 +1,12 @@
 -- Rows that are added: the first one, which fixes the family, and more.
-use Rattle.std.proofs.Common.{◌≡◌, ℕ, Bool, true, false, List, [], ◌∷◌, map, None, Some, Result, Ok, Err, refl, ap, subst, inl, inr}
-use Rattle.pim_addr.specs.declared.family.AddressFamily.{AddressFamily}
-use Rattle.pim_addr.specs.declared.route_fault.RouteFault.{RouteFault}
-use Rattle.pim_addr.specs.Routes.{RouteTable, no_routes, rp_faults, via_faults, with_rp, with_via}
-use Rattle.pim_lines.specs.AnyAddress.{address_bytes}
-use Rattle.pim_request.specs.declared.command.PortRow.{PortRow}
-use Rattle.pim_request.specs.declared.command.RouteRow.{RouteRow}
-use Rattle.pim_answers.specs.declared.fault.AnswerFault.{AnswerFault}
-use Rattle.pim_answers.specs.Answered.{RefusedIf, RefusedBy, OrMemory, Done}
-use Rattle.pim_answers.specs.Families.{differ_from, family_words}
-use Rattle.pim_answers.specs.Fault.{fault_words, done_text}
-use Rattle.pim_answers.specs.Lines.{ok_line, fault_line}
-use Rattle.pim_session.specs.declared.setup.AnyRow.{AnyRow}
+use Rattle.pim_session.proofs.Words.{◌≡◌, ℕ, Bool, true, false, List, [], ◌∷◌, map, None, Some, Result, Ok, Err, refl, ap, subst}
+use Rattle.pim_session.proofs.Words.{inl, inr, AddressFamily, RouteFault, RouteTable, no_routes, rp_faults, via_faults, with_rp}
+use Rattle.pim_session.proofs.Words.{with_via, address_bytes, PortRow, RouteRow, AnswerFault, RefusedIf, RefusedBy, OrMemory}
+use Rattle.pim_session.proofs.Words.{Done, differ_from, family_words, fault_words, done_text, ok_line, fault_line, AnyRow, Free}
+use Rattle.pim_session.proofs.Words.{family_of, family_with, prefix_of, route_words, with_port, with_routes, AddsPort, AddsRow}
+use Rattle.pim_session.proofs.Words.{rows_seen, any_seen, first_address, Adds, AddsTo, AddsFirst, Gathered}
 use Rattle.pim_session.specs.declared.setup.AnyRow.TheVariants.{Port, Rp, Via}
-use Rattle.pim_session.specs.declared.setup.AnyRows.TheVariants.{Free}
 use Rattle.pim_session.specs.declared.setup.Rows.{Rows}
-use Rattle.pim_session.specs.Gathering.{family_of, family_with, prefix_of, route_words, with_port, with_routes, AddsPort, AddsRow}
-use Rattle.pim_session.specs.SetupSeen.{rows_seen, any_seen, first_address, Adds, AddsTo, AddsFirst}
-use Rattle.pim_session.specs.State.{Gathered}
 
 -- ---- a fault changes nothing
 

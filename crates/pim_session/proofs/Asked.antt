@@ -1,17 +1,11 @@
 -- What an item asks for, by what is held of it.
-use Rattle.std.proofs.Common.{◌≡◌, ℕ, ◌<◌, ◌≤◌, Bool, true, false, List, length, codes, Result, Ok, Err, sym, ap, subst, ◌∙◌, inl, inr}
-use Rattle.pim_text.specs.Read.{IsRead}
-use Rattle.pim_request.specs.declared.command.Sender.{Sender}
-use Rattle.pim_request.specs.declared.command.WordsFault.{WordsFault}
-use Rattle.pim_request.specs.Commands.{StatesSender, IsSenderFault}
+use Rattle.pim_session.proofs.Words.{◌≡◌, ℕ, ◌<◌, ◌≤◌, Bool, true, false, List, length, codes, Result, Ok, Err, sym, ap}
+use Rattle.pim_session.proofs.Words.{subst, ◌∙◌, inl, inr, IsRead, Sender, WordsFault, StatesSender, IsSenderFault}
+use Rattle.pim_session.proofs.Words.{Text, Item, a_line, a_long_line, a_text, bytes_of_lines, has_long_line, text_limit}
+use Rattle.pim_session.proofs.Words.{Reading, Holds, IsText, IsItem, Request, Command, From, long_line_words}
+use Rattle.pim_session.proofs.Words.{wrong_words, RequestsLine, RequestsText, Requests, RequestsFrom}
 use Rattle.pim_request.specs.declared.items.Item.TheVariants.{Line, LongLine, Text as TextOf}
 use Rattle.pim_request.specs.declared.items.TextItem.{TextItem}
-use Rattle.pim_request.specs.Items.{Text, Item, a_line, a_long_line, a_text, bytes_of_lines, has_long_line, text_limit}
-use Rattle.pim_request.specs.Reading.{Reading, Holds, IsText, IsItem}
-use Rattle.pim_session.specs.declared.request.Request.{Request}
-use Rattle.pim_session.specs.declared.request.Request.TheVariants.{Command, From}
-use Rattle.pim_session.specs.Request.{long_line_words, wrong_words, RequestsLine, RequestsText, Requests}
-use Rattle.pim_session.specs.Seen.{RequestsFrom}
 
 -- ---- what is held
 

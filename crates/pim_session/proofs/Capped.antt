@@ -1,22 +1,14 @@
 -- What the route table says of a row whose length is capped at 255, above the bits of each address.
-use Rattle.std.proofs.Common.{◌≡◌, ℕ, ◌≤◌, ◌⊎◌, Bool, true, false, nat_lt, min, not, ◌&&◌, List, [], ◌∷◌, ◌++◌, Result, Ok, Err, refl, sym, ap, subst, ◌∙◌, inl, inr, arith}
+use Rattle.pim_session.proofs.Words.{◌≡◌, ℕ, ◌≤◌, ◌⊎◌, Bool, true, false, nat_lt, min, not, ◌&&◌, List, [], ◌∷◌, ◌++◌, Result, Ok}
+use Rattle.pim_session.proofs.Words.{Err, refl, sym, ap, subst, ◌∙◌, inl, inr, arith, ltb-true, ltb-false, lt-ltb, AddressFamily}
+use Rattle.pim_session.proofs.Words.{Ipv4, Ipv6, RouteFault, IsRefusedBy, Prefix, RouteTable, prefix_faults, room_faults}
+use Rattle.pim_session.proofs.Words.{is_group_prefix, rp_faults, via_faults, with_rp, with_via, is_in, address_bytes, RouteRow}
+use Rattle.pim_session.proofs.Words.{AnswerFault, fault_words, done_text, ok_line, fault_line, family_with, prefix_of}
+use Rattle.pim_session.proofs.Words.{with_routes, route_words, AddsRow, AddsRp, AddsVia, IsAdded, fixed_after, Gathered}
 use Rattle.std.specs.Prelude.{OnOk, OnErr}
-use Rattle.std.proofs.lemmas.Bool.{ltb-true, ltb-false, lt-ltb}
-use Rattle.pim_addr.specs.declared.family.AddressFamily.{AddressFamily}
-use Rattle.pim_addr.specs.declared.family.AddressFamily.TheVariants.{Ipv4, Ipv6}
-use Rattle.pim_addr.specs.declared.route_fault.RouteFault.{RouteFault}
 use Rattle.pim_addr.specs.declared.route_fault.RouteFault.TheVariants.{Length, Kind}
 use Rattle.pim_addr.specs.Address.{mask_length, is_source}
 use Rattle.pim_addr.specs.Faults.{fault_if}
-use Rattle.pim_addr.specs.Routes.{IsRefusedBy, Prefix, RouteTable, prefix_faults, room_faults, is_group_prefix, rp_faults, via_faults, with_rp, with_via}
-use Rattle.pim_lines.specs.AnyAddress.{is_in, address_bytes}
-use Rattle.pim_request.specs.declared.command.RouteRow.{RouteRow}
-use Rattle.pim_answers.specs.declared.fault.AnswerFault.{AnswerFault}
-use Rattle.pim_answers.specs.Fault.{fault_words, done_text}
-use Rattle.pim_answers.specs.Lines.{ok_line, fault_line}
-use Rattle.pim_session.specs.Gathering.{family_with, prefix_of, with_routes, route_words, AddsRow, AddsRp, AddsVia}
-use Rattle.pim_session.specs.SetupSeen.{IsAdded, fixed_after}
-use Rattle.pim_session.specs.State.{Gathered}
 use Rattle.pim_session.proofs.Setups.{row_added, row_refused, row_unheld}
 
 -- ---- lengths

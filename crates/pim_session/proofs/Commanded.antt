@@ -1,31 +1,18 @@
 -- What commands do, from what their calls do.
-use Rattle.std.proofs.Common.{◌≡◌, ℕ, Bool, true, false, List, Option, None, Some, Result, Ok, Err, codes, refl, sym, subst, ap}
+use Rattle.pim_session.proofs.Words.{◌≡◌, ℕ, Bool, true, false, List, Option, None, Some, Result, Ok, Err, codes, refl, sym}
+use Rattle.pim_session.proofs.Words.{subst, ap, AddressFamily, AppendsAll, Port, Rp, Via, Limit, Start, Run, Packet, Now, Next}
+use Rattle.pim_session.proofs.Words.{State, Wants, Neighbours, Messages, Keep, Change, Same, Reset, RouterState, FromText}
+use Rattle.pim_session.proofs.Words.{AnswersKeep, Kept, ok_line, fault_line, AnswersPacket, AnswersFrom, AnswersRun, Request}
+use Rattle.pim_session.proofs.Words.{Command, From, AnyRow, AnyRows, with_limit, Answers, AnswersBefore, AnswersAfter, Gathers}
+use Rattle.pim_session.proofs.Words.{Serves, Reports, session_in, Adds, any_seen, row_in, Gathered, gathering, serving, Session}
+use Rattle.pim_session.proofs.Words.{nothing_gathered, Configured, session_after}
 use Rattle.std.specs.Result.{result_and}
-use Rattle.pim_addr.specs.declared.family.AddressFamily.{AddressFamily}
-use Rattle.pim_device.specs.Device.{AppendsAll}
 use Rattle.pim_request.specs.declared.command.Command.{Command as AnyCommand}
-use Rattle.pim_request.specs.declared.command.Command.TheVariants.{Port, Rp, Via, Limit, Start, Run, Packet, Now, Next, State, Wants, Neighbours, Messages, Keep, Change, Same, Reset}
 use Rattle.pim_request.specs.declared.command.Packet.{Packet as PacketOf}
 use Rattle.pim_request.specs.declared.command.KeptWhat.{KeptWhat as Keeping}
-use Rattle.pim_router.specs.State.{RouterState}
-use Rattle.pim_answers.specs.declared.packets.FromText.{FromText}
 use Rattle.pim_answers.specs.Answered.{Answered, Wrote}
-use Rattle.pim_answers.specs.Demanding.{AnswersKeep}
-use Rattle.pim_answers.specs.Kept.{Kept}
-use Rattle.pim_answers.specs.Lines.{ok_line, fault_line}
-use Rattle.pim_answers.specs.Packets.{AnswersPacket, AnswersFrom}
-use Rattle.pim_answers.specs.Running.{AnswersRun}
-use Rattle.pim_session.specs.declared.request.Request.{Request}
-use Rattle.pim_session.specs.declared.request.Request.TheVariants.{Command, From}
-use Rattle.pim_session.specs.declared.setup.AnyRow.{AnyRow}
 use Rattle.pim_session.specs.declared.setup.AnyRow.TheVariants as kind
-use Rattle.pim_session.specs.declared.setup.AnyRows.{AnyRows}
 use Rattle.pim_session.specs.declared.setup.AnyRows.TheVariants.{Free, Ipv4, Ipv6}
-use Rattle.pim_session.specs.Gathering.{with_limit}
-use Rattle.pim_session.specs.Answers.{Answers, AnswersBefore, AnswersAfter, Gathers, Serves, Reports, session_in}
-use Rattle.pim_session.specs.SetupSeen.{Adds, any_seen, row_in}
-use Rattle.pim_session.specs.State.{Gathered, gathering, serving, Session, nothing_gathered}
-use Rattle.pim_session.specs.Underway.{Configured, session_after}
 
 -- what was answered, said otherwise
 pub answered_as : {S T A E : Type 0} (Does : List ℕ → S → Type 0) (More : List ℕ → T → Type 0) (seen : S → T) (old new : Option (List ℕ)) (r : Result A E) (after : S)

@@ -1,12 +1,7 @@
 -- Dialogs and what was written of them, one after the other.
-use Rattle.std.proofs.Common.{◌≡◌, ℕ, ◌+◌, List, [], ◌∷◌, ◌++◌, length, take, Option, None, Some, refl, sym, ap, subst, ◌∙◌, arith, append_assoc, append-nil, length-append}
-use Rattle.std.proofs.KnownBytes.{Appends-trans}
-use Rattle.std.specs.Io.KnownBytes.{Appends, Keeps}
-use Rattle.pim_device.specs.Device.{AppendsFront}
-use Rattle.pim_request.specs.Items.{Item}
-use Rattle.pim_session.specs.Dialog.{IsAnswer, IsDialog, AnswersFirst, AnswersAll, Wrote}
-use Rattle.pim_session.specs.State.{Session}
-use Rattle.pim_session.specs.Underway.{Went}
+use Rattle.pim_session.proofs.Words.{◌≡◌, ℕ, ◌+◌, List, [], ◌∷◌, ◌++◌, length, take, Option, None, Some, refl, sym, ap, subst}
+use Rattle.pim_session.proofs.Words.{◌∙◌, arith, append_assoc, append-nil, length-append, Appends-trans, Appends, Keeps}
+use Rattle.pim_session.proofs.Words.{AppendsFront, Item, IsAnswer, IsDialog, AnswersFirst, AnswersAll, Wrote, Session, Went}
 
 -- ---- bytes
 

@@ -1,3 +1,4 @@
+pub mod Words
 pub mod Dialogs
 pub mod Underway
 pub mod Setups

@@ -1,22 +1,12 @@
 -- A router of either family: how it starts, and what is kept of it.
-use Rattle.std.proofs.Common.{◌≡◌, ℕ, List, [], ◌∷◌, Option, Result, Ok, Err, codes, refl, sym, ap, subst, ◌∙◌, inl, inr}
-use Rattle.pim_addr.specs.declared.family.AddressFamily.{AddressFamily}
-use Rattle.pim_device.specs.Device.{AppendsAll}
+use Rattle.pim_session.proofs.Words.{◌≡◌, ℕ, List, [], ◌∷◌, Option, Result, Ok, Err, codes, refl, sym, ap, subst, ◌∙◌}
+use Rattle.pim_session.proofs.Words.{inl, inr, AddressFamily, AppendsAll, config_faults, IsMadeUnless, RouterState}
+use Rattle.pim_session.proofs.Words.{new_router, AnswerFault, Answered, AnswersKeep, fault_words, Kept, with_kept}
+use Rattle.pim_session.proofs.Words.{ok_line, fault_line, setup_of, StartsIn, IsKeptFor, Gathered, serving}
 use Rattle.pim_request.specs.declared.command.KeptWhat.{KeptWhat as Keeping}
 use Rattle.pim_router.specs.declared.config.ConfigFault.{ConfigFault}
-use Rattle.pim_router.specs.Config.{config_faults, IsMadeUnless}
-use Rattle.pim_router.specs.State.{RouterState, new_router}
-use Rattle.pim_answers.specs.declared.fault.AnswerFault.{AnswerFault}
 use Rattle.pim_answers.specs.declared.kept.AnyForm.{AnyForm}
-use Rattle.pim_answers.specs.Answered.{Answered}
-use Rattle.pim_answers.specs.Demanding.{AnswersKeep}
-use Rattle.pim_answers.specs.Fault.{fault_words}
-use Rattle.pim_answers.specs.Kept.{Kept, with_kept}
-use Rattle.pim_answers.specs.Lines.{ok_line, fault_line}
 use Rattle.pim_answers.specs.StoreSeen.{any_seen}
-use Rattle.pim_session.specs.Gathering.{setup_of, StartsIn}
-use Rattle.pim_session.specs.RouterSeen.{IsKeptFor}
-use Rattle.pim_session.specs.State.{Gathered, serving}
 use Rattle.pim_session.proofs.Commanded.{answered_text}
 
 -- ---- the start

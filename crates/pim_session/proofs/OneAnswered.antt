@@ -1,32 +1,18 @@
 -- A request has one answer, but that memory may be refused.
-use Rattle.std.proofs.Common.{◌≡◌, ◌∙◌, ◌≢◌, sym, ap, subst, inl, inr, ℕ, Bool, true, false, List, [], ◌∷◌, map, Option, None, Some, Result, Ok, Err, codes}
-use Rattle.pim_addr.specs.declared.family.AddressFamily.{AddressFamily}
-use Rattle.pim_addr.specs.declared.route_fault.RouteFault.{RouteFault}
-use Rattle.pim_addr.specs.Routes.{RouteTable, with_rp, with_via, rp_faults, via_faults}
+use Rattle.pim_session.proofs.Words.{◌≡◌, ◌∙◌, ◌≢◌, sym, ap, subst, inl, inr, ℕ, Bool, true, false, List, [], ◌∷◌, map, Option}
+use Rattle.pim_session.proofs.Words.{None, Some, Result, Ok, Err, codes, AddressFamily, RouteFault, RouteTable, with_rp, with_via}
+use Rattle.pim_session.proofs.Words.{rp_faults, via_faults, Stated, PortRow, RouteRow, Sender, Port, Rp, Via, Limit, Start, Run}
+use Rattle.pim_session.proofs.Words.{Packet, Now, Next, State, Wants, Neighbours, Messages, Keep, Change, Same, Reset}
+use Rattle.pim_session.proofs.Words.{SameCommand, address_bytes, config_faults, RouterState, new_router, FromText, differ_from}
+use Rattle.pim_session.proofs.Words.{family_words, Kept, memory_line, fault_line, AnswersFrom, Request, Command, From, session_in}
+use Rattle.pim_session.proofs.Words.{NotStarted, Gathers, Gathering, Starting, Reports, Serves, Serving, AnswersIn, Answers}
+use Rattle.pim_session.proofs.Words.{family_with, with_port, with_routes, prefix_of, route_words, AddsRow, Starts, with_limit}
+use Rattle.pim_session.proofs.Words.{config_words, setup_of, Gathered, Phase, gathering, serving, Session, nothing_gathered}
 use Rattle.pim_lines.specs.declared.either.AnyAddress.{AnyAddress}
-use Rattle.pim_text.specs.declared.line.Stated.{Stated}
-use Rattle.pim_request.specs.declared.command.PortRow.{PortRow}
-use Rattle.pim_request.specs.declared.command.RouteRow.{RouteRow}
-use Rattle.pim_request.specs.declared.command.Sender.{Sender}
 use Rattle.pim_request.specs.declared.command.AnyWriting.{AnyWriting}
 use Rattle.pim_request.specs.declared.command.Command.{Command as AnyCommand}
-use Rattle.pim_request.specs.declared.command.Command.TheVariants.{Port, Rp, Via, Limit, Start, Run, Packet, Now, Next, State, Wants, Neighbours, Messages, Keep, Change, Same, Reset}
-use Rattle.pim_request.specs.OneRequest.{SameCommand}
-use Rattle.pim_lines.specs.AnyAddress.{address_bytes}
-use Rattle.pim_router.specs.Config.{config_faults}
-use Rattle.pim_router.specs.State.{RouterState, new_router}
-use Rattle.pim_answers.specs.declared.packets.FromText.{FromText}
 use Rattle.pim_answers.specs.Answered.{Refused, RefusedIf, RefusedBy, OrMemory, Done}
-use Rattle.pim_answers.specs.Families.{differ_from, family_words}
-use Rattle.pim_answers.specs.Kept.{Kept}
-use Rattle.pim_answers.specs.Lines.{memory_line, fault_line}
 use Rattle.pim_answers.specs.OneAnswer.{OneAnswer, OneText, OneRun, OnePacket, OneFrom, OneKeep, OneNext, OneWants, OneMessages, OneChange, OneSame}
-use Rattle.pim_answers.specs.Packets.{AnswersFrom}
-use Rattle.pim_session.specs.declared.request.Request.{Request}
-use Rattle.pim_session.specs.declared.request.Request.TheVariants.{Command, From}
-use Rattle.pim_session.specs.Answers.{session_in, NotStarted, Gathers, Gathering, Starting, Reports, Serves, Serving, AnswersIn, Answers}
-use Rattle.pim_session.specs.Gathering.{family_with, with_port, with_routes, prefix_of, route_words, AddsRow, Starts, with_limit, config_words, setup_of}
-use Rattle.pim_session.specs.State.{Gathered, Phase, gathering, serving, Session, nothing_gathered}
 use Rattle.pim_session.proofs.OneAsked.{SameFrom, SameRequest, SameAsked}
 
 -- ---- refusals

@@ -1,17 +1,13 @@
 -- What an item asks for is one thing.
-use Rattle.std.proofs.Common.{◌≡◌, ◌∙◌, sym, ap, subst, refl, inl, inr, ℕ, Bool, true, false, List, ◌++◌, Result, Ok, Err, codes, decimal, length, arith}
-use Rattle.std.proofs.lemmas.Bool.{false≢true}
-use Rattle.pim_text.specs.declared.line.Stated.{Stated}
-use Rattle.pim_text.specs.Read.{IsRead, IsWrongLine}
+use Rattle.pim_session.proofs.Words.{◌≡◌, ◌∙◌, sym, ap, subst, refl, inl, inr, ℕ, Bool, true, false, List, ◌++◌, Result}
+use Rattle.pim_session.proofs.Words.{Ok, Err, codes, decimal, length, arith, false≢true, Stated, IsRead, IsWrongLine}
+use Rattle.pim_session.proofs.Words.{WordsFault, SameCommand, SameFault, OneCommand, OneWordsFault, NoFaultIfStated}
+use Rattle.pim_session.proofs.Words.{OneSender, OneSenderFault, NoSenderFaultIfStated, Item, a_line, a_long_line}
+use Rattle.pim_session.proofs.Words.{a_text, Text, bytes_of_lines, has_long_line, FromText, Request, Command, From}
+use Rattle.pim_session.proofs.Words.{wrong_words, long_line_words, IsWrongIn, IsBadText, IsTextFault, IsFrom}
+use Rattle.pim_session.proofs.Words.{RequestsLine, RequestsText, RequestsTextOf, Requests}
 use Rattle.pim_text.specs.OneReading.{OneRead, OneWrongLine, NoWrongLineIfStated}
-use Rattle.pim_request.specs.declared.command.WordsFault.{WordsFault}
 use Rattle.pim_request.specs.declared.command.WordsFault.TheVariants.{Word, Address, Hex}
-use Rattle.pim_request.specs.OneRequest.{SameCommand, SameFault, OneCommand, OneWordsFault, NoFaultIfStated, OneSender, OneSenderFault, NoSenderFaultIfStated}
-use Rattle.pim_request.specs.Items.{Item, a_line, a_long_line, a_text, Text, bytes_of_lines, has_long_line}
-use Rattle.pim_answers.specs.declared.packets.FromText.{FromText}
-use Rattle.pim_session.specs.declared.request.Request.{Request}
-use Rattle.pim_session.specs.declared.request.Request.TheVariants.{Command, From}
-use Rattle.pim_session.specs.Request.{wrong_words, long_line_words, IsWrongIn, IsBadText, IsTextFault, IsFrom, RequestsLine, RequestsText, RequestsTextOf, Requests}
 
 -- ---- the same request
 

@@ -1,8 +1,6 @@
 -- A session has one dialog, but that memory may be refused.
-use Rattle.std.proofs.Common.{◌∙◌, sym, subst, [], ◌∷◌, ◌++◌}
-use Rattle.pim_session.specs.Dialog.{IsDialog}
+use Rattle.pim_session.proofs.Words.{◌∙◌, sym, subst, [], ◌∷◌, ◌++◌, IsDialog, Session}
 use Rattle.pim_session.specs.OneDialog.{IsDialogWithRoom, OneAnswerToItem, OneDialog, DialogWithRoom}
-use Rattle.pim_session.specs.State.{Session}
 use Rattle.pim_session.proofs.OneAsked.{one_asked}
 use Rattle.pim_session.proofs.OneAsked as asking
 use Rattle.pim_session.proofs.OneAnswered.{one_answered}

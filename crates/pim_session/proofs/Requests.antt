@@ -1,12 +1,10 @@
 -- What a line asks for has what the calls of a router require.
-use Rattle.std.proofs.Common.{◌≡◌, ℕ, suc, ◌≤◌, ◌==◌, Bool, true, false, List, [], ◌∷◌, length, refl, subst, ◌∙◌, ap, arith, codes, decimal}
+use Rattle.pim_session.proofs.Words.{◌≡◌, ℕ, suc, ◌≤◌, ◌==◌, Bool, true, false, List, [], ◌∷◌, length, refl, subst, ◌∙◌, ap}
+use Rattle.pim_session.proofs.Words.{arith, codes, decimal, Port, Rp, Via, Limit, Start, Run, Packet, Now, Next, State, Wants}
+use Rattle.pim_session.proofs.Words.{Neighbours, Messages, Keep, Change, Same, Reset, States, line_limit, IsFitCommand}
 use Rattle.std.specs.List.{slice_split, onto_first}
 use Rattle.pim_request.specs.declared.command.Command.{Command}
-use Rattle.pim_request.specs.declared.command.Command.TheVariants.{Port, Rp, Via, Limit, Start, Run, Packet, Now, Next, State, Wants, Neighbours, Messages, Keep, Change, Same, Reset}
-use Rattle.pim_request.specs.Commands.{States}
 use Rattle.pim_request.specs.Forms.{words_of}
-use Rattle.pim_request.specs.Items.{line_limit}
-use Rattle.pim_session.specs.Seen.{IsFitCommand}
 
 -- each of these words has at most so many bytes
 abbrev AreShort : ℕ → List (List ℕ) → Type 0

@@ -1,30 +1,14 @@
 -- The loops over items: each way on and each end.
-use Rattle.std.proofs.Common.{◌≡◌, ◌<◌, ℕ, Bool, true, false, List, [], ◌∷◌, map, inr, Option, None, Some, Result, Ok, Err, refl, sym, subst}
-use Rattle.std.specs.Option.{IfSome}
-use Rattle.std.specs.Io.KnownBytes.{Appends, Keeps}
-use Rattle.pim_device.specs.Device.{AppendsFront}
-use Rattle.pim_request.specs.declared.command.Command.TheVariants.{Start}
-use Rattle.pim_request.specs.declared.input.Stopped.{Stopped}
+use Rattle.pim_session.proofs.Words.{◌≡◌, ◌<◌, ℕ, Bool, true, false, List, [], ◌∷◌, map, inr, Option, None, Some, Result, Ok, Err}
+use Rattle.pim_session.proofs.Words.{refl, sym, subst, IfSome, Appends, Keeps, AppendsFront, Start, Stopped, Item, items_of}
+use Rattle.pim_session.proofs.Words.{Reading, IsItem, GivesItem, LeavesLess, Request, Command, SessionEnd, Whole, RefusedBy}
+use Rattle.pim_session.proofs.Words.{OrMemory, Done, Kept, AddressFamily, config_faults, RouterState, new_router, ok_line}
+use Rattle.pim_session.proofs.Words.{fault_line, memory_line, Answers, session_in, Converses, IsAnswer, Starts, config_words}
+use Rattle.pim_session.proofs.Words.{setup_of, Requests, Gathered, Phase, Session, gathering, serving, Configured, GoesOn, Ended}
+use Rattle.pim_session.proofs.Words.{Begins, BeginsServing, IsRefused}
 use Rattle.pim_request.specs.declared.input.Stopped.TheVariants as stopped
 use Rattle.pim_request.specs.declared.items.Item.{Item as Given}
-use Rattle.pim_request.specs.Items.{Item, items_of}
-use Rattle.pim_request.specs.Reading.{Reading, IsItem, GivesItem, LeavesLess}
-use Rattle.pim_session.specs.declared.request.Request.{Request}
-use Rattle.pim_session.specs.declared.request.Request.TheVariants.{Command}
-use Rattle.pim_session.specs.declared.serving.SessionEnd.{SessionEnd}
 use Rattle.pim_session.specs.declared.serving.SessionEnd.TheVariants.{Refused, Reset, Input}
-use Rattle.pim_answers.specs.Answered.{Whole, RefusedBy, OrMemory, Done}
-use Rattle.pim_answers.specs.Kept.{Kept}
-use Rattle.pim_addr.specs.declared.family.AddressFamily.{AddressFamily}
-use Rattle.pim_router.specs.Config.{config_faults}
-use Rattle.pim_router.specs.State.{RouterState, new_router}
-use Rattle.pim_answers.specs.Lines.{ok_line, fault_line, memory_line}
-use Rattle.pim_session.specs.Answers.{Answers, session_in}
-use Rattle.pim_session.specs.Dialog.{Converses, IsAnswer}
-use Rattle.pim_session.specs.Gathering.{Starts, config_words, setup_of}
-use Rattle.pim_session.specs.Request.{Requests}
-use Rattle.pim_session.specs.State.{Gathered, Phase, Session, gathering, serving}
-use Rattle.pim_session.specs.Underway.{Configured, GoesOn, Ended, Begins, BeginsServing, IsRefused}
 use Rattle.pim_session.proofs.Underway.{on_some, started, ended_after}
 use Rattle.pim_session.proofs.Dialogs.{went_one, front_one}
 

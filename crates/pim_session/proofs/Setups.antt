@@ -1,13 +1,7 @@
 -- Rows that are added to what is gathered.
-use Rattle.std.proofs.Common.{◌≡◌, ℕ, true, List, [], ◌∷◌, codes, refl, ap, inl, inr}
-use Rattle.pim_addr.specs.declared.family.AddressFamily.{AddressFamily}
-use Rattle.pim_addr.specs.declared.route_fault.RouteFault.{RouteFault}
-use Rattle.pim_addr.specs.Routes.{RouteTable}
-use Rattle.pim_lines.specs.AnyAddress.{is_in}
-use Rattle.pim_request.specs.declared.command.RouteRow.{RouteRow}
-use Rattle.pim_answers.specs.Lines.{ok_line, fault_line}
-use Rattle.pim_session.specs.Gathering.{family_with, with_routes, route_words, AddsRow}
-use Rattle.pim_session.specs.State.{Gathered}
+use Rattle.pim_session.proofs.Words.{◌≡◌, ℕ, true, List, [], ◌∷◌, codes, refl, ap, inl, inr, AddressFamily, RouteFault}
+use Rattle.pim_session.proofs.Words.{RouteTable, is_in, RouteRow, ok_line, fault_line, family_with, with_routes}
+use Rattle.pim_session.proofs.Words.{route_words, AddsRow, Gathered}
 
 -- ---- rows of the table
 

@@ -1,26 +1,11 @@
 -- A session in progress, item by item.
-use Rattle.std.proofs.Common.{◌≡◌, ℕ, List, ◌∷◌, Option, None, Some, Result, Ok, Err, refl, subst}
-use Rattle.std.specs.Option.{IfSome}
-use Rattle.std.specs.Io.KnownBytes.{Appends, Keeps}
-use Rattle.std.proofs.KnownBytes.{Appends-trans}
-use Rattle.pim_device.specs.Device.{AppendsFront}
-use Rattle.pim_request.specs.declared.command.Command.TheVariants.{Start}
-use Rattle.pim_request.specs.declared.input.Stopped.{Stopped}
+use Rattle.pim_session.proofs.Words.{◌≡◌, ℕ, List, ◌∷◌, Option, None, Some, Result, Ok, Err, refl, subst, IfSome, Appends, Keeps}
+use Rattle.pim_session.proofs.Words.{Appends-trans, AppendsFront, Start, Stopped, Item, items_of, Reading, IsItem, IsFirstItem}
+use Rattle.pim_session.proofs.Words.{GivesItem, Request, Command, SessionEnd, Whole, Part, Kept, Answers, IsAnswer, AnswersFirst}
+use Rattle.pim_session.proofs.Words.{Wrote, Requests, Session, Went, GoesOn, Ended, Begins}
 use Rattle.pim_request.specs.declared.input.Stopped.TheVariants as stopped
 use Rattle.pim_request.specs.declared.items.Item.{Item as Given}
-use Rattle.pim_request.specs.Items.{Item, items_of}
-use Rattle.pim_request.specs.Reading.{Reading, IsItem, IsFirstItem, GivesItem}
-use Rattle.pim_session.specs.declared.request.Request.{Request}
-use Rattle.pim_session.specs.declared.request.Request.TheVariants.{Command}
-use Rattle.pim_session.specs.declared.serving.SessionEnd.{SessionEnd}
 use Rattle.pim_session.specs.declared.serving.SessionEnd.TheVariants.{Refused, Reset, Input}
-use Rattle.pim_answers.specs.Answered.{Whole, Part}
-use Rattle.pim_answers.specs.Kept.{Kept}
-use Rattle.pim_session.specs.Answers.{Answers}
-use Rattle.pim_session.specs.Dialog.{IsAnswer, AnswersFirst, Wrote}
-use Rattle.pim_session.specs.Request.{Requests}
-use Rattle.pim_session.specs.State.{Session}
-use Rattle.pim_session.specs.Underway.{Went, GoesOn, Ended, Begins}
 use Rattle.pim_session.proofs.Dialogs.{went_none, went_one, went_on, went_all, went_first, went_front, front_one, keeps_nil}
 
 -- the begin

@@ -1,25 +1,11 @@
 -- What deliveries that tell a change make of a machine's course.
-use Rattle.std.proofs.Common.{◌≡◌, ℕ, ◌+◌, ◌≤◌, Bool, true, false, cond, ◌&&◌, ◌||◌, List, [], ◌∷◌, Option, None, Some, eqb, refl, sym, ap, subst, ◌∙◌, arith}
-use Rattle.std.specs.List.{list_any}
-use Rattle.std.specs.Option.{is_some}
-use Rattle.std.specs.Prelude.{nat_eq}
-use Rattle.std.specs.Cmp.Lexicographic.{pointwise, same_text, lists_equiv}
-use Rattle.std.specs.Cmp.{nat_eq_equiv}
-use Rattle.std.proofs.lemmas.Bool.{false≢true, eq-eqb, eqb-true}
-use Rattle.pim_down.specs.declared.machines.key.What.{What}
-use Rattle.pim_down.specs.declared.machines.key.What.TheVariants.{Star, Source, Rpt}
-use Rattle.pim_down.specs.declared.machines.key.Key.{Key}
-use Rattle.pim_down.specs.Key.{same_key}
-use Rattle.pim_down.specs.Hearing.{Event, key_of, is_rpt, is_star, is_rpt_on, is_rpt_of, is_star_join}
-use Rattle.pim_down.specs.Laws.{KeysAreDistinct}
-use Rattle.pim_form.specs.NormalForm.{GroupForm, is_listed}
-use Rattle.pim_form.specs.Rows.{exceptions_of}
-use Rattle.pim_form.specs.Settled.{group_in}
-use Rattle.pim_fresh.specs.Exchange.{Exchange, starts, has_unit_of}
-use Rattle.pim_fresh.specs.Deliveries.{Delivery, is_delivered, final_moment}
-use Rattle.pim_settling.specs.Course.{Course, absent, course_of_unit}
-use Rattle.pim_settling.specs.Hearing.{course_of}
-use Rattle.pim_settling.specs.Carrying.{carried_if, rpt_carried, carried_of, ExceptionsFollow, CarriesOnly}
+use Rattle.pim_settling.proofs.Words.{◌≡◌, ℕ, ◌+◌, ◌≤◌, Bool, true, false, cond, ◌&&◌, ◌||◌, List, [], ◌∷◌, Option, None, Some}
+use Rattle.pim_settling.proofs.Words.{eqb, refl, sym, ap, subst, ◌∙◌, arith, list_any, is_some, nat_eq, pointwise, same_text}
+use Rattle.pim_settling.proofs.Words.{lists_equiv, nat_eq_equiv, false≢true, eq-eqb, eqb-true, What, Star, Source, Rpt, Key}
+use Rattle.pim_settling.proofs.Words.{same_key, Event, key_of, is_rpt, is_star, is_rpt_on, is_rpt_of, is_star_join}
+use Rattle.pim_settling.proofs.Words.{KeysAreDistinct, GroupForm, is_listed, exceptions_of, group_in, Exchange, starts}
+use Rattle.pim_settling.proofs.Words.{has_unit_of, Delivery, is_delivered, final_moment, Course, absent, course_of_unit}
+use Rattle.pim_settling.proofs.Words.{course_of, carried_if, rpt_carried, carried_of, ExceptionsFollow, CarriesOnly}
 use Rattle.pim_settling.proofs.Messages.{absorbs, or_false, Tells, stars, is_starred, unstarred, heard_named, heard_other, heard_starred}
 
 pub and_true : (a b : Bool) → (a && b) ≡ true → (a ≡ true) × (b ≡ true)

@@ -1,17 +1,8 @@
 -- The courses of machines, by induction on the deliveries.
-use Rattle.std.proofs.Common.{ℕ, ◌+◌, List, [], ◌∷◌, Option, sym, subst}
-use Rattle.pim_down.specs.declared.machines.key.Key.{Key}
-use Rattle.pim_down.specs.declared.machines.machine.Machine.{Machine}
-use Rattle.pim_down.specs.declared.machines.step.Step.TheVariants.{Reached}
-use Rattle.pim_down.specs.Records.{IsAscending, machine_at}
-use Rattle.pim_down.specs.Time.{Downstream}
-use Rattle.pim_down.specs.Laws.{KeysAreDistinct, HearingKeepsTheOrder, HearingActsAtEachKey}
-use Rattle.pim_fresh.specs.Exchange.{Exchange, starts}
-use Rattle.pim_fresh.specs.Deliveries.{Delivery}
+use Rattle.pim_settling.proofs.Words.{ℕ, ◌+◌, List, [], ◌∷◌, Option, sym, subst, Key, Machine, Reached, IsAscending, machine_at}
+use Rattle.pim_settling.proofs.Words.{Downstream, KeysAreDistinct, HearingKeepsTheOrder, HearingActsAtEachKey, Exchange, starts}
+use Rattle.pim_settling.proofs.Words.{Delivery, Course, IsOn, course_heard, Passes, Hears, course_of, CoursesAreKept}
 use Rattle.pim_fresh.specs.Hearing.{after_message}
-use Rattle.pim_settling.specs.Course.{Course, IsOn, course_heard}
-use Rattle.pim_settling.specs.Hearing.{Passes, Hears, course_of}
-use Rattle.pim_settling.specs.Laws.{CoursesAreKept}
 use Rattle.pim_settling.proofs.Turns.{IsEnd, arrives, past, past_is_on}
 use Rattle.pim_settling.proofs.Events.{heard_on}
 

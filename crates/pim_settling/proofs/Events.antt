@@ -1,19 +1,12 @@
 -- What a message makes of a machine is what it makes of its course.
-use Rattle.std.proofs.Common.{◌≡◌, inl, inr, ℕ, ◌+◌, ◌-◌, ◌≤◌, Bool, true, false, cond, ◌&&◌, List, [], ◌∷◌, Option, None, Some, refl, sym, ap, subst, ◌∙◌, arith, eqb}
-use Rattle.std.specs.Cmp.Lexicographic.{pointwise}
-use Rattle.std.specs.Prelude.{nat_eq}
-use Rattle.std.proofs.lemmas.Bool.{false≢true}
-use Rattle.pim_down.specs.declared.machines.key.What.{What}
-use Rattle.pim_down.specs.declared.machines.key.What.TheVariants.{Star, Source, Rpt}
-use Rattle.pim_down.specs.declared.machines.key.Key.{Key}
-use Rattle.pim_down.specs.declared.machines.machine.State.{State}
-use Rattle.pim_down.specs.declared.machines.machine.State.TheVariants.{Join, PrunePending, Prune, PruneTmp, PrunePendingTmp}
-use Rattle.pim_down.specs.declared.machines.machine.Machine.{Machine}
-use Rattle.pim_down.specs.Key.{same_key}
-use Rattle.pim_down.specs.Tables.{Start, machine_in, greater, on_join, on_prune, on_star_join, on_rpt_prune, on_end}
-use Rattle.pim_down.specs.Hearing.{Event, key_of, on_own, is_rpt, is_star_join, is_rpt_on, is_rpt_of, on_rpts, effect, effects, at_end, heard_at}
-use Rattle.pim_down.specs.Laws.{KeysAreDistinct}
-use Rattle.pim_settling.specs.Course.{Course, absent, stays, waits, IsHeld, IsPending, IsOnBy, IsOn, pruned, excepted, course_of_unit, Within, after_event, after_events, at_the_end, course_heard}
+use Rattle.pim_settling.proofs.Words.{◌≡◌, inl, inr, ℕ, ◌+◌, ◌-◌, ◌≤◌, Bool, true, false, cond, ◌&&◌, List, [], ◌∷◌, Option, None}
+use Rattle.pim_settling.proofs.Words.{Some, refl, sym, ap, subst, ◌∙◌, arith, eqb, pointwise, nat_eq, false≢true, What, Star}
+use Rattle.pim_settling.proofs.Words.{Source, Rpt, Key, State, Join, PrunePending, Prune, PruneTmp, PrunePendingTmp, Machine}
+use Rattle.pim_settling.proofs.Words.{same_key, Start, machine_in, greater, on_join, on_prune, on_star_join, on_rpt_prune, on_end}
+use Rattle.pim_settling.proofs.Words.{Event, key_of, on_own, is_rpt, is_star_join, is_rpt_on, is_rpt_of, on_rpts, effect, effects}
+use Rattle.pim_settling.proofs.Words.{at_end, heard_at, KeysAreDistinct, Course, absent, stays, waits, IsHeld, IsPending, IsOnBy}
+use Rattle.pim_settling.proofs.Words.{IsOn, pruned, excepted, course_of_unit, Within, after_event, after_events, at_the_end}
+use Rattle.pim_settling.proofs.Words.{course_heard}
 
 -- ---- a machine within a message
 

@@ -1,30 +1,17 @@
 -- All that is told of a change is named by the message of some run.
-use Rattle.std.proofs.Common.{◌≡◌, ℕ, suc, ◌<◌, Bool, true, false, cond, not, ◌&&◌, ◌||◌, List, [], ◌∷◌, ◌++◌, map, length, Option, None, Some, refl, sym, ap, subst, ◌∙◌, arith}
-use Rattle.std.specs.List.{flat_map, list_any}
-use Rattle.std.specs.Option.{is_some}
+use Rattle.pim_settling.proofs.Words.{◌≡◌, ℕ, suc, ◌<◌, Bool, true, false, cond, not, ◌&&◌, ◌||◌, List, [], ◌∷◌, ◌++◌, map}
+use Rattle.pim_settling.proofs.Words.{length, Option, None, Some, refl, sym, ap, subst, ◌∙◌, arith, flat_map, list_any, is_some}
+use Rattle.pim_settling.proofs.Words.{Less, Equal, Greater, nat_cmp, slice_cmp, same_text, false≢true, list_any-append, What}
+use Rattle.pim_settling.proofs.Words.{Star, Source, Rpt, Key, same_key, Event, is_known, event, list_events, key_of}
+use Rattle.pim_settling.proofs.Words.{KeysAreDistinct, GroupForm, same_address, is_listed, groups_of, group_in, unwanted}
+use Rattle.pim_settling.proofs.Words.{has_unit_of, JoinRpt, PruneRpt, JoinSource, PruneSource, Action, star_joined, star_pruned}
+use Rattle.pim_settling.proofs.Words.{of_source, lacking, star_change, sources_change, group_change, ChangeUnit, unit_of}
+use Rattle.pim_settling.proofs.Words.{inserted, in_order, change_at, change, rp_entry, GroupActions, set_in_front, in_front}
+use Rattle.pim_settling.proofs.Words.{grouped, run_events, run_at, KnowRps, carried_if, rpt_carried, carried_of}
 use Rattle.std.specs.declared.cmp.Ordering.{Ordering}
-use Rattle.std.specs.declared.cmp.Ordering.TheVariants.{Less, Equal, Greater}
-use Rattle.std.specs.Ordering.{nat_cmp}
-use Rattle.std.specs.Cmp.Lexicographic.{slice_cmp, same_text}
 use Rattle.std.specs.FinMap.{slice_cmp-IsAntisymmetric, nat_cmp-IsAntisymmetric}
-use Rattle.std.proofs.lemmas.Bool.{false≢true}
-use Rattle.std.proofs.lemmas.List.Folds.{list_any-append}
-use Rattle.pim_down.specs.declared.machines.key.What.{What}
-use Rattle.pim_down.specs.declared.machines.key.What.TheVariants.{Star, Source, Rpt}
-use Rattle.pim_down.specs.declared.machines.key.Key.{Key}
-use Rattle.pim_down.specs.Key.{same_key}
-use Rattle.pim_down.specs.Hearing.{Event, is_known, event, list_events, key_of}
-use Rattle.pim_down.specs.Laws.{KeysAreDistinct}
-use Rattle.pim_form.specs.NormalForm.{GroupForm, same_address, is_listed, groups_of}
 use Rattle.pim_form.specs.Merge.{by_order}
-use Rattle.pim_form.specs.Settled.{group_in, unwanted}
-use Rattle.pim_fresh.specs.Exchange.{has_unit_of}
 use Rattle.pim_change.specs.declared.unit.ActionKind.{ActionKind}
-use Rattle.pim_change.specs.declared.unit.ActionKind.TheVariants.{JoinRpt, PruneRpt, JoinSource, PruneSource}
-use Rattle.pim_change.specs.Change.{Action, star_joined, star_pruned, of_source, lacking, star_change, sources_change, group_change, ChangeUnit, unit_of, inserted, in_order, change_at, change}
-use Rattle.pim_change.specs.Written.{rp_entry, GroupActions, set_in_front, in_front, grouped}
-use Rattle.pim_settling.specs.Runs.{run_events, run_at, KnowRps}
-use Rattle.pim_settling.specs.Carrying.{carried_if, rpt_carried, carried_of}
 use Rattle.pim_settling.proofs.Units.{itself, told_here}
 use Rattle.pim_settling.proofs.Only.{or_left, or_second, joined_of, pruned_of, all_joined, all_pruned, first_joined, first_pruned, excepted_named, events_of_sets}
 

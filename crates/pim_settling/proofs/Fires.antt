@@ -1,13 +1,8 @@
 -- What is left of the records where a timer fires, or a millisecond passes.
-use Rattle.std.proofs.Common.{◌≡◌, ℕ, Bool, true, false, cond, List, [], ◌∷◌, ◌++◌, map, Option, None, Some, option_map, refl, sym, ap, subst, ◌∙◌}
-use Rattle.std.specs.Ordering.{is_eq}
-use Rattle.pim_down.specs.declared.machines.key.Key.{Key}
-use Rattle.pim_down.specs.declared.machines.machine.Machine.{Machine}
-use Rattle.pim_down.specs.declared.machines.machine.Record.{Record}
-use Rattle.pim_down.specs.Key.{key_cmp, same_key}
-use Rattle.pim_down.specs.Records.{IsBelow, IsAscending, machine_at, recorded}
-use Rattle.pim_down.specs.Time.{first_due, with_first, machine_after, record_after}
-use Rattle.pim_down.specs.Laws.{KeysAreDistinct}
+use Rattle.pim_settling.proofs.Words.{◌≡◌, ℕ, Bool, true, false, cond, List, [], ◌∷◌, ◌++◌, map, Option, None, Some}
+use Rattle.pim_settling.proofs.Words.{option_map, refl, sym, ap, subst, ◌∙◌, is_eq, Key, Machine, Record, key_cmp}
+use Rattle.pim_settling.proofs.Words.{same_key, IsBelow, IsAscending, machine_at, recorded, first_due, with_first}
+use Rattle.pim_settling.proofs.Words.{machine_after, record_after, KeysAreDistinct}
 
 abbrev pub Records : Type 0
 Records = List (Record (List ℕ))

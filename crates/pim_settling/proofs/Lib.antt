@@ -1,3 +1,4 @@
+pub mod Words
 pub mod Fires
 pub mod Turns
 pub mod Events

@@ -1,15 +1,8 @@
 -- What a message makes of a machine's course: all that names the machine says the same.
-use Rattle.std.proofs.Common.{◌≡◌, ℕ, Bool, true, false, cond, ◌&&◌, ◌||◌, List, [], ◌∷◌, refl, sym, ap, ◌∙◌}
-use Rattle.std.specs.List.{list_any}
-use Rattle.std.proofs.lemmas.Bool.{false≢true}
-use Rattle.pim_down.specs.declared.machines.key.What.{What}
-use Rattle.pim_down.specs.declared.machines.key.What.TheVariants.{Star, Source, Rpt}
-use Rattle.pim_down.specs.declared.machines.key.Key.{Key}
-use Rattle.pim_down.specs.Key.{same_key}
-use Rattle.pim_down.specs.Hearing.{Event, key_of, is_rpt_of, is_star_join}
-use Rattle.pim_down.specs.Laws.{KeysAreDistinct}
-use Rattle.pim_fresh.specs.Exchange.{has_unit_of}
-use Rattle.pim_settling.specs.Course.{Course, absent, stays, waits, course_of_unit, Within, after_event, after_events, at_the_end, course_heard}
+use Rattle.pim_settling.proofs.Words.{◌≡◌, ℕ, Bool, true, false, cond, ◌&&◌, ◌||◌, List, [], ◌∷◌, refl, sym, ap, ◌∙◌, list_any}
+use Rattle.pim_settling.proofs.Words.{false≢true, What, Star, Source, Rpt, Key, same_key, Event, key_of, is_rpt_of, is_star_join}
+use Rattle.pim_settling.proofs.Words.{KeysAreDistinct, has_unit_of, Course, absent, stays, waits, course_of_unit, Within}
+use Rattle.pim_settling.proofs.Words.{after_event, after_events, at_the_end, course_heard}
 
 -- a second Join or Prune changes nothing
 pub absorbs : (joins : Bool) (what : What (List ℕ)) (ends later : ℕ) (course : Course) → course_of_unit joins what later (course_of_unit joins what ends course) ≡ course_of_unit joins what ends course

@@ -1,26 +1,14 @@
 -- The message of a run tells nothing but the change, and behind a Join(*,G) each exception of the new star.
-use Rattle.std.proofs.Common.{◌≡◌, ℕ, Bool, true, false, cond, not, ◌&&◌, ◌||◌, List, [], ◌∷◌, ◌++◌, map, Option, None, Some, refl, sym, ap, subst, ◌∙◌}
-use Rattle.std.specs.List.{AllByRecursion, flat_map}
-use Rattle.std.specs.Option.{is_some}
-use Rattle.std.specs.Cmp.Lexicographic.{same_text}
-use Rattle.std.proofs.lemmas.Bool.{false≢true}
+use Rattle.pim_settling.proofs.Words.{◌≡◌, ℕ, Bool, true, false, cond, not, ◌&&◌, ◌||◌, List, [], ◌∷◌, ◌++◌, map, Option, None}
+use Rattle.pim_settling.proofs.Words.{Some, refl, sym, ap, subst, ◌∙◌, AllByRecursion, flat_map, is_some, same_text, false≢true}
+use Rattle.pim_settling.proofs.Words.{list_any-append, append_assoc, Star, Rpt, Key, same_key, Event, is_known, event}
+use Rattle.pim_settling.proofs.Words.{entry_events, list_events, set_events, key_of, is_star_join, KeysAreDistinct, GroupForm}
+use Rattle.pim_settling.proofs.Words.{same_address, is_listed, exceptions_of, group_in, has_unit_of, JoinRpt, PruneRpt}
+use Rattle.pim_settling.proofs.Words.{JoinSource, PruneSource, Action, star_joined, star_pruned, of_source, ChangeUnit, rp_entry}
+use Rattle.pim_settling.proofs.Words.{excepted_entries, joined_entries, pruned_entries, GroupActions, set_in_front, in_front}
+use Rattle.pim_settling.proofs.Words.{grouped, written_set, run_events, carried_if, rpt_carried, IsCarried, rpt_at}
+use Rattle.pim_settling.proofs.Words.{ExceptionsFollow, CarriesOnly}
 use Rattle.std.proofs.lemmas.Grind.{flat_map-append}
-use Rattle.std.proofs.lemmas.List.Folds.{list_any-append}
-use Rattle.std.proofs.Common.{append_assoc}
-use Rattle.pim_down.specs.declared.machines.key.What.TheVariants.{Star, Rpt}
-use Rattle.pim_down.specs.declared.machines.key.Key.{Key}
-use Rattle.pim_down.specs.Key.{same_key}
-use Rattle.pim_down.specs.Hearing.{Event, is_known, event, entry_events, list_events, set_events, key_of, is_star_join}
-use Rattle.pim_down.specs.Laws.{KeysAreDistinct}
-use Rattle.pim_form.specs.NormalForm.{GroupForm, same_address, is_listed}
-use Rattle.pim_form.specs.Rows.{exceptions_of}
-use Rattle.pim_form.specs.Settled.{group_in}
-use Rattle.pim_fresh.specs.Exchange.{has_unit_of}
-use Rattle.pim_change.specs.declared.unit.ActionKind.TheVariants.{JoinRpt, PruneRpt, JoinSource, PruneSource}
-use Rattle.pim_change.specs.Change.{Action, star_joined, star_pruned, of_source, ChangeUnit}
-use Rattle.pim_change.specs.Written.{rp_entry, excepted_entries, joined_entries, pruned_entries, GroupActions, set_in_front, in_front, grouped, written_set}
-use Rattle.pim_settling.specs.Runs.{run_events}
-use Rattle.pim_settling.specs.Carrying.{carried_if, rpt_carried, IsCarried, rpt_at, ExceptionsFollow, CarriesOnly}
 use Rattle.pim_settling.proofs.Units.{all_append, itself, or_true, told_here, Says, UnitSays}
 
 pub or_left : (a b : Bool) → a ≡ true → (a || b) ≡ true

@@ -1,21 +1,13 @@
 -- A port that hears the bytes of a change's messages.
-use Rattle.std.proofs.Common.{◌≡◌, ℕ, zero, suc, true, false, cond, List, [], ◌∷◌, length, Option, None, Some, refl, sym, ap, ◌∙◌, arith}
-use Rattle.std.specs.Option.{is_some}
-use Rattle.std.proofs.lemmas.Bool.{false≢true}
-use Rattle.pim_addr.specs.declared.family.AddressFamily.{AddressFamily}
-use Rattle.pim_down.specs.Hearing.{Event}
+use Rattle.pim_settling.proofs.Words.{◌≡◌, ℕ, zero, suc, true, false, cond, List, [], ◌∷◌, length, Option, None, Some}
+use Rattle.pim_settling.proofs.Words.{refl, sym, ap, ◌∙◌, arith, is_some, false≢true, AddressFamily, Event, GroupForm}
+use Rattle.pim_settling.proofs.Words.{same_address, group_in, ChangeUnit, written_message, grouped, run_events, run_at}
+use Rattle.pim_settling.proofs.Words.{KnowRps, AreEventsOf, WrittenChangeSettles, same_text}
 use Rattle.pim_form.specs.Messages.{Writing, IsRpOf, HaveRps}
-use Rattle.pim_form.specs.NormalForm.{GroupForm, same_address}
-use Rattle.pim_form.specs.Settled.{group_in}
-use Rattle.pim_change.specs.Change.{ChangeUnit}
-use Rattle.pim_change.specs.Written.{written_message, grouped}
 use Rattle.pim_change.specs.Laws.{AreReadAsRuns, ChangeIsRead}
-use Rattle.pim_settling.specs.Runs.{run_events, run_at, KnowRps, AreEventsOf}
-use Rattle.pim_settling.specs.Laws.{WrittenChangeSettles}
 use Rattle.pim_settling.proofs.Courses.{Machines}
 use Rattle.pim_settling.proofs.Runs.{runs_carry_the_change}
 use Rattle.pim_settling.proofs.Settling.{change_settles}
-use Rattle.std.specs.Cmp.Lexicographic.{same_text}
 
 -- ---- RPs
 

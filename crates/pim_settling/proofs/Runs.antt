@@ -1,10 +1,5 @@
 -- The messages of the runs of a change tell exactly the change.
-use Rattle.std.proofs.Common.{sym, ap, subst, ◌∙◌}
-use Rattle.pim_down.specs.Laws.{KeysAreDistinct}
-use Rattle.pim_fresh.specs.Exchange.{has_unit_of}
-use Rattle.pim_settling.specs.Runs.{run_at}
-use Rattle.pim_settling.specs.Carrying.{CarriesOnly}
-use Rattle.pim_settling.specs.Laws.{RunsCarryTheChange}
+use Rattle.pim_settling.proofs.Words.{sym, ap, subst, ◌∙◌, KeysAreDistinct, has_unit_of, run_at, CarriesOnly, RunsCarryTheChange}
 use Rattle.pim_settling.proofs.Units.{runs_say}
 use Rattle.pim_settling.proofs.Only.{run_tells_only}
 use Rattle.pim_settling.proofs.Every.{every}

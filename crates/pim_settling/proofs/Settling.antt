@@ -1,32 +1,13 @@
 -- A port that hears a change is settled at the form that is wanted now.
-use Rattle.std.proofs.Common.{◌≡◌, ◌⊎◌, inl, inr, ℕ, ◌+◌, ◌-◌, ◌≤◌, Bool, true, false, cond, ◌||◌, not, List, [], ◌∷◌, Option, None, Some, eqb, refl, sym, ap, subst, ◌∙◌, arith}
-use Rattle.std.specs.List.{list_any, AllByRecursion}
-use Rattle.std.specs.Option.{is_some}
-use Rattle.std.proofs.lemmas.Bool.{false≢true, eqb-true}
-use Rattle.pim_addr.specs.declared.family.AddressFamily.{AddressFamily}
-use Rattle.pim_down.specs.declared.machines.key.What.{What}
-use Rattle.pim_down.specs.declared.machines.key.What.TheVariants.{Star, Source, Rpt}
-use Rattle.pim_down.specs.declared.machines.key.Key.{Key}
-use Rattle.pim_down.specs.declared.machines.machine.State.{State}
-use Rattle.pim_down.specs.declared.machines.machine.State.TheVariants.{Join, PrunePending, Prune, PruneTmp, PrunePendingTmp}
-use Rattle.pim_down.specs.declared.machines.machine.Pending.{Pending}
-use Rattle.pim_down.specs.declared.machines.machine.Machine.{Machine}
-use Rattle.pim_down.specs.declared.machines.machine.Record.{Record}
-use Rattle.pim_down.specs.Key.{same_key}
-use Rattle.pim_down.specs.Hearing.{is_rpt}
-use Rattle.pim_down.specs.Records.{machine_at, state_of_machine}
+use Rattle.pim_settling.proofs.Words.{◌≡◌, ◌⊎◌, inl, inr, ℕ, ◌+◌, ◌-◌, ◌≤◌, Bool, true, false, cond, ◌||◌, not, List, [], ◌∷◌}
+use Rattle.pim_settling.proofs.Words.{Option, None, Some, eqb, refl, sym, ap, subst, ◌∙◌, arith, list_any, AllByRecursion}
+use Rattle.pim_settling.proofs.Words.{is_some, false≢true, eqb-true, AddressFamily, What, Star, Source, Rpt, Key, State, Join}
+use Rattle.pim_settling.proofs.Words.{PrunePending, Prune, PruneTmp, PrunePendingTmp, Pending, Machine, Record, same_key, is_rpt}
+use Rattle.pim_settling.proofs.Words.{machine_at, state_of_machine, machine_in, KeysAreDistinct, GroupForm, is_listed, group_in}
+use Rattle.pim_settling.proofs.Words.{joins_if, prunes_if, rpt_settles, machine_settles, Exchange, has_unit_of, Delivery}
+use Rattle.pim_settling.proofs.Words.{is_delivered, final_moment, state_wanted, Course, absent, stays, waits, IsHeld, IsOn}
+use Rattle.pim_settling.proofs.Words.{IsPast, course_of_unit, course_of, carried_if, rpt_carried, CarriesChange, ChangeSettles}
 use Rattle.pim_down.specs.Sound.{IsReal, has_state, is_pending}
-use Rattle.pim_down.specs.Tables.{machine_in}
-use Rattle.pim_down.specs.Laws.{KeysAreDistinct}
-use Rattle.pim_form.specs.NormalForm.{GroupForm, is_listed}
-use Rattle.pim_form.specs.Settled.{group_in, joins_if, prunes_if, rpt_settles, machine_settles}
-use Rattle.pim_fresh.specs.Exchange.{Exchange, has_unit_of}
-use Rattle.pim_fresh.specs.Deliveries.{Delivery, is_delivered, final_moment}
-use Rattle.pim_fresh.specs.Expected.{state_wanted}
-use Rattle.pim_settling.specs.Course.{Course, absent, stays, waits, IsHeld, IsOn, IsPast, course_of_unit}
-use Rattle.pim_settling.specs.Hearing.{course_of}
-use Rattle.pim_settling.specs.Carrying.{carried_if, rpt_carried, CarriesChange}
-use Rattle.pim_settling.specs.Laws.{ChangeSettles}
 use Rattle.pim_settling.proofs.Courses.{Machines, courses_are_kept}
 use Rattle.pim_settling.proofs.Messages.{is_starred}
 use Rattle.pim_settling.proofs.Actions.{or_right, at, reported, star_comes, IsReached, comes_here, reached, left_alone, star_ends}

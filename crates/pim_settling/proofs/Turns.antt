@@ -1,25 +1,15 @@
 -- A run keeps the courses of the machines, through every timer that fires.
-use Rattle.std.proofs.Common.{◌≡◌, inl, inr, ℕ, zero, suc, ◌+◌, ◌-◌, ◌≤◌, ◌<◌, Bool, true, false, cond, List, [], ◌∷◌, Option, None, Some, option_map, refl, sym, ap, subst, ◌∙◌, arith, eqb, ltb}
-use Rattle.std.proofs.lemmas.Bool.{false≢true, eqb-true, ltb-true, ltb-false}
+use Rattle.pim_settling.proofs.Words.{◌≡◌, inl, inr, ℕ, zero, suc, ◌+◌, ◌-◌, ◌≤◌, ◌<◌, Bool, true, false, cond, List, [], ◌∷◌}
+use Rattle.pim_settling.proofs.Words.{Option, None, Some, option_map, refl, sym, ap, subst, ◌∙◌, arith, eqb, ltb, false≢true}
+use Rattle.pim_settling.proofs.Words.{eqb-true, ltb-true, ltb-false, What, Star, Source, Rpt, Key, State, PrunePending, Prune}
+use Rattle.pim_settling.proofs.Words.{Machine, Pending, Record, Echo, Reached, same_key, IsAscending, machine_at, machine_in}
+use Rattle.pim_settling.proofs.Words.{Downstream, rests, moves, Runs, expiry_after, pending_after, machine_after, expiry_due}
+use Rattle.pim_settling.proofs.Words.{pending_due, et_due, ppt_due, on_ppt, after_ppt, echo_of, first_due, with_first, fire_et}
+use Rattle.pim_settling.proofs.Words.{fire_ppt, fired, tick, with_records, reported, turn_by, turn, run_on, run_within}
+use Rattle.pim_settling.proofs.Words.{KeysAreDistinct, state_wanted, Course, absent, stays, waits, IsHeld, IsPending, IsOn}
+use Rattle.pim_settling.proofs.Words.{IsPast, Arrives, IsPrunedBy, NotEnded, NoneEnds}
 use Rattle.std.proofs.lemmas.Bool.Decides.{nat_tests}
-use Rattle.pim_down.specs.declared.machines.key.What.{What}
-use Rattle.pim_down.specs.declared.machines.key.What.TheVariants.{Star, Source, Rpt}
-use Rattle.pim_down.specs.declared.machines.key.Key.{Key}
-use Rattle.pim_down.specs.declared.machines.machine.State.{State}
-use Rattle.pim_down.specs.declared.machines.machine.State.TheVariants.{PrunePending, Prune}
-use Rattle.pim_down.specs.declared.machines.machine.Machine.{Machine}
-use Rattle.pim_down.specs.declared.machines.machine.Pending.{Pending}
-use Rattle.pim_down.specs.declared.machines.machine.Record.{Record}
 use Rattle.pim_down.specs.declared.machines.step.Step.{Step}
-use Rattle.pim_down.specs.declared.machines.step.Step.TheVariants.{Echo, Reached}
-use Rattle.pim_down.specs.Key.{same_key}
-use Rattle.pim_down.specs.Records.{IsAscending, machine_at}
-use Rattle.pim_down.specs.Tables.{machine_in}
-use Rattle.pim_down.specs.Time.{Downstream, rests, moves, Runs, expiry_after, pending_after, machine_after, expiry_due, pending_due, et_due, ppt_due, on_ppt, after_ppt, echo_of, first_due, with_first, fire_et, fire_ppt, fired, tick, with_records, reported, turn_by, turn, run_on, run_within}
-use Rattle.pim_down.specs.Laws.{KeysAreDistinct}
-use Rattle.pim_fresh.specs.Expected.{state_wanted}
-use Rattle.pim_settling.specs.Course.{Course, absent, stays, waits, IsHeld, IsPending, IsOn, IsPast}
-use Rattle.pim_settling.specs.Hearing.{Arrives, IsPrunedBy, NotEnded, NoneEnds}
 use Rattle.pim_settling.proofs.Fires.{Records, ticked_order, ticked_at, first_held, none_due, replaced_order, replaced_own, replaced_other}
 
 -- ---- one machine

@@ -1,17 +1,10 @@
 -- What the units of a change say is told.
-use Rattle.std.proofs.Common.{◌≡◌, ℕ, zero, suc, Bool, true, false, cond, not, ◌||◌, List, [], ◌∷◌, ◌++◌, map, Option, None, Some, refl, sym, ap, subst, ◌∙◌}
-use Rattle.std.specs.List.{AllByRecursion, filter, flat_map}
-use Rattle.std.specs.Option.{is_some}
-use Rattle.std.specs.Cmp.Lexicographic.{lists_equiv}
-use Rattle.std.specs.Cmp.{nat_eq_equiv}
-use Rattle.pim_down.specs.declared.machines.key.What.{What}
-use Rattle.pim_down.specs.declared.machines.key.What.TheVariants.{Star, Source, Rpt}
-use Rattle.pim_form.specs.NormalForm.{GroupForm, same_address, is_listed, groups_of}
-use Rattle.pim_form.specs.Settled.{group_in}
-use Rattle.pim_change.specs.declared.unit.ActionKind.TheVariants.{JoinRpt, PruneRpt, JoinSource, PruneSource}
-use Rattle.pim_change.specs.Change.{Action, star_joined, star_pruned, of_source, lacking, star_change, sources_change, group_change, ChangeUnit, unit_of, in_order, change_at, change}
-use Rattle.pim_settling.specs.Runs.{run_at}
-use Rattle.pim_settling.specs.Carrying.{carried_if, rpt_carried, carried_of}
+use Rattle.pim_settling.proofs.Words.{◌≡◌, ℕ, zero, suc, Bool, true, false, cond, not, ◌||◌, List, [], ◌∷◌, ◌++◌, map, Option}
+use Rattle.pim_settling.proofs.Words.{None, Some, refl, sym, ap, subst, ◌∙◌, AllByRecursion, filter, flat_map, is_some}
+use Rattle.pim_settling.proofs.Words.{lists_equiv, nat_eq_equiv, What, Star, Source, Rpt, GroupForm, same_address, is_listed}
+use Rattle.pim_settling.proofs.Words.{groups_of, group_in, JoinRpt, PruneRpt, JoinSource, PruneSource, Action, star_joined}
+use Rattle.pim_settling.proofs.Words.{star_pruned, of_source, lacking, star_change, sources_change, group_change, ChangeUnit}
+use Rattle.pim_settling.proofs.Words.{unit_of, in_order, change_at, change, run_at, carried_if, rpt_carried, carried_of}
 
 -- ---- lists
 

@@ -1,22 +1,14 @@
 -- A port that is settled at a form wants what the form means.
-use Rattle.std.proofs.Common.{◌≡◌, ℕ, Bool, true, false, cond, not, ◌&&◌, ◌||◌, List, [], ◌∷◌, Option, None, Some, refl, sym, ap, subst, ◌∙◌}
-use Rattle.std.specs.List.{AllByRecursion, list_any}
+use Rattle.pim_settling.proofs.Words.{◌≡◌, ℕ, Bool, true, false, cond, not, ◌&&◌, ◌||◌, List, [], ◌∷◌, Option, None}
+use Rattle.pim_settling.proofs.Words.{Some, refl, sym, ap, subst, ◌∙◌, AllByRecursion, list_any, is_some, Less, nat_cmp}
+use Rattle.pim_settling.proofs.Words.{is_eq, slice_cmp, same_text, texts_ties, false≢true, Star, Source, Rpt, State}
+use Rattle.pim_settling.proofs.Words.{Join, PrunePending, Prune, PruneTmp, PrunePendingTmp, Record, GroupForm}
+use Rattle.pim_settling.proofs.Words.{same_address, is_listed, AreAscending, groups_of, is_excepted, group_wants}
+use Rattle.pim_settling.proofs.Words.{form_wants, group_in, joins_if, prunes_if, rpt_settles, IsSettledAt, SettledWants}
 use Rattle.std.specs.List.Sorted.{IsStrictlySortedBy}
-use Rattle.std.specs.Option.{is_some}
-use Rattle.std.specs.declared.cmp.Ordering.TheVariants.{Less}
-use Rattle.std.specs.Ordering.{nat_cmp, is_eq}
-use Rattle.std.specs.Cmp.Lexicographic.{slice_cmp, same_text, texts_ties}
-use Rattle.std.proofs.lemmas.Bool.{false≢true}
-use Rattle.pim_down.specs.declared.machines.key.What.TheVariants.{Star, Source, Rpt}
-use Rattle.pim_down.specs.declared.machines.machine.State.{State}
-use Rattle.pim_down.specs.declared.machines.machine.State.TheVariants.{Join, PrunePending, Prune, PruneTmp, PrunePendingTmp}
-use Rattle.pim_down.specs.declared.machines.machine.Record.{Record}
 use Rattle.pim_form.specs.declared.tree.Tree.{Tree}
 use Rattle.pim_form.specs.declared.tree.Tree.TheVariants as tree
-use Rattle.pim_form.specs.NormalForm.{GroupForm, same_address, is_listed, AreAscending, groups_of, is_excepted, group_wants, form_wants}
-use Rattle.pim_form.specs.Settled.{group_in, joins_if, prunes_if, rpt_settles, IsSettledAt}
 use Rattle.pim_form.specs.Wants.{is_joined, is_pruned, state_on, wants_on, some_below}
-use Rattle.pim_settling.specs.Laws.{SettledWants}
 
 -- ---- what machines that are settled want
 

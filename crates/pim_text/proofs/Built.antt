@@ -1,9 +1,9 @@
 -- A message that is made of a text: its bytes, and what a receiver reads in them.
 use Rattle.std.proofs.Common.{◌≡◌, ◌∙◌, sym, ap, refl, subst, ℕ, ◌+◌, ◌≤◌, ◌<◌, ◌^◌, Bool, true, false, List, [], ◌∷◌, ◌++◌, Result, Ok, Err, length, map, arith, length-append}
-use Rattle.byteorder.specs.Endian.{big_bytes}
+use Rattle.pim_text.proofs.Words.{big_bytes, GroupReadsBack, SourceReadsBack, AddressFamily, Fits, ReadsBack, if_there}
+use Rattle.pim_text.proofs.Words.{parameters_spelled, row_spelled, row_there, spelling_of, States, IsSpelled, type_of}
+use Rattle.pim_text.proofs.Words.{hello_in, BuildFault}
 use Rattle.pim_addr.specs.Faults.{judged}
-use Rattle.pim_addr.specs.Canonical.{GroupReadsBack, SourceReadsBack}
-use Rattle.pim_addr.specs.declared.family.AddressFamily.{AddressFamily}
 use Rattle.pim_frame.specs.declared.frame.FrameFault.{FrameFault}
 use Rattle.pim_frame.specs.declared.frame.MessageType.{MessageType}
 use Rattle.pim_frame.specs.declared.frame.MessageType.TheVariants as kind
@@ -11,13 +11,8 @@ use Rattle.pim_frame.specs.Frame.{Content, hello, join_prune, other, content, fr
 use Rattle.pim_frame.specs.Seal.{IsSealed, checksum, framed, type_content}
 use Rattle.pim_hello.specs.Hello.{Hello}
 use Rattle.pim_hello.specs.Faults.{faults as hello_option_faults}
-use Rattle.pim_hello.specs.Spelling.{Fits, ReadsBack, if_there, parameters_spelled, row_spelled, row_there, spelling_of}
 use Rattle.pim_hello.specs.Value.{hello_of}
 use Rattle.pim_jp.specs.Faults.{faults}
-use Rattle.pim_text.specs.Read.{States}
-use Rattle.pim_text.specs.Spell.{IsSpelled, type_of}
-use Rattle.pim_text.specs.Value.{hello_in}
-use Rattle.pim_text.specs.declared.build.fault.BuildFault.{BuildFault}
 use Rattle.pim_text.specs.declared.build.fault.BuildFault.TheVariants.{Frame, Hello as of_hello, JoinPrune}
 use Rattle.pim_text.specs.Building.{Value, a_hello, a_message, stated, is_hello, body_of, content_faults, message_faults, IsReadAs, IsBuilt, IsRefused, IsBuildFault}
 use Rattle.pim_text.proofs.ReadBack.{HeadReadsBack, message_back}

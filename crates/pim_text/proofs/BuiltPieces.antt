@@ -1,12 +1,9 @@
 -- A text that is read piece by piece.
-use Rattle.std.proofs.Common.{◌≡◌, ◌∙◌, sym, ap, refl, ℕ, ◌+◌, ◌-◌, ◌≤◌, ◌<◌, List, ◌++◌, Option, None, Some, Bool, length, drop, arith, length-append, append-nil, append_assoc}
-use Rattle.std.specs.Prelude.{IfSome}
+use Rattle.pim_text.proofs.Words.{◌≡◌, ◌∙◌, sym, ap, refl, ℕ, ◌+◌, ◌-◌, ◌≤◌, ◌<◌, List, ◌++◌, Option, None, Some, Bool}
+use Rattle.pim_text.proofs.Words.{length, drop, arith, length-append, append-nil, append_assoc, IfSome, drop-append-add}
+use Rattle.pim_text.proofs.Words.{length-drop, BuildFault, Read, Memory}
 use Rattle.std.specs.Io.KnownBytes.{Consumes, IsAtEnd}
-use Rattle.std.proofs.Math.Seq.{drop-append-add}
-use Rattle.std.proofs.lemmas.List.{length-drop}
 use Rattle.pim_device.specs.Device.{ConsumesAtMost}
-use Rattle.pim_text.specs.declared.build.fault.BuildFault.{BuildFault}
-use Rattle.pim_text.specs.declared.build.fault.BuildFault.TheVariants.{Read, Memory}
 use Rattle.pim_text.specs.ReadingText.{AddsPiece, IsPieceFault, IsReadFaultOf}
 
 -- ---- the bytes that a reader has left

@@ -1,19 +1,11 @@
 -- The bytes of addresses and decimals: each is ASCII and above the space.
-use Rattle.std.proofs.Common.{◌≡◌, sym, ap, refl, subst, inl, inr, ℕ, zero, suc, ◌^◌, ◌<◌, ◌≤◌, Bool, true, false, List, [], ◌∷◌, ◌++◌, codes, decimal, arith, ltb, lit<, lit≤}
-use Rattle.std.specs.List.{AllByRecursion}
+use Rattle.pim_text.proofs.Words.{◌≡◌, sym, ap, refl, subst, inl, inr, ℕ, zero, suc, ◌^◌, ◌<◌, ◌≤◌, Bool, true, false}
+use Rattle.pim_text.proofs.Words.{List, [], ◌∷◌, ◌++◌, codes, decimal, arith, ltb, lit<, lit≤, AllByRecursion, IsAscii}
+use Rattle.pim_text.proofs.Words.{IsUtf8, AllDigits, le-ltb, ltb-true, ltb-false, false≢true, decimal_is_IsNumeral}
+use Rattle.pim_text.proofs.Words.{IsText, Ipv4, Ipv6, AnyAddress, V4, V6, Names, IsField}
 use Rattle.std.specs.Char.{digit_value}
-use Rattle.std.specs.Str.{IsAscii, IsUtf8}
-use Rattle.std.specs.Str.Parse.{AllDigits}
 use Rattle.std.specs.Net.Grammar.{IsGroupsAfter}
-use Rattle.std.proofs.lemmas.Bool.{le-ltb, ltb-true, ltb-false, false≢true}
-use Rattle.std.proofs.lemmas.Fmt.{decimal_is_IsNumeral}
 use Rattle.std.proofs.lemmas.Str.{IsUtf8-from_ascii}
-use Rattle.pim_addr.specs.TextForms.{IsText}
-use Rattle.pim_addr.specs.declared.family.AddressFamily.TheVariants.{Ipv4, Ipv6}
-use Rattle.pim_lines.specs.declared.either.AnyAddress.{AnyAddress}
-use Rattle.pim_lines.specs.declared.either.AnyAddress.TheVariants.{V4, V6}
-use Rattle.pim_lines.specs.AnyAddress.{Names}
-use Rattle.pim_text.specs.Fields.{IsField}
 
 module _ (P : ℕ → Type 0) where
   pub all_append : (xs ys : List ℕ) → AllByRecursion P xs → AllByRecursion P ys → AllByRecursion P (xs ++ ys)

@@ -1,9 +1,6 @@
 -- What is parsed of digits that are a decimal.
-use Rattle.std.proofs.Common.{◌≡◌, ◌∙◌, sym, ap, ℕ, ◌<◌, ◌≤◌, ◌^◌, Bool, false, List, Result, Ok, Err, decimal, arith}
-use Rattle.std.specs.Str.{bytes_eq}
-use Rattle.std.specs.Str.Parse.{ParsesUnsigned}
-use Rattle.std.proofs.lemmas.Bool.{false≢true}
-use Rattle.std.proofs.lemmas.Fmt.{parse-decimal}
+use Rattle.pim_text.proofs.Words.{◌≡◌, ◌∙◌, sym, ap, ℕ, ◌<◌, ◌≤◌, ◌^◌, Bool, false, List, Result, Ok, Err, decimal}
+use Rattle.pim_text.proofs.Words.{arith, bytes_eq, ParsesUnsigned, false≢true, parse-decimal}
 use Rattle.std.proofs.lemmas.Slice.Eq.{bytes_eq-Decides}
 
 pub parsed : {E : Type 0} (n limit : ℕ) (digits text : List ℕ) (r : Result ℕ E) → n ≤ limit → limit < 2 ^ 64 → digits ≡ decimal n → text ≡ digits → ParsesUnsigned 64 10 text r → r ≡ Ok n

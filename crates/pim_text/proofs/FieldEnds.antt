@@ -1,9 +1,7 @@
 -- Where a field ends, and that a text has one number or one address at its front.
 use Rattle.std.proofs.Common.{◌≡◌, ◌∙◌, ap, refl, ℕ, ◌+◌, ◌<◌, ◌≤◌, Bool, List, [], ◌∷◌, ◌++◌, Some, None, Option, length, take, drop, arith, length-append, nat_le, lit≤}
-use Rattle.std.specs.List.{position, position_or_len}
-use Rattle.std.proofs.Math.Seq.{take-append_seam, drop-append_seam}
-use Rattle.std.proofs.lemmas.Bool.{le-leb, lt-leb, lt-ltb}
-use Rattle.pim_text.specs.Fields.{IsField, IsLed}
+use Rattle.pim_text.proofs.Words.{position, position_or_len, take-append_seam, drop-append_seam, le-leb, lt-leb, lt-ltb}
+use Rattle.pim_text.proofs.Words.{IsField, IsLed}
 
 abbrev ends_field : ℕ → Bool
 ends_field byte = nat_le byte 32

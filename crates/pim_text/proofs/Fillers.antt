@@ -1,20 +1,8 @@
 -- What is asked for can always be given.
-use Rattle.std.proofs.Common.{◌≡◌, refl, ℕ, zero, suc, ◌<◌, true, List, [], ◌∷◌, ◌++◌, Some, codes}
-use Rattle.pim_text.specs.declared.line.Line.{Line}
-use Rattle.pim_text.specs.declared.line.Line.TheVariants.{Hello, Set, Join, Prune}
-use Rattle.pim_text.specs.declared.line.Expected.{Expected}
-use Rattle.pim_text.specs.declared.line.Expected.TheVariants.{Message, Options}
+use Rattle.pim_text.proofs.Words.{◌≡◌, refl, ℕ, zero, suc, ◌<◌, true, List, [], ◌∷◌, ◌++◌, Some, codes, Line, Hello, Set, Join}
+use Rattle.pim_text.proofs.Words.{Prune, Expected, Message, Options, lit<, lit≤, slice_index, Ipv4, IsAddress, address_text}
+use Rattle.pim_text.proofs.Words.{IsText, WrittenTextNames, Star, V4, IsLine, AreLines, numbers_text, after_all, is_whole}
 use Rattle.pim_text.specs.declared.line.Expected.TheVariants.{Body as OfBody}
-use Rattle.std.proofs.Common.{lit<, lit≤}
-use Rattle.std.specs.Prelude.{slice_index}
-use Rattle.pim_addr.specs.declared.family.AddressFamily.TheVariants.{Ipv4}
-use Rattle.pim_addr.specs.Address.{IsAddress}
-use Rattle.pim_addr.specs.Text.{address_text}
-use Rattle.pim_addr.specs.TextForms.{IsText, WrittenTextNames}
-use Rattle.pim_jp.specs.declared.entry.Entry.TheVariants.{Star}
-use Rattle.pim_lines.specs.declared.either.AnyAddress.TheVariants.{V4}
-use Rattle.pim_text.specs.Lines.{IsLine, AreLines, numbers_text}
-use Rattle.pim_text.specs.Expected.{after_all, is_whole}
 use Rattle.pim_text.proofs.Runs.{body}
 
 -- Lines that end a message.

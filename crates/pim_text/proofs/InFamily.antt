@@ -1,24 +1,10 @@
 -- A message whose addresses are all of one family is one of that family.
-use Rattle.std.proofs.Common.{◌≡◌, ◌∙◌, sym, ap, refl, subst, ℕ, true, List, [], ◌∷◌, ◌++◌}
-use Rattle.std.specs.Prelude.{map}
-use Rattle.std.specs.List.{flat_map}
-use Rattle.std.proofs.lemmas.Bool.{false≢true}
-use Rattle.pim_addr.specs.declared.family.AddressFamily.{AddressFamily}
-use Rattle.pim_addr.specs.declared.family.AddressFamily.TheVariants.{Ipv4, Ipv6}
-use Rattle.pim_jp.specs.Message.{GroupSet}
-use Rattle.pim_jp.specs.declared.entry.Entry.{Entry}
-use Rattle.pim_jp.specs.declared.entry.Entry.TheVariants.{Star, Source, Rpt}
-use Rattle.pim_lines.specs.declared.either.AnyAddress.{AnyAddress}
-use Rattle.pim_lines.specs.declared.either.AnyAddress.TheVariants.{V4, V6}
-use Rattle.pim_text.specs.declared.line.Line.{Line}
-use Rattle.pim_text.specs.declared.line.Line.TheVariants.{Holdtime, Priority, Generation, Secondary, Join, Prune}
-use Rattle.pim_text.specs.Value.{SetValue, TextValue, a_hello, a_message, option_line, delays_line_of, set_lines, entry_in, set_in, hello_in, message_in}
-use Rattle.pim_lines.specs.AnyAddress.{address_in, is_in, address_bytes}
-use Rattle.std.proofs.lemmas.List.Folds.{list_all-append}
-use Rattle.pim_text.specs.Families.{entry_is_in, line_is_in, all_in, value_is_in}
-use Rattle.pim_text.specs.Read.{States}
-use Rattle.pim_text.specs.Spelled.{entry_bytes}
-use Rattle.pim_text.specs.Laws.{StatesIn}
+use Rattle.pim_text.proofs.Words.{◌≡◌, ◌∙◌, sym, ap, refl, subst, ℕ, true, List, [], ◌∷◌, ◌++◌, map, flat_map}
+use Rattle.pim_text.proofs.Words.{false≢true, AddressFamily, Ipv4, Ipv6, GroupSet, Entry, Star, Source, Rpt, AnyAddress}
+use Rattle.pim_text.proofs.Words.{V4, V6, Line, Holdtime, Priority, Generation, Secondary, Join, Prune, SetValue}
+use Rattle.pim_text.proofs.Words.{TextValue, a_hello, a_message, option_line, delays_line_of, set_lines, entry_in}
+use Rattle.pim_text.proofs.Words.{set_in, hello_in, message_in, address_in, is_in, address_bytes, list_all-append}
+use Rattle.pim_text.proofs.Words.{entry_is_in, line_is_in, all_in, value_is_in, States, entry_bytes, StatesIn}
 use Rattle.pim_text.proofs.Written.{both}
 
 module _ (family : AddressFamily) where

@@ -1,3 +1,4 @@
+pub mod Words
 pub mod Lines
 pub mod Bytes
 pub mod FieldEnds

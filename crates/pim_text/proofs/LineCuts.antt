@@ -1,8 +1,7 @@
 -- A text that is cut after its first line feed.
-use Rattle.std.proofs.Common.{◌≡◌, sym, ap, refl, ℕ, zero, suc, ◌+◌, ◌<◌, ◌≤◌, Bool, true, false, cond, List, [], ◌∷◌, Some, None, length, take, drop, ltb, arith, add-one, ◌==◌}
-use Rattle.std.specs.List.{position, position_or_len, onto_first}
-use Rattle.std.proofs.lemmas.Bool.{ltb-true, ltb-false}
-use Rattle.pim_text.specs.Lines.{lines}
+use Rattle.pim_text.proofs.Words.{◌≡◌, sym, ap, refl, ℕ, zero, suc, ◌+◌, ◌<◌, ◌≤◌, Bool, true, false, cond, List, []}
+use Rattle.pim_text.proofs.Words.{◌∷◌, Some, None, length, take, drop, ltb, arith, add-one, ◌==◌, position}
+use Rattle.pim_text.proofs.Words.{position_or_len, onto_first, ltb-true, ltb-false, lines}
 use Rattle.pim_text.proofs.FieldEnds.{same_some, not_some}
 
 abbrev is_feed : ℕ → Bool

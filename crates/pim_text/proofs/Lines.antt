@@ -1,6 +1,5 @@
 -- A line that was added piece by piece.
-use Rattle.std.proofs.Common.{◌≡◌, ℕ, List, [], ◌∷◌, ◌++◌, ap, ◌∙◌, append_assoc}
-use Rattle.pim_text.specs.Text.{line}
+use Rattle.pim_text.proofs.Words.{◌≡◌, ℕ, List, [], ◌∷◌, ◌++◌, ap, ◌∙◌, append_assoc, line}
 
 -- three pieces of words and a value each, and the line feed
 pub line_of_three : (start one two three end first a second b third c : List ℕ) → one ≡ start ++ (first ++ a) → two ≡ one ++ (second ++ b) → three ≡ two ++ (third ++ c) → end ≡ three ++ 10 ∷ []

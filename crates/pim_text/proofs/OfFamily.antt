@@ -1,13 +1,6 @@
 -- What belongs to one family: the length of an address and of what is written of a line.
-use Rattle.std.proofs.Common.{◌≡◌, refl, ℕ, ◌≤◌, true, List, arith}
-use Rattle.std.proofs.lemmas.Bool.{false≢true}
-use Rattle.pim_addr.specs.declared.family.AddressFamily.{AddressFamily}
-use Rattle.pim_addr.specs.declared.family.AddressFamily.TheVariants.{Ipv4, Ipv6}
-use Rattle.pim_addr.specs.Address.{address_length}
-use Rattle.pim_addr.specs.Encoded.{group_length, source_length}
-use Rattle.pim_jp.specs.Canonical.{canonical_head_length}
-use Rattle.pim_lines.specs.declared.either.AnyAddress.TheVariants.{V4, V6}
-use Rattle.pim_lines.specs.AnyAddress.{is_in}
+use Rattle.pim_text.proofs.Words.{◌≡◌, refl, ℕ, ◌≤◌, true, List, arith, false≢true, AddressFamily, Ipv4, Ipv6}
+use Rattle.pim_text.proofs.Words.{address_length, group_length, source_length, canonical_head_length, V4, V6, is_in}
 
 pub length_in_v4 : (family : AddressFamily) (address : List ℕ) → is_in family (V4 address) ≡ true → address_length family ≡ 4
 length_in_v4 Ipv4 address is = refl

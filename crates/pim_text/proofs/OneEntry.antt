@@ -1,9 +1,6 @@
 -- A text is the kind and the address of at most one entry.
-use Rattle.std.proofs.Common.{◌≡◌, ◌∙◌, sym, ap, ℕ, List, [], ◌∷◌, Some, codes, get_or, arith}
-use Rattle.pim_jp.specs.declared.entry.Entry.{Entry}
-use Rattle.pim_jp.specs.declared.entry.Entry.TheVariants.{Star, Source, Rpt}
-use Rattle.pim_lines.specs.declared.either.AnyAddress.{AnyAddress}
-use Rattle.pim_text.specs.Lines.{IsAddressAfter, IsEntry}
+use Rattle.pim_text.proofs.Words.{◌≡◌, ◌∙◌, sym, ap, ℕ, List, [], ◌∷◌, Some, codes, get_or, arith, Entry, Star, Source}
+use Rattle.pim_text.proofs.Words.{Rpt, AnyAddress, IsAddressAfter, IsEntry}
 use Rattle.pim_text.proofs.FieldEnds.{same_some}
 
 module _ (text : List ℕ) where

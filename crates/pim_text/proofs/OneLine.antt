@@ -1,21 +1,11 @@
 -- A text is at most one line, and has at most one list of lines.
-use Rattle.std.proofs.Common.{◌≡◌, ◌∙◌, sym, ap, refl, subst, ℕ, ◌<◌, ◌^◌, Bool, true, false, List, [], ◌∷◌, ◌++◌, Some, length, codes, decimal, get_or, eqb, ◌==◌, if◌then◌else◌, drop, arith}
-use Rattle.std.proofs.lemmas.Bool.{eqb-false}
-use Rattle.std.proofs.lemmas.Fmt.{decimal_injective}
-use Rattle.std.proofs.lemmas.List.{append_cancel_left}
-use Rattle.pim_jp.specs.declared.entry.Entry.{Entry}
-use Rattle.pim_jp.specs.declared.entry.Entry.TheVariants.{Star, Source, Rpt}
-use Rattle.pim_lines.specs.declared.either.AnyAddress.{AnyAddress}
-use Rattle.pim_text.specs.declared.line.DelayLine.{DelayLine}
+use Rattle.pim_text.proofs.Words.{◌≡◌, ◌∙◌, sym, ap, refl, subst, ℕ, ◌<◌, ◌^◌, Bool, true, false, List, [], ◌∷◌, ◌++◌}
+use Rattle.pim_text.proofs.Words.{Some, length, codes, decimal, get_or, eqb, ◌==◌, if◌then◌else◌, drop, arith}
+use Rattle.pim_text.proofs.Words.{eqb-false, decimal_injective, append_cancel_left, Entry, Star, Source, Rpt}
+use Rattle.pim_text.proofs.Words.{AnyAddress, DelayLine, SetLine, Line, Hello, Holdtime, Delays, Priority, Generation}
+use Rattle.pim_text.proofs.Words.{Secondary, Head, Set, Join, Prune, IsField, IsLed, bit, IsAddressAfter, number_text}
+use Rattle.pim_text.proofs.Words.{numbers_text, IsEntry, IsEntryLine, delays_text, IsLine, AreLines, Names, OneName}
 use Rattle.pim_text.specs.declared.line.Head.{Head as HeadLine}
-use Rattle.pim_text.specs.declared.line.SetLine.{SetLine}
-use Rattle.pim_text.specs.declared.line.Line.{Line}
-use Rattle.pim_text.specs.declared.line.Line.TheVariants.{Hello, Holdtime, Delays, Priority, Generation, Secondary, Head, Set, Join, Prune}
-use Rattle.pim_text.specs.Fields.{IsField, IsLed}
-use Rattle.pim_text.specs.HelloText.{bit}
-use Rattle.pim_text.specs.Lines.{IsAddressAfter, number_text, numbers_text, IsEntry, IsEntryLine, delays_text, IsLine, AreLines}
-use Rattle.pim_lines.specs.AnyAddress.{Names}
-use Rattle.pim_text.specs.OneReading.{OneName}
 use Rattle.pim_text.proofs.Bytes.{decimal_is_field, named_is_field}
 use Rattle.pim_text.proofs.FieldEnds.{end_is_found, cut_there, same_some, feed_is_led, led_then, space_is_led}
 use Rattle.pim_text.proofs.OneEntry.{only_star, only_source, only_rpt}

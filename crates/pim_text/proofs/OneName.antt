@@ -1,10 +1,6 @@
 -- A text names at most one address of either family.
-use Rattle.std.proofs.Common.{◌≡◌, ap, sym, subst, ℕ, List, Option, None, Some, MatchOption}
-use Rattle.pim_addr.specs.TextForms.{IsText, OneAddress}
-use Rattle.pim_addr.specs.declared.family.AddressFamily.TheVariants.{Ipv4, Ipv6}
-use Rattle.pim_lines.specs.declared.either.AnyAddress.{AnyAddress}
-use Rattle.pim_lines.specs.declared.either.AnyAddress.TheVariants.{V4, V6}
-use Rattle.pim_lines.specs.AnyAddress.{Names, IsUnread}
+use Rattle.pim_text.proofs.Words.{◌≡◌, ap, sym, subst, ℕ, List, Option, None, Some, MatchOption, IsText, OneAddress}
+use Rattle.pim_text.proofs.Words.{Ipv4, Ipv6, AnyAddress, V4, V6, Names, IsUnread}
 use Rattle.pim_text.proofs.Bytes.{not_both_families}
 
 pub named_too : (text other : List ℕ) (a : AnyAddress) → text ≡ other → Names other a → Names text a

@@ -1,22 +1,13 @@
 -- What is read of a text is one thing.
-use Rattle.std.proofs.Common.{◌≡◌, ◌∙◌, ◌⊎◌, sym, ap, refl, subst, inl, inr, ℕ, zero, suc, ◌<◌, ◌≤◌, Bool, true, false, List, [], ◌∷◌, ◌++◌, length, take, drop, append_assoc, ltb, arith}
-use Rattle.std.specs.Prelude.{map}
-use Rattle.std.proofs.lemmas.Bool.{false≢true, ltb-true, ltb-false}
-use Rattle.pim_addr.specs.declared.family.AddressFamily.{AddressFamily}
-use Rattle.pim_addr.specs.declared.family.AddressFamily.TheVariants.{Ipv4, Ipv6}
+use Rattle.pim_text.proofs.Words.{◌≡◌, ◌∙◌, ◌⊎◌, sym, ap, refl, subst, inl, inr, ℕ, zero, suc, ◌<◌, ◌≤◌, Bool, true}
+use Rattle.pim_text.proofs.Words.{false, List, [], ◌∷◌, ◌++◌, length, take, drop, append_assoc, ltb, arith, map}
+use Rattle.pim_text.proofs.Words.{false≢true, ltb-true, ltb-false, AddressFamily, Ipv4, Ipv6, spelling_of, Entry}
+use Rattle.pim_text.proofs.Words.{canonical, SetValue, TextValue, a_hello, a_message, value_lines, entry_in, set_in}
+use Rattle.pim_text.proofs.Words.{hello_in, message_in, address_in, address_bytes, value_is_in, AreLines, lines, States}
+use Rattle.pim_text.proofs.Words.{Begin, IsWrongLine, is_hello, IsSpelled, IsLong, entry_bytes, OneName, OneMessage}
+use Rattle.pim_text.proofs.Words.{OneRead, OneWrongLine, NoWrongLineIfStated, OneBody, LongBody}
 use Rattle.pim_hello.specs.Hello.{Hello}
-use Rattle.pim_hello.specs.Spelling.{spelling_of}
-use Rattle.pim_jp.specs.declared.entry.Entry.{Entry}
 use Rattle.pim_jp.specs.Message.{GroupSet, Message}
-use Rattle.pim_jp.specs.Canonical.{canonical}
-use Rattle.pim_text.specs.Value.{SetValue, TextValue, a_hello, a_message, value_lines, entry_in, set_in, hello_in, message_in}
-use Rattle.pim_lines.specs.AnyAddress.{address_in, address_bytes}
-use Rattle.pim_text.specs.Families.{value_is_in}
-use Rattle.pim_text.specs.Lines.{AreLines, lines}
-use Rattle.pim_text.specs.Read.{States, Begin, IsWrongLine, is_hello}
-use Rattle.pim_text.specs.Spell.{IsSpelled, IsLong}
-use Rattle.pim_text.specs.Spelled.{entry_bytes}
-use Rattle.pim_text.specs.OneReading.{OneName, OneMessage, OneRead, OneWrongLine, NoWrongLineIfStated, OneBody, LongBody}
 use Rattle.pim_text.proofs.OneLine.{one_list}
 use Rattle.pim_text.proofs.OneValue.{same_value}
 use Rattle.pim_text.proofs.Written.{same_address, same_entry}

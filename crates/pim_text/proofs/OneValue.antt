@@ -1,16 +1,10 @@
 -- The lines of a message are those of no other.
-use Rattle.std.proofs.Common.{◌≡◌, ◌∙◌, sym, ap, refl, ◌+◌, Bool, true, false, List, [], ◌∷◌, ◌++◌, Option, Some, None, length, drop, arith, length-append}
-use Rattle.std.specs.Prelude.{map}
-use Rattle.std.specs.List.{flat_map}
-use Rattle.std.proofs.lemmas.List.{length-map}
-use Rattle.std.proofs.lemmas.Bool.{false≢true}
-use Rattle.pim_jp.specs.declared.entry.Entry.{Entry}
-use Rattle.pim_lines.specs.declared.either.AnyAddress.{AnyAddress}
+use Rattle.pim_text.proofs.Words.{◌≡◌, ◌∙◌, sym, ap, refl, ◌+◌, Bool, true, false, List, [], ◌∷◌, ◌++◌, Option, Some}
+use Rattle.pim_text.proofs.Words.{None, length, drop, arith, length-append, map, flat_map, length-map, false≢true}
+use Rattle.pim_text.proofs.Words.{Entry, AnyAddress, SetLine, Line, Hello, Holdtime, Priority, Generation, Secondary}
+use Rattle.pim_text.proofs.Words.{Head, Set, Join, Prune, HelloValue, SetValue, TextValue, a_hello, a_message}
+use Rattle.pim_text.proofs.Words.{option_line, delays_line_of, option_lines, set_lines, value_lines}
 use Rattle.pim_text.specs.declared.line.Head.{Head as HeadLine}
-use Rattle.pim_text.specs.declared.line.SetLine.{SetLine}
-use Rattle.pim_text.specs.declared.line.Line.{Line}
-use Rattle.pim_text.specs.declared.line.Line.TheVariants.{Hello, Holdtime, Priority, Generation, Secondary, Head, Set, Join, Prune}
-use Rattle.pim_text.specs.Value.{HelloValue, SetValue, TextValue, a_hello, a_message, option_line, delays_line_of, option_lines, set_lines, value_lines}
 use Rattle.pim_text.proofs.WrittenHello.{with_lines, these, options_of}
 
 module _ {A : Type 0} where

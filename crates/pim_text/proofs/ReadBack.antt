@@ -1,16 +1,10 @@
 -- The canonical spelling of a message whose sizes fit is read as that message, whether it is legal or not.
-use Rattle.std.proofs.Common.{◌≡◌, ◌∙◌, ap, ap₂, refl, ℕ, suc, ◌+◌, ◌*◌, ◌<◌, ◌^◌, List, [], ◌∷◌, ◌++◌, length, drop, arith, append_assoc, drop_at, suc-mul, zero-mul}
-use Rattle.std.proofs.Math.Seq.{drop-append-add}
-use Rattle.std.specs.List.{AllByRecursion, flat_map}
-use Rattle.byteorder.specs.Endian.{big_bytes, big_number}
+use Rattle.pim_text.proofs.Words.{◌≡◌, ◌∙◌, ap, ap₂, refl, ℕ, suc, ◌+◌, ◌*◌, ◌<◌, ◌^◌, List, [], ◌∷◌, ◌++◌, length, drop, arith}
+use Rattle.pim_text.proofs.Words.{append_assoc, drop_at, suc-mul, zero-mul, drop-append-add, AllByRecursion, flat_map, big_bytes}
+use Rattle.pim_text.proofs.Words.{big_number, AddressFamily, address_length, canonical_group, GroupReadsBack, SourceReadsBack}
+use Rattle.pim_text.proofs.Words.{group_length, source_length, masked_address, source_value, Entry, Star, Source, Rpt, canonical}
+use Rattle.pim_text.proofs.Words.{canonical_entry, canonical_head, canonical_set}
 use Rattle.byteorder.specs.Numbers.{big_number-reads_back}
-use Rattle.pim_addr.specs.declared.family.AddressFamily.{AddressFamily}
-use Rattle.pim_addr.specs.Address.{address_length}
-use Rattle.pim_addr.specs.Canonical.{canonical_group, GroupReadsBack, SourceReadsBack}
-use Rattle.pim_addr.specs.Encoded.{group_length, source_length, masked_address, source_value}
-use Rattle.pim_jp.specs.declared.entry.Entry.{Entry}
-use Rattle.pim_jp.specs.declared.entry.Entry.TheVariants.{Star, Source, Rpt}
-use Rattle.pim_jp.specs.Canonical.{canonical, canonical_entry, canonical_head, canonical_set}
 use Rattle.pim_jp.specs.Laws.{ReadsHead, ReadsSet}
 use Rattle.pim_jp.specs.Message.{GroupSet, Message, entry_of, entries_of, counts_of, joined_count, pruned_count, joined_bytes, pruned_bytes, after_set, sets_of, head_of, set_count, message_of}
 use Rattle.pim_jp.specs.Spelling.{source_of}

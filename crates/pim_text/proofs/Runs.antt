@@ -1,24 +1,12 @@
 -- The lines of a message, as they are asked for one after the other.
-use Rattle.std.proofs.Common.{◌≡◌, ◌∙◌, sym, ap, refl, ℕ, zero, suc, ◌<◌, ◌≤◌, Bool, true, false, List, [], ◌∷◌, ◌++◌, Option, Some, None, if◌then◌else◌, length, arith}
-use Rattle.std.proofs.lemmas.Bool.{false≢true}
-use Rattle.pim_jp.specs.declared.entry.Entry.{Entry}
-use Rattle.std.specs.List.{flat_map}
-use Rattle.std.specs.Prelude.{map}
+use Rattle.pim_text.proofs.Words.{◌≡◌, ◌∙◌, sym, ap, refl, ℕ, zero, suc, ◌<◌, ◌≤◌, Bool, true, false, List, [], ◌∷◌, ◌++◌, Option}
+use Rattle.pim_text.proofs.Words.{Some, None, if◌then◌else◌, length, arith, false≢true, Entry, flat_map, map, AnyAddress, SetLine}
+use Rattle.pim_text.proofs.Words.{Line, Hello, Holdtime, Delays, Priority, Generation, Secondary, Head, Set, Join, Prune}
+use Rattle.pim_text.proofs.Words.{Expected, Message, Options, append_assoc, le-leb, leb-true, nat_le, AreLines, HelloValue}
+use Rattle.pim_text.proofs.Words.{SetValue, TextValue, a_hello, a_message, option_line, delays_line_of, option_lines, set_lines}
+use Rattle.pim_text.proofs.Words.{value_lines, option_after, after, onward, after_all, ends, is_whole, expects_options, is_hello}
 use Rattle.pim_hello.specs.Hello.{Delays as DelaysValue}
-use Rattle.pim_lines.specs.declared.either.AnyAddress.{AnyAddress}
-use Rattle.pim_text.specs.declared.line.SetLine.{SetLine}
-use Rattle.pim_text.specs.declared.line.Line.{Line}
-use Rattle.pim_text.specs.declared.line.Line.TheVariants.{Hello, Holdtime, Delays, Priority, Generation, Secondary, Head, Set, Join, Prune}
-use Rattle.pim_text.specs.declared.line.Expected.{Expected}
-use Rattle.pim_text.specs.declared.line.Expected.TheVariants.{Message, Options}
 use Rattle.pim_text.specs.declared.line.Expected.TheVariants.{Body as OfBody}
-use Rattle.std.proofs.Common.{append_assoc}
-use Rattle.std.proofs.lemmas.Bool.{le-leb, leb-true}
-use Rattle.std.specs.Prelude.{nat_le}
-use Rattle.pim_text.specs.Lines.{AreLines}
-use Rattle.pim_text.specs.Value.{HelloValue, SetValue, TextValue, a_hello, a_message, option_line, delays_line_of, option_lines, set_lines, value_lines}
-use Rattle.pim_text.specs.Expected.{option_after, after, onward, after_all, ends, is_whole, expects_options}
-use Rattle.pim_text.specs.Read.{is_hello}
 use Rattle.pim_text.proofs.FieldEnds.{same_some, not_some}
 
 -- ---- lines and their texts, in two parts

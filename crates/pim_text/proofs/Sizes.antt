@@ -1,26 +1,13 @@
 -- The sizes of what a text states: addresses have the length of their family, and numbers fit their fields.
 use Rattle.std.proofs.Common.{◌≡◌, ap, refl, ℕ, ◌*◌, ◌-◌, ◌≤◌, ◌<◌, ◌^◌, inl, inr, List, [], ◌∷◌, ◌++◌, Option, Some, None, length, map, arith, length-append}
-use Rattle.std.specs.Prelude.{IfSome, replicate}
-use Rattle.std.specs.List.{AllByRecursion, flat_map}
+use Rattle.pim_text.proofs.Words.{IfSome, replicate, AllByRecursion, flat_map, length-map, length-replicate, AddressFamily, Ipv4}
+use Rattle.pim_text.proofs.Words.{Ipv6, address_length, AreEightGroups, AreAddresses, ParametersFit, Entry, Star, Source, Rpt}
+use Rattle.pim_text.proofs.Words.{AnyAddress, V4, V6, Line, lines, IsLine, IsEntry, AreLines, Names, address_in, option_line}
+use Rattle.pim_text.proofs.Words.{delays_line_of, set_lines, value_lines, entry_in, set_in, hello_in, message_in, States}
 use Rattle.std.specs.Net.Addr.{octets_of}
-use Rattle.std.proofs.lemmas.List.{length-map, length-replicate}
-use Rattle.pim_addr.specs.declared.family.AddressFamily.{AddressFamily}
-use Rattle.pim_addr.specs.declared.family.AddressFamily.TheVariants.{Ipv4, Ipv6}
-use Rattle.pim_addr.specs.Address.{address_length}
-use Rattle.pim_addr.specs.TextForms.{AreEightGroups}
 use Rattle.pim_hello.specs.Hello.{Delays, Hello}
-use Rattle.pim_hello.specs.Spelling.{AreAddresses, ParametersFit}
-use Rattle.pim_jp.specs.declared.entry.Entry.{Entry}
-use Rattle.pim_jp.specs.declared.entry.Entry.TheVariants.{Star, Source, Rpt}
 use Rattle.pim_jp.specs.Message.{GroupSet, Message}
-use Rattle.pim_lines.specs.declared.either.AnyAddress.{AnyAddress}
-use Rattle.pim_lines.specs.declared.either.AnyAddress.TheVariants.{V4, V6}
-use Rattle.pim_text.specs.declared.line.Line.{Line}
 use Rattle.pim_text.specs.declared.line.Line.TheVariants as of_line
-use Rattle.pim_text.specs.Lines.{lines, IsLine, IsEntry, AreLines}
-use Rattle.pim_lines.specs.AnyAddress.{Names, address_in}
-use Rattle.pim_text.specs.Value.{option_line, delays_line_of, set_lines, value_lines, entry_in, set_in, hello_in, message_in}
-use Rattle.pim_text.specs.Read.{States}
 use Rattle.pim_text.proofs.ReadBack.{HasAddress, IsSizedSet, IsSizedMessage}
 
 -- ---- addresses

@@ -1,35 +1,17 @@
 -- The text that is written of a message is cut into its lines.
-use Rattle.std.proofs.Common.{◌≡◌, ◌∙◌, sym, ap, refl, subst, ℕ, Bool, true, false, List, [], ◌∷◌, ◌++◌, Option, Some, None, length, arith}
-use Rattle.std.specs.Prelude.{map}
-use Rattle.std.specs.List.{flat_map}
-use Rattle.std.proofs.lemmas.List.{length-map}
-use Rattle.std.proofs.lemmas.Bool.{false≢true}
-use Rattle.pim_addr.specs.declared.family.AddressFamily.{AddressFamily}
-use Rattle.pim_addr.specs.declared.family.AddressFamily.TheVariants.{Ipv4, Ipv6}
+use Rattle.pim_text.proofs.Words.{◌≡◌, ◌∙◌, sym, ap, refl, subst, ℕ, Bool, true, false, List, [], ◌∷◌, ◌++◌, Option, Some, None}
+use Rattle.pim_text.proofs.Words.{length, arith, map, flat_map, length-map, false≢true, AddressFamily, Ipv4, Ipv6, Entry, Star}
+use Rattle.pim_text.proofs.Words.{Source, Rpt, Line, Hello, Holdtime, Priority, Generation, Secondary, Head, Set, Join, Prune}
+use Rattle.pim_text.proofs.Words.{option_line, delays_line_of, option_lines, set_lines, value_lines, entry_in, set_in, hello_in}
+use Rattle.pim_text.proofs.Words.{message_in, address_in, Names, ◌<◌, ◌^◌, ◌==◌, ◌||◌, codes, decimal, append_assoc, append-nil}
+use Rattle.pim_text.proofs.Words.{list_any, onto_first, AllByRecursion, ne_eqb, IsAddress, address_text, WrittenTextNames}
+use Rattle.pim_text.proofs.Words.{ParametersFit, IsMessageEntry, IsMessageSet, IsMessage, line, message_line, set_line}
+use Rattle.pim_text.proofs.Words.{entry_words, entry_line, set_text, message_text, lines, IsLine, AreLines, States, IsField}
 use Rattle.pim_hello.specs.Hello.{Hello as HelloMessage}
 use Rattle.pim_jp.specs.Message.{GroupSet, Message as JpMessage}
-use Rattle.pim_jp.specs.declared.entry.Entry.{Entry}
-use Rattle.pim_jp.specs.declared.entry.Entry.TheVariants.{Star, Source, Rpt}
-use Rattle.pim_text.specs.declared.line.Line.{Line}
-use Rattle.pim_text.specs.declared.line.Line.TheVariants.{Hello, Holdtime, Priority, Generation, Secondary, Head, Set, Join, Prune}
-use Rattle.pim_text.specs.Value.{option_line, delays_line_of, option_lines, set_lines, value_lines, entry_in, set_in, hello_in, message_in}
-use Rattle.pim_lines.specs.AnyAddress.{address_in, Names}
-use Rattle.std.proofs.Common.{◌<◌, ◌^◌, ◌==◌, ◌||◌, codes, decimal, append_assoc, append-nil}
-use Rattle.std.specs.List.{list_any, onto_first, AllByRecursion}
-use Rattle.std.proofs.lemmas.Bool.{ne_eqb}
 use Rattle.std.specs.Option.{IfSome}
-use Rattle.pim_addr.specs.Address.{IsAddress}
-use Rattle.pim_addr.specs.Text.{address_text}
-use Rattle.pim_addr.specs.TextForms.{WrittenTextNames}
 use Rattle.pim_hello.specs.Hello.{Delays as DelaysValue}
-use Rattle.pim_hello.specs.Spelling.{ParametersFit}
-use Rattle.pim_jp.specs.Canonical.{IsMessageEntry, IsMessageSet, IsMessage}
-use Rattle.pim_text.specs.Text.{line}
 use Rattle.pim_text.specs.HelloText.{number_text as option_text, bit, delays_text, address_line, hello_text}
-use Rattle.pim_text.specs.JoinPruneText.{message_line, set_line, entry_words, entry_line, set_text, message_text}
-use Rattle.pim_text.specs.Lines.{lines, IsLine, AreLines}
-use Rattle.pim_text.specs.Read.{States}
-use Rattle.pim_text.specs.Fields.{IsField}
 use Rattle.pim_text.proofs.Bytes.{decimal_is_field, named_is_field}
 use Rattle.pim_text.proofs.LineCuts.{lines_of_none}
 use Rattle.pim_text.proofs.Runs.{are_append}

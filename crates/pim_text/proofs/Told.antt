@@ -1,18 +1,10 @@
 -- What a text that was read states, and why it has no body.
-use Rattle.std.proofs.Common.{◌≡◌, ◌∙◌, sym, inl, inr, ℕ, true, false, List}
-use Rattle.std.proofs.lemmas.Bool.{false≢true}
-use Rattle.pim_addr.specs.declared.family.AddressFamily.{AddressFamily}
-use Rattle.pim_addr.specs.declared.family.AddressFamily.TheVariants.{Ipv4, Ipv6}
+use Rattle.pim_text.proofs.Words.{◌≡◌, ◌∙◌, sym, inl, inr, ℕ, true, false, List, false≢true, AddressFamily, Ipv4, Ipv6, TextValue}
+use Rattle.pim_text.proofs.Words.{a_hello, a_message, value_is_in, States, is_hello, IsRead, StatesMessage, IsMessageFault}
+use Rattle.pim_text.proofs.Words.{StatesHello, IsHelloFault, stated_in, IsTextFault, reported, StatesIn, StatedInItsFamily}
 use Rattle.pim_text.specs.declared.line.Stated.{Stated}
 use Rattle.pim_text.specs.declared.spelling.SpellFault.{SpellFault}
 use Rattle.pim_text.specs.declared.spelling.SpellFault.TheVariants as of_body
-use Rattle.pim_text.specs.Value.{TextValue, a_hello, a_message}
-use Rattle.pim_text.specs.Families.{value_is_in}
-use Rattle.pim_text.specs.Read.{States, is_hello, IsRead}
-use Rattle.pim_text.specs.Spelled.{StatesMessage, IsMessageFault}
-use Rattle.pim_text.specs.SpelledHello.{StatesHello, IsHelloFault}
-use Rattle.pim_text.specs.Spell.{stated_in, IsTextFault, reported}
-use Rattle.pim_text.specs.Laws.{StatesIn, StatedInItsFamily}
 
 pub hello_fault : (family : AddressFamily) (text : List ℕ) (fault : SpellFault) → StatesHello family text → IsHelloFault family text fault → IsTextFault family text (reported fault)
 hello_fault family text of_body.TooLong (hello, states) is = inl (hello, states, is hello states)

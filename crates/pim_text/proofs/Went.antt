@@ -1,23 +1,12 @@
 -- A text that was read line by line.
-use Rattle.std.proofs.Common.{◌≡◌, ◌∙◌, sym, ap, refl, subst, ℕ, suc, ◌+◌, ◌<◌, ◌≤◌, Bool, true, false, List, [], ◌∷◌, ◌++◌, Some, length, arith}
-use Rattle.std.proofs.lemmas.Bool.{false≢true}
-use Rattle.pim_text.specs.declared.line.Line.{Line}
-use Rattle.pim_text.specs.declared.line.Expected.{Expected}
-use Rattle.pim_text.specs.declared.line.Expected.TheVariants.{Message}
-use Rattle.std.proofs.Common.{take, ◌&&◌, append-nil, append_assoc, length-append, inl, inr, if◌then◌else◌, ◌==◌, ◌^◌}
-use Rattle.std.specs.List.{onto_first}
-use Rattle.std.proofs.Math.Seq.{take-append_seam}
-use Rattle.std.proofs.lemmas.List.Folds.{list_all-append}
-use Rattle.pim_addr.specs.TextForms.{WrittenTextNames}
-use Rattle.pim_addr.specs.declared.family.AddressFamily.{AddressFamily}
-use Rattle.pim_addr.specs.declared.family.AddressFamily.TheVariants.{Ipv4, Ipv6}
+use Rattle.pim_text.proofs.Words.{◌≡◌, ◌∙◌, sym, ap, refl, subst, ℕ, suc, ◌+◌, ◌<◌, ◌≤◌, Bool, true, false, List, [], ◌∷◌, ◌++◌}
+use Rattle.pim_text.proofs.Words.{Some, length, arith, false≢true, Line, Expected, Message, take, ◌&&◌, append-nil, append_assoc}
+use Rattle.pim_text.proofs.Words.{length-append, inl, inr, if◌then◌else◌, ◌==◌, ◌^◌, onto_first, take-append_seam}
+use Rattle.pim_text.proofs.Words.{list_all-append, WrittenTextNames, AddressFamily, Ipv4, Ipv6, TextValue, value_lines}
+use Rattle.pim_text.proofs.Words.{line_is_in, all_in, IsLine, AreLines, lines, after, after_all, is_whole, expects_options}
+use Rattle.pim_text.proofs.Words.{Advanced, IsUnexpected, States, Begin, IsWrongLine, IsRead}
 use Rattle.pim_text.specs.declared.line.TextProgress.{TextProgress}
-use Rattle.pim_text.specs.Value.{TextValue, value_lines}
-use Rattle.pim_text.specs.Families.{line_is_in, all_in}
-use Rattle.pim_text.specs.Lines.{IsLine, AreLines, lines}
-use Rattle.pim_text.specs.Expected.{after, after_all, is_whole, expects_options, Advanced, IsUnexpected}
 use Rattle.pim_text.proofs.OneValue.{same_value}
-use Rattle.pim_text.specs.Read.{States, Begin, IsWrongLine, IsRead}
 use Rattle.pim_text.proofs.FieldEnds.{same_some}
 use Rattle.pim_text.proofs.Runs.{are_append, are_split, first_step, one_step, run_append, run_split, value_runs, value_of_run}
 use Rattle.pim_text.proofs.Fillers.{complete}

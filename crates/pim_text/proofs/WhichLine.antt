@@ -1,17 +1,9 @@
 -- Which line is asked for, by what is asked for.
-use Rattle.std.proofs.Common.{◌≡◌, ap, refl, ℕ, zero, suc, ◌<◌, ◌≤◌, true, List, Some, codes, get_or, arith}
-use Rattle.std.proofs.lemmas.Bool.{false≢true}
-use Rattle.pim_jp.specs.declared.entry.Entry.{Entry}
-use Rattle.pim_lines.specs.declared.either.AnyAddress.{AnyAddress}
-use Rattle.pim_text.specs.declared.line.DelayLine.{DelayLine}
+use Rattle.pim_text.proofs.Words.{◌≡◌, ap, refl, ℕ, zero, suc, ◌<◌, ◌≤◌, true, List, Some, codes, get_or, arith}
+use Rattle.pim_text.proofs.Words.{false≢true, Entry, AnyAddress, DelayLine, SetLine, Line, Hello, Holdtime, Delays}
+use Rattle.pim_text.proofs.Words.{Priority, Generation, Secondary, Head, Set, Join, Prune, Expected, Message}
+use Rattle.pim_text.proofs.Words.{IsEntryLine, IsLine, after, after_body, is_option}
 use Rattle.pim_text.specs.declared.line.Head.{Head as HeadLine}
-use Rattle.pim_text.specs.declared.line.SetLine.{SetLine}
-use Rattle.pim_text.specs.declared.line.Line.{Line}
-use Rattle.pim_text.specs.declared.line.Line.TheVariants.{Hello, Holdtime, Delays, Priority, Generation, Secondary, Head, Set, Join, Prune}
-use Rattle.pim_text.specs.declared.line.Expected.{Expected}
-use Rattle.pim_text.specs.declared.line.Expected.TheVariants.{Message}
-use Rattle.pim_text.specs.Lines.{IsEntryLine, IsLine}
-use Rattle.pim_text.specs.Expected.{after, after_body, is_option}
 use Rattle.pim_text.proofs.FieldEnds.{same_some, not_some}
 
 pub a_join : (j p s : ℕ) (text : List ℕ) (line : Line) (next : Expected) → 0 < j → after_body j p s line ≡ Some next → IsLine line text → (e : Entry AnyAddress) × IsEntryLine (codes "join ") e text × (line ≡ Join e)

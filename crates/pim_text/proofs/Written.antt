@@ -1,33 +1,15 @@
 -- A Join/Prune message whose lines are spelled one after the other.
-use Rattle.std.proofs.Common.{◌≡◌, ◌∙◌, sym, ap, refl, subst, ℕ, ◌<◌, ◌≤◌, Bool, true, false, ◌&&◌, List, [], ◌∷◌, ◌++◌, Some, None, length, append_assoc, append-nil, length-append, arith}
-use Rattle.std.specs.Prelude.{map}
-use Rattle.std.specs.List.{flat_map}
-use Rattle.std.proofs.lemmas.Bool.{false≢true}
-use Rattle.pim_addr.specs.declared.family.AddressFamily.{AddressFamily}
-use Rattle.pim_addr.specs.declared.family.AddressFamily.TheVariants.{Ipv4, Ipv6}
-use Rattle.pim_jp.specs.declared.entry.Entry.{Entry}
-use Rattle.pim_jp.specs.declared.entry.Entry.TheVariants.{Star, Source, Rpt}
+use Rattle.pim_text.proofs.Words.{◌≡◌, ◌∙◌, sym, ap, refl, subst, ℕ, ◌<◌, ◌≤◌, Bool, true, false, ◌&&◌, List, [], ◌∷◌, ◌++◌, Some}
+use Rattle.pim_text.proofs.Words.{None, length, append_assoc, append-nil, length-append, arith, map, flat_map, false≢true}
+use Rattle.pim_text.proofs.Words.{AddressFamily, Ipv4, Ipv6, Entry, Star, Source, Rpt, big_bytes, canonical_group, canonical}
+use Rattle.pim_text.proofs.Words.{canonical_head, canonical_set, canonical_entry, Line, Set, Join, Prune, LineStep, Expected}
+use Rattle.pim_text.proofs.Words.{Message, entry_in, set_in, message_in, set_lines, value_lines, address_in, is_in, address_bytes}
+use Rattle.pim_text.proofs.Words.{entry_is_in, line_is_in, all_in, IsLine, AreLines, lines, after, after_all, IsStep, OnlyStep}
+use Rattle.pim_text.proofs.Words.{States, entry_bytes, line_bytes, length-map, list_all-append}
 use Rattle.pim_jp.specs.Message.{GroupSet, Message as JpMessage}
-use Rattle.byteorder.specs.Endian.{big_bytes}
-use Rattle.pim_addr.specs.Canonical.{canonical_group}
-use Rattle.pim_jp.specs.Canonical.{canonical, canonical_head, canonical_set, canonical_entry}
-use Rattle.pim_text.specs.declared.line.Line.{Line}
-use Rattle.pim_text.specs.declared.line.Line.TheVariants.{Set, Join, Prune}
-use Rattle.pim_text.specs.declared.line.LineStep.{LineStep}
-use Rattle.pim_text.specs.declared.line.Expected.{Expected}
-use Rattle.pim_text.specs.declared.line.Expected.TheVariants.{Message}
-use Rattle.pim_text.specs.Value.{entry_in, set_in, message_in, set_lines, value_lines}
-use Rattle.pim_lines.specs.AnyAddress.{address_in, is_in, address_bytes}
-use Rattle.pim_text.specs.Families.{entry_is_in, line_is_in, all_in}
-use Rattle.pim_text.specs.Lines.{IsLine, AreLines, lines}
-use Rattle.pim_text.specs.Expected.{after, after_all, IsStep, OnlyStep}
-use Rattle.pim_text.specs.Read.{States}
-use Rattle.pim_text.specs.Spelled.{entry_bytes, line_bytes}
 use Rattle.pim_text.proofs.FieldEnds.{same_some}
 use Rattle.pim_text.proofs.Runs.{first_step, value_runs}
-use Rattle.std.proofs.lemmas.List.{length-map}
 use Rattle.std.proofs.lemmas.List.Concat.{flat_map-append}
-use Rattle.std.proofs.lemmas.List.Folds.{list_all-append}
 
 -- ---- what belongs to one family
 

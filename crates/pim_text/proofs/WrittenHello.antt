@@ -1,22 +1,11 @@
 -- A Hello whose lines are gathered one after the other.
-use Rattle.std.proofs.Common.{◌≡◌, ◌∙◌, sym, ap, refl, subst, ℕ, true, ◌&&◌, List, [], ◌∷◌, ◌++◌, Option, Some, None, Result, Ok, Err, append_assoc, append-nil, arith}
-use Rattle.std.specs.Prelude.{map, IfOk, IfErr}
-use Rattle.std.specs.List.{flat_map}
-use Rattle.pim_addr.specs.declared.family.AddressFamily.{AddressFamily}
+use Rattle.pim_text.proofs.Words.{◌≡◌, ◌∙◌, sym, ap, refl, subst, ℕ, true, ◌&&◌, List, [], ◌∷◌, ◌++◌, Option, Some, None, Result}
+use Rattle.pim_text.proofs.Words.{Ok, Err, append_assoc, append-nil, arith, map, IfOk, IfErr, flat_map, AddressFamily, AnyAddress}
+use Rattle.pim_text.proofs.Words.{Line, Holdtime, Delays, Priority, Generation, Secondary, LineStep, Expected, Message}
+use Rattle.pim_text.proofs.Words.{HelloValue, option_lines, hello_in, option_line, delays_line_of, value_lines, address_in}
+use Rattle.pim_text.proofs.Words.{line_is_in, all_in, IsLine, AreLines, lines, after, after_all, IsStep, OnlyStep, States}
+use Rattle.pim_text.proofs.Words.{with_line, line_addresses, DelaysFit, HaveLength, hello_of}
 use Rattle.pim_hello.specs.Hello.{Delays as DelaysValue, Parameters, Hello as HelloMessage}
-use Rattle.pim_lines.specs.declared.either.AnyAddress.{AnyAddress}
-use Rattle.pim_text.specs.declared.line.Line.{Line}
-use Rattle.pim_text.specs.declared.line.Line.TheVariants.{Holdtime, Delays, Priority, Generation, Secondary}
-use Rattle.pim_text.specs.declared.line.LineStep.{LineStep}
-use Rattle.pim_text.specs.declared.line.Expected.{Expected}
-use Rattle.pim_text.specs.declared.line.Expected.TheVariants.{Message}
-use Rattle.pim_text.specs.Value.{HelloValue, option_lines, hello_in, option_line, delays_line_of, value_lines}
-use Rattle.pim_lines.specs.AnyAddress.{address_in}
-use Rattle.pim_text.specs.Families.{line_is_in, all_in}
-use Rattle.pim_text.specs.Lines.{IsLine, AreLines, lines}
-use Rattle.pim_text.specs.Expected.{after, after_all, IsStep, OnlyStep}
-use Rattle.pim_text.specs.Read.{States}
-use Rattle.pim_text.specs.SpelledHello.{with_line, line_addresses, DelaysFit, HaveLength, hello_of}
 use Rattle.pim_text.proofs.FieldEnds.{same_some}
 use Rattle.pim_text.proofs.Runs.{first_step, value_runs}
 use Rattle.pim_text.proofs.Written.{same_address, address_is_in, all_in_both, both}

@@ -1,9 +1,7 @@
 -- Each day of the walk is one of the calendar, and another than all others.
-use Rattle.std.proofs.Common.{◌≡◌, ◌∙◌, ap, subst, refl, ℕ, zero, suc, ◌+◌, ◌-◌, ◌*◌, ◌<◌, inl, inr, nat_lt, arith}
-use Rattle.std.proofs.lemmas.Bool.{cond_both, ltb-true, ltb-false, cases_order}
-use Rattle.pim_time.specs.Calendar.{days_in_month, next_month, next_day, date_of}
-use Rattle.pim_time.specs.Dates.{first_day, IsCivil}
-use Rattle.pim_time.specs.declared.calendar.Date.{Date}
+use Rattle.pim_time.proofs.Words.{◌≡◌, ◌∙◌, ap, subst, refl, ℕ, zero, suc, ◌+◌, ◌-◌, ◌*◌, ◌<◌, inl, inr, nat_lt, arith}
+use Rattle.pim_time.proofs.Words.{cond_both, ltb-true, ltb-false, cases_order, days_in_month, next_month, next_day}
+use Rattle.pim_time.proofs.Words.{date_of, first_day, IsCivil, Date}
 use Rattle.pim_time.proofs.Walks.{month_low, month_high, over_year}
 
 -- ---- days of the calendar

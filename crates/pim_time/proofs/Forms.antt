@@ -1,9 +1,6 @@
 -- A text has one form alone.
-use Rattle.std.proofs.Common.{◌≡◌, ◌∙◌, sym, ap, subst, refl, ℕ, List, [], ◌∷◌, ◌++◌, arith}
-use Rattle.std.specs.List.{AllByRecursion}
-use Rattle.std.specs.Str.Parse.{AllDigits}
-use Rattle.std.proofs.lemmas.Str.Parse.{digit_from_value}
-use Rattle.pim_time.specs.Text.{second_text, IsNumber, IsSeconds, IsDate}
+use Rattle.pim_time.proofs.Words.{◌≡◌, ◌∙◌, sym, ap, subst, refl, ℕ, List, [], ◌∷◌, ◌++◌, arith, AllByRecursion}
+use Rattle.pim_time.proofs.Words.{AllDigits, digit_from_value, second_text, IsNumber, IsSeconds, IsDate}
 
 -- No byte is a hyphen.
 abbrev NoHyphen : List ℕ → Type 0

@@ -1,3 +1,4 @@
+pub mod Words
 pub mod Walks
 pub mod Days
 pub mod Numbers

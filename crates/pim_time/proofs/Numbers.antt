@@ -1,8 +1,6 @@
 -- Digits and the numbers that they write.
-use Rattle.std.proofs.Common.{sym, subst, ℕ, ◌^◌, ◌<◌, ◌≤◌, List, length}
-use Rattle.std.specs.Str.Parse.{AllDigits, digits_value}
-use Rattle.std.proofs.lemmas.Str.Parse.{IsNumeralModel, numerals_by_value, tells_digits, digits_value_short}
-use Rattle.pim_time.specs.Text.{IsNumber}
+use Rattle.pim_time.proofs.Words.{sym, subst, ℕ, ◌^◌, ◌<◌, ◌≤◌, List, length, AllDigits, digits_value, IsNumeralModel}
+use Rattle.pim_time.proofs.Words.{numerals_by_value, tells_digits, digits_value_short, IsNumber}
 
 own : IsNumeralModel (AllDigits 10) (digits_value 10)
 own = numerals_by_value (AllDigits 10) tells_digits

@@ -1,13 +1,8 @@
 -- A text names one time.
-use Rattle.std.proofs.Common.{◌≡◌, ◌∙◌, sym, ap, refl, ℕ, suc, ◌+◌, ◌-◌, ◌*◌, ◌/◌, ◌%◌, ◌^◌, ◌<◌, inl, inr, List, [], ◌∷◌, ◌++◌, length, get_or, drop, arith}
-use Rattle.std.specs.Str.Parse.{digits_value}
-use Rattle.std.proofs.lemmas.List.{append_cancel_right}
-use Rattle.pim_time.specs.Calendar.{date_of}
-use Rattle.pim_time.specs.Dates.{IsCivil}
-use Rattle.pim_time.specs.Text.{day_text, clock_text, second_text, IsNumber, IsPart, IsEnd, IsSeconds, IsDate, IsTime}
-use Rattle.pim_time.specs.declared.calendar.Date.{Date}
-use Rattle.pim_time.specs.declared.reading.Time.{Time}
-use Rattle.pim_time.specs.declared.reading.Time.TheVariants.{Moment, Epoch}
+use Rattle.pim_time.proofs.Words.{◌≡◌, ◌∙◌, sym, ap, refl, ℕ, suc, ◌+◌, ◌-◌, ◌*◌, ◌/◌, ◌%◌, ◌^◌, ◌<◌, inl, inr, List}
+use Rattle.pim_time.proofs.Words.{[], ◌∷◌, ◌++◌, length, get_or, drop, arith, digits_value, append_cancel_right}
+use Rattle.pim_time.proofs.Words.{date_of, IsCivil, day_text, clock_text, second_text, IsNumber, IsPart, IsEnd}
+use Rattle.pim_time.proofs.Words.{IsSeconds, IsDate, IsTime, Date, Time, Moment, Epoch}
 use Rattle.pim_time.proofs.Walks.{day_of, month_high}
 use Rattle.pim_time.proofs.Days.{is_civil, one_day}
 use Rattle.pim_time.proofs.Points.{point_is_found, cut_there, same_some}

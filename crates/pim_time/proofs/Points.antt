@@ -1,12 +1,9 @@
 -- Where the first point of a text is.
-use Rattle.std.proofs.Common.{◌≡◌, ◌∙◌, ap, refl, ℕ, ◌+◌, ◌<◌, Bool, false, List, [], ◌∷◌, ◌++◌, Some, None, Option, length, take, drop, arith, length-append}
+use Rattle.pim_time.proofs.Words.{◌≡◌, ◌∙◌, ap, refl, ℕ, ◌+◌, ◌<◌, Bool, false, List, [], ◌∷◌, ◌++◌, Some, None, Option}
+use Rattle.pim_time.proofs.Words.{length, take, drop, arith, length-append, digit_value, position, position_or_len}
+use Rattle.pim_time.proofs.Words.{AllDigits, lt-ltb, ne_eqb, digit_from_value}
 use Rattle.std.specs.Prelude.{◌==◌}
-use Rattle.std.specs.Char.{digit_value}
-use Rattle.std.specs.List.{position, position_or_len}
-use Rattle.std.specs.Str.Parse.{AllDigits}
 use Rattle.std.proofs.Math.Seq.{take-append_seam, drop-append_seam}
-use Rattle.std.proofs.lemmas.Bool.{lt-ltb, ne_eqb}
-use Rattle.std.proofs.lemmas.Str.Parse.{digit_from_value}
 
 abbrev is_point : ℕ → Bool
 is_point byte = byte == 46

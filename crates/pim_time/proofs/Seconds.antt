@@ -1,8 +1,6 @@
 -- A date and a time of day are one second.
-use Rattle.std.proofs.Common.{◌≡◌, ◌∙◌, sym, ap, ℕ, ◌+◌, ◌*◌, ◌/◌, ◌%◌, List, [], ◌∷◌, ◌++◌, arith}
-use Rattle.std.proofs.lemmas.List.{append_cancel_right}
-use Rattle.pim_time.specs.Calendar.{date_of}
-use Rattle.pim_time.specs.Text.{second_text, day_text, clock_text}
+use Rattle.pim_time.proofs.Words.{◌≡◌, ◌∙◌, sym, ap, ℕ, ◌+◌, ◌*◌, ◌/◌, ◌%◌, List, [], ◌∷◌, ◌++◌, arith}
+use Rattle.pim_time.proofs.Words.{append_cancel_right, date_of, second_text, day_text, clock_text}
 use Rattle.pim_time.specs.Pieces.{IsDay, IsClock, IsSecond}
 
 pub joined : (text behind tail last : List ℕ) (days clock : ℕ) → IsDay text days behind → behind ≡ 84 ∷ tail → IsClock tail clock last → IsSecond text (days * 86400 + clock) last

@@ -1,12 +1,9 @@
 -- The texts that are written name their times.
-use Rattle.std.proofs.Common.{◌≡◌, sym, refl, ℕ, ◌+◌, ◌/◌, ◌%◌, ◌<◌, inl, inr, List, [], ◌∷◌, ◌++◌, length, length-append, drop, drop-drop, append_assoc, decimal, arith}
-use Rattle.std.specs.Char.{digit_value}
-use Rattle.std.proofs.lemmas.Bool.Decides.{nat_tests}
+use Rattle.pim_time.proofs.Words.{◌≡◌, sym, refl, ℕ, ◌+◌, ◌/◌, ◌%◌, ◌<◌, inl, inr, List, [], ◌∷◌, ◌++◌, length}
+use Rattle.pim_time.proofs.Words.{length-append, drop, drop-drop, append_assoc, decimal, arith, digit_value, nat_tests}
+use Rattle.pim_time.proofs.Words.{date_of, Date, two_digits, day_text, clock_text, millis_text, seconds_text}
+use Rattle.pim_time.proofs.Words.{second_text, date_text, IsNumber, IsPart, IsTime, Epoch}
 use Rattle.std.proofs.lemmas.Fmt.{decimal_is_IsNumeral, length-decimal-le}
-use Rattle.pim_time.specs.Calendar.{date_of}
-use Rattle.pim_time.specs.declared.calendar.Date.{Date}
-use Rattle.pim_time.specs.Text.{two_digits, day_text, clock_text, millis_text, seconds_text, second_text, date_text, IsNumber, IsPart, IsTime}
-use Rattle.pim_time.specs.declared.reading.Time.TheVariants.{Epoch}
 use Rattle.pim_time.proofs.Days.{year_below}
 
 digit_of : (n : ℕ) → n < 10 → digit_value (48 + n) ≡ n

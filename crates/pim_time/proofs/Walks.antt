@@ -1,9 +1,7 @@
 -- Walks over the calendar by days, months and years.
-use Rattle.std.proofs.Common.{◌≡◌, ◌∙◌, sym, ap, subst, refl, ℕ, zero, suc, ◌+◌, ◌-◌, ◌<◌, ◌≤◌, inl, inr, Bool, true, false, cond, nat_lt, arith}
-use Rattle.std.proofs.lemmas.Bool.{lt-ltb, le-ltb, cases_lt}
-use Rattle.pim_time.specs.Calendar.{days_in_month, next_month, next_day, date_of}
-use Rattle.pim_time.specs.Dates.{first_day}
-use Rattle.pim_time.specs.declared.calendar.Date.{Date}
+use Rattle.pim_time.proofs.Words.{◌≡◌, ◌∙◌, sym, ap, subst, refl, ℕ, zero, suc, ◌+◌, ◌-◌, ◌<◌, ◌≤◌, inl, inr, Bool}
+use Rattle.pim_time.proofs.Words.{true, false, cond, nat_lt, arith, lt-ltb, le-ltb, cases_lt, days_in_month, next_month}
+use Rattle.pim_time.proofs.Words.{next_day, date_of, first_day, Date}
 
 -- A date by its numbers.
 abbrev pub day_of : ℕ → ℕ → ℕ → Date

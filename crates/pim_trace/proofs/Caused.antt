@@ -1,29 +1,13 @@
 -- What events that lead each machine on say of its states, and of the causes of its firings.
-use Rattle.std.proofs.Common.{◌≡◌, ◌∙◌, ℕ, Bool, true, false, not, ◌&&◌, if◌then◌else◌, List, [], ◌∷◌, ◌++◌}
-use Rattle.std.proofs.Common.{Option, None, Some, unwrap_or, refl, sym, ap, subst}
-use Rattle.std.proofs.lemmas.Bool.{false≢true}
-use Rattle.pim_down.specs.declared.machines.key.Key.{Key}
-use Rattle.pim_down.specs.declared.machines.key.What.{What}
-use Rattle.pim_down.specs.declared.machines.machine.Machine.{Machine}
-use Rattle.pim_down.specs.declared.machines.machine.State.{State}
-use Rattle.pim_down.specs.declared.machines.step.Timer.{Timer}
-use Rattle.pim_down.specs.declared.machines.step.Timer.TheVariants.{PrunePending, Expiry}
-use Rattle.pim_down.specs.Laws.{KeysAreDistinct}
-use Rattle.pim_down.specs.Records.{machine_at, state_of_machine, state_of}
-use Rattle.pim_router.specs.State.{RouterState}
-use Rattle.pim_events.specs.declared.event.Cause.{Cause}
-use Rattle.pim_events.specs.declared.event.Fired.{Fired}
-use Rattle.pim_events.specs.declared.event.TransitionEvent.{TransitionEvent}
-use Rattle.pim_events.specs.Events.{Happened, Occurrence, hello_heard, packet_judged, machine_changed, join_ignored}
+use Rattle.pim_trace.proofs.Words.{◌≡◌, ◌∙◌, ℕ, Bool, true, false, not, ◌&&◌, if◌then◌else◌, List, [], ◌∷◌, ◌++◌, Option, None}
+use Rattle.pim_trace.proofs.Words.{Some, unwrap_or, refl, sym, ap, subst, false≢true, Key, What, Machine, State, Timer}
+use Rattle.pim_trace.proofs.Words.{PrunePending, Expiry, KeysAreDistinct, machine_at, state_of_machine, state_of, RouterState}
+use Rattle.pim_trace.proofs.Words.{Cause, Fired, TransitionEvent, Happened, Occurrence, hello_heard, packet_judged}
+use Rattle.pim_trace.proofs.Words.{machine_changed, join_ignored, Causes, end_of, end_after, end_then, end_by, sets, packet_of}
+use Rattle.pim_trace.proofs.Words.{set_by, last_of, last_set, key_on, last_setting, ends_pending, EventsNameTheirPackets}
+use Rattle.pim_trace.proofs.Words.{is_pending, names, states_by, states_shown, state_then, BeginsIn, last_shown, IsUnbroken}
+use Rattle.pim_trace.proofs.Words.{LeadOn, Ledger, no_cause, both_by, cause_of, ledger_for}
 use Rattle.pim_events.specs.Events.{own_restart, record_skipped, neighbour_gone, timer_fired, run_ended}
-use Rattle.pim_trace.specs.declared.ledger.Causes.{Causes}
-use Rattle.pim_trace.specs.Causing.{end_of, end_after, end_then, end_by, sets, packet_of, set_by, last_of, last_set, key_on}
-use Rattle.pim_trace.specs.Causing.{last_setting, ends_pending, EventsNameTheirPackets}
-use Rattle.pim_trace.specs.Heard.{is_pending}
-use Rattle.pim_trace.specs.Folding.{names, states_by, states_shown, state_then, BeginsIn, last_shown, IsUnbroken, LeadOn}
-use Rattle.pim_trace.specs.Ledger.{Ledger, no_cause, both_by}
-use Rattle.pim_trace.specs.Passing.{cause_of}
-use Rattle.pim_trace.specs.Trace.{ledger_for}
 use Rattle.pim_trace.proofs.Folding.{Known, known_of, state_in, end_in, by_or, pending_frame, changed_known, fired_known}
 use Rattle.pim_trace.proofs.Folding.{LeadsBy, tells_nothing, tells_change, tells_firing, Leads, place, known_at}
 use Rattle.pim_trace.proofs.Folding.{LeadsAll}

@@ -1,15 +1,8 @@
 -- Counts over all ports.
 use Rattle.std.proofs.Common.{◌≡◌, ◌≤◌, ◌<◌, ◌+◌, ◌*◌, ◌∙◌, ℕ, zero, suc, add-one, Bool, true, false, if◌then◌else◌, ◌==◌, nat_lt, List, [], ◌∷◌, length, drop, slice_index_or, refl, sym, ap, subst, arith}
-use Rattle.std.proofs.Common.{eqb-true, eq-eqb}
-use Rattle.std.proofs.lemmas.Bool.{false≢true, ltb-true, ltb-false, lt-ltb, le-ltb}
-use Rattle.std.specs.List.{AllByRecursion}
-use Rattle.pim_addr.specs.declared.family.AddressFamily.{AddressFamily}
-use Rattle.pim_hello.specs.Neighbours.{Table, no_neighbours, neighbour_limit}
-use Rattle.pim_down.specs.declared.machines.machine.Record.{Record}
-use Rattle.pim_down.specs.Records.{count_on}
-use Rattle.pim_down.specs.Sound.{IsReal, IsSound}
-use Rattle.pim_down.specs.Time.{Downstream}
-use Rattle.pim_trace.specs.Trace.{neighbours_in}
+use Rattle.pim_trace.proofs.Words.{eqb-true, eq-eqb, false≢true, ltb-true, ltb-false, lt-ltb, le-ltb, AllByRecursion}
+use Rattle.pim_trace.proofs.Words.{AddressFamily, Table, no_neighbours, neighbour_limit, Record, count_on, IsReal}
+use Rattle.pim_trace.proofs.Words.{IsSound, Downstream, neighbours_in}
 
 -- ---- neighbours
 

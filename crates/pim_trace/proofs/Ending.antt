@@ -1,22 +1,9 @@
 -- The end of a trace: the time behind the last turn, and the end of the run.
-use Rattle.std.proofs.Common.{◌≡◌, ◌∙◌, ℕ, List, [], ◌∷◌, ◌++◌, Option, Err, refl, ap, subst, inl}
-use Rattle.pim_addr.specs.declared.family.AddressFamily.{AddressFamily}
-use Rattle.pim_merge.specs.declared.end.End.{End}
-use Rattle.pim_merge.specs.Ends.{end_moment, clock_of, Takes}
-use Rattle.pim_merge.specs.Next.{MergeState}
-use Rattle.pim_merge.specs.Run.{CountsAll, IsTallied}
-use Rattle.pim_router.specs.Laws.{EveryStateGoesOn}
-use Rattle.pim_router.specs.State.{RouterState}
-use Rattle.std.specs.Io.KnownBytes.{Appends}
-use Rattle.pim_device.specs.Device.{AppendsFront}
-use Rattle.pim_events.specs.Events.{Occurrence}
-use Rattle.pim_run.specs.declared.fault.RunFault.{RunFault}
-use Rattle.pim_run.specs.declared.fault.RunFault.TheVariants.{Capture, Output, Memory}
-use Rattle.pim_trace.specs.Ledger.{Ledger}
-use Rattle.pim_trace.specs.Passing.{PassesTime}
-use Rattle.pim_trace.specs.WrittenEvents.{HasWritten, HasBegun}
+use Rattle.pim_trace.proofs.Words.{◌≡◌, ◌∙◌, ℕ, List, [], ◌∷◌, ◌++◌, Option, Err, refl, ap, subst, inl, AddressFamily}
+use Rattle.pim_trace.proofs.Words.{End, end_moment, clock_of, Takes, MergeState, CountsAll, IsTallied, EveryStateGoesOn}
+use Rattle.pim_trace.proofs.Words.{RouterState, Appends, AppendsFront, Occurrence, RunFault, Capture, Output, Memory}
+use Rattle.pim_trace.proofs.Words.{Ledger, PassesTime, HasWritten, HasBegun, HasAll, RunsTurns}
 use Rattle.pim_trace.specs.Trace.{WritesTurns, WritesAll, IsTrace, ending, ledger_for, HasSome, HasTrace, Wrote, WroteFront, Traces}
-use Rattle.pim_trace.specs.Underway.{HasAll, RunsTurns}
 use Rattle.pim_trace.proofs.Underway.{begun_first}
 use Rattle.pim_trace.proofs.Pieces.{none_told, all_told, happens_then, told_begun, begun_longer, one_told, one_begun}
 

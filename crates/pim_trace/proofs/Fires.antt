@@ -1,23 +1,16 @@
 -- Calls of `fire_to` where no neighbour goes, and over the next millisecond.
-use Rattle.std.proofs.Common.{◌≡◌, ◌∙◌, ◌<◌, ◌≤◌, ◌+◌, ◌-◌, ℕ, zero, suc, Bool, true, false, max, nat_lt, List, [], ◌∷◌, ◌++◌, Option, Some, None, if◌then◌else◌, refl, sym, ap, subst, arith, append-nil}
+use Rattle.pim_trace.proofs.Words.{◌≡◌, ◌∙◌, ◌<◌, ◌≤◌, ◌+◌, ◌-◌, ℕ, zero, suc, Bool, true, false, max, nat_lt, List, [], ◌∷◌}
+use Rattle.pim_trace.proofs.Words.{◌++◌, Option, Some, None, if◌then◌else◌, refl, sym, ap, subst, arith, append-nil, list_any}
+use Rattle.pim_trace.proofs.Words.{AllByRecursion, false≢true, lt-leb, ltb-true, ltb-false, Neighbour, Table, is_over}
+use Rattle.pim_trace.proofs.Words.{without_ended, passed_to, Record, Firing, firing, FiringSaysMore, said_of, fired, with_records}
+use Rattle.pim_trace.proofs.Words.{Happening, timer_fired, gone_from, gone_within, gone_between, happens_in, fired_of, at_moment}
+use Rattle.pim_trace.proofs.Words.{in_turns, Passes, Happens, FiresAfter, first_timeout, FiringPasses}
+use Rattle.pim_trace.proofs.Words.{NobodyGoesBeforeFirstTimeout, HasTime, IsCurrent, IsRouter, RouterState, with_machines}
+use Rattle.pim_trace.proofs.Words.{with_tables, rests, moves, has_ended, tick, turn, turn_of_timers, gone_by, time_outs}
 use Rattle.std.specs.Prelude.{map, option_map, is_some}
-use Rattle.std.specs.List.{list_any, AllByRecursion}
-use Rattle.std.proofs.lemmas.Bool.{false≢true, lt-leb, ltb-true, ltb-false}
 use Rattle.pim_hello.specs.Laws.{comes_by}
-use Rattle.pim_hello.specs.Neighbours.{Neighbour, Table, is_over, without_ended, passed_to}
-use Rattle.pim_down.specs.declared.machines.machine.Record.{Record}
-use Rattle.pim_down.specs.declared.machines.step.Firing.{Firing}
 use Rattle.pim_down.specs.declared.machines.step.Step.{Step as Fires}
 use Rattle.pim_down.specs.declared.machines.step.Step.TheVariants as fires
-use Rattle.pim_down.specs.Firing.{firing}
-use Rattle.pim_down.specs.Laws.{FiringSaysMore, said_of}
-use Rattle.pim_down.specs.Time.{fired, with_records}
-use Rattle.pim_router.specs.Happening.{Happening, timer_fired, gone_from, gone_within, gone_between, happens_in, fired_of, at_moment, in_turns, Passes, Happens, FiresAfter, first_timeout}
-use Rattle.pim_router.specs.Laws.{FiringPasses, NobodyGoesBeforeFirstTimeout}
-use Rattle.pim_router.specs.Sound.{HasTime, IsCurrent, IsRouter}
-use Rattle.pim_router.specs.State.{RouterState, with_machines, with_tables}
-use Rattle.pim_router.specs.Time.{rests, moves, has_ended, tick, turn, turn_of_timers}
-use Rattle.pim_trace.specs.Passing.{gone_by, time_outs}
 use Rattle.pim_trace.proofs.Schedule.{fewer_gone, nobody_later, fires_later, gone_in_next, only_time, nobody_now, moves_no_rest, echo_no_rest, none_from}
 
 abbrev EventSeen : Type 0

@@ -1,31 +1,12 @@
 -- What one timer that fires, and a millisecond that passes, leave of all machines and of what is known of them.
-use Rattle.std.proofs.Common.{◌≡◌, ◌∙◌, ℕ, zero, suc, ◌+◌, ◌-◌, ◌==◌, Bool, true, false, List, [], ◌∷◌, ◌++◌, map}
-use Rattle.std.proofs.Common.{Option, None, Some, option_map, if◌then◌else◌, refl, sym, ap, subst, arith}
-use Rattle.std.specs.declared.cmp.Ordering.TheVariants.{Less}
-use Rattle.std.specs.Ordering.{is_eq}
-use Rattle.std.proofs.lemmas.Bool.{false≢true}
-use Rattle.pim_down.specs.declared.machines.key.Key.{Key}
-use Rattle.pim_down.specs.declared.machines.key.What.{What}
-use Rattle.pim_down.specs.declared.machines.key.What.TheVariants.{Star, Source, Rpt}
-use Rattle.pim_down.specs.declared.machines.machine.Machine.{Machine}
-use Rattle.pim_down.specs.declared.machines.machine.Pending.{Pending}
-use Rattle.pim_down.specs.declared.machines.machine.Record.{Record}
+use Rattle.pim_trace.proofs.Words.{◌≡◌, ◌∙◌, ℕ, zero, suc, ◌+◌, ◌-◌, ◌==◌, Bool, true, false, List, [], ◌∷◌, ◌++◌, map, Option}
+use Rattle.pim_trace.proofs.Words.{None, Some, option_map, if◌then◌else◌, refl, sym, ap, subst, arith, Less, is_eq, false≢true}
+use Rattle.pim_trace.proofs.Words.{Key, What, Star, Source, Rpt, Machine, Pending, Record, Firing, Timer, PrunePending, Expiry}
+use Rattle.pim_trace.proofs.Words.{ppt_fires, et_fires, et_firing, ppt_firing, firing, key_cmp, same_key, KeysAreDistinct}
+use Rattle.pim_trace.proofs.Words.{IsBelow, IsAscending, machine_at, recorded, state_of_machine, machine_in, expiry_after}
+use Rattle.pim_trace.proofs.Words.{pending_after, machine_after, record_after, expiry_due, pending_due, et_due, ppt_due, on_ppt}
+use Rattle.pim_trace.proofs.Words.{first_due, with_first, Fired, Causes, end_of, end_after, pending_left, cause_of}
 use Rattle.pim_down.specs.declared.machines.machine.State.TheVariants.{Prune}
-use Rattle.pim_down.specs.declared.machines.step.Firing.{Firing}
-use Rattle.pim_down.specs.declared.machines.step.Timer.{Timer}
-use Rattle.pim_down.specs.declared.machines.step.Timer.TheVariants.{PrunePending, Expiry}
-use Rattle.pim_down.specs.Firing.{ppt_fires, et_fires, et_firing, ppt_firing, firing}
-use Rattle.pim_down.specs.Key.{key_cmp, same_key}
-use Rattle.pim_down.specs.Laws.{KeysAreDistinct}
-use Rattle.pim_down.specs.Records.{IsBelow, IsAscending, machine_at, recorded, state_of_machine}
-use Rattle.pim_down.specs.Tables.{machine_in}
-use Rattle.pim_down.specs.Time.{expiry_after, pending_after, machine_after, record_after, expiry_due, pending_due}
-use Rattle.pim_down.specs.Time.{et_due, ppt_due, on_ppt, first_due, with_first}
-use Rattle.pim_events.specs.declared.event.Fired.{Fired}
-use Rattle.pim_trace.specs.declared.ledger.Causes.{Causes}
-use Rattle.pim_trace.specs.Causing.{end_of, end_after}
-use Rattle.pim_trace.specs.Ledger.{pending_left}
-use Rattle.pim_trace.specs.Passing.{cause_of}
 use Rattle.pim_trace.proofs.Folding.{Known, knowing, known_of, fired_known}
 
 abbrev Records : Type 0

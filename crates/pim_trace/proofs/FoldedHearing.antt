@@ -1,43 +1,18 @@
 -- The events of a packet lead each machine from what is known of it before to what is known after.
 use Rattle.std.proofs.Common.{◌≡◌, ◌∙◌, ℕ, ◌+◌, ◌==◌, nat_eq, Bool, true, false, not, ◌&&◌, ◌||◌, List, [], ◌∷◌}
-use Rattle.std.proofs.Common.{map, Option, None, Some, option_map, unwrap_or, if◌then◌else◌, eqb-true, eq-eqb, refl}
-use Rattle.std.proofs.Common.{sym, ap, subst, arith}
-use Rattle.std.specs.List.{AllByRecursion}
-use Rattle.std.specs.List.Sorted.{IsStrictlySortedBy}
-use Rattle.std.specs.Option.{option_eq}
-use Rattle.std.specs.declared.cmp.Ordering.TheVariants.{Less}
-use Rattle.std.specs.Ordering.{is_eq}
-use Rattle.std.proofs.lemmas.Bool.{false≢true, ne_eqb}
-use Rattle.pim_hello.specs.Hello.{Parameters}
+use Rattle.pim_trace.proofs.Words.{map, Option, None, Some, option_map, unwrap_or, if◌then◌else◌, eqb-true, eq-eqb, refl, sym, ap}
+use Rattle.pim_trace.proofs.Words.{subst, arith, AllByRecursion, IsStrictlySortedBy, option_eq, Less, is_eq, false≢true, ne_eqb}
+use Rattle.pim_trace.proofs.Words.{Parameters, GroupSet, Key, Machine, Pending, Record, State, Timer, PrunePending, Expiry, Event}
+use Rattle.pim_trace.proofs.Words.{is_known, hearing, key_cmp, same_key, KeysAreDistinct, HearingKeepsTheOrder}
+use Rattle.pim_trace.proofs.Words.{HearingLeavesOtherPorts, IsAscending, machine_at, state_of_machine, Start, Cause}
+use Rattle.pim_trace.proofs.Words.{TransitionEvent, Occurrence, join_ignored, own_restart, Transition, IsTransition}
+use Rattle.pim_trace.proofs.Words.{has_transition, keys_of_transitions, AreTransitions, Causes, end_of, sets, packet_of}
+use Rattle.pim_trace.proofs.Words.{ends_pending, names, states_shown, event_on, ignored_entry, ignored_in, all_ignored, change_by}
+use Rattle.pim_trace.proofs.Words.{change_of, changes_of, restarts, is_pending, Ledger, no_cause, both_by, same_expiry}
+use Rattle.pim_trace.proofs.Words.{pending_left, same_pending, moved_by, caused, causes_of, with_change, with_changes, cause_of}
 use Rattle.pim_jp.specs.declared.entry.Entry.{Entry}
 use Rattle.pim_jp.specs.declared.entry.Entry.TheVariants as entry
-use Rattle.pim_jp.specs.Message.{GroupSet}
-use Rattle.pim_down.specs.declared.machines.key.Key.{Key}
-use Rattle.pim_down.specs.declared.machines.machine.Machine.{Machine}
-use Rattle.pim_down.specs.declared.machines.machine.Pending.{Pending}
-use Rattle.pim_down.specs.declared.machines.machine.Record.{Record}
-use Rattle.pim_down.specs.declared.machines.machine.State.{State}
 use Rattle.pim_down.specs.declared.machines.machine.State.TheVariants as state
-use Rattle.pim_down.specs.declared.machines.step.Timer.{Timer}
-use Rattle.pim_down.specs.declared.machines.step.Timer.TheVariants.{PrunePending, Expiry}
-use Rattle.pim_down.specs.Hearing.{Event, is_known, hearing}
-use Rattle.pim_down.specs.Key.{key_cmp, same_key}
-use Rattle.pim_down.specs.Laws.{KeysAreDistinct, HearingKeepsTheOrder, HearingLeavesOtherPorts}
-use Rattle.pim_down.specs.Records.{IsAscending, machine_at, state_of_machine}
-use Rattle.pim_down.specs.Tables.{Start}
-use Rattle.pim_events.specs.declared.event.Cause.{Cause}
-use Rattle.pim_events.specs.declared.event.TransitionEvent.{TransitionEvent}
-use Rattle.pim_events.specs.Events.{Occurrence, join_ignored, own_restart}
-use Rattle.pim_transitions.specs.declared.transition.Transition.{Transition}
-use Rattle.pim_transitions.specs.Transitions.{IsTransition, has_transition, keys_of_transitions, AreTransitions}
-use Rattle.pim_trace.specs.declared.ledger.Causes.{Causes}
-use Rattle.pim_trace.specs.Causing.{end_of, sets, packet_of, ends_pending}
-use Rattle.pim_trace.specs.Folding.{names, states_shown}
-use Rattle.pim_trace.specs.Heard.{event_on, ignored_entry, ignored_in, all_ignored, change_by, change_of, changes_of}
-use Rattle.pim_trace.specs.Heard.{restarts, is_pending}
-use Rattle.pim_trace.specs.Ledger.{Ledger, no_cause, both_by, same_expiry, pending_left, same_pending, moved_by, caused}
-use Rattle.pim_trace.specs.Ledger.{causes_of, with_change, with_changes}
-use Rattle.pim_trace.specs.Passing.{cause_of}
 use Rattle.pim_trace.proofs.Firings.{turned}
 use Rattle.pim_trace.proofs.Folding.{Known, known_of, state_in, pending_frame, changed_known, tells_change, LeadsBy, Leads}
 use Rattle.pim_trace.proofs.Folding.{leads_nowhere, leads_past, leads_first, AllQuiet, quiet_flat, known_at, LeadsAll}

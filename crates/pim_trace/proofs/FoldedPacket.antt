@@ -1,35 +1,16 @@
 -- The events of a packet that a port receives lead each machine from what is known of it before to what is known after.
 use Rattle.std.proofs.Common.{◌≡◌, ◌∙◌, ℕ, List, [], ◌∷◌, ◌++◌, map, length, slice_index_or, Option, None, Some, refl}
-use Rattle.std.proofs.Common.{sym, ap, subst}
-use Rattle.std.proofs.lemmas.List.{map-append}
-use Rattle.pim_addr.specs.declared.family.AddressFamily.{AddressFamily}
-use Rattle.pim_addr.specs.Faults.{judged}
-use Rattle.pim_frame.specs.Frame.{Content, hello, join_prune, other, content}
-use Rattle.pim_frame.specs.declared.frame.FrameFault.{FrameFault}
-use Rattle.pim_hello.specs.Hello.{Parameters}
-use Rattle.pim_jp.specs.declared.fault.JpFault.{JpFault}
+use Rattle.pim_trace.proofs.Words.{sym, ap, subst, map-append, AddressFamily, judged, Content, hello, join_prune, other, content}
+use Rattle.pim_trace.proofs.Words.{FrameFault, Parameters, JpFault, Message, message_of, Record, events_of, start_of, rp_of}
+use Rattle.pim_trace.proofs.Words.{KeysAreDistinct, HearingKeepsTheOrder, HearingLeavesOtherPorts, IsAscending, Verdict, Packet}
+use Rattle.pim_trace.proofs.Words.{received, body_causes, message_causes, body_heard, neighbours_on, timing_on, RouterState}
+use Rattle.pim_trace.proofs.Words.{Happened, Occurrence, Transition, AreTransitions, event_on, greeting, judgment, all_ignored}
+use Rattle.pim_trace.proofs.Words.{changes_of, restarts, as_cause, after_own, message_says, applied_says, says, remembers}
+use Rattle.pim_trace.proofs.Words.{records_after, AreChangesOf, HearsPacket, Ledger, with_changes, message_by, read_by}
+use Rattle.pim_trace.proofs.Words.{packet_read, message_in, hello_read, message_read}
 use Rattle.pim_jp.specs.Faults.{faults as join_prune_faults}
-use Rattle.pim_jp.specs.Message.{Message, message_of}
-use Rattle.pim_down.specs.declared.machines.machine.Record.{Record}
-use Rattle.pim_down.specs.Hearing.{events_of, start_of}
-use Rattle.pim_addr.specs.Routes.{rp_of}
-use Rattle.pim_down.specs.Laws.{KeysAreDistinct, HearingKeepsTheOrder, HearingLeavesOtherPorts}
-use Rattle.pim_down.specs.Records.{IsAscending}
-use Rattle.pim_router.specs.declared.verdict.Verdict.{Verdict}
 use Rattle.pim_router.specs.declared.verdict.Verdict.TheVariants as verdict
 use Rattle.pim_router.specs.declared.verdict.Malformed.TheVariants as malformed
-use Rattle.pim_router.specs.Packets.{Packet, received, body_causes, message_causes, body_heard, neighbours_on}
-use Rattle.pim_router.specs.Packets.{timing_on}
-use Rattle.pim_router.specs.State.{RouterState}
-use Rattle.pim_events.specs.Events.{Happened, Occurrence}
-use Rattle.pim_transitions.specs.declared.transition.Transition.{Transition}
-use Rattle.pim_transitions.specs.Transitions.{AreTransitions}
-use Rattle.pim_trace.specs.Heard.{event_on, greeting, judgment, all_ignored, changes_of, restarts, as_cause}
-use Rattle.pim_trace.specs.Heard.{after_own, message_says, applied_says, says, remembers, records_after, AreChangesOf}
-use Rattle.pim_trace.specs.Heard.{HearsPacket}
-use Rattle.pim_trace.specs.Ledger.{Ledger, with_changes}
-use Rattle.pim_router.specs.Reading.{message_by, read_by, packet_read}
-use Rattle.pim_trace.specs.Reading.{message_in, hello_read, message_read}
 use Rattle.pim_trace.proofs.Folding.{Quiet, AllQuiet, Place, place, LeadsAll, all_on, all_quiet}
 use Rattle.pim_trace.proofs.FoldedHearing.{changes_lead, quiet_ignored, quiet_restarts}
 use Rattle.pim_trace.proofs.Verdicts.{by_causes, reads_as, applied_leaves, packet_moment}

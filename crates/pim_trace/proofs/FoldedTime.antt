@@ -1,30 +1,16 @@
 -- The events of time that passes lead each machine from what is known of it before to what is known after.
-use Rattle.std.proofs.Common.{◌≡◌, ◌∙◌, ℕ, zero, suc, ◌+◌, ◌==◌, Bool, true, false, List, [], ◌∷◌, ◌++◌, map, filter}
+use Rattle.pim_trace.proofs.Words.{◌≡◌, ◌∙◌, ℕ, zero, suc, ◌+◌, ◌==◌, Bool, true, false, List, [], ◌∷◌, ◌++◌, map, filter, ap}
+use Rattle.pim_trace.proofs.Words.{subst, list_any, AllByRecursion, Neighbour, Table, is_over, without_ended, Key, Machine}
+use Rattle.pim_trace.proofs.Words.{Record, Firing, firing, step_of, same_key, KeysAreDistinct, FiringSaysMore, said_of}
+use Rattle.pim_trace.proofs.Words.{IsAscending, state_of_machine, fired, with_records, Happening, timed_out, timer_fired, gone_of}
+use Rattle.pim_trace.proofs.Words.{gone_from, fired_of, happens_in, next_of, at_moment, happens_then, in_turns, Refresh}
+use Rattle.pim_trace.proofs.Words.{RouterState, with_machines, with_tables, with_refresh, refresh_period, rests, moves}
+use Rattle.pim_trace.proofs.Words.{stops_with, has_ended, tick, reported, turn, turn_of_timers, turn_of_time, Occurrence, Causes}
+use Rattle.pim_trace.proofs.Words.{Ledger, no_cause, both_by, causes_of, forgetting, states_shown, event_of, after_happening}
+use Rattle.pim_trace.proofs.Words.{events_in, after_all, PassesTime, fired_by}
 use Rattle.std.proofs.Common.{Option, None, Some, option_map, is_some, unwrap_or, nat_lt, if◌then◌else◌, refl, sym}
-use Rattle.std.proofs.Common.{ap, subst}
-use Rattle.std.specs.List.{list_any, AllByRecursion}
-use Rattle.pim_hello.specs.Neighbours.{Neighbour, Table, is_over, without_ended}
-use Rattle.pim_down.specs.declared.machines.key.Key.{Key}
-use Rattle.pim_down.specs.declared.machines.machine.Machine.{Machine}
-use Rattle.pim_down.specs.declared.machines.machine.Record.{Record}
-use Rattle.pim_down.specs.declared.machines.step.Firing.{Firing}
 use Rattle.pim_down.specs.declared.machines.step.Step.{Step as Fires}
 use Rattle.pim_down.specs.declared.machines.step.Step.TheVariants as fires
-use Rattle.pim_down.specs.Firing.{firing, step_of}
-use Rattle.pim_down.specs.Key.{same_key}
-use Rattle.pim_down.specs.Laws.{KeysAreDistinct, FiringSaysMore, said_of}
-use Rattle.pim_down.specs.Records.{IsAscending, state_of_machine}
-use Rattle.pim_down.specs.Time.{fired, with_records}
-use Rattle.pim_router.specs.Happening.{Happening, timed_out, timer_fired, gone_of, gone_from, fired_of, happens_in}
-use Rattle.pim_router.specs.Happening.{next_of, at_moment, happens_then, in_turns}
-use Rattle.pim_router.specs.declared.step.Step.TheVariants.{Refresh}
-use Rattle.pim_router.specs.State.{RouterState, with_machines, with_tables, with_refresh, refresh_period}
-use Rattle.pim_router.specs.Time.{rests, moves, stops_with, has_ended, tick, reported, turn, turn_of_timers, turn_of_time}
-use Rattle.pim_events.specs.Events.{Occurrence}
-use Rattle.pim_trace.specs.declared.ledger.Causes.{Causes}
-use Rattle.pim_trace.specs.Ledger.{Ledger, no_cause, both_by, causes_of, forgetting}
-use Rattle.pim_trace.specs.Folding.{states_shown}
-use Rattle.pim_trace.specs.Passing.{event_of, after_happening, events_in, after_all, PassesTime, fired_by}
 use Rattle.pim_trace.proofs.Firings.{left_by, Fires as Leaves, turned, firing_leaves, known_left, ascending_later}
 use Rattle.pim_trace.proofs.Firings.{millisecond_leaves}
 use Rattle.pim_trace.proofs.Folding.{Known, knowing, known_of, tells_firing, Leads, leads_nowhere, leads_past}

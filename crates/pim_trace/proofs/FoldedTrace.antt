@@ -1,23 +1,11 @@
 -- The events of a turn, of all turns and of a whole trace lead each machine on. Its laws follow.
-use Rattle.std.proofs.Common.{◌≡◌, ℕ, List, [], ◌∷◌, refl, sym, subst}
-use Rattle.pim_addr.specs.declared.family.AddressFamily.{AddressFamily}
-use Rattle.pim_merge.specs.declared.end.End.{End}
-use Rattle.pim_merge.specs.Ends.{end_moment, clock_of}
+use Rattle.pim_trace.proofs.Words.{◌≡◌, ℕ, List, [], ◌∷◌, refl, sym, subst, AddressFamily, End, end_moment, clock_of, Taken}
+use Rattle.pim_trace.proofs.Words.{MergeState, KeysAreDistinct, FiringSaysMore, HearingKeepsTheOrder, HearingLeavesOtherPorts}
+use Rattle.pim_trace.proofs.Words.{IsAscending, RouterState, NoPacket, OtherFamily, Skipping, Occurrence, record_skipped}
+use Rattle.pim_trace.proofs.Words.{TraceNamesCauses, TurnsNameCauses, RunsNameCauses, EventsShowTheState, TurnsShowTheState}
+use Rattle.pim_trace.proofs.Words.{RunsLeadOn, Ledger, frame_of, with_skip, PassesTime, WritesTurns, RunsUntil, IsTrace, ending}
+use Rattle.pim_trace.proofs.Words.{ledger_for, packet_on, Skips, TakesContent, counting, WritesTurn}
 use Rattle.pim_merge.specs.Content.{Content, holds, of_other_family, without_packet, no_record, content_in}
-use Rattle.pim_merge.specs.Merge.{Taken}
-use Rattle.pim_merge.specs.Next.{MergeState}
-use Rattle.pim_down.specs.Laws.{KeysAreDistinct, FiringSaysMore, HearingKeepsTheOrder, HearingLeavesOtherPorts}
-use Rattle.pim_down.specs.Records.{IsAscending}
-use Rattle.pim_router.specs.State.{RouterState}
-use Rattle.pim_events.specs.declared.event.Skip.TheVariants.{NoPacket, OtherFamily}
-use Rattle.pim_events.specs.declared.event.Skipping.{Skipping}
-use Rattle.pim_events.specs.Events.{Occurrence, record_skipped}
-use Rattle.pim_trace.specs.Causing.{TraceNamesCauses, TurnsNameCauses, RunsNameCauses}
-use Rattle.pim_trace.specs.Folding.{EventsShowTheState, TurnsShowTheState, RunsLeadOn}
-use Rattle.pim_trace.specs.Ledger.{Ledger, frame_of, with_skip}
-use Rattle.pim_trace.specs.Passing.{PassesTime}
-use Rattle.pim_trace.specs.Trace.{WritesTurns, RunsUntil, IsTrace, ending, ledger_for}
-use Rattle.pim_trace.specs.Turn.{packet_on, Skips, TakesContent, counting, WritesTurn}
 use Rattle.pim_trace.proofs.Caused.{leading, naming}
 use Rattle.pim_trace.proofs.Folding.{leads_nowhere, leads_past, Place, place, known_at, LeadsAll, all_nowhere, all_on}
 use Rattle.pim_trace.proofs.Folding.{all_quiet}

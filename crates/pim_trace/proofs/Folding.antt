@@ -1,25 +1,10 @@
 -- What lists of events tell of each machine, where one follows another.
-use Rattle.std.proofs.Common.{◌≡◌, ℕ, true, if◌then◌else◌, List, [], ◌∷◌, ◌++◌, map}
-use Rattle.std.proofs.Common.{Option, None, Some, option_map, unwrap_or, refl, sym, subst}
-use Rattle.std.specs.List.{AllByRecursion, flat_map}
-use Rattle.pim_down.specs.declared.machines.key.Key.{Key}
-use Rattle.pim_down.specs.declared.machines.machine.Machine.{Machine}
-use Rattle.pim_down.specs.declared.machines.machine.Record.{Record}
-use Rattle.pim_down.specs.declared.machines.machine.State.{State}
-use Rattle.pim_down.specs.declared.machines.step.Timer.{Timer}
-use Rattle.pim_down.specs.declared.machines.step.Timer.TheVariants.{PrunePending}
-use Rattle.pim_down.specs.Records.{IsAscending, machine_at}
-use Rattle.pim_router.specs.State.{RouterState}
-use Rattle.pim_events.specs.declared.event.Cause.{Cause}
-use Rattle.pim_events.specs.declared.event.Fired.{Fired}
-use Rattle.pim_events.specs.declared.event.TransitionEvent.{TransitionEvent}
+use Rattle.pim_trace.proofs.Words.{◌≡◌, ℕ, true, if◌then◌else◌, List, [], ◌∷◌, ◌++◌, map, Option, None, Some}
+use Rattle.pim_trace.proofs.Words.{option_map, unwrap_or, refl, sym, subst, AllByRecursion, flat_map, Key, Machine}
+use Rattle.pim_trace.proofs.Words.{Record, State, Timer, PrunePending, IsAscending, machine_at, RouterState, Cause}
+use Rattle.pim_trace.proofs.Words.{Fired, TransitionEvent, Causes, Ledger, no_cause, both_by, event_on, cause_of, names}
+use Rattle.pim_trace.proofs.Words.{states_by, states_shown, end_of, end_after, sets, packet_of, ends_pending}
 use Rattle.pim_events.specs.Events.{Happened, Occurrence, machine_changed, timer_fired}
-use Rattle.pim_trace.specs.declared.ledger.Causes.{Causes}
-use Rattle.pim_trace.specs.Ledger.{Ledger, no_cause, both_by}
-use Rattle.pim_trace.specs.Heard.{event_on}
-use Rattle.pim_trace.specs.Passing.{cause_of}
-use Rattle.pim_trace.specs.Folding.{names, states_by, states_shown}
-use Rattle.pim_trace.specs.Causing.{end_of, end_after, sets, packet_of, ends_pending}
 
 -- ---- what is known of a machine
 

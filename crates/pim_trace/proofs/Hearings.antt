@@ -1,31 +1,15 @@
 -- What a call that hears a packet tells, and what is told of it where the call stops.
-use Rattle.std.proofs.Common.{◌≡◌, ℕ, Bool, true, false, List, [], ◌∷◌, ◌++◌, map, Option, None, Some, Result, Ok, Err, IsErr, IfOk, OnOk, refl, sym, ap, subst, ◌∙◌}
-use Rattle.std.specs.Prelude.{slice_index_or}
-use Rattle.std.proofs.lemmas.Bool.{false≢true}
-use Rattle.std.specs.Io.KnownBytes.{Appends}
-use Rattle.pim_addr.specs.declared.family.AddressFamily.{AddressFamily}
-use Rattle.pim_device.specs.Device.{AppendsFront, AppendsAll}
-use Rattle.pim_hello.specs.Hello.{Hello, Parameters}
-use Rattle.pim_hello.specs.Neighbours.{neighbour_at}
-use Rattle.pim_hello.specs.declared.heard.Heard.{Heard}
-use Rattle.pim_jp.specs.Message.{GroupSet, Message}
-use Rattle.pim_down.specs.Hearing.{events_of, start_of}
-use Rattle.pim_addr.specs.Routes.{rp_of}
-use Rattle.pim_router.specs.declared.verdict.Verdict.{Verdict}
+use Rattle.pim_trace.proofs.Words.{◌≡◌, ℕ, Bool, true, false, List, [], ◌∷◌, ◌++◌, map, Option, None, Some, Result, Ok, Err}
+use Rattle.pim_trace.proofs.Words.{IsErr, IfOk, OnOk, refl, sym, ap, subst, ◌∙◌, slice_index_or, false≢true, Appends}
+use Rattle.pim_trace.proofs.Words.{AddressFamily, AppendsFront, AppendsAll, Hello, Parameters, neighbour_at, Heard, GroupSet}
+use Rattle.pim_trace.proofs.Words.{Message, events_of, start_of, rp_of, Verdict, Packet, received, message_heard, neighbours_on}
+use Rattle.pim_trace.proofs.Words.{timing_on, own_address, RouterState, Happened, Occurrence, hello_heard, Transition, Record}
+use Rattle.pim_trace.proofs.Words.{TransitionsAreThere, TurnFault, Ledger, with_own, with_hello, with_changes, event_on}
+use Rattle.pim_trace.proofs.Words.{generation_of, generation_in, greeting, judgment, restart_of, restarts, after_own, as_cause}
+use Rattle.pim_trace.proofs.Words.{sent_by, message_says, applied_says, says, remembers, records_after, AreTransitionsOf}
+use Rattle.pim_trace.proofs.Words.{AreChangesOf, HearsPacket, read_hello, read_message, packet_read, IsNoHello, IsForOther}
+use Rattle.pim_trace.proofs.Words.{is_applied, hello_in, message_in, hello_read, message_read, HasBegun, Writes, text_on}
 use Rattle.pim_router.specs.declared.verdict.Verdict.TheVariants as verdict
-use Rattle.pim_router.specs.Packets.{Packet, received, message_heard, neighbours_on, timing_on, own_address}
-use Rattle.pim_router.specs.State.{RouterState}
-use Rattle.pim_events.specs.Events.{Happened, Occurrence, hello_heard}
-use Rattle.pim_transitions.specs.declared.transition.Transition.{Transition}
-use Rattle.pim_down.specs.declared.machines.machine.Record.{Record}
-use Rattle.pim_transitions.specs.Laws.{TransitionsAreThere}
-use Rattle.pim_run.specs.declared.fault.TurnFault.{TurnFault}
-use Rattle.pim_trace.specs.Ledger.{Ledger, with_own, with_hello, with_changes}
-use Rattle.pim_trace.specs.Heard.{event_on, generation_of, generation_in, greeting, judgment, restart_of, restarts, after_own, as_cause, sent_by, message_says, applied_says, says, remembers, records_after, AreTransitionsOf, AreChangesOf, HearsPacket}
-use Rattle.pim_router.specs.Reading.{read_hello, read_message, packet_read}
-use Rattle.pim_trace.specs.Read.{IsNoHello, IsForOther, is_applied}
-use Rattle.pim_trace.specs.Reading.{hello_in, message_in, hello_read, message_read}
-use Rattle.pim_trace.specs.WrittenEvents.{HasBegun, Writes, text_on}
 use Rattle.pim_trace.proofs.Verdicts.{taken_reads, reads_as, applied_leaves, other_is_refused}
 use Rattle.pim_trace.proofs.Written.{front-longer}
 use Rattle.pim_trace.proofs.Writing.{all-more, none-is-front, text-append}

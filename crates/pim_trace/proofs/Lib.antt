@@ -1,3 +1,4 @@
+pub mod Words
 pub mod Machines
 pub mod Maps
 pub mod Verdicts

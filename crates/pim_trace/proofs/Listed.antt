@@ -1,22 +1,13 @@
 -- A list of what happened that is told item by item.
-use Rattle.std.proofs.Common.{◌≡◌, ◌∙◌, ◌<◌, ◌≤◌, ◌+◌, ◌-◌, ℕ, zero, suc, Bool, true, false, cond, List, [], ◌∷◌, ◌++◌, length, drop, get_or, Option, Some, Result, Ok, Err, refl, sym, ap, subst, arith, append_assoc, append-nil}
+use Rattle.pim_trace.proofs.Words.{◌≡◌, ◌∙◌, ◌<◌, ◌≤◌, ◌+◌, ◌-◌, ℕ, zero, suc, Bool, true, false, cond, List, [], ◌∷◌, ◌++◌}
+use Rattle.pim_trace.proofs.Words.{length, drop, get_or, Option, Some, Result, Ok, Err, refl, sym, ap, subst, arith, append_assoc}
+use Rattle.pim_trace.proofs.Words.{append-nil, AllByRecursion, Appends, false≢true, Appends-trans, Appends-nil, drop_more}
+use Rattle.pim_trace.proofs.Words.{drop_all, map-append, AppendsFront, AppendsAll, top_count, Neighbour, Table, is_over, waited}
+use Rattle.pim_trace.proofs.Words.{passed_to, no_neighbours, Happening, timed_out, timer_fired, at_moment, gone_of, gone_from}
+use Rattle.pim_trace.proofs.Words.{IsCurrent, RouterState, Occurrence, Happened, Ledger, forgetting, event_on, event_of}
+use Rattle.pim_trace.proofs.Words.{after_happening, events_in, after_all, WritesAll, time_outs, time_outs_on, HasBegun, Writes}
 use Rattle.std.specs.Prelude.{map, filter, min, option_map, is_some}
-use Rattle.std.specs.List.{AllByRecursion}
-use Rattle.std.specs.Io.KnownBytes.{Appends}
 use Rattle.std.specs.Result.{IsErr}
-use Rattle.std.proofs.lemmas.Bool.{false≢true}
-use Rattle.std.proofs.KnownBytes.{Appends-trans, Appends-nil}
-use Rattle.std.proofs.lemmas.List.{drop_more, drop_all, map-append}
-use Rattle.pim_device.specs.Device.{AppendsFront, AppendsAll, top_count}
-use Rattle.pim_hello.specs.Neighbours.{Neighbour, Table, is_over, waited, passed_to, no_neighbours}
-use Rattle.pim_router.specs.Happening.{Happening, timed_out, timer_fired, at_moment, gone_of, gone_from}
-use Rattle.pim_router.specs.Sound.{IsCurrent}
-use Rattle.pim_router.specs.State.{RouterState}
-use Rattle.pim_events.specs.Events.{Occurrence, Happened}
-use Rattle.pim_trace.specs.Ledger.{Ledger, forgetting}
-use Rattle.pim_trace.specs.Heard.{event_on}
-use Rattle.pim_trace.specs.Passing.{event_of, after_happening, events_in, after_all, WritesAll, time_outs, time_outs_on}
-use Rattle.pim_trace.specs.WrittenEvents.{HasBegun, Writes}
 use Rattle.pim_trace.proofs.Written.{front-longer, front-more}
 use Rattle.pim_trace.proofs.OnTheWay.{said, said_joined, ledger_joined}
 

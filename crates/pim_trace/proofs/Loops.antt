@@ -1,13 +1,7 @@
 -- Loops that tell what happens, one piece after the other.
 use Rattle.std.proofs.Common.{◌≡◌, ℕ, List, [], ◌∷◌, ◌++◌, flat_map, Option, refl, sym, ap, subst, ◌∙◌}
-use Rattle.std.specs.Io.KnownBytes.{Appends}
-use Rattle.pim_device.specs.Device.{AppendsFront}
-use Rattle.pim_events.specs.Events.{Happened, Occurrence}
-use Rattle.pim_events.specs.declared.event.Cause.{Cause}
-use Rattle.pim_transitions.specs.declared.transition.Transition.{Transition}
-use Rattle.pim_trace.specs.Heard.{change_of, changes_of}
-use Rattle.pim_trace.specs.Ledger.{Ledger, with_change, with_changes}
-use Rattle.pim_trace.specs.WrittenEvents.{text_on}
+use Rattle.pim_trace.proofs.Words.{Appends, AppendsFront, Happened, Occurrence, Cause, Transition, change_of}
+use Rattle.pim_trace.proofs.Words.{changes_of, Ledger, with_change, with_changes, text_on}
 use Rattle.pim_trace.proofs.Writing.{IsWriting, write_more, written_all, written_front, text-append, text-same}
 
 -- ---- what each item of a list says

@@ -1,16 +1,11 @@
 -- Keys and values in key order: what they hold, and changes at the place that a search returns.
-use Rattle.std.proofs.Common.{◌≡◌, ℕ, zero, suc, ◌-◌, ◌<◌, ◌≤◌, Bool, true, false, cond, List, [], ◌∷◌, Option, Some, None, Ok, Err, length, get_or, ltb, refl, sym, ap, subst, ◌∙◌, arith}
-use Rattle.std.specs.declared.cmp.Ordering.{Ordering}
-use Rattle.std.specs.declared.cmp.Ordering.TheVariants.{Less, Equal, Greater}
-use Rattle.std.specs.Prelude.{slice_get, slice_set, IsSome}
-use Rattle.std.specs.Ordering.{ordering_reverse, is_eq}
-use Rattle.std.specs.BTreeMap.{is_at}
-use Rattle.std.specs.Cmp.{IsTotalOrder}
-use Rattle.std.specs.List.{AllByRecursion, insert, remove}
-use Rattle.std.specs.List.Sorted.{IsStrictlySortedBy}
-use Rattle.std.specs.Map.{lookup, keys_of, set_value, remove_entry}
+use Rattle.pim_trace.proofs.Words.{◌≡◌, ℕ, zero, suc, ◌-◌, ◌<◌, ◌≤◌, Bool, true, false, cond, List, [], ◌∷◌, Option, Some, None}
+use Rattle.pim_trace.proofs.Words.{Ok, Err, length, get_or, ltb, refl, sym, ap, subst, ◌∙◌, arith, Ordering, Less, Equal, Greater}
+use Rattle.pim_trace.proofs.Words.{slice_get, slice_set, IsSome, ordering_reverse, is_eq, is_at, IsTotalOrder, AllByRecursion}
+use Rattle.pim_trace.proofs.Words.{insert, remove, IsStrictlySortedBy, lookup, keys_of, set_value, remove_entry, false≢true}
+use Rattle.pim_trace.proofs.Words.{ltb-true, ltb-false, What, Star, Source, Rpt, Key, rank, source_of, what_cmp, key_cmp}
+use Rattle.pim_trace.proofs.Words.{same_key, key_seen, what_seen, order_of_keys, IsInKeyOrder, held_for, IsPlaceFor, Holds}
 use Rattle.std.specs.Option.{is_some}
-use Rattle.std.proofs.lemmas.Bool.{false≢true, ltb-true, ltb-false}
 use Rattle.std.proofs.lemmas.Cmp.{nat_cmp_total, nat_list_cmp_total, on_total, then_total, alike_right, eq_by_cmp_equiv}
 use Rattle.std.proofs.lemmas.Map.{none_passes_from_lookup, lookup-insert, lookup-set_value, lookup-remove_entry, keys-set_value}
 use Rattle.std.proofs.lemmas.Map.Entries.{lookup_at_gap}
@@ -19,12 +14,6 @@ use Rattle.std.proofs.lemmas.Option.{get_or_from_slice_get, slice_get_within, sl
 use Rattle.sorted_blocks.specs.declared.place.Place.{Place}
 use Rattle.sorted_blocks.specs.Found.{IsGap}
 use Rattle.sorted_slab.specs.Listed.{Listed, at}
-use Rattle.pim_down.specs.declared.machines.key.What.{What}
-use Rattle.pim_down.specs.declared.machines.key.What.TheVariants.{Star, Source, Rpt}
-use Rattle.pim_down.specs.declared.machines.key.Key.{Key}
-use Rattle.pim_down.specs.Key.{rank, source_of, what_cmp, key_cmp, same_key}
-use Rattle.pim_down.specs.Seen.{key_seen, what_seen}
-use Rattle.pim_trace.specs.Machines.{order_of_keys, IsInKeyOrder, held_for, IsPlaceFor, Holds}
 
 key_total : IsTotalOrder key_cmp
 unfolding key_cmp what_cmp

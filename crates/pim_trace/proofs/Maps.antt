@@ -1,19 +1,9 @@
 -- The maps of a ledger are the functions of its definition: look-ups and changes.
-use Rattle.std.proofs.Common.{◌≡◌, ◌∙◌, ℕ, Bool, true, false, cond, List, [], Option, None, refl, sym, ap, subst}
+use Rattle.pim_trace.proofs.Words.{◌≡◌, ◌∙◌, ℕ, Bool, true, false, cond, List, [], Option, None, refl, sym, ap, subst}
+use Rattle.pim_trace.proofs.Words.{nat_cmp, is_eq, ordering_then, Ordering, tied_then, unsigned_tied, slice_cmp}
+use Rattle.pim_trace.proofs.Words.{pointwise, texts_ties, is_at, lookup, Key, same_key, key_seen, Causes, Sent}
+use Rattle.pim_trace.proofs.Words.{causes_seen, hellos_in, causes_in, held_for, Holds}
 use Rattle.std.specs.Prelude.{◌==◌, ◌&&◌, nat_eq, option_map}
-use Rattle.std.specs.Ordering.{nat_cmp, is_eq, ordering_then}
-use Rattle.std.specs.declared.cmp.Ordering.{Ordering}
-use Rattle.std.specs.Cmp.{tied_then, unsigned_tied}
-use Rattle.std.specs.Cmp.Lexicographic.{slice_cmp, pointwise, texts_ties}
-use Rattle.std.specs.BTreeMap.{is_at}
-use Rattle.std.specs.Map.{lookup}
-use Rattle.pim_down.specs.declared.machines.key.Key.{Key}
-use Rattle.pim_down.specs.Key.{same_key}
-use Rattle.pim_down.specs.Seen.{key_seen}
-use Rattle.pim_trace.specs.declared.ledger.Causes.{Causes}
-use Rattle.pim_trace.specs.declared.ledger.Sent.{Sent}
-use Rattle.pim_trace.specs.Kept.{causes_seen, hellos_in, causes_in}
-use Rattle.pim_trace.specs.Machines.{held_for, Holds}
 
 cond_map : {X Y : Type 0} (f : X → Y) (b : Bool) (x y : Option X) → option_map f (cond b x y) ≡ cond b (option_map f x) (option_map f y)
 cond_map f true x y = refl

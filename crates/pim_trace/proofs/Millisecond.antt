@@ -1,17 +1,8 @@
 -- What is told of the next millisecond: the neighbours whose time is over, then the timers that fire.
-use Rattle.std.proofs.Common.{◌≡◌, ◌≤◌, ◌+◌, ℕ, max, List, [], ◌∷◌, ◌++◌, Option, refl, arith}
-use Rattle.std.specs.Io.KnownBytes.{Appends}
-use Rattle.pim_device.specs.Device.{AppendsFront}
-use Rattle.pim_down.specs.declared.machines.step.Firing.{Firing}
-use Rattle.pim_down.specs.Laws.{FiringSaysMore}
-use Rattle.pim_router.specs.Happening.{Happening, timer_fired, gone_between, Passes, Happens, FiresAfter}
-use Rattle.pim_router.specs.Laws.{FiringPasses, HappeningGoesOn, EveryStateGoesOn}
-use Rattle.pim_router.specs.State.{RouterState}
-use Rattle.pim_router.specs.Time.{rests, turn}
-use Rattle.pim_events.specs.Events.{Occurrence}
-use Rattle.pim_trace.specs.Ledger.{Ledger}
-use Rattle.pim_trace.specs.Passing.{events_in, after_all, PassesTime, time_outs}
-use Rattle.pim_trace.specs.WrittenEvents.{HasWritten, HasBegun}
+use Rattle.pim_trace.proofs.Words.{◌≡◌, ◌≤◌, ◌+◌, ℕ, max, List, [], ◌∷◌, ◌++◌, Option, refl, arith, Appends, AppendsFront, Firing}
+use Rattle.pim_trace.proofs.Words.{FiringSaysMore, Happening, timer_fired, gone_between, Passes, Happens, FiresAfter}
+use Rattle.pim_trace.proofs.Words.{FiringPasses, HappeningGoesOn, EveryStateGoesOn, RouterState, rests, turn, Occurrence, Ledger}
+use Rattle.pim_trace.proofs.Words.{events_in, after_all, PassesTime, time_outs, HasWritten, HasBegun}
 use Rattle.pim_trace.proofs.Fires.{ends_next, fires_next, they_go}
 use Rattle.pim_trace.proofs.Listed as listed
 use Rattle.pim_trace.proofs.OnTheWay.{said, IsOnTheWay, begin, further, stopped}

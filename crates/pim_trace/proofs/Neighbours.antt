@@ -1,12 +1,8 @@
 -- The neighbours that a router holds all have time left.
-use Rattle.std.proofs.Common.{◌≡◌, ℕ, zero, suc, Bool, cond, not, List, [], ◌∷◌, filter, Option, None, Some, option_map, refl, sym, ap, ◌∙◌}
-use Rattle.std.specs.Prelude.{slice_index_or}
-use Rattle.std.specs.List.{AllByRecursion}
-use Rattle.pim_hello.specs.Neighbours.{Neighbour, Table, is_over, no_neighbours, without_ended, neighbour_at, entry_at}
-use Rattle.pim_router.specs.Packets.{neighbours_on}
-use Rattle.pim_router.specs.Sound.{HasTime, IsCurrent, IsRouter}
-use Rattle.pim_router.specs.State.{RouterState, table_at}
-use Rattle.pim_trace.specs.Heard.{generation_of}
+use Rattle.pim_trace.proofs.Words.{◌≡◌, ℕ, zero, suc, Bool, cond, not, List, [], ◌∷◌, filter, Option, None, Some}
+use Rattle.pim_trace.proofs.Words.{option_map, refl, sym, ap, ◌∙◌, slice_index_or, AllByRecursion, Neighbour, Table}
+use Rattle.pim_trace.proofs.Words.{is_over, no_neighbours, without_ended, neighbour_at, entry_at, neighbours_on}
+use Rattle.pim_trace.proofs.Words.{HasTime, IsCurrent, IsRouter, RouterState, table_at, generation_of}
 
 abbrev stays : List ℕ × Neighbour → Bool
 stays entry = not (is_over entry.1.left)

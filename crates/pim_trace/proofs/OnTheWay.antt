@@ -1,17 +1,9 @@
 -- What is told while time passes, from the start up to now.
-use Rattle.std.proofs.Common.{◌≡◌, ◌∙◌, ◌≤◌, ℕ, List, [], ◌∷◌, ◌++◌, Option, Result, Ok, Err, refl, sym, ap, subst, append_assoc, append-nil, arith}
-use Rattle.std.specs.List.{flat_map}
-use Rattle.std.specs.Io.KnownBytes.{Appends}
-use Rattle.std.proofs.KnownBytes.{Appends-trans, Appends-nil}
+use Rattle.pim_trace.proofs.Words.{◌≡◌, ◌∙◌, ◌≤◌, ℕ, List, [], ◌∷◌, ◌++◌, Option, Result, Ok, Err, refl, sym, ap, subst}
+use Rattle.pim_trace.proofs.Words.{append_assoc, append-nil, arith, flat_map, Appends, Appends-trans, Appends-nil, AppendsFront}
+use Rattle.pim_trace.proofs.Words.{Happening, Passes, Happens, HappeningGoesOn, EveryStateGoesOn, RouterState, Occurrence, Ledger}
+use Rattle.pim_trace.proofs.Words.{event_of, after_happening, events_in, after_all, PassesTime, HasWritten, HasBegun, Writes}
 use Rattle.std.proofs.lemmas.List.Concat.{flat_map-append}
-use Rattle.pim_device.specs.Device.{AppendsFront}
-use Rattle.pim_router.specs.Happening.{Happening, Passes, Happens}
-use Rattle.pim_router.specs.Laws.{HappeningGoesOn, EveryStateGoesOn}
-use Rattle.pim_router.specs.State.{RouterState}
-use Rattle.pim_events.specs.Events.{Occurrence}
-use Rattle.pim_trace.specs.Ledger.{Ledger}
-use Rattle.pim_trace.specs.Passing.{event_of, after_happening, events_in, after_all, PassesTime}
-use Rattle.pim_trace.specs.WrittenEvents.{HasWritten, HasBegun, Writes}
 use Rattle.pim_trace.proofs.Written.{front-longer, front-more}
 
 abbrev EventSeen : Type 0

@@ -1,12 +1,7 @@
 -- What is written of events, where the device took all of it or a front.
-use Rattle.std.proofs.Common.{ℕ, List, [], ◌∷◌, ◌++◌, Option, sym, subst, append-nil}
+use Rattle.pim_trace.proofs.Words.{ℕ, List, [], ◌∷◌, ◌++◌, Option, sym, subst, append-nil, flat_map, Appends}
+use Rattle.pim_trace.proofs.Words.{Appends-nil, Appends-trans, AppendsFront, Occurrence, Wrote, WroteFront}
 use Rattle.std.proofs.lemmas.Grind.{flat_map-append}
-use Rattle.std.specs.List.{flat_map}
-use Rattle.std.specs.Io.KnownBytes.{Appends}
-use Rattle.std.proofs.KnownBytes.{Appends-nil, Appends-trans}
-use Rattle.pim_device.specs.Device.{AppendsFront}
-use Rattle.pim_events.specs.Events.{Occurrence}
-use Rattle.pim_trace.specs.Trace.{Wrote, WroteFront}
 use Rattle.pim_trace.proofs.Written.{front-longer, front-more}
 use Rattle.pim_trace.proofs.Writing.{all-is-front}
 

@@ -1,20 +1,14 @@
 -- Turns of a router in which no neighbour goes, and the next millisecond.
-use Rattle.std.proofs.Common.{◌≡◌, ◌∙◌, ◌<◌, ◌≤◌, ◌+◌, ◌-◌, ◌==◌, ℕ, zero, suc, Bool, true, false, List, [], ◌∷◌, ◌++◌, length, Option, Some, None, nat_lt, if◌then◌else◌, refl, sym, ap, subst, arith}
+use Rattle.pim_trace.proofs.Words.{◌≡◌, ◌∙◌, ◌<◌, ◌≤◌, ◌+◌, ◌-◌, ◌==◌, ℕ, zero, suc, Bool, true, false, List, [], ◌∷◌, ◌++◌}
+use Rattle.pim_trace.proofs.Words.{length, Option, Some, None, nat_lt, if◌then◌else◌, refl, sym, ap, subst, arith, list_any}
+use Rattle.pim_trace.proofs.Words.{false≢true, lt-ltb, ltb-true, Neighbour, Table, is_over, without_ended, passed_to, What}
+use Rattle.pim_trace.proofs.Words.{Record, Firing, fired, with_records, Happening, timed_out, timer_fired, gone_of, gone_from}
+use Rattle.pim_trace.proofs.Words.{gone_within, happens_in, next_of, at_moment, happens_then, in_turns, FiresAfter, Echo, Refresh}
+use Rattle.pim_trace.proofs.Words.{RouterState, with_machines, with_tables, with_refresh, refresh_period, Outcome, rests, moves}
+use Rattle.pim_trace.proofs.Words.{stops_with, has_ended, tick, turn, turn_of_time, turn_of_timers, gone_by, time_outs}
 use Rattle.std.specs.Prelude.{map, filter, not, ◌||◌}
-use Rattle.std.specs.List.{list_any}
-use Rattle.std.proofs.lemmas.Bool.{false≢true, lt-ltb, ltb-true}
-use Rattle.pim_hello.specs.Neighbours.{Neighbour, Table, is_over, without_ended, passed_to}
-use Rattle.pim_down.specs.declared.machines.key.What.{What}
-use Rattle.pim_down.specs.declared.machines.machine.Record.{Record}
-use Rattle.pim_down.specs.declared.machines.step.Firing.{Firing}
 use Rattle.pim_down.specs.declared.machines.step.Step.{Step as Fires}
 use Rattle.pim_down.specs.declared.machines.step.Step.TheVariants as fires
-use Rattle.pim_down.specs.Time.{fired, with_records}
-use Rattle.pim_router.specs.Happening.{Happening, timed_out, timer_fired, gone_of, gone_from, gone_within, happens_in, next_of, at_moment, happens_then, in_turns, FiresAfter}
-use Rattle.pim_router.specs.declared.step.Step.TheVariants.{Echo, Refresh}
-use Rattle.pim_router.specs.State.{RouterState, with_machines, with_tables, with_refresh, refresh_period}
-use Rattle.pim_router.specs.Time.{Outcome, rests, moves, stops_with, has_ended, tick, turn, turn_of_time, turn_of_timers}
-use Rattle.pim_trace.specs.Passing.{gone_by, time_outs}
 
 abbrev EventSeen : Type 0
 EventSeen = List (ℕ × Happening)

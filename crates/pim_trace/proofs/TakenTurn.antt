@@ -1,31 +1,13 @@
 -- A turn: the time up to it, and then what its record holds.
-use Rattle.std.proofs.Common.{◌≡◌, ℕ, List, [], ◌∷◌, ◌++◌, Option, None, Some, Ok, Err, Result, map, refl, subst}
-use Rattle.std.specs.Io.KnownBytes.{Appends}
-use Rattle.pim_device.specs.Device.{AppendsFront}
-use Rattle.pim_addr.specs.declared.family.AddressFamily.{AddressFamily}
+use Rattle.pim_trace.proofs.Words.{◌≡◌, ℕ, List, [], ◌∷◌, ◌++◌, Option, None, Some, Ok, Err, Result, map, refl, subst, Appends}
+use Rattle.pim_trace.proofs.Words.{AppendsFront, AddressFamily, Taken, Message, events_of, start_of, rp_of, Verdict, Packet}
+use Rattle.pim_trace.proofs.Words.{received, timing_on, RouterState, NoPacket, OtherFamily, Skipping, Occurrence, record_skipped}
+use Rattle.pim_trace.proofs.Words.{Transition, TransitionsAreThere, AreChangesOf, event_on, says, remembers, Ledger, frame_of}
+use Rattle.pim_trace.proofs.Words.{with_skip, PassesTime, message_read, TurnFault, OnTurn, HasWritten, HasBegun, Writes}
+use Rattle.pim_trace.proofs.Words.{packet_on, Skips, TakesContent, TakesRecord, counting, WritesTurn}
 use Rattle.pim_capture.specs.Capture.{EventSeen}
 use Rattle.pim_merge.specs.Content.{Content, holds, of_other_family, without_packet, no_record, content_in}
-use Rattle.pim_merge.specs.Merge.{Taken}
-use Rattle.pim_jp.specs.Message.{Message}
-use Rattle.pim_down.specs.Hearing.{events_of, start_of}
-use Rattle.pim_addr.specs.Routes.{rp_of}
-use Rattle.pim_router.specs.declared.verdict.Verdict.{Verdict}
 use Rattle.pim_router.specs.declared.verdict.Verdict.TheVariants as verdict
-use Rattle.pim_router.specs.Packets.{Packet, received, timing_on}
-use Rattle.pim_router.specs.State.{RouterState}
-use Rattle.pim_events.specs.declared.event.Skip.TheVariants.{NoPacket, OtherFamily}
-use Rattle.pim_events.specs.declared.event.Skipping.{Skipping}
-use Rattle.pim_events.specs.Events.{Occurrence, record_skipped}
-use Rattle.pim_transitions.specs.declared.transition.Transition.{Transition}
-use Rattle.pim_transitions.specs.Laws.{TransitionsAreThere}
-use Rattle.pim_trace.specs.Heard.{AreChangesOf, event_on, says, remembers}
-use Rattle.pim_trace.specs.Ledger.{Ledger, frame_of, with_skip}
-use Rattle.pim_trace.specs.Passing.{PassesTime}
-use Rattle.pim_trace.specs.Reading.{message_read}
-use Rattle.pim_run.specs.declared.fault.TurnFault.{TurnFault}
-use Rattle.pim_run.specs.Run.{OnTurn}
-use Rattle.pim_trace.specs.WrittenEvents.{HasWritten, HasBegun, Writes}
-use Rattle.pim_trace.specs.Turn.{packet_on, Skips, TakesContent, TakesRecord, counting, WritesTurn}
 use Rattle.pim_trace.proofs.Pieces.{none_told, one_told, one_begun, happens_then, told_begun, begun_longer}
 
 -- ---- each record has its events

@@ -1,26 +1,12 @@
 -- The turns that a run took, as those of a trace.
-use Rattle.std.proofs.Common.{◌≡◌, ◌⊎◌, ◌∙◌, ℕ, length, List, [], ◌∷◌, ◌++◌, Option, Err, refl, sym, ap, subst, inl, inr, append_assoc, append-nil}
-use Rattle.std.proofs.lemmas.List.{length-replicate}
-use Rattle.pim_addr.specs.declared.family.AddressFamily.{AddressFamily}
-use Rattle.pim_merge.specs.declared.end.End.{End}
+use Rattle.pim_trace.proofs.Words.{◌≡◌, ◌⊎◌, ◌∙◌, ℕ, length, List, [], ◌∷◌, ◌++◌, Option, Err, refl, sym, ap, subst, inl, inr}
+use Rattle.pim_trace.proofs.Words.{append_assoc, append-nil, length-replicate, AddressFamily, End, Takes, AreFirst, Taken}
+use Rattle.pim_trace.proofs.Words.{MergeState, IsTallied, EveryStateGoesOn, RouterState, RunFault, Capture, Output, Memory}
+use Rattle.pim_trace.proofs.Words.{Occurrence, Ledger, PassesTime, events_in, after_all, HasWritten, HasBegun, WritesTurns}
+use Rattle.pim_trace.proofs.Words.{ledger_for, RunsOut, Wrote, WroteFront, HasSome, StopsAt, WritesTurn, HasAll}
 use Rattle.pim_merge.specs.declared.merge.MergeFault.{MergeFault}
-use Rattle.pim_merge.specs.Ends.{Takes, AreFirst}
-use Rattle.pim_merge.specs.Merge.{Taken}
-use Rattle.pim_merge.specs.Next.{MergeState}
 use Rattle.pim_merge.specs.Tally.{tallies_after}
-use Rattle.pim_merge.specs.Run.{IsTallied}
-use Rattle.pim_router.specs.Laws.{EveryStateGoesOn}
-use Rattle.pim_router.specs.State.{RouterState}
-use Rattle.pim_run.specs.declared.fault.RunFault.{RunFault}
-use Rattle.pim_run.specs.declared.fault.RunFault.TheVariants.{Capture, Output, Memory}
 use Rattle.pim_run.specs.Run.{AreTaken, RunsThrough, StopsAt as StopsRun, BreaksOff, Runs}
-use Rattle.pim_events.specs.Events.{Occurrence}
-use Rattle.pim_trace.specs.Ledger.{Ledger}
-use Rattle.pim_trace.specs.Passing.{PassesTime, events_in, after_all}
-use Rattle.pim_trace.specs.WrittenEvents.{HasWritten, HasBegun}
-use Rattle.pim_trace.specs.Trace.{WritesTurns, ledger_for, RunsOut, Wrote, WroteFront, HasSome, StopsAt}
-use Rattle.pim_trace.specs.Turn.{WritesTurn}
-use Rattle.pim_trace.specs.Underway.{HasAll}
 use Rattle.pim_trace.proofs.Pieces.{none_told, all_told, happens_then, told_begun, begun_longer}
 
 -- the events of one turn more

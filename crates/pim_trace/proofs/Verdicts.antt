@@ -1,28 +1,18 @@
 -- What a verdict tells of the packet, and what the packet tells of its verdict.
-use Rattle.std.proofs.Common.{◌≡◌, ℕ, Bool, true, false, not, nat_eq, nat_lt, List, [], ◌∷◌, ◌++◌, map, Some, Result, Ok, Err, IfOk, refl, sym, ap, ◌∙◌}
-use Rattle.std.specs.List.{AllByRecursion}
-use Rattle.std.specs.Cmp.Lexicographic.{pointwise}
-use Rattle.std.proofs.lemmas.Bool.{false≢true}
-use Rattle.pim_addr.specs.declared.family.AddressFamily.{AddressFamily}
-use Rattle.pim_addr.specs.Faults.{fault_if, judged}
-use Rattle.pim_frame.specs.Frame.{Content, hello, join_prune, other, content, frame_faults}
-use Rattle.pim_frame.specs.declared.frame.FrameFault.{FrameFault}
+use Rattle.pim_trace.proofs.Words.{◌≡◌, ℕ, Bool, true, false, not, nat_eq, nat_lt, List, [], ◌∷◌, ◌++◌, map, Some, Result, Ok}
+use Rattle.pim_trace.proofs.Words.{Err, IfOk, refl, sym, ap, ◌∙◌, AllByRecursion, pointwise, false≢true, AddressFamily, fault_if}
+use Rattle.pim_trace.proofs.Words.{judged, Content, hello, join_prune, other, content, frame_faults, FrameFault, Hello, Heard}
+use Rattle.pim_trace.proofs.Words.{JpFault, Message, message_of, Verdict, Packet, Receives, received, unless, causes, body_causes}
+use Rattle.pim_trace.proofs.Words.{message_causes, hello_causes, room_causes, body_heard, message_heard, knows, own_address}
+use Rattle.pim_trace.proofs.Words.{needed_by, RouterState, Reading, read_hello, read_message, read_other, read_fault, hello_by}
+use Rattle.pim_trace.proofs.Words.{message_by, read_by, packet_read, read_causes, read_received, IsTakenAsRead, message_in}
 use Rattle.pim_hello.specs.Faults.{faults as hello_faults}
-use Rattle.pim_hello.specs.Hello.{Hello}
 use Rattle.pim_hello.specs.declared.fault.HelloFault.{HelloFault}
-use Rattle.pim_hello.specs.declared.heard.Heard.{Heard}
 use Rattle.pim_hello.specs.Value.{hello_of}
 use Rattle.pim_jp.specs.Faults.{faults as join_prune_faults}
-use Rattle.pim_jp.specs.declared.fault.JpFault.{JpFault}
-use Rattle.pim_jp.specs.Message.{Message, message_of}
-use Rattle.pim_router.specs.declared.verdict.Verdict.{Verdict}
 use Rattle.pim_router.specs.declared.verdict.Verdict.TheVariants as verdict
 use Rattle.pim_router.specs.declared.verdict.Malformed.TheVariants as malformed
 use Rattle.pim_router.specs.declared.verdict.Store.TheVariants as store
-use Rattle.pim_router.specs.Packets.{Packet, Receives, received, unless, causes, body_causes, message_causes, hello_causes, room_causes, body_heard, message_heard, knows, own_address, needed_by}
-use Rattle.pim_router.specs.State.{RouterState}
-use Rattle.pim_router.specs.Reading.{Reading, read_hello, read_message, read_other, read_fault, hello_by, message_by, read_by, packet_read, read_causes, read_received, IsTakenAsRead}
-use Rattle.pim_trace.specs.Reading.{message_in}
 
 -- ---- lists of causes
 

@@ -1,13 +1,7 @@
 -- A text that is written piece by piece.
 use Rattle.std.proofs.Common.{◌≡◌, ◌≤◌, ℕ, ◌+◌, min, option_map, List, [], ◌∷◌, ◌++◌, length, Option, None, Some, Result, Ok, Err, IsErr, refl, sym, ap, subst, ◌∙◌, arith, append_assoc, append-nil, length-append}
-use Rattle.std.proofs.KnownBytes.{Appends-nil, Appends-trans}
-use Rattle.std.proofs.lemmas.List.{take-append-le, take_all}
-use Rattle.std.specs.Io.KnownBytes.{Appends}
-use Rattle.pim_device.specs.Device.{AppendsFront, AppendsAll, top_count}
-use Rattle.pim_events.specs.Events.{Happened, Occurrence}
-use Rattle.pim_trace.specs.Heard.{event_on}
-use Rattle.pim_trace.specs.Ledger.{Ledger, epoch_of}
-use Rattle.pim_trace.specs.WrittenEvents.{text_on}
+use Rattle.pim_trace.proofs.Words.{Appends-nil, Appends-trans, take-append-le, take_all, Appends, AppendsFront}
+use Rattle.pim_trace.proofs.Words.{AppendsAll, top_count, Happened, Occurrence, event_on, Ledger, epoch_of, text_on}
 use Rattle.pim_trace.proofs.Written.{front-longer, front-more}
 
 -- ---- fronts

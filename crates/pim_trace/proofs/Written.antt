@@ -1,8 +1,6 @@
 -- A text that is written in two parts, of which the device took a front.
-use Rattle.std.proofs.Common.{◌≡◌, ℕ, ◌+◌, ◌≤◌, List, ◌++◌, length, take, Option, None, Some, sym, ap, arith, append_assoc, length-append, ◌∙◌}
-use Rattle.std.proofs.lemmas.List.{take-append-le, length-take}
-use Rattle.std.specs.Io.KnownBytes.{Appends}
-use Rattle.pim_device.specs.Device.{AppendsFront}
+use Rattle.pim_trace.proofs.Words.{◌≡◌, ℕ, ◌+◌, ◌≤◌, List, ◌++◌, length, take, Option, None, Some, sym, ap, arith}
+use Rattle.pim_trace.proofs.Words.{append_assoc, length-append, ◌∙◌, take-append-le, length-take, Appends, AppendsFront}
 
 -- nothing behind the first piece was written
 pub front-longer : (a b : Option (List ℕ)) (bs cs : List ℕ) → AppendsFront a b bs → AppendsFront a b (bs ++ cs)

@@ -1,17 +1,10 @@
 -- Candidates, one after another: as they are made of marks, and as they are looked at after the message.
-use Rattle.std.proofs.Common.{◌≡◌, ℕ, true, false, cond, List, [], ◌∷◌, ◌++◌, map, Option, length, append_assoc, append-nil, refl, sym, ap, ◌∙◌, arith}
-use Rattle.std.proofs.lemmas.List.{map-append}
+use Rattle.pim_transitions.proofs.Words.{◌≡◌, ℕ, true, false, cond, List, [], ◌∷◌, ◌++◌, map, Option, length}
+use Rattle.pim_transitions.proofs.Words.{append_assoc, append-nil, refl, sym, ap, ◌∙◌, arith, map-append, Machine}
+use Rattle.pim_transitions.proofs.Words.{Record, machine_at, Event, event_seen, By, Transition, Candidate, same_machine}
+use Rattle.pim_transitions.proofs.Words.{kind_by, transition_to, transitions_to, candidate_seen, transition_seen}
+use Rattle.pim_transitions.proofs.Words.{is_repeated, if_last, lasts, candidate_of}
 use Rattle.pim_down.specs.declared.machines.event.Event.{Event as EventOf}
-use Rattle.pim_down.specs.declared.machines.machine.Machine.{Machine}
-use Rattle.pim_down.specs.declared.machines.machine.Record.{Record}
-use Rattle.pim_down.specs.Records.{machine_at}
-use Rattle.pim_down.specs.Hearing.{Event}
-use Rattle.pim_down.specs.Seen.{event_seen}
-use Rattle.pim_transitions.specs.declared.transition.By.{By}
-use Rattle.pim_transitions.specs.declared.transition.Transition.{Transition}
-use Rattle.pim_transitions.specs.declared.candidate.Candidate.{Candidate}
-use Rattle.pim_transitions.specs.Affected.{same_machine, kind_by, transition_to, transitions_to, candidate_seen, transition_seen}
-use Rattle.pim_transitions.specs.Marks.{is_repeated, if_last, lasts, candidate_of}
 use Rattle.pim_transitions.proofs.Lasts.{lasts_first}
 
 none_long : {X : Type 0} (xs : List X) → length xs ≡ 0 → xs ≡ []

@@ -1,19 +1,13 @@
 -- The last event that changed a machine's state, by the machine after the message.
-use Rattle.std.proofs.Common.{◌≡◌, ℕ, Bool, true, false, cond, not, ◌&&◌, ◌==◌, List, [], ◌∷◌, Option, None, Some, is_some, unwrap_or, eqb-true, eq-eqb, refl, sym, ap, subst, ◌∙◌, arith}
-use Rattle.std.proofs.lemmas.Bool.{false≢true}
-use Rattle.pim_down.specs.declared.machines.key.What.{What}
-use Rattle.pim_down.specs.declared.machines.key.What.TheVariants.{Star, Source, Rpt}
-use Rattle.pim_down.specs.declared.machines.key.Key.{Key}
-use Rattle.pim_down.specs.declared.machines.machine.State.{State}
+use Rattle.pim_transitions.proofs.Words.{◌≡◌, ℕ, Bool, true, false, cond, not, ◌&&◌, ◌==◌, List, [], ◌∷◌, Option, None, Some}
+use Rattle.pim_transitions.proofs.Words.{is_some, unwrap_or, eqb-true, eq-eqb, refl, sym, ap, subst, ◌∙◌, arith, false≢true, What}
+use Rattle.pim_transitions.proofs.Words.{Star, Source, Rpt, Key, State, Machine, Start, on_join, join_in, on_prune, prune_in}
+use Rattle.pim_transitions.proofs.Words.{on_star_join, star_join_in, on_rpt_prune, rpt_prune_in, on_end, end_in, Event, on_own}
+use Rattle.pim_transitions.proofs.Words.{is_rpt, is_rpt_on, effect, effects, at_end, heard_at, KeysAreDistinct, By, number_of}
+use Rattle.pim_transitions.proofs.Words.{state_number, same_state, kind_of, changed_by, last_of, changed_last, by_state}
+use Rattle.pim_transitions.proofs.Words.{caused_by, joins_after, kind_by}
 use Rattle.pim_down.specs.declared.machines.machine.State.TheVariants as state
-use Rattle.pim_down.specs.declared.machines.machine.Machine.{Machine}
-use Rattle.pim_down.specs.Tables.{Start, on_join, join_in, on_prune, prune_in, on_star_join, star_join_in, on_rpt_prune, rpt_prune_in, on_end, end_in}
-use Rattle.pim_down.specs.Hearing.{Event, on_own, is_rpt, is_rpt_on, effect, effects, at_end, heard_at}
-use Rattle.pim_down.specs.Laws.{KeysAreDistinct}
-use Rattle.pim_transitions.specs.declared.transition.By.{By}
 use Rattle.pim_transitions.specs.declared.transition.By.TheVariants as kind
-use Rattle.pim_transitions.specs.Transitions.{number_of, state_number, same_state, kind_of, changed_by, last_of, changed_last, by_state, caused_by}
-use Rattle.pim_transitions.specs.Affected.{joins_after, kind_by}
 use Rattle.pim_transitions.proofs.Effects.{by_effect, own_plain, own_rpt, no_star, plain_some, gone_joined}
 
 same_state_is : (a b : Option Machine) → same_state a b ≡ true → state_number a ≡ state_number b

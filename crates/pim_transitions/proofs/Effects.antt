@@ -1,21 +1,12 @@
 -- What an event does to the machine at a key, by cases.
-use Rattle.std.proofs.Common.{◌≡◌, ℕ, Bool, true, false, cond, not, ◌&&◌, ◌||◌, ◌==◌, eq-eqb, List, [], ◌∷◌, Option, None, Some, is_some, refl, sym, ap, subst, ◌∙◌}
-use Rattle.std.specs.List.{list_any}
-use Rattle.std.proofs.lemmas.Bool.{false≢true}
-use Rattle.pim_down.specs.declared.machines.key.What.{What}
-use Rattle.pim_down.specs.declared.machines.key.What.TheVariants.{Star, Source, Rpt}
-use Rattle.pim_down.specs.declared.machines.key.Key.{Key}
-use Rattle.pim_down.specs.declared.machines.machine.State.{State}
+use Rattle.pim_transitions.proofs.Words.{◌≡◌, ℕ, Bool, true, false, cond, not, ◌&&◌, ◌||◌, ◌==◌, eq-eqb, List, [], ◌∷◌, Option}
+use Rattle.pim_transitions.proofs.Words.{None, Some, is_some, refl, sym, ap, subst, ◌∙◌, list_any, false≢true, What, Star, Source}
+use Rattle.pim_transitions.proofs.Words.{Rpt, Key, State, Machine, Record, same_key, machine_at, Start, on_join, join_in}
+use Rattle.pim_transitions.proofs.Words.{on_prune, prune_in, on_star_join, star_join_in, on_rpt_prune, rpt_prune_in, on_end}
+use Rattle.pim_transitions.proofs.Words.{end_in, Event, key_of, on_own, is_rpt, is_star_join, is_rpt_on, is_rpt_of, effect}
+use Rattle.pim_transitions.proofs.Words.{effects, at_end, KeysAreDistinct, reaches, joins_after}
 use Rattle.pim_down.specs.declared.machines.machine.State.TheVariants as state
-use Rattle.pim_down.specs.declared.machines.machine.Machine.{Machine}
-use Rattle.pim_down.specs.declared.machines.machine.Record.{Record}
-use Rattle.pim_down.specs.Key.{same_key}
-use Rattle.pim_down.specs.Records.{machine_at}
-use Rattle.pim_down.specs.Tables.{Start, on_join, join_in, on_prune, prune_in, on_star_join, star_join_in, on_rpt_prune, rpt_prune_in, on_end, end_in}
-use Rattle.pim_down.specs.Hearing.{Event, key_of, on_own, is_rpt, is_star_join, is_rpt_on, is_rpt_of, effect, effects, at_end}
 use Rattle.pim_down.specs.Sound.{IsSettled, is_temporary}
-use Rattle.pim_down.specs.Laws.{KeysAreDistinct}
-use Rattle.pim_transitions.specs.Affected.{reaches, joins_after}
 
 pub or_false : (a b : Bool) → (a || b) ≡ false → (a ≡ false) × (b ≡ false)
 or_false true b e = absurd (false≢true (sym e))

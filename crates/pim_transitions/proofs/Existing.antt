@@ -1,21 +1,9 @@
 -- A message has a list of transitions, whatever records there are before it and after.
-use Rattle.std.proofs.Common.{◌≡◌, ℕ, Bool, true, false, ◌||◌, List, [], ◌∷◌, None, refl, sym, ap, subst, ◌∙◌}
-use Rattle.std.specs.declared.cmp.Ordering.{Ordering}
-use Rattle.std.specs.declared.cmp.Ordering.TheVariants.{Less, Equal, Greater}
-use Rattle.std.specs.Ordering.{ordering_reverse}
-use Rattle.std.specs.List.{AllByRecursion, list_any}
-use Rattle.std.specs.List.Sorted.{IsStrictlySortedBy}
-use Rattle.std.proofs.lemmas.Bool.{false≢true}
-use Rattle.pim_down.specs.declared.machines.key.Key.{Key}
-use Rattle.pim_down.specs.declared.machines.machine.Record.{Record}
-use Rattle.pim_down.specs.Key.{key_cmp, same_key}
-use Rattle.pim_down.specs.Records.{machine_at}
-use Rattle.pim_down.specs.Tables.{Start}
-use Rattle.pim_down.specs.Hearing.{Event}
-use Rattle.pim_transitions.specs.declared.transition.Transition.{Transition}
-use Rattle.pim_transitions.specs.Affected.{same_machine}
-use Rattle.pim_transitions.specs.Transitions.{caused_by, IsTransition, has_transition, keys_of_transitions, AreTransitions}
-use Rattle.pim_transitions.specs.Laws.{TransitionsAreThere}
+use Rattle.pim_transitions.proofs.Words.{◌≡◌, ℕ, Bool, true, false, ◌||◌, List, [], ◌∷◌, None, refl, sym, ap, subst}
+use Rattle.pim_transitions.proofs.Words.{◌∙◌, Ordering, Less, Equal, Greater, ordering_reverse, AllByRecursion}
+use Rattle.pim_transitions.proofs.Words.{list_any, IsStrictlySortedBy, false≢true, Key, Record, key_cmp, same_key}
+use Rattle.pim_transitions.proofs.Words.{machine_at, Start, Event, Transition, same_machine, caused_by, IsTransition}
+use Rattle.pim_transitions.proofs.Words.{has_transition, keys_of_transitions, AreTransitions, TransitionsAreThere}
 use Rattle.pim_transitions.proofs.Effects.{or_false, or_true, by_test}
 use Rattle.pim_transitions.proofs.Keys.{key_total, equal_keys, same_keys, same_back}
 use Rattle.pim_transitions.proofs.OneList.{Items, AreAbove, all_above}

@@ -1,18 +1,10 @@
 -- The order of keys is total, and marks of one port compare as those of another.
-use Rattle.std.proofs.Common.{◌≡◌, ℕ, true, false, not, ◌&&◌, List, refl, sym, ap, subst, ◌∙◌}
-use Rattle.std.specs.declared.cmp.Ordering.{Ordering}
-use Rattle.std.specs.declared.cmp.Ordering.TheVariants.{Less, Equal, Greater}
-use Rattle.std.specs.Ordering.{ordering_then, is_eq, is_lt, ordering_reverse, nat_cmp}
-use Rattle.std.specs.Cmp.{IsTotalOrder}
+use Rattle.pim_transitions.proofs.Words.{◌≡◌, ℕ, true, false, not, ◌&&◌, List, refl, sym, ap, subst, ◌∙◌, Ordering}
+use Rattle.pim_transitions.proofs.Words.{Less, Equal, Greater, ordering_then, is_eq, is_lt, ordering_reverse, nat_cmp}
+use Rattle.pim_transitions.proofs.Words.{IsTotalOrder, nat_cmp_total, nat_list_cmp_total, on_total, then_total}
+use Rattle.pim_transitions.proofs.Words.{tied_itself, false≢true, What, Star, Source, Rpt, Key, rank, source_of}
+use Rattle.pim_transitions.proofs.Words.{address_cmp, what_cmp, key_cmp, same_key, Event, key_of, same_mark}
 use Rattle.std.specs.FinMap.{slice_cmp-IsAntisymmetric, nat_cmp-IsAntisymmetric}
-use Rattle.std.proofs.lemmas.Cmp.{nat_cmp_total, nat_list_cmp_total, on_total, then_total, tied_itself}
-use Rattle.std.proofs.lemmas.Bool.{false≢true}
-use Rattle.pim_down.specs.declared.machines.key.What.{What}
-use Rattle.pim_down.specs.declared.machines.key.What.TheVariants.{Star, Source, Rpt}
-use Rattle.pim_down.specs.declared.machines.key.Key.{Key}
-use Rattle.pim_down.specs.Key.{rank, source_of, address_cmp, what_cmp, key_cmp, same_key}
-use Rattle.pim_down.specs.Hearing.{Event, key_of}
-use Rattle.pim_transitions.specs.Marks.{same_mark}
 
 pub key_total : IsTotalOrder key_cmp
 unfolding key_cmp what_cmp

@@ -1,14 +1,7 @@
 -- The marks of a list in key order without those that the next one repeats.
-use Rattle.std.proofs.Common.{◌≡◌, ℕ, Bool, true, false, cond, ◌||◌, List, [], ◌∷◌, ◌++◌, map, refl, ap, subst, ◌∙◌}
-use Rattle.std.specs.declared.cmp.Ordering.TheVariants.{Less}
-use Rattle.std.specs.List.{AllByRecursion}
-use Rattle.std.specs.List.Sorted.{IsStrictlySortedBy}
-use Rattle.std.proofs.lemmas.Bool.{false≢true}
-use Rattle.pim_down.specs.declared.machines.key.Key.{Key}
-use Rattle.pim_down.specs.Key.{key_cmp, same_key}
-use Rattle.pim_down.specs.Hearing.{Event, key_of}
-use Rattle.pim_transitions.specs.Affected.{joins_after}
-use Rattle.pim_transitions.specs.Marks.{Rise, is_repeated, if_last, lasts, is_marked}
+use Rattle.pim_transitions.proofs.Words.{◌≡◌, ℕ, Bool, true, false, cond, ◌||◌, List, [], ◌∷◌, ◌++◌, map, refl, ap, subst, ◌∙◌}
+use Rattle.pim_transitions.proofs.Words.{Less, AllByRecursion, IsStrictlySortedBy, false≢true, Key, key_cmp, same_key, Event}
+use Rattle.pim_transitions.proofs.Words.{key_of, joins_after, Rise, is_repeated, if_last, lasts, is_marked}
 use Rattle.pim_transitions.proofs.Keys.{same_keys, same_itself, behind, further, less_apart, on_port, same_on_port}
 
 abbrev IsBehind : Event → Event → Type 0

@@ -1,3 +1,4 @@
+pub mod Words
 mod Effects
 mod Causes
 mod Telling

@@ -1,14 +1,9 @@
 -- The candidates of marks in key order are those that a message may change.
-use Rattle.std.proofs.Common.{◌≡◌, ℕ, Bool, true, false, cond, ◌&&◌, ◌||◌, List, [], ◌∷◌, ◌++◌, map, filter, refl, sym, ap, subst, ◌∙◌}
-use Rattle.std.specs.List.{AllByRecursion, list_any}
-use Rattle.std.specs.List.Sorted.{IsStrictlySortedBy}
-use Rattle.std.proofs.lemmas.Bool.{false≢true}
-use Rattle.pim_down.specs.declared.machines.key.Key.{Key}
-use Rattle.pim_down.specs.declared.machines.machine.Record.{Record}
-use Rattle.pim_down.specs.Key.{key_cmp, same_key}
-use Rattle.pim_down.specs.Hearing.{Event, key_of, is_star_join}
-use Rattle.pim_transitions.specs.Affected.{joins_after, is_reached, is_affected, keys_affected, IsCandidate, IsAffected}
-use Rattle.pim_transitions.specs.Marks.{Rise, same_mark, KeepTheirOrder, lasts, candidate_of, is_marked, is_held_rpt, IsStarMark, star_reaches, AreStarMarks}
+use Rattle.pim_transitions.proofs.Words.{◌≡◌, ℕ, Bool, true, false, cond, ◌&&◌, ◌||◌, List, [], ◌∷◌, ◌++◌, map, filter, refl, sym}
+use Rattle.pim_transitions.proofs.Words.{ap, subst, ◌∙◌, AllByRecursion, list_any, IsStrictlySortedBy, false≢true, Key, Record}
+use Rattle.pim_transitions.proofs.Words.{key_cmp, same_key, Event, key_of, is_star_join, joins_after, is_reached, is_affected}
+use Rattle.pim_transitions.proofs.Words.{keys_affected, IsCandidate, IsAffected, Rise, same_mark, KeepTheirOrder, lasts}
+use Rattle.pim_transitions.proofs.Words.{candidate_of, is_marked, is_held_rpt, IsStarMark, star_reaches, AreStarMarks}
 use Rattle.pim_transitions.proofs.Effects.{or_true, by_test}
 use Rattle.pim_transitions.proofs.Keys.{same_keys, same_itself, same_back, same_on_port}
 use Rattle.pim_transitions.proofs.Lasts.{lasts_all, lasts_ascend, IsLastOf, lasts_are_last, lasts_marked}

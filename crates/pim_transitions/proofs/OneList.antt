@@ -1,20 +1,8 @@
 -- A message has one list of transitions.
-use Rattle.std.proofs.Common.{◌≡◌, ℕ, true, false, ◌||◌, List, [], ◌∷◌, refl, sym, ap, subst, ◌∙◌}
-use Rattle.std.specs.declared.cmp.Ordering.{Ordering}
-use Rattle.std.specs.declared.cmp.Ordering.TheVariants.{Less, Equal, Greater}
-use Rattle.std.specs.Ordering.{ordering_reverse}
-use Rattle.std.specs.List.{AllByRecursion}
-use Rattle.std.specs.List.Sorted.{IsStrictlySortedBy}
-use Rattle.std.proofs.lemmas.Bool.{false≢true}
-use Rattle.pim_down.specs.declared.machines.key.Key.{Key}
-use Rattle.pim_down.specs.declared.machines.machine.Record.{Record}
-use Rattle.pim_down.specs.Key.{key_cmp, same_key}
-use Rattle.pim_down.specs.Records.{machine_at}
-use Rattle.pim_down.specs.Tables.{Start}
-use Rattle.pim_down.specs.Hearing.{Event}
-use Rattle.pim_transitions.specs.declared.transition.Transition.{Transition}
-use Rattle.pim_transitions.specs.Transitions.{caused_by, IsTransition, has_transition, keys_of_transitions}
-use Rattle.pim_transitions.specs.Laws.{TransitionsAreOneList}
+use Rattle.pim_transitions.proofs.Words.{◌≡◌, ℕ, true, false, ◌||◌, List, [], ◌∷◌, refl, sym, ap, subst, ◌∙◌, Ordering, Less}
+use Rattle.pim_transitions.proofs.Words.{Equal, Greater, ordering_reverse, AllByRecursion, IsStrictlySortedBy, false≢true, Key}
+use Rattle.pim_transitions.proofs.Words.{Record, key_cmp, same_key, machine_at, Start, Event, Transition, caused_by, IsTransition}
+use Rattle.pim_transitions.proofs.Words.{has_transition, keys_of_transitions, TransitionsAreOneList}
 use Rattle.pim_transitions.proofs.Effects.{or_true, by_test}
 use Rattle.pim_transitions.proofs.Keys.{key_total, equal_keys, same_keys, same_itself, less_apart}
 

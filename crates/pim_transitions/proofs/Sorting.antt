@@ -1,21 +1,13 @@
 -- Marks sorted by a closure that compares their keys.
-use Rattle.std.proofs.Common.{◌≡◌, ℕ, suc, ◌<◌, Bool, true, false, cond, List, [], ◌∷◌, map, filter, length, get_or, add-one, refl, sym, ap, subst, ◌∙◌, arith}
+use Rattle.pim_transitions.proofs.Words.{◌≡◌, ℕ, suc, ◌<◌, Bool, true, false, cond, List, [], ◌∷◌, map, filter, length}
+use Rattle.pim_transitions.proofs.Words.{get_or, add-one, refl, sym, ap, subst, ◌∙◌, arith, Ordering, is_lt}
+use Rattle.pim_transitions.proofs.Words.{IsStrictWeakOrder, IsSortedBy, IsStableBy, ties, What, Star, Source, Rpt, Key}
+use Rattle.pim_transitions.proofs.Words.{key_cmp, Event, key_of, what_seen, event_seen, Rise, same_mark, KeepTheirOrder}
 use Rattle.std.specs.Borrow.{Bor}
 use Rattle.std.specs.Fn.{Mut, Called, ComparesAs}
-use Rattle.std.specs.declared.cmp.Ordering.{Ordering}
-use Rattle.std.specs.Ordering.{is_lt}
-use Rattle.std.specs.Cmp.{IsStrictWeakOrder}
-use Rattle.std.specs.List.Sorted.{IsSortedBy, IsStableBy, ties}
 use Rattle.std.proofs.lemmas.Fn.{always_returns_same}
 use Rattle.std.proofs.lemmas.List.Sorted.{ranks_by}
 use Rattle.pim_down.specs.declared.machines.event.Event.{Event as EventOf}
-use Rattle.pim_down.specs.declared.machines.key.What.{What}
-use Rattle.pim_down.specs.declared.machines.key.What.TheVariants.{Star, Source, Rpt}
-use Rattle.pim_down.specs.declared.machines.key.Key.{Key}
-use Rattle.pim_down.specs.Key.{key_cmp}
-use Rattle.pim_down.specs.Hearing.{Event, key_of}
-use Rattle.pim_down.specs.Seen.{what_seen, event_seen}
-use Rattle.pim_transitions.specs.Marks.{Rise, same_mark, KeepTheirOrder}
 use Rattle.pim_transitions.proofs.Keys.{key_total, tie}
 
 pub stays_by : {A F : Type 0} (key : A → Key (List ℕ)) {g : Mut F (Bor A × (Bor A × Unit {0})) Ordering} {f : F} (xs ys : List A)

@@ -1,19 +1,13 @@
 -- The machines that a message reaches by a Join(*,G), set by set.
-use Rattle.std.proofs.Common.{◌≡◌, ℕ, Bool, true, false, cond, not, ◌&&◌, ◌||◌, ◌==◌, eqb-true, append_assoc, flat_map, List, [], ◌∷◌, ◌++◌, Option, refl, sym, ap, subst, ◌∙◌}
-use Rattle.std.specs.Prelude.{nat_eq}
-use Rattle.std.specs.Cmp.Lexicographic.{pointwise}
-use Rattle.std.specs.List.{AllByRecursion, list_any}
-use Rattle.std.proofs.lemmas.Bool.{false≢true}
+use Rattle.pim_transitions.proofs.Words.{◌≡◌, ℕ, Bool, true, false, cond, not, ◌&&◌, ◌||◌, ◌==◌, eqb-true, append_assoc, flat_map}
+use Rattle.pim_transitions.proofs.Words.{List, [], ◌∷◌, ◌++◌, Option, refl, sym, ap, subst, ◌∙◌, nat_eq, pointwise}
+use Rattle.pim_transitions.proofs.Words.{AllByRecursion, list_any, false≢true, Star, Source, Key, Record, same_key, Event, key_of}
+use Rattle.pim_transitions.proofs.Words.{is_known, entry_events, list_events, set_events, is_star_join, is_rpt_on, is_rpt_of}
+use Rattle.pim_transitions.proofs.Words.{is_reached, rpt_marks, is_marked, is_held_rpt, HaveRptsOf, is_star_join_of, IsStarMark}
+use Rattle.pim_transitions.proofs.Words.{AddRptsOf, AddStarsOf, star_reaches, AreStarMarks}
 use Rattle.pim_jp.specs.declared.entry.Entry.{Entry}
 use Rattle.pim_jp.specs.declared.entry.Entry.TheVariants as entry
 use Rattle.pim_jp.specs.Message.{GroupSet}
-use Rattle.pim_down.specs.declared.machines.key.What.TheVariants.{Star, Source}
-use Rattle.pim_down.specs.declared.machines.key.Key.{Key}
-use Rattle.pim_down.specs.declared.machines.machine.Record.{Record}
-use Rattle.pim_down.specs.Key.{same_key}
-use Rattle.pim_down.specs.Hearing.{Event, key_of, is_known, entry_events, list_events, set_events, is_star_join, is_rpt_on, is_rpt_of}
-use Rattle.pim_transitions.specs.Affected.{is_reached}
-use Rattle.pim_transitions.specs.Marks.{rpt_marks, is_marked, is_held_rpt, HaveRptsOf, is_star_join_of, IsStarMark, AddRptsOf, AddStarsOf, star_reaches, AreStarMarks}
 use Rattle.pim_transitions.proofs.Effects.{and_true, or_true, by_test}
 use Rattle.pim_transitions.proofs.Listing.{any_append}
 use Rattle.pim_transitions.proofs.Walks.{itself_group, same_group, have_rpts, marked_append, rpt_marks_each}

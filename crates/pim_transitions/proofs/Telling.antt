@@ -1,26 +1,14 @@
 -- The candidates that differ after a message are the machines that it changed.
 use Rattle.std.proofs.Common.{◌≡◌, ℕ, Bool, true, false, cond, ◌&&◌, ◌||◌, ◌==◌, nat_eq, List, [], ◌∷◌, Option, None, Some, eqb-true, eq-eqb, refl, sym, ap, subst, ◌∙◌, arith}
 use Rattle.std.specs.Option.{option_eq}
-use Rattle.std.specs.declared.cmp.Ordering.TheVariants.{Less}
-use Rattle.std.specs.List.{AllByRecursion}
-use Rattle.std.specs.List.Sorted.{IsStrictlySortedBy}
-use Rattle.std.proofs.lemmas.Bool.{false≢true}
-use Rattle.pim_down.specs.declared.machines.key.Key.{Key}
-use Rattle.pim_down.specs.declared.machines.machine.State.{State}
+use Rattle.pim_transitions.proofs.Words.{Less, AllByRecursion, IsStrictlySortedBy, false≢true, Key, State, Machine, Record}
+use Rattle.pim_transitions.proofs.Words.{key_cmp, same_key, machine_at, Start, is_rpt_on, hearing, heard_at, at_end}
+use Rattle.pim_transitions.proofs.Words.{KeysAreDistinct, HearingActsAtEachKey, Transition, Candidate, number_of, caused_by}
+use Rattle.pim_transitions.proofs.Words.{IsTransition, has_transition, keys_of_transitions, joins_after, is_reached, is_affected}
+use Rattle.pim_transitions.proofs.Words.{keys_affected, IsCandidate, same_bool, same_pending, same_held, same_machine, kind_by}
+use Rattle.pim_transitions.proofs.Words.{transition_to, transitions_to, CandidatesShowTransitions}
 use Rattle.pim_down.specs.declared.machines.machine.State.TheVariants as state
 use Rattle.pim_down.specs.declared.machines.machine.Pending.{Pending}
-use Rattle.pim_down.specs.declared.machines.machine.Machine.{Machine}
-use Rattle.pim_down.specs.declared.machines.machine.Record.{Record}
-use Rattle.pim_down.specs.Key.{key_cmp, same_key}
-use Rattle.pim_down.specs.Records.{machine_at}
-use Rattle.pim_down.specs.Tables.{Start}
-use Rattle.pim_down.specs.Hearing.{is_rpt_on, hearing, heard_at, at_end}
-use Rattle.pim_down.specs.Laws.{KeysAreDistinct, HearingActsAtEachKey}
-use Rattle.pim_transitions.specs.declared.transition.Transition.{Transition}
-use Rattle.pim_transitions.specs.declared.candidate.Candidate.{Candidate}
-use Rattle.pim_transitions.specs.Transitions.{number_of, caused_by, IsTransition, has_transition, keys_of_transitions}
-use Rattle.pim_transitions.specs.Affected.{joins_after, is_reached, is_affected, keys_affected, IsCandidate, same_bool, same_pending, same_held, same_machine, kind_by, transition_to, transitions_to}
-use Rattle.pim_transitions.specs.Laws.{CandidatesShowTransitions}
 use Rattle.pim_transitions.proofs.Effects.{by_test, and_true, same_keys, quiet, end_quiet}
 use Rattle.pim_transitions.proofs.Causes.{plain_kind, rpt_kind_is}
 

@@ -1,22 +1,14 @@
 -- A walk over the machines of a group gives its records one after another, and its (S,G,rpt) machines are all among them.
-use Rattle.std.proofs.Common.{◌≡◌, ℕ, Bool, true, false, cond, ◌&&◌, ◌||◌, ◌==◌, List, [], ◌∷◌, ◌++◌, ◌<◌, length, filter, find, Some, None, is_some, eqb-true, eq-eqb, append_assoc, append-nil, refl, sym, ap, subst, ◌∙◌, arith}
-use Rattle.std.specs.declared.cmp.Ordering.{Ordering}
-use Rattle.std.specs.declared.cmp.Ordering.TheVariants.{Less, Equal, Greater}
-use Rattle.std.specs.Ordering.{ordering_then, ordering_reverse, is_eq, is_lt, nat_cmp}
-use Rattle.std.specs.Prelude.{nat_eq}
-use Rattle.std.specs.Cmp.Lexicographic.{pointwise, same_text}
+use Rattle.pim_transitions.proofs.Words.{◌≡◌, ℕ, Bool, true, false, cond, ◌&&◌, ◌||◌, ◌==◌, List, [], ◌∷◌, ◌++◌, ◌<◌}
+use Rattle.pim_transitions.proofs.Words.{length, filter, find, Some, None, is_some, eqb-true, eq-eqb, append_assoc}
+use Rattle.pim_transitions.proofs.Words.{append-nil, refl, sym, ap, subst, ◌∙◌, arith, Ordering, Less, Equal, Greater}
+use Rattle.pim_transitions.proofs.Words.{ordering_then, ordering_reverse, is_eq, is_lt, nat_cmp, nat_eq, pointwise}
+use Rattle.pim_transitions.proofs.Words.{same_text, nat_cmp_total, nat_list_cmp_total, tied_itself, false≢true, What}
+use Rattle.pim_transitions.proofs.Words.{Star, Source, Rpt, Key, Record, rank, source_of, address_cmp, what_cmp}
+use Rattle.pim_transitions.proofs.Words.{key_cmp, same_key, IsBelow, IsAscending, machine_at, Event, key_of, is_rpt}
+use Rattle.pim_transitions.proofs.Words.{is_rpt_on, is_rpt_of, rpt_mark, rpt_marks, is_marked, is_held_rpt, HaveRptsOf}
 use Rattle.std.specs.List.{AllByRecursion, flat_map}
-use Rattle.std.proofs.lemmas.Cmp.{nat_cmp_total, nat_list_cmp_total, tied_itself}
-use Rattle.std.proofs.lemmas.Bool.{false≢true}
-use Rattle.pim_down.specs.declared.machines.key.What.{What}
-use Rattle.pim_down.specs.declared.machines.key.What.TheVariants.{Star, Source, Rpt}
-use Rattle.pim_down.specs.declared.machines.key.Key.{Key}
-use Rattle.pim_down.specs.declared.machines.machine.Record.{Record}
-use Rattle.pim_down.specs.Key.{rank, source_of, address_cmp, what_cmp, key_cmp, same_key}
-use Rattle.pim_down.specs.Records.{IsBelow, IsAscending, machine_at}
 use Rattle.pim_down.specs.After.{is_machine_after, next_in_group, MachinesLeft, left_behind}
-use Rattle.pim_down.specs.Hearing.{Event, key_of, is_rpt, is_rpt_on, is_rpt_of}
-use Rattle.pim_transitions.specs.Marks.{rpt_mark, rpt_marks, is_marked, is_held_rpt, HaveRptsOf}
 use Rattle.pim_transitions.proofs.Effects.{and_true, or_true}
 use Rattle.pim_transitions.proofs.Keys.{key_total, same_keys, same_itself, same_address}
 use Rattle.pim_transitions.proofs.Listing.{any_append}

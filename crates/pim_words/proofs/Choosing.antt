@@ -1,15 +1,8 @@
 -- The values of an option that may be given 64 times, read one by one.
-use Rattle.std.proofs.Common.{◌≡◌, sym, ap, subst, inl, inr, ℕ, suc, ◌+◌, ◌-◌, ◌<◌, ◌≤◌, List, [], ◌∷◌, ◌++◌, length, drop, get_or, append_assoc, append-nil, arith}
-use Rattle.std.specs.Borrow.{Bor}
-use Rattle.std.specs.List.{AllZip}
-use Rattle.std.proofs.lemmas.List.{drop_all, drop_more, length-append}
-use Rattle.clap.specs.Words.{Text}
-use Rattle.pim_lines.specs.declared.either.AnyAddress.{AnyAddress}
-use Rattle.pim_words.specs.declared.fault.CommandFault.{CommandFault}
+use Rattle.pim_words.proofs.Words.{◌≡◌, sym, ap, subst, inl, inr, ℕ, suc, ◌+◌, ◌-◌, ◌<◌, ◌≤◌, List, [], ◌∷◌, ◌++◌, length, drop}
+use Rattle.pim_words.proofs.Words.{get_or, append_assoc, append-nil, arith, Bor, AllZip, drop_all, drop_more, length-append, Text}
+use Rattle.pim_words.proofs.Words.{AnyAddress, CommandFault, Names, OrMemory, AreShownAddresses, IsUnreadText, IsWrongChoice}
 use Rattle.pim_words.specs.declared.fault.CommandFault.TheVariants as cause
-use Rattle.pim_lines.specs.AnyAddress.{Names}
-use Rattle.pim_words.specs.Seen.{OrMemory}
-use Rattle.pim_words.specs.Shown.{AreShownAddresses, IsUnreadText, IsWrongChoice}
 use Rattle.pim_words.proofs.Further.{texts}
 use Rattle.pim_words.proofs.Orders.{or_memory}
 

@@ -1,13 +1,9 @@
 -- The words for further files, read one by one.
-use Rattle.std.proofs.Common.{◌≡◌, ◌∙◌, sym, ap, subst, arith, ℕ, suc, ◌+◌, ◌<◌, ◌≤◌, Bool, true, false, not, cond, List, [], ◌∷◌, ◌++◌, length, append_assoc, append-nil, map, refl}
-use Rattle.std.specs.Prelude.{count_by, filter}
-use Rattle.std.specs.Borrow.{Bor}
-use Rattle.std.specs.List.{AllZip, AllByRecursion}
-use Rattle.std.proofs.lemmas.List.{length-append}
+use Rattle.pim_words.proofs.Words.{◌≡◌, ◌∙◌, sym, ap, subst, arith, ℕ, suc, ◌+◌, ◌<◌, ◌≤◌, Bool, true, false, not, cond}
+use Rattle.pim_words.proofs.Words.{List, [], ◌∷◌, ◌++◌, length, append_assoc, append-nil, map, refl, count_by, filter}
+use Rattle.pim_words.proofs.Words.{Bor, AllZip, AllByRecursion, length-append, Text, More, AreMore, ByKind, IsMore}
+use Rattle.pim_words.proofs.Words.{is_more, more_words, port_words}
 use Rattle.std.proofs.lemmas.List.Sums.{length-filter}
-use Rattle.clap.specs.Words.{Text}
-use Rattle.pim_words.specs.declared.task.More.{More}
-use Rattle.pim_words.specs.Ports.{AreMore, ByKind, IsMore, is_more, more_words, port_words}
 
 abbrev pub texts : List (Bor Text) → List Text
 texts words = map (λ w. w.now) words

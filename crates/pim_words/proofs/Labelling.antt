@@ -1,17 +1,9 @@
 -- The ports of words, with their names, and their further files, read one by one.
-use Rattle.std.proofs.Common.{◌≡◌, sym, ap, subst, inl, inr, ℕ, ◌+◌, ◌<◌, ◌≤◌, Bool, true, false, List, [], ◌∷◌, ◌++◌, length, drop, get_or, append_assoc, append-nil, Option}
-use Rattle.std.specs.Prelude.{◌⊎◌}
-use Rattle.std.specs.Borrow.{Bor}
-use Rattle.std.proofs.lemmas.List.{drop_all, drop_more, length-append}
-use Rattle.clap.specs.Words.{Text}
-use Rattle.pim_lines.specs.declared.either.AnyAddress.{AnyAddress}
-use Rattle.pim_words.specs.declared.fault.CommandFault.{CommandFault}
-use Rattle.pim_words.specs.declared.task.CommandKind.{CommandKind}
-use Rattle.pim_words.specs.declared.task.More.{More}
-use Rattle.pim_words.specs.declared.task.Port.{Port}
-use Rattle.pim_words.specs.Labels.{AreLabelled, AreLabelledAfter, IsFirstWrong, IsLabelled, IsWrongLabelled}
-use Rattle.pim_words.specs.Ports.{AreMore, IsMore, IsRightMore, IsWrongMore, is_more, port_words}
-use Rattle.pim_words.specs.Seen.{OrMemory}
+use Rattle.pim_words.proofs.Words.{◌≡◌, sym, ap, subst, inl, inr, ℕ, ◌+◌, ◌<◌, ◌≤◌, Bool, true, false, List, [], ◌∷◌}
+use Rattle.pim_words.proofs.Words.{◌++◌, length, drop, get_or, append_assoc, append-nil, Option, ◌⊎◌, Bor, drop_all}
+use Rattle.pim_words.proofs.Words.{drop_more, length-append, Text, AnyAddress, CommandFault, CommandKind, More, Port}
+use Rattle.pim_words.proofs.Words.{AreLabelled, AreLabelledAfter, IsFirstWrong, IsLabelled, IsWrongLabelled, AreMore}
+use Rattle.pim_words.proofs.Words.{IsMore, IsRightMore, IsWrongMore, is_more, port_words, OrMemory}
 use Rattle.pim_words.proofs.Further.{AreSoFar, all_of_them, of_more, of_port, past_more, past_port, ports_with, ports_without, texts}
 use Rattle.pim_words.proofs.Orders.{or_memory}
 

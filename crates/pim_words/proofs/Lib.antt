@@ -1,3 +1,4 @@
+pub mod Words
 pub mod Choosing
 pub mod Further
 pub mod Labelling

@@ -1,18 +1,8 @@
 -- Ports that get the links of their numbers.
-use Rattle.std.proofs.Common.{◌≡◌, ◌∙◌, sym, ap, subst, refl, ℕ, ◌+◌, List, [], ◌∷◌, ◌++◌, Option}
-use Rattle.std.specs.Borrow.{Bor}
-use Rattle.clap.specs.Words.{Row, Text}
-use Rattle.pim_lines.specs.declared.either.AnyAddress.{AnyAddress}
-use Rattle.pim_words.specs.declared.links.Links.{Links}
-use Rattle.pim_words.specs.declared.task.CommandKind.{CommandKind}
-use Rattle.pim_words.specs.declared.task.More.{More}
-use Rattle.pim_words.specs.declared.task.Port.{Port}
+use Rattle.pim_words.proofs.Words.{◌≡◌, ◌∙◌, sym, ap, subst, refl, ℕ, ◌+◌, List, [], ◌∷◌, ◌++◌, Option, Bor, Row, Text}
+use Rattle.pim_words.proofs.Words.{AnyAddress, Links, CommandKind, More, Port, AreLabelled, AreLabelledAfter}
+use Rattle.pim_words.proofs.Words.{AreChosenLinks, AreLinkedFrom, AreMore, port_words, ArePorts, with_links}
 use Rattle.pim_words.specs.Given.{words_of}
-use Rattle.pim_words.specs.Labels.{AreLabelled, AreLabelledAfter}
-use Rattle.pim_words.specs.Links.{AreChosenLinks, AreLinkedFrom}
-use Rattle.pim_words.specs.Ports.{AreMore, port_words}
-use Rattle.pim_words.specs.Reading.{ArePorts}
-use Rattle.pim_words.specs.Seen.{with_links}
 
 linked_from : (links : Links) (number : ℕ) (ports : List (Port AnyAddress)) → AreLinkedFrom links number (with_links links number ports)
 linked_from links number [] = tt

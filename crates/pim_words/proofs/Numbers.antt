@@ -1,22 +1,14 @@
 -- The numbers among the options, which `clap` tests.
-use Rattle.std.proofs.Common.{◌≡◌, ◌||◌, ◌==◌, not, ℕ, Bool, cond, true, false, refl, List, [], ◌∷◌, Option, Some, None, codes, arith}
-use Rattle.std.specs.Prelude.{IfSome, unwrap_or}
-use Rattle.std.specs.List.{AllByRecursion, list_all}
-use Rattle.std.specs.Str.{bytes_eq}
-use Rattle.std.specs.Str.Parse.{digits_value, without_leading_plus}
-use Rattle.std.proofs.lemmas.Bool.{eqb-true}
+use Rattle.pim_words.proofs.Words.{◌≡◌, ◌||◌, ◌==◌, not, ℕ, Bool, cond, true, false, refl, List, [], ◌∷◌, Option, Some}
+use Rattle.pim_words.proofs.Words.{None, codes, arith, IfSome, unwrap_or, AllByRecursion, list_all, bytes_eq}
+use Rattle.pim_words.proofs.Words.{digits_value, without_leading_plus, eqb-true, parser_of_value, value_kinds}
+use Rattle.pim_words.proofs.Words.{ErrorKind, Unsigned, both, HasNumbers, IsOffered, are_tested, has_range, is_tested}
 use Rattle.clap.specs.Words.{App, IsUnsignedIn, Row, Rule, Shape, Text, built, fault_of, first_of, subcommand_of}
-use Rattle.clap.specs.Facts.{parser_of_value}
-use Rattle.clap.specs.Kinds.{value_kinds}
 use Rattle.clap.specs.ValueTests.{accepts}
-use Rattle.clap.specs.declared.error.kind.ErrorKind.{ErrorKind}
 use Rattle.clap.specs.Values.{refused_kind}
 use Rattle.clap.specs.declared.builder.value_parser.ValueParser.{ValueParser}
-use Rattle.clap.specs.declared.builder.value_parser.ValueParser.TheVariants.{Unsigned}
 use Rattle.clap.proofs.ValueTestLemmas.{accepts-Accepts}
-use Rattle.clap.proofs.WalkLemmas.{both}
 use Rattle.pim_words.specs.Given.{IsNoNumber, option_or}
-use Rattle.pim_words.specs.Seen.{HasNumbers, IsOffered, are_tested, has_range, is_tested}
 use Rattle.pim_words.proofs.Passed.{AllTest, Tests, passed}
 
 -- ---- options that take a number

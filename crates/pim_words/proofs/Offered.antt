@@ -1,39 +1,22 @@
 -- What the answer of `clap` says of the words.
-use Rattle.std.proofs.Common.{◌≡◌, ◌∙◌, ◌≤◌, ◌<◌, inl, inr, ℕ, suc, Bool, true, false, not, cond, List, [], ◌∷◌, ◌++◌, length, Option, None, Some, refl, sym, ap, subst, option_map, Result, Ok, Err, MatchResult, IfOk}
-use Rattle.std.specs.Prelude.{find, IfSome, IsSomeAnd}
-use Rattle.std.specs.Borrow.{Bor}
-use Rattle.std.specs.List.{AllByRecursion}
-use Rattle.clap.specs.Words.{App, Row, Text, built, fault_of, subcommand_of}
-use Rattle.clap.specs.Walk.{answers_to, stop_after}
-use Rattle.clap.specs.Simple.{Shape, argument_words, entered, label_of, names_of, rows_at}
+use Rattle.pim_words.proofs.Words.{◌≡◌, ◌∙◌, ◌≤◌, ◌<◌, inl, inr, ℕ, suc, Bool, true, false, not, cond, List, [], ◌∷◌, ◌++◌}
+use Rattle.pim_words.proofs.Words.{length, Option, None, Some, refl, sym, ap, subst, option_map, Result, Ok, Err, MatchResult}
+use Rattle.pim_words.proofs.Words.{IfOk, find, IfSome, IsSomeAnd, Bor, AllByRecursion, App, Row, Text, built, fault_of}
+use Rattle.pim_words.proofs.Words.{subcommand_of, answers_to, stop_after, Shape, argument_words, entered, label_of, names_of}
+use Rattle.pim_words.proofs.Words.{rows_at, length-map, both, AddressFamily, AnyAddress, CommandFault, Captures, More}
+use Rattle.pim_words.proofs.Words.{CommandKind, Check, Build, Replay, Trace, Same, Mirror, Emit, Change, Port, CommandPlan, V4}
+use Rattle.pim_words.proofs.Words.{V6, Session, Task, IsEarly, AreLabelledAfter, has_name, is_fresh, AreFurther, AreNames}
+use Rattle.pim_words.proofs.Words.{HasCause, IsBounded, IsLimited, IsWritable, IsInRange, IsPlanInRange, IsTaskOf, IsPlanOfTask}
+use Rattle.pim_words.proofs.Words.{IsPlanOf, Plans, port_words, AreCaptures, ArePorts, IsTask, IsWriting, IsGiven, IsOffered}
+use Rattle.pim_words.proofs.Words.{IsPlanFor, SameCaptures, SameTask, SameTracing, SameWriting, port_seen}
 use Rattle.clap.proofs.OnLiterals.{clap_on_literals}
-use Rattle.std.proofs.lemmas.List.{length-map}
-use Rattle.clap.proofs.WalkLemmas.{both}
-use Rattle.pim_addr.specs.declared.family.AddressFamily.{AddressFamily}
 use Rattle.pim_addr.specs.declared.family.AddressFamily.TheVariants.{Ipv4, Ipv6}
-use Rattle.pim_lines.specs.declared.either.AnyAddress.{AnyAddress}
-use Rattle.pim_words.specs.declared.fault.CommandFault.{CommandFault}
-use Rattle.pim_words.specs.declared.task.Captures.{Captures}
-use Rattle.pim_words.specs.declared.task.More.{More}
-use Rattle.pim_words.specs.declared.task.CommandKind.{CommandKind}
-use Rattle.pim_words.specs.declared.task.CommandKind.TheVariants.{Check, Build, Replay, Trace, Same, Mirror, Emit, Change}
 use Rattle.pim_words.specs.declared.task.Tracing.{Tracing}
-use Rattle.pim_words.specs.declared.task.Port.{Port}
-use Rattle.pim_words.specs.declared.task.CommandPlan.{CommandPlan}
-use Rattle.pim_words.specs.declared.task.CommandPlan.TheVariants.{V4, V6, Session}
-use Rattle.pim_words.specs.declared.task.Task.{Task}
 use Rattle.pim_words.specs.declared.task.Task.TheVariants as task
 use Rattle.pim_words.specs.declared.task.Writing.{Writing}
 use Rattle.pim_words.specs.CommandLine.{pimtree}
-use Rattle.pim_words.specs.Ends.{IsEarly}
 use Rattle.pim_words.specs.Given.{IsKnown, words_of}
 use Rattle.pim_lines.specs.PortNames.{is_port_name}
-use Rattle.pim_words.specs.Labels.{AreLabelledAfter, has_name, is_fresh}
-use Rattle.pim_words.specs.Plan.{AreFurther, AreNames, HasCause, IsBounded, IsLimited, IsWritable, IsInRange, IsPlanInRange, IsTaskOf, IsPlanOfTask, IsPlanOf, Plans}
-use Rattle.pim_words.specs.Ports.{port_words}
-use Rattle.pim_words.specs.Reading.{AreCaptures, ArePorts, IsTask, IsWriting}
-use Rattle.pim_words.specs.Seen.{IsGiven, IsOffered}
-use Rattle.pim_words.specs.Typed.{IsPlanFor, SameCaptures, SameTask, SameTracing, SameWriting, port_seen}
 use Rattle.pim_words.proofs.Further.{below_ports}
 use Rattle.pim_words.proofs.Numbers.{has_numbers}
 

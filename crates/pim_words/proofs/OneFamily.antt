@@ -1,17 +1,9 @@
 -- Ports and addresses that are all of one family, looked at one by one.
-use Rattle.std.proofs.Common.{◌≡◌, ◌∙◌, sym, ap, subst, ℕ, ◌+◌, ◌<◌, ◌≤◌, Bool, true, List, [], ◌∷◌, ◌++◌, length, drop, get_or, map, ◌&&◌, append_assoc, append-nil}
-use Rattle.std.specs.List.{list_all}
-use Rattle.std.specs.Option.{option_map_or}
-use Rattle.std.proofs.lemmas.List.{drop_all, drop_more, map-append}
-use Rattle.pim_addr.specs.declared.family.AddressFamily.{AddressFamily}
-use Rattle.pim_words.specs.declared.task.Captures.{Captures}
-use Rattle.pim_words.specs.declared.task.Port.{Port}
-use Rattle.pim_lines.specs.declared.either.AnyAddress.{AnyAddress}
-use Rattle.pim_words.specs.declared.fault.CommandFault.{CommandFault}
-use Rattle.pim_words.specs.declared.fault.CommandFault.TheVariants.{Family, Memory}
+use Rattle.pim_words.proofs.Words.{◌≡◌, ◌∙◌, sym, ap, subst, ℕ, ◌+◌, ◌<◌, ◌≤◌, Bool, true, List, [], ◌∷◌, ◌++◌, length}
+use Rattle.pim_words.proofs.Words.{drop, get_or, map, ◌&&◌, append_assoc, append-nil, list_all, option_map_or, drop_all}
+use Rattle.pim_words.proofs.Words.{drop_more, map-append, AddressFamily, Captures, Port, AnyAddress, CommandFault}
+use Rattle.pim_words.proofs.Words.{Family, Memory, is_in, IsForeign}
 use Rattle.pim_words.specs.Faults.{are_captures_in}
-use Rattle.pim_lines.specs.AnyAddress.{is_in}
-use Rattle.pim_words.specs.Seen.{IsForeign}
 
 -- the first of two tests fails
 fails_first : (first second : Bool) (fault : CommandFault) → IsForeign first fault → IsForeign (first && second) fault

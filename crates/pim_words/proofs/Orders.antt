@@ -1,21 +1,11 @@
 -- A fault behind what was read well, or memory.
-use Rattle.std.proofs.Common.{◌≡◌, inl, inr, false, Option, None, Some, List, [], Result, Ok, Err}
-use Rattle.std.specs.Prelude.{is_ok, is_err, if◌then◌else◌}
-use Rattle.clap.specs.Words.{Row, Text}
+use Rattle.pim_words.proofs.Words.{◌≡◌, inl, inr, false, Option, None, Some, List, [], Result, Ok, Err, is_ok, is_err}
+use Rattle.pim_words.proofs.Words.{if◌then◌else◌, Row, Text, CommandFault, Memory, CommandKind, Trace, time_text}
+use Rattle.pim_words.proofs.Words.{IsTimed, IsTimely, Links, IsFirstWrong, AreChosenLinks, AreWrongPorts, IsWrongRun}
+use Rattle.pim_words.proofs.Words.{IsWrongTrace, OrMemory, IsShown, IsWrongShown}
 use Rattle.pim_time.specs.declared.reading.Time.{Time}
-use Rattle.pim_words.specs.declared.fault.CommandFault.{CommandFault}
-use Rattle.pim_words.specs.declared.fault.CommandFault.TheVariants.{Memory}
 use Rattle.pim_words.specs.declared.shown.ShownEvents.{ShownEvents}
-use Rattle.pim_words.specs.declared.task.CommandKind.{CommandKind}
-use Rattle.pim_words.specs.declared.task.CommandKind.TheVariants.{Trace}
-use Rattle.pim_words.specs.Ends.{time_text, IsTimed, IsTimely}
-use Rattle.pim_words.specs.declared.links.Links.{Links}
 use Rattle.pim_words.specs.Given.{words_of}
-use Rattle.pim_words.specs.Labels.{IsFirstWrong}
-use Rattle.pim_words.specs.Links.{AreChosenLinks}
-use Rattle.pim_words.specs.Reading.{AreWrongPorts, IsWrongRun, IsWrongTrace}
-use Rattle.pim_words.specs.Seen.{OrMemory}
-use Rattle.pim_words.specs.Shown.{IsShown, IsWrongShown}
 
 pub or_memory : (P : CommandFault → Type 0) (fault : CommandFault) → P fault → OrMemory P fault
 or_memory P Memory is = tt

@@ -1,19 +1,15 @@
 -- The values of an option that picks links, read one by one; and what a value names is one thing.
-use Rattle.std.proofs.Common.{◌≡◌, ◌≢◌, ◌∙◌, sym, ap, subst, refl, inl, inr, ℕ, suc, ◌+◌, ◌<◌, ◌≤◌, Bool, List, [], ◌∷◌, ◌++◌, length, drop, get_or, append_assoc, append-nil, Option, None, Some, cond, true, false, arith}
-use Rattle.std.specs.Prelude.{◌⊎◌, is_some}
-use Rattle.std.specs.Borrow.{Bor}
-use Rattle.std.specs.Str.Parse.{digits_value, without_leading_plus}
-use Rattle.std.proofs.lemmas.Bool.{false≢true}
-use Rattle.std.proofs.lemmas.List.{drop_all, drop_more}
-use Rattle.clap.specs.Words.{Text}
-use Rattle.pim_words.specs.declared.fault.CommandFault.{CommandFault}
+use Rattle.pim_words.proofs.Words.{◌≡◌, ◌≢◌, ◌∙◌, sym, ap, subst, refl, inl, inr, ℕ, suc, ◌+◌, ◌<◌, ◌≤◌, Bool, List, []}
+use Rattle.pim_words.proofs.Words.{◌∷◌, ◌++◌, length, drop, get_or, append_assoc, append-nil, Option, None, Some, cond}
+use Rattle.pim_words.proofs.Words.{true, false, arith, ◌⊎◌, is_some, Bor, digits_value, without_leading_plus}
+use Rattle.pim_words.proofs.Words.{false≢true, drop_all, drop_more, Text, CommandFault, LacksEqualSign, IsPortNumber}
+use Rattle.pim_words.proofs.Words.{IsNoPortNumber, IsTarget, IsNoTarget, LacksPoint, IsNoVlan, IsLinkText, IsNoLink}
+use Rattle.pim_words.proofs.Words.{is_same_port, pick_for, IsPick, IsNoPick, ArePicks, ArePicksAfter, IsFirstWrongPick}
 use Rattle.pim_words.specs.declared.fault.CommandFault.TheVariants as cause
 use Rattle.pim_words.specs.declared.picks.Part.{Part}
 use Rattle.pim_words.specs.declared.picks.Pick.{Pick}
 use Rattle.pim_words.specs.declared.task.LinkWord.{LinkWord}
 use Rattle.pim_words.specs.Given.{IsNumber, IsNoNumber}
-use Rattle.pim_words.specs.Labels.{LacksEqualSign}
-use Rattle.pim_words.specs.Links.{IsPortNumber, IsNoPortNumber, IsTarget, IsNoTarget, LacksPoint, IsNoVlan, IsLinkText, IsNoLink, is_same_port, pick_for, IsPick, IsNoPick, ArePicks, ArePicksAfter, IsFirstWrongPick}
 use Rattle.pim_words.proofs.Further.{texts}
 
 module _ (chosen : Part) (is_any : Bool) (count : ℕ) where

@@ -1,16 +1,9 @@
 -- From what is read of the words to the plan, or to the cause why there is none.
-use Rattle.std.proofs.Common.{◌≡◌, inr, refl, subst, false, List, [], Option, None, Some, option_map, MatchResult, Result, Ok, Err}
-use Rattle.std.specs.Prelude.{IsSomeAnd}
-use Rattle.clap.specs.Words.{App, Row, Text, fault_of, subcommand_of}
-use Rattle.pim_lines.specs.declared.either.AnyAddress.{AnyAddress}
-use Rattle.pim_words.specs.declared.fault.CommandFault.{CommandFault}
-use Rattle.pim_words.specs.declared.fault.CommandFault.TheVariants.{Memory}
-use Rattle.pim_words.specs.declared.task.CommandPlan.{CommandPlan}
-use Rattle.pim_words.specs.declared.task.CommandPlan.TheVariants.{V4, V6, Session}
-use Rattle.pim_words.specs.declared.task.Task.{Task}
+use Rattle.pim_words.proofs.Words.{◌≡◌, inr, refl, subst, false, List, [], Option, None, Some, option_map, MatchResult, Result}
+use Rattle.pim_words.proofs.Words.{Ok, Err, IsSomeAnd, App, Row, Text, fault_of, subcommand_of, AnyAddress, CommandFault, Memory}
+use Rattle.pim_words.proofs.Words.{CommandPlan, V4, V6, Session, Task, IsFaultless, IsFirstFault, IsTaskOf, IsPlanOfTask}
+use Rattle.pim_words.proofs.Words.{IsWrongTask, IsPlanOf, IsWrongOf, Plans, HasWrong, HasCause, IsGiven}
 use Rattle.pim_words.specs.Inputs.{names_input_twice}
-use Rattle.pim_words.specs.Plan.{IsFaultless, IsFirstFault, IsTaskOf, IsPlanOfTask, IsWrongTask, IsPlanOf, IsWrongOf, Plans, HasWrong, HasCause}
-use Rattle.pim_words.specs.Seen.{IsGiven}
 
 -- what holds of the command that was met
 pub some_given : (met : Option (Text × List Row)) (rows : List Row) → Some rows ≡ option_map (λ p. p.1) met → ((m : Text × List Row) → met ≡ Some m → IsGiven m) → IsSomeAnd met IsGiven

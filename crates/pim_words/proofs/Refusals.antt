@@ -1,14 +1,11 @@
 -- What `clap` refuses, told as a fault.
-use Rattle.std.proofs.Common.{◌≡◌, inl, inr, true, sym, subst, ◌∙◌}
+use Rattle.pim_words.proofs.Words.{◌≡◌, inl, inr, true, sym, subst, ◌∙◌, ErrorKind, OutOfMemory, App, Text, Kinds}
+use Rattle.pim_words.proofs.Words.{HasKind, IsAmong, fault_of, takes, kind_of, HasCause, refusal_fault}
 use Rattle.std.specs.Prelude.{List, Result, Ok, Err}
 use Rattle.std.specs.declared.alloc.AllocError.{AllocError}
 use Rattle.std.specs.declared.alloc.Global.{Global}
 use Rattle.std.specs.declared.string.String.{String}
 use Rattle.clap.specs.declared.error.Error.{Error}
-use Rattle.clap.specs.declared.error.kind.ErrorKind.{ErrorKind}
-use Rattle.clap.specs.declared.error.kind.ErrorKind.TheVariants.{OutOfMemory}
-use Rattle.clap.specs.Words.{App, Text, Kinds, HasKind, IsAmong, fault_of, takes, kind_of}
-use Rattle.pim_words.specs.Plan.{HasCause, refusal_fault}
 
 -- an error of a kind that isn't memory
 among : (kinds : Kinds) (error : Error) (kind : ErrorKind) → kind_of error ≡ kind → (kind ≡ OutOfMemory → ⊥) → HasKind kinds error → IsAmong kind kinds

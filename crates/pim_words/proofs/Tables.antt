@@ -1,8 +1,6 @@
 -- A table's rows, added one by one.
-use Rattle.std.proofs.Common.{◌≡◌, ◌∙◌, sym, ap, ℕ, ◌+◌, ◌<◌, ◌≤◌, List, length, drop, get_or}
-use Rattle.std.specs.List.{fold}
-use Rattle.std.proofs.lemmas.List.{at_drop_more, drop_all}
-use Rattle.clap.specs.Words.{App}
+use Rattle.pim_words.proofs.Words.{◌≡◌, ◌∙◌, sym, ap, ℕ, ◌+◌, ◌<◌, ◌≤◌, List, length, drop, get_or, fold, at_drop_more}
+use Rattle.pim_words.proofs.Words.{drop_all, App}
 
 module _ {X : Type 0} (add : App → X → App) (rows : List X) (i : ℕ) (whole : App) where
   pub one_more : (past : X) (before after : App) → i < length rows → fold add before (drop i rows) ≡ whole → after ≡ add before (get_or rows i past) → fold add after (drop (i + 1) rows) ≡ whole

@@ -1,18 +1,10 @@
 -- Words that aren't read, behind options that are.
-use Rattle.std.proofs.Common.{◌≡◌, inr, true, false, List, codes, Option, None, Some}
-use Rattle.std.specs.Prelude.{IfSome}
-use Rattle.clap.specs.Words.{Row, Text, first_of}
-use Rattle.pim_lines.specs.declared.either.AnyAddress.{AnyAddress}
-use Rattle.pim_words.specs.declared.fault.CommandFault.{CommandFault}
-use Rattle.pim_words.specs.declared.fault.CommandFault.TheVariants.{Memory}
+use Rattle.pim_words.proofs.Words.{◌≡◌, inr, true, false, List, codes, Option, None, Some, IfSome, Row, Text, first_of}
+use Rattle.pim_words.proofs.Words.{AnyAddress, CommandFault, Memory, CommandKind, Replay, Trace, Same, Mirror, Emit}
+use Rattle.pim_words.proofs.Words.{Change, IsRead, are_both_given, has_two_ends, AreRead, ReadsAddressOption}
+use Rattle.pim_words.proofs.Words.{IsUnreadable, IsWrongRun, IsWrongRunOf, IsWrongTrace, AreWritten, OrMemory}
 use Rattle.pim_words.specs.declared.reading.AddressList.{AddressList}
-use Rattle.pim_words.specs.declared.task.CommandKind.{CommandKind}
-use Rattle.pim_words.specs.declared.task.CommandKind.TheVariants.{Replay, Trace, Same, Mirror, Emit, Change}
-use Rattle.pim_lines.specs.AnyAddress.{IsRead}
-use Rattle.pim_words.specs.Ends.{are_both_given, has_two_ends}
 use Rattle.pim_words.specs.Given.{address_texts, has_writer}
-use Rattle.pim_words.specs.Reading.{AreRead, ReadsAddressOption, IsUnreadable, IsWrongRun, IsWrongRunOf, IsWrongTrace}
-use Rattle.pim_words.specs.Seen.{AreWritten, OrMemory}
 
 wrong_run : (kind : CommandKind) (rows : List Row) (fault : CommandFault) → has_two_ends kind rows ≡ false → AreRead (address_texts kind rows) → OrMemory (IsWrongRunOf kind rows) fault
     → IsUnreadable kind rows fault

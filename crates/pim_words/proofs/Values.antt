@@ -1,9 +1,6 @@
 -- The values of options.
-use Rattle.std.proofs.Common.{◌≡◌, refl, List, [], Option, None, Some, option_map, map}
-use Rattle.std.specs.Prelude.{unwrap_or}
-use Rattle.std.specs.Borrow.{Bor}
-use Rattle.std.specs.Option.{UnwrapsOrElse}
-use Rattle.clap.specs.Words.{Row, Text, all_of, first_of}
+use Rattle.pim_words.proofs.Words.{◌≡◌, refl, List, [], Option, None, Some, option_map, map, unwrap_or, Bor}
+use Rattle.pim_words.proofs.Words.{UnwrapsOrElse, Row, Text, all_of, first_of}
 use Rattle.pim_words.specs.Given.{option_or, values_of}
 
 -- the value of an option that was read as text

@@ -1,5 +1,4 @@
-use Rattle.std.proofs.Common.{◌≡◌, ◌∙◌, ◌-◌, ◌*◌, ◌^◌, ◌%◌, ap, length, min, arith}
-use Rattle.std.specs.Ordering.{is_lt}
+use Rattle.pim_addr.proofs.Words.{◌≡◌, ◌∙◌, ◌-◌, ◌*◌, ◌^◌, ◌%◌, ap, length, min, arith, is_lt}
 use Rattle.pim_addr.proofs.CountBelow.{halved_first, halved_shift, halved_one, one_shifted, halved_passed, halved_level, level_is_there, level_is_within}
 use Rattle.pim_addr.proofs.below.count_below.Goals as goal
 use Rattle.pim_addr.proofs.below.count_below.Goals.{then-level-shift, else-level-shift}

@@ -1,5 +1,4 @@
-use Rattle.std.proofs.Common.{◌≡◌, sym, ◌∙◌}
-use Rattle.pim_addr.specs.declared.family.AddressFamily.TheVariants.{Ipv6}
+use Rattle.pim_addr.proofs.Words.{◌≡◌, sym, ◌∙◌, Ipv6}
 use Rattle.pim_addr.proofs.parsed.read_text.Goals as goal
 
 pub returns-in_err-address-in-Ipv6-clause-no_text :

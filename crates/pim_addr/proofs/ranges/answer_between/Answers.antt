@@ -1,8 +1,6 @@
-use Rattle.std.proofs.Common.{◌≡◌, ◌∙◌, ◌+◌, ◌-◌, ◌++◌, ℕ, suc, List, Option, Some, map, take, drop, ap, sym, arith}
-use Rattle.std.proofs.lemmas.List.{length-map, map-append, take-map, drop-map}
-use Rattle.std.specs.Prelude.{option_map}
-use Rattle.pim_addr.specs.Routes.{Row, longer_of}
-use Rattle.pim_addr.specs.RouteRows.{IsEnd, row_seen, answers_seen}
+use Rattle.pim_addr.proofs.Words.{◌≡◌, ◌∙◌, ◌+◌, ◌-◌, ◌++◌, ℕ, suc, List, Option, Some, map, take, drop, ap, sym, arith}
+use Rattle.pim_addr.proofs.Words.{length-map, map-append, take-map, drop-map, option_map, Row, longer_of, IsEnd}
+use Rattle.pim_addr.proofs.Words.{row_seen, answers_seen}
 use Rattle.pim_addr.proofs.OneMoreEnd.{before_within, before_rises}
 use Rattle.pim_addr.proofs.AnswersOver.{answers_between}
 use Rattle.pim_addr.proofs.ranges.answer_between.Goals as goal

@@ -1,9 +1,6 @@
-use Rattle.std.proofs.Common.{◌≡◌, ◌<◌, ◌∙◌, ℕ, List, Option, Some, None, length, get_or, set, ap, sym, arith, add-one}
-use Rattle.std.specs.Prelude.{option_map}
-use Rattle.std.proofs.lemmas.List.{length-map}
+use Rattle.pim_addr.proofs.Words.{◌≡◌, ◌<◌, ◌∙◌, ℕ, List, Option, Some, None, length, get_or, set, ap, sym, arith}
+use Rattle.pim_addr.proofs.Words.{add-one, option_map, length-map, Row, longer_of, row_seen, answers_seen}
 use Rattle.std.proofs.lemmas.List.{get_or-map as get_or_of_map}
-use Rattle.pim_addr.specs.Routes.{Row, longer_of}
-use Rattle.pim_addr.specs.RouteRows.{row_seen, answers_seen}
 use Rattle.pim_addr.proofs.AnswersOver.{changed, changed_none, changed_at, changed_more, changed_all, map_set}
 use Rattle.pim_addr.proofs.ranges.answer_in_all.Goals as goal
 

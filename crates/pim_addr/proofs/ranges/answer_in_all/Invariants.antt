@@ -1,6 +1,4 @@
-use Rattle.std.proofs.Common.{◌≡◌, Some}
-use Rattle.pim_addr.specs.Routes.{longer_of}
-use Rattle.pim_addr.specs.RouteRows.{row_seen, answers_seen}
+use Rattle.pim_addr.proofs.Words.{◌≡◌, Some, longer_of, row_seen, answers_seen}
 use Rattle.pim_addr.proofs.AnswersOver.{changed}
 use Rattle.pim_addr.proofs.ranges.answer_in_all.Given as goal
 

@@ -1,10 +1,6 @@
-use Rattle.std.proofs.Common.{◌≡◌, ◌<◌, ℕ, List, map, ap, sym, ◌∙◌, arith, length, get_or, Option}
-use Rattle.std.specs.List.{insert}
-use Rattle.std.specs.Prelude.{option_map}
-use Rattle.std.proofs.lemmas.List.{length-map}
+use Rattle.pim_addr.proofs.Words.{◌≡◌, ◌<◌, ℕ, List, map, ap, sym, ◌∙◌, arith, length, get_or, Option, insert, option_map}
+use Rattle.pim_addr.proofs.Words.{length-map, Row, row_seen, answers_seen, before, answer_of, AreRanges, IsEnd, KeepAnswers}
 use Rattle.std.proofs.lemmas.List.{get_or-map as get_or_of_map}
-use Rattle.pim_addr.specs.Routes.{Row}
-use Rattle.pim_addr.specs.RouteRows.{row_seen, answers_seen, before, answer_of, AreRanges, IsEnd, KeepAnswers}
 use Rattle.pim_addr.proofs.RangeEnds.{distinct_keys}
 use Rattle.pim_addr.proofs.OneMoreEnd.{before_within, end_there, one_more_range, map_insert}
 use Rattle.pim_addr.proofs.ranges.end_at.Goals as goal

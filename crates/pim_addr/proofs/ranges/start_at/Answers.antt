@@ -1,5 +1,4 @@
-use Rattle.std.proofs.Common.{◌≡◌, ℕ, suc, List, map, ap, arith}
-use Rattle.pim_addr.specs.RouteRows.{before, IsEnd}
+use Rattle.pim_addr.proofs.Words.{◌≡◌, ℕ, suc, List, map, ap, arith, before, IsEnd}
 use Rattle.pim_addr.proofs.OneMoreEnd.{before_rises}
 use Rattle.pim_addr.proofs.ranges.start_at.Goals as goal
 

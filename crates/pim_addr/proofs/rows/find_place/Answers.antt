@@ -1,8 +1,4 @@
-use Rattle.std.proofs.Common.{rules, ap}
-use Rattle.std.specs.Ordering.{nat_cmp, ordering_then}
-use Rattle.std.proofs.lemmas.List.Sorted.{answers_always}
-use Rattle.pim_addr.specs.Routes.{prefix_cmp}
-use Rattle.pim_addr.specs.RouteRows.{row_seen}
+use Rattle.pim_addr.proofs.Words.{rules, ap, nat_cmp, ordering_then, answers_always, prefix_cmp, row_seen}
 use Rattle.pim_addr.proofs.RowOrder.{place_by}
 use Rattle.pim_addr.proofs.rows.find_place.Goals as goal
 

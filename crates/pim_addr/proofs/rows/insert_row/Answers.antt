@@ -1,8 +1,5 @@
-use Rattle.std.proofs.Common.{◌≡◌, ◌∙◌, ◌+◌, ◌≤◌, List, map, length, ap, sym, subst, arith}
-use Rattle.std.specs.List.{insert}
-use Rattle.std.proofs.lemmas.List.{length-map}
-use Rattle.pim_addr.specs.Routes.{Row}
-use Rattle.pim_addr.specs.RouteRows.{row_seen, rows_seen, answers_seen, Stand}
+use Rattle.pim_addr.proofs.Words.{◌≡◌, ◌∙◌, ◌+◌, ◌≤◌, List, map, length, ap, sym, subst, arith, insert, length-map, Row}
+use Rattle.pim_addr.proofs.Words.{row_seen, rows_seen, answers_seen, Stand}
 use Rattle.pim_addr.proofs.OneMoreEnd.{map_insert}
 use Rattle.pim_addr.proofs.OneMoreRow.{one_more_stands}
 use Rattle.pim_addr.proofs.rows.insert_row.Goals as goal

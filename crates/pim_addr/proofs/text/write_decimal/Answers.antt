@@ -1,5 +1,4 @@
-use Rattle.std.proofs.Common.{sym, arith}
-use Rattle.std.proofs.lemmas.Fmt.{decimal_digit}
+use Rattle.pim_addr.proofs.Words.{sym, arith, decimal_digit}
 use Rattle.pim_addr.proofs.Pieces.{Wrote-more, Wrote-is, decimal_two, decimal_three}
 use Rattle.pim_addr.proofs.text.write_decimal.Goals as goal
 

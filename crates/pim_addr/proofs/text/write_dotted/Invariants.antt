@@ -1,6 +1,4 @@
-use Rattle.std.proofs.Common.{◌*◌, ◌≤◌, take, map, decimal}
-use Rattle.std.specs.List.{join_with_byte}
-use Rattle.pim_addr.specs.Text.{Wrote}
+use Rattle.pim_addr.proofs.Words.{◌*◌, ◌≤◌, take, map, decimal, join_with_byte, Wrote}
 use Rattle.pim_addr.proofs.text.write_dotted.Given as goal
 
 abbrev pub invariant-loop-index : goal.invariant-loop-index

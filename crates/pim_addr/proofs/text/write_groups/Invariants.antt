@@ -1,6 +1,4 @@
-use Rattle.std.proofs.Common.{◌*◌, ◌≤◌, take}
-use Rattle.std.specs.List.{join_with_byte}
-use Rattle.pim_addr.specs.Text.{hex_groups, Wrote}
+use Rattle.pim_addr.proofs.Words.{◌*◌, ◌≤◌, take, join_with_byte, hex_groups, Wrote}
 use Rattle.pim_addr.proofs.text.write_groups.Given as goal
 
 abbrev pub invariant-loop-index : goal.invariant-loop-index

@@ -1,6 +1,5 @@
 use Rattle.pim_addr.specs.Seen.{source_seen}
-use Rattle.pim_addr.specs.Canonical.{canonical_source}
-use Rattle.std.proofs.Common.{◌≡◌}
+use Rattle.pim_addr.proofs.Words.{canonical_source, ◌≡◌}
 use Rattle.pim_addr.proofs.ReadBack.{source_spelled}
 use Rattle.pim_addr.proofs.written.put_source.Goals as goal
 

@@ -1,8 +1,4 @@
-use Rattle.std.proofs.Common.{subst, Option}
-use Rattle.pim_answers.specs.Demanding.{SaysChange}
-use Rattle.pim_answers.specs.Fault.{fault_words}
-use Rattle.pim_answers.specs.Kept.{Kept}
-use Rattle.pim_answers.specs.StoreSeen.{IsFound}
+use Rattle.pim_answers.proofs.Words.{subst, Option, SaysChange, fault_words, Kept, IsFound}
 use Rattle.pim_answers.proofs.Makings.{named_other, named_unknown, named_badly, named_told}
 use Rattle.pim_answers.proofs.demanding.answer_change.Goals as goal
 

@@ -1,5 +1,4 @@
-use Rattle.pim_router.specs.Canonical.{IsDemandedBy, IsTooBig}
-use Rattle.pim_answers.specs.DemandingSeen.{made_text}
+use Rattle.pim_answers.proofs.Words.{IsDemandedBy, IsTooBig, made_text}
 use Rattle.pim_answers.proofs.Makings.{messages_told, made_told}
 use Rattle.pim_answers.proofs.demanding.answer_messages.Goals as goal
 

@@ -1,7 +1,4 @@
-use Rattle.std.proofs.Common.{subst}
-use Rattle.pim_answers.specs.Answered.{Wrote}
-use Rattle.pim_answers.specs.Demanding.{SaysSame, IfUsable}
-use Rattle.pim_answers.specs.Kept.{Kept}
+use Rattle.pim_answers.proofs.Words.{subst, Wrote, SaysSame, IfUsable, Kept}
 use Rattle.pim_answers.proofs.Makings.{found_other, found_form}
 use Rattle.pim_answers.proofs.demanding.same_found.Goals as goal
 

@@ -1,10 +1,6 @@
-use Rattle.std.proofs.Common.{true, false, List, codes, IfOk, option_map, refl, subst}
-use Rattle.pim_form.specs.NormalForm.{GroupForm}
-use Rattle.pim_form.specs.Refused.{group_too_big}
+use Rattle.pim_answers.proofs.Words.{true, false, List, codes, IfOk, option_map, refl, subst, GroupForm, group_too_big}
+use Rattle.pim_answers.proofs.Words.{SaysChange, made_text, form_seen}
 use Rattle.pim_router.specs.Change.{IsChangeOf, IsChangeTooBig}
-use Rattle.pim_answers.specs.Demanding.{SaysChange}
-use Rattle.pim_answers.specs.DemandingSeen.{made_text}
-use Rattle.pim_answers.specs.StoreSeen.{form_seen}
 use Rattle.pim_answers.proofs.Makings.{made_told, tables_told, usable_told, usable_is}
 use Rattle.pim_answers.proofs.demanding.write_change.Goals as goal
 

@@ -1,7 +1,4 @@
-use Rattle.std.proofs.Common.{List, ℕ, ◌++◌, ◌∙◌, ap, sym, codes, subst}
-use Rattle.pim_device.specs.Device.{AppendsAll}
-use Rattle.pim_answers.specs.DemandingSeen.{form_fault_line}
-use Rattle.pim_answers.specs.Lines.{fault_line}
+use Rattle.pim_answers.proofs.Words.{List, ℕ, ◌++◌, ◌∙◌, ap, sym, codes, subst, AppendsAll, form_fault_line, fault_line}
 use Rattle.pim_answers.proofs.demanding.write_form_fault.Goals as goal
 
 pub returns-in-TooBig-clause-bytes : goal.returns-in-TooBig-clause-bytes

@@ -1,8 +1,5 @@
-use Rattle.std.proofs.Common.{true, false, List, codes, IfOk, refl, subst}
-use Rattle.pim_form.specs.NormalForm.{GroupForm}
-use Rattle.pim_answers.specs.Demanding.{SaysSame, AreCompared}
-use Rattle.pim_answers.specs.DemandingSeen.{same_text, SaysBig}
-use Rattle.pim_answers.specs.StoreSeen.{form_seen}
+use Rattle.pim_answers.proofs.Words.{true, false, List, codes, IfOk, refl, subst, GroupForm, SaysSame, AreCompared}
+use Rattle.pim_answers.proofs.Words.{same_text, SaysBig, form_seen}
 use Rattle.pim_answers.proofs.Makings.{compared_told, tables_told, usable_told, usable_is, toward_here}
 use Rattle.pim_answers.proofs.demanding.write_same.Goals as goal
 

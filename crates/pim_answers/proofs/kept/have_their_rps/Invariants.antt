@@ -1,6 +1,4 @@
-use Rattle.std.proofs.Common.{◌≡◌, map, drop}
-use Rattle.pim_answers.specs.Kept.{have_their_rps}
-use Rattle.pim_answers.specs.StoreSeen.{star_seen}
+use Rattle.pim_answers.proofs.Words.{◌≡◌, map, drop, have_their_rps, star_seen}
 use Rattle.pim_answers.proofs.kept.have_their_rps.Given as goal
 
 -- all are exactly if all that are left are

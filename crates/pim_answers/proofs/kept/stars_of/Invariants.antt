@@ -1,6 +1,4 @@
-use Rattle.std.proofs.Common.{◌≡◌, ◌++◌, map}
-use Rattle.pim_answers.specs.Kept.{stars_of}
-use Rattle.pim_answers.specs.StoreSeen.{star_seen}
+use Rattle.pim_answers.proofs.Words.{◌≡◌, ◌++◌, map, stars_of, star_seen}
 use Rattle.pim_answers.proofs.kept.stars_of.Given as goal
 
 -- the stars so far, and those of the groups that are left, are all

@@ -1,8 +1,4 @@
-use Rattle.std.proofs.Common.{rules, subst, sym, ap, ◌∙◌, option_map}
-use Rattle.pim_device.specs.Device.{AppendsAll}
-use Rattle.pim_hello.specs.Delays.{delays_seen}
-use Rattle.pim_text.specs.HelloText.{delays_text}
-use Rattle.pim_answers.specs.Neighbours.{option_words}
+use Rattle.pim_answers.proofs.Words.{rules, subst, sym, ap, ◌∙◌, option_map, AppendsAll, delays_seen, delays_text, option_words}
 use Rattle.pim_answers.proofs.NeighbourTexts.{delays_pieces}
 use Rattle.pim_answers.proofs.neighbours.write_delays.Goals as goal
 

@@ -1,7 +1,5 @@
-use Rattle.std.proofs.Common.{◌++◌, [], ◌∷◌, List, ℕ}
-use Rattle.std.proofs.KnownBytes.{Appends-trans}
+use Rattle.pim_answers.proofs.Words.{◌++◌, [], ◌∷◌, List, ℕ, Appends-trans, place_words, parameters_words}
 use Rattle.pim_hello.specs.Kept.{parameters_seen}
-use Rattle.pim_answers.specs.Neighbours.{place_words, parameters_words}
 use Rattle.pim_answers.proofs.Written.{front-longer, stopped, stopped_second, both}
 use Rattle.pim_answers.proofs.neighbours.write_neighbour.Goals as goal
 

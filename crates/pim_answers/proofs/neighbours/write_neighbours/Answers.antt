@@ -1,9 +1,5 @@
-use Rattle.std.proofs.Common.{◌∙◌, ◌<◌, arith, refl, subst, length, List, ℕ}
-use Rattle.std.specs.List.{flat_map}
-use Rattle.std.specs.Io.KnownBytes.{Appends}
-use Rattle.pim_device.specs.Device.{AppendsFront}
-use Rattle.pim_hello.specs.Neighbours.{Neighbour}
-use Rattle.pim_answers.specs.Neighbours.{neighbour_line, neighbours_text}
+use Rattle.pim_answers.proofs.Words.{◌∙◌, ◌<◌, arith, refl, subst, length, List, ℕ, flat_map, Appends, AppendsFront}
+use Rattle.pim_answers.proofs.Words.{Neighbour, neighbour_line, neighbours_text}
 use Rattle.pim_answers.proofs.NeighbourTexts.{port_here}
 use Rattle.pim_answers.proofs.Written.{IsLeft, left_all, left_less, left_stopped, stopped}
 use Rattle.pim_answers.proofs.neighbours.write_neighbours.Goals as goal

@@ -1,5 +1,4 @@
-use Rattle.std.proofs.Common.{◌≡◌, drop}
-use Rattle.pim_answers.specs.Neighbours.{tables_text, neighbours_text}
+use Rattle.pim_answers.proofs.Words.{◌≡◌, drop, tables_text, neighbours_text}
 use Rattle.pim_answers.proofs.Written.{IsLeft}
 use Rattle.pim_answers.proofs.neighbours.write_neighbours.Given as goal
 

@@ -1,10 +1,5 @@
-use Rattle.std.proofs.Common.{◌++◌, List, ℕ, Option, codes, option_map, subst}
-use Rattle.std.proofs.KnownBytes.{Appends-trans}
-use Rattle.std.specs.Io.KnownBytes.{Appends}
-use Rattle.pim_device.specs.Device.{AppendsFront}
-use Rattle.pim_hello.specs.Delays.{delays_seen}
-use Rattle.pim_text.specs.HelloText.{number_text, delays_text}
-use Rattle.pim_answers.specs.Neighbours.{option_words}
+use Rattle.pim_answers.proofs.Words.{◌++◌, List, ℕ, Option, codes, option_map, subst, Appends-trans, Appends}
+use Rattle.pim_answers.proofs.Words.{AppendsFront, delays_seen, number_text, delays_text, option_words}
 use Rattle.pim_answers.proofs.Written.{front-longer, front-more, stopped, both}
 use Rattle.pim_answers.proofs.neighbours.write_parameters.Goals as goal
 

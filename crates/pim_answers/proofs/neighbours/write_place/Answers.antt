@@ -1,5 +1,4 @@
-use Rattle.std.proofs.Common.{rules, subst}
-use Rattle.pim_device.specs.Device.{AppendsAll}
+use Rattle.pim_answers.proofs.Words.{rules, subst, AppendsAll}
 use Rattle.pim_answers.proofs.NeighbourTexts.{place_pieces}
 use Rattle.pim_answers.proofs.neighbours.write_place.Goals as goal
 

@@ -1,7 +1,4 @@
-use Rattle.std.proofs.Common.{List, ℕ, refl, sym, subst, ◌∙◌}
-use Rattle.std.specs.List.{flat_map}
-use Rattle.pim_hello.specs.Neighbours.{Neighbour}
-use Rattle.pim_answers.specs.Neighbours.{neighbour_line}
+use Rattle.pim_answers.proofs.Words.{List, ℕ, refl, sym, subst, ◌∙◌, flat_map, Neighbour, neighbour_line}
 use Rattle.pim_answers.proofs.Written.{IsLeft, left_all, first_written, first_stopped, none_left, stopped}
 use Rattle.pim_answers.proofs.neighbours.write_port.Goals as goal
 

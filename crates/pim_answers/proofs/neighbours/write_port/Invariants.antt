@@ -1,6 +1,4 @@
-use Rattle.std.proofs.Common.{◌≡◌}
-use Rattle.std.specs.List.{flat_map}
-use Rattle.pim_answers.specs.Neighbours.{neighbour_line}
+use Rattle.pim_answers.proofs.Words.{◌≡◌, flat_map, neighbour_line}
 use Rattle.pim_answers.proofs.Written.{IsLeft}
 use Rattle.pim_answers.proofs.neighbours.write_port.Given as goal
 

@@ -1,7 +1,4 @@
-use Rattle.pim_router.specs.Seen.{packet_seen}
-use Rattle.pim_lines.specs.AnyAddress.{address_bytes}
-use Rattle.pim_answers.specs.Fault.{fault_words}
-use Rattle.pim_answers.specs.Packets.{destination_of}
+use Rattle.pim_answers.proofs.Words.{packet_seen, address_bytes, fault_words, destination_of}
 use Rattle.pim_answers.proofs.Taken.{from_other, from_portless, from_unfilled, from_taken, portless, ported, same_packet}
 use Rattle.pim_answers.proofs.packets.answer_from.Goals as goal
 

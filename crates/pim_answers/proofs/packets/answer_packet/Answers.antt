@@ -1,8 +1,4 @@
-use Rattle.std.proofs.Common.{◌∙◌, length, arith, ap, ℕ}
-use Rattle.pim_request.specs.Forms.{hex_bytes}
-use Rattle.pim_router.specs.Seen.{packet_seen}
-use Rattle.pim_lines.specs.AnyAddress.{address_bytes}
-use Rattle.pim_answers.specs.Fault.{fault_words}
+use Rattle.pim_answers.proofs.Words.{◌∙◌, length, arith, ap, ℕ, hex_bytes, packet_seen, address_bytes, fault_words}
 use Rattle.pim_answers.proofs.Taken.{packet_other, packet_portless, packet_taken, portless, ported, same_packet, short_bytes}
 use Rattle.pim_answers.proofs.packets.answer_packet.Goals as goal
 

@@ -1,9 +1,4 @@
-use Rattle.std.proofs.Common.{◌++◌}
-use Rattle.pim_router.specs.Seen.{packet_seen}
-use Rattle.pim_report.specs.PacketLine.{verdict_line}
-use Rattle.pim_answers.specs.Fault.{fault_words}
-use Rattle.pim_answers.specs.Lines.{ok_line}
-use Rattle.pim_answers.specs.Packets.{Takes, NeedsMemory}
+use Rattle.pim_answers.proofs.Words.{◌++◌, packet_seen, verdict_line, fault_words, ok_line, Takes, NeedsMemory}
 use Rattle.pim_answers.proofs.Taken.{taken}
 use Rattle.pim_answers.proofs.Wrote.{memory_given, memory_refused}
 use Rattle.pim_answers.proofs.packets.take.Goals as goal

@@ -1,6 +1,4 @@
-use Rattle.std.proofs.Common.{◌++◌, refl, rules}
-use Rattle.pim_answers.specs.Lines.{ok_line}
-use Rattle.pim_answers.specs.Reports.{AnswersNext, moment_line}
+use Rattle.pim_answers.proofs.Words.{◌++◌, refl, rules, ok_line, AnswersNext, moment_line}
 use Rattle.pim_answers.proofs.Wrote.{told_text}
 use Rattle.pim_answers.proofs.reports.answer_next.Goals as goal
 

@@ -1,7 +1,5 @@
-use Rattle.std.proofs.Common.{List, ℕ, refl, sym, subst, ◌∙◌}
-use Rattle.std.specs.List.{flat_map}
+use Rattle.pim_answers.proofs.Words.{List, ℕ, refl, sym, subst, ◌∙◌, flat_map, record_line}
 use Rattle.pim_down.specs.declared.machines.machine.Record.{Record}
-use Rattle.pim_report.specs.RecordLine.{record_line}
 use Rattle.pim_answers.proofs.Written.{IsLeft, left_all, first_written, first_stopped, none_left, stopped}
 use Rattle.pim_answers.proofs.reports.write_records.Goals as goal
 

@@ -1,6 +1,4 @@
-use Rattle.std.proofs.Common.{◌≡◌}
-use Rattle.std.specs.List.{flat_map}
-use Rattle.pim_report.specs.RecordLine.{record_line}
+use Rattle.pim_answers.proofs.Words.{◌≡◌, flat_map, record_line}
 use Rattle.pim_answers.proofs.Written.{IsLeft}
 use Rattle.pim_answers.proofs.reports.write_records.Given as goal
 

@@ -1,10 +1,4 @@
-use Rattle.std.proofs.Common.{◌∙◌, ℕ, refl, subst}
-use Rattle.pim_device.specs.Device.{AppendsFront}
-use Rattle.std.specs.Io.KnownBytes.{Appends}
-use Rattle.pim_router.specs.declared.step.Step.{Step}
-use Rattle.pim_router.specs.Seen.{step_seen}
-use Rattle.pim_router.specs.Time.{Runs}
-use Rattle.pim_answers.specs.RunningSeen.{step_line}
+use Rattle.pim_answers.proofs.Words.{◌∙◌, ℕ, refl, subst, AppendsFront, Appends, Step, step_seen, Runs, step_line}
 use Rattle.pim_answers.proofs.Runs.{begin, steps, stepped, stopped, arrived, not_reached}
 use Rattle.pim_answers.proofs.running.answer_run.Goals as goal
 

@@ -1,5 +1,4 @@
-use Rattle.std.proofs.Common.{◌≡◌}
-use Rattle.pim_router.specs.Time.{turns_left}
+use Rattle.pim_answers.proofs.Words.{◌≡◌, turns_left}
 use Rattle.pim_answers.proofs.Runs.{IsOnTheWay}
 use Rattle.pim_answers.proofs.running.answer_run.Given as goal
 

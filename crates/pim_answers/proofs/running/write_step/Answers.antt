@@ -1,9 +1,4 @@
-use Rattle.std.proofs.Common.{sym, subst}
-use Rattle.std.specs.Io.KnownBytes.{Appends}
-use Rattle.std.proofs.KnownBytes.{Appends-nil}
-use Rattle.pim_router.specs.declared.step.Step.{Step}
-use Rattle.pim_router.specs.Seen.{step_seen}
-use Rattle.pim_answers.specs.RunningSeen.{step_line}
+use Rattle.pim_answers.proofs.Words.{sym, subst, Appends, Appends-nil, Step, step_seen, step_line}
 use Rattle.pim_answers.proofs.running.write_step.Goals as goal
 
 pub returns-in-Reached-clause-bytes : goal.returns-in-Reached-clause-bytes

@@ -1,5 +1,4 @@
-use Rattle.std.proofs.Common.{◌++◌, drop}
-use Rattle.pim_change.specs.Seen.{units_seen}
+use Rattle.pim_change.proofs.Words.{◌++◌, drop, units_seen}
 use Rattle.pim_change.proofs.Units.{Tells, kind_told}
 use Rattle.pim_change.proofs.action.push_each.Given as goal
 

@@ -1,5 +1,4 @@
-use Rattle.std.proofs.Common.{◌∙◌, sym}
-use Rattle.std.proofs.lemmas.Result.{on_ok_weaker}
+use Rattle.pim_change.proofs.Words.{◌∙◌, sym, on_ok_weaker}
 use Rattle.pim_change.proofs.Units.{lack_less, lack_equal, lack_greater, lack_first, lack_second}
 use Rattle.pim_change.proofs.action.push_lacking.Goals as goal
 use Rattle.pim_change.proofs.action.push_lacking.Goals.{in-Some+in_default-split_first, in_default}

@@ -1,5 +1,4 @@
-use Rattle.std.proofs.Common.{◌++◌, ◌+◌, length}
-use Rattle.pim_change.specs.Seen.{units_seen}
+use Rattle.pim_change.proofs.Words.{◌++◌, ◌+◌, length, units_seen}
 use Rattle.pim_change.proofs.Units.{IsLacking, lacking_told}
 use Rattle.pim_change.proofs.action.push_lacking.Given as goal
 

@@ -1,5 +1,4 @@
-use Rattle.std.proofs.lemmas.Result.{on_ok_weaker}
-use Rattle.pim_change.specs.Seen.{units_seen}
+use Rattle.pim_change.proofs.Words.{on_ok_weaker, units_seen}
 use Rattle.pim_change.proofs.Units.{new_told}
 use Rattle.pim_change.proofs.action.push_new.Goals as goal
 

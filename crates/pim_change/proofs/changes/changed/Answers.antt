@@ -1,6 +1,4 @@
-use Rattle.std.proofs.Common.{◌∙◌, sym}
-use Rattle.std.specs.Ordering.{nat_cmp}
-use Rattle.std.specs.Cmp.Lexicographic.{slice_cmp}
+use Rattle.pim_change.proofs.Words.{◌∙◌, sym, nat_cmp, slice_cmp}
 use Rattle.pim_change.proofs.Addresses.{equal_is}
 use Rattle.pim_change.proofs.Units.{changing_less, changing_equal, changing_greater, changed_gone, changed_came}
 use Rattle.pim_change.proofs.changes.changed.Goals as goal

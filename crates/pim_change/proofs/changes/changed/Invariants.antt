@@ -1,5 +1,4 @@
-use Rattle.std.proofs.Common.{◌+◌, length}
-use Rattle.pim_change.specs.Change.{change}
+use Rattle.pim_change.proofs.Words.{◌+◌, length, change}
 use Rattle.pim_change.proofs.Units.{IsChanging}
 use Rattle.pim_change.proofs.changes.changed.Given as goal
 

@@ -1,6 +1,4 @@
-use Rattle.std.proofs.Common.{[], refl, sym, subst, ◌++◌}
-use Rattle.pim_change.specs.Change.{change}
-use Rattle.pim_change.specs.Seen.{units_seen}
+use Rattle.pim_change.proofs.Words.{[], refl, sym, subst, ◌++◌, change, units_seen}
 use Rattle.pim_change.proofs.Units.{IsChanging, came_starts, came_more, changing_ends}
 use Rattle.pim_change.proofs.changes.push_came.Goals as goal
 

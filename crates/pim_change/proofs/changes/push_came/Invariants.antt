@@ -1,6 +1,4 @@
-use Rattle.std.proofs.Common.{◌++◌, []}
-use Rattle.pim_change.specs.Change.{change}
-use Rattle.pim_change.specs.Seen.{units_seen}
+use Rattle.pim_change.proofs.Words.{◌++◌, [], change, units_seen}
 use Rattle.pim_change.proofs.Units.{IsChanging}
 use Rattle.pim_change.proofs.changes.push_came.Given as goal
 

@@ -1,9 +1,4 @@
-use Rattle.std.proofs.Common.{◌≡◌, ◌++◌, map, drop}
-use Rattle.std.specs.List.{flat_map}
-use Rattle.pim_addr.specs.Routes.{rp_of}
-use Rattle.pim_jp.specs.Seen.{entry_seen}
-use Rattle.pim_change.specs.Seen.{actions_seen}
-use Rattle.pim_change.specs.Written.{pruned_entries}
+use Rattle.pim_change.proofs.Words.{◌≡◌, ◌++◌, map, drop, flat_map, rp_of, entry_seen, actions_seen, pruned_entries}
 use Rattle.pim_change.proofs.entries.push_all_pruned.Given as goal
 
 -- what is there and what is left to add are all

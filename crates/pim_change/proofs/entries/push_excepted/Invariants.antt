@@ -1,6 +1,4 @@
-use Rattle.std.proofs.Common.{◌≡◌, ◌++◌, map, drop}
-use Rattle.pim_jp.specs.Seen.{entry_seen}
-use Rattle.pim_change.specs.Written.{excepted_entries}
+use Rattle.pim_change.proofs.Words.{◌≡◌, ◌++◌, map, drop, entry_seen, excepted_entries}
 use Rattle.pim_change.proofs.entries.push_excepted.Given as goal
 
 -- what is there and what is left to add are all

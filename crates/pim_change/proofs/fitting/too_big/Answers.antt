@@ -1,6 +1,4 @@
-use Rattle.std.proofs.Common.{◌∙◌, Some, sym, ap}
-use Rattle.std.specs.Ordering.{nat_cmp}
-use Rattle.std.specs.Cmp.Lexicographic.{slice_cmp}
+use Rattle.pim_change.proofs.Words.{◌∙◌, Some, sym, ap, nat_cmp, slice_cmp}
 use Rattle.pim_change.proofs.StarsFit.{fits_less, fits_equal, big_equal, fits_greater, big_greater, fits_gone}
 use Rattle.pim_change.proofs.fitting.too_big.Goals as goal
 

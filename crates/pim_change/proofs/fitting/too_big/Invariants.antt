@@ -1,6 +1,4 @@
-use Rattle.std.proofs.Common.{◌+◌, length}
-use Rattle.pim_change.specs.Change.{change}
-use Rattle.pim_change.specs.TooBig.{too_big}
+use Rattle.pim_change.proofs.Words.{◌+◌, length, change, too_big}
 use Rattle.pim_change.proofs.StarsFit.{IsFitting}
 use Rattle.pim_change.proofs.fitting.too_big.Given as goal
 

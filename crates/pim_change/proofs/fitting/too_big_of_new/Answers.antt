@@ -1,6 +1,4 @@
-use Rattle.std.proofs.Common.{◌∙◌, [], Some, sym, ap, subst}
-use Rattle.pim_change.specs.Change.{change}
-use Rattle.pim_change.specs.TooBig.{too_big}
+use Rattle.pim_change.proofs.Words.{◌∙◌, [], Some, sym, ap, subst, change, too_big}
 use Rattle.pim_change.proofs.StarsFit.{IsFitting, came_fitting, fits_came, big_came, none_came}
 use Rattle.pim_change.proofs.fitting.too_big_of_new.Goals as goal
 

@@ -1,7 +1,4 @@
-use Rattle.std.proofs.Common.{length, ap, subst, arith}
-use Rattle.std.specs.List.{AllByRecursion}
-use Rattle.pim_addr.specs.Routes.{rp_of}
-use Rattle.pim_change.specs.Written.{IsShort}
+use Rattle.pim_change.proofs.Words.{length, ap, subst, arith, AllByRecursion, rp_of, IsShort}
 use Rattle.pim_change.proofs.SetSteps.{step, one_longer, one_appended, no_sets, none_longer, none_appended}
 use Rattle.pim_change.proofs.message.append_sets.Goals as goal
 

@@ -1,9 +1,5 @@
-use Rattle.std.proofs.Common.{◌≡◌, ◌+◌, ◌++◌, ◌≤◌, ◌-◌, length, drop}
-use Rattle.std.specs.List.{AllByRecursion, flat_map}
-use Rattle.pim_addr.specs.Routes.{rp_of}
-use Rattle.pim_jp.specs.Canonical.{canonical_set, canonical_sets_length}
-use Rattle.pim_change.specs.Seen.{units_seen}
-use Rattle.pim_change.specs.Written.{IsShort, written_sets}
+use Rattle.pim_change.proofs.Words.{◌≡◌, ◌+◌, ◌++◌, ◌≤◌, ◌-◌, length, drop, AllByRecursion, flat_map, rp_of}
+use Rattle.pim_change.proofs.Words.{canonical_set, canonical_sets_length, units_seen, IsShort, written_sets}
 use Rattle.pim_change.proofs.message.append_sets.Given as goal
 
 -- what is appended and the sets that are left are all

@@ -1,6 +1,4 @@
-use Rattle.std.proofs.Common.{◌≡◌, ◌∙◌, false, length, get_or, refl, sym, ap, arith}
-use Rattle.pim_form.specs.NormalForm.{same_address}
-use Rattle.pim_change.specs.declared.unit.Unit.{Unit}
+use Rattle.pim_change.proofs.Words.{◌≡◌, ◌∙◌, false, length, get_or, refl, sym, ap, arith, same_address, Unit}
 use Rattle.pim_change.proofs.Addresses.{differ}
 use Rattle.pim_change.proofs.Grouping.{leaves_at, leaves_none, all_of_group, one_set}
 use Rattle.pim_change.proofs.message.front_length.Goals as goal

@@ -1,6 +1,4 @@
-use Rattle.std.proofs.Common.{length, ap, arith}
-use Rattle.pim_addr.specs.Routes.{rp_of}
-use Rattle.pim_change.specs.Seen.{units_seen}
+use Rattle.pim_change.proofs.Words.{length, ap, arith, rp_of, units_seen}
 use Rattle.pim_change.proofs.RunSizes.{sets_short, few_sets, small_sets, small_head}
 use Rattle.pim_change.proofs.message.message.Goals as goal
 

@@ -1,10 +1,5 @@
-use Rattle.std.proofs.Common.{◌≡◌, ◌∙◌, ◌++◌, ◌∷◌, ℕ, true, List, [], take, drop, subst, ap, arith}
-use Rattle.pim_addr.specs.Routes.{rp_of}
-use Rattle.pim_form.specs.Packing.{fits, StopsBefore}
-use Rattle.pim_change.specs.declared.unit.Unit.{Unit}
-use Rattle.pim_change.specs.Seen.{units_seen}
-use Rattle.pim_change.specs.TooBig.{too_big}
-use Rattle.pim_change.specs.Written.{weights}
+use Rattle.pim_change.proofs.Words.{◌≡◌, ◌∙◌, ◌++◌, ◌∷◌, ℕ, true, List, [], take, drop, subst, ap, arith, rp_of, fits}
+use Rattle.pim_change.proofs.Words.{StopsBefore, Unit, units_seen, too_big, weights}
 use Rattle.pim_change.proofs.RunCounts.{fits_behind}
 use Rattle.pim_change.proofs.Packed.{goes_on, goes_to}
 use Rattle.pim_change.proofs.packing.write_units.Goals as goal

@@ -1,7 +1,4 @@
-use Rattle.std.proofs.Common.{◌≤◌, ◌-◌, ◌++◌, ℕ, List, length, drop}
-use Rattle.pim_addr.specs.Routes.{rp_of}
-use Rattle.pim_change.specs.Seen.{units_seen}
-use Rattle.pim_change.specs.Written.{CarryUnits}
+use Rattle.pim_change.proofs.Words.{◌≤◌, ◌-◌, ◌++◌, ℕ, List, length, drop, rp_of, units_seen, CarryUnits}
 use Rattle.pim_change.proofs.packing.write_units.Given as goal
 
 -- whatever messages tell what is left, with those before them tell all

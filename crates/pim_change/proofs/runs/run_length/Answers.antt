@@ -1,7 +1,4 @@
-use Rattle.std.proofs.Common.{◌∙◌, refl, ap}
-use Rattle.pim_change.specs.declared.unit.Unit.{Unit}
-use Rattle.pim_change.specs.Seen.{action_seen}
-use Rattle.pim_change.specs.TooBig.{action_fits}
+use Rattle.pim_change.proofs.Words.{◌∙◌, refl, ap, Unit, action_seen, action_fits}
 use Rattle.pim_change.proofs.RunCounts.{counted_next, stops_here, fits_at, some_fit, none_fit}
 use Rattle.pim_change.proofs.runs.run_length.Goals as goal
 

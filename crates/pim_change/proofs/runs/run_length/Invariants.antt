@@ -1,8 +1,4 @@
-use Rattle.std.proofs.Common.{◌≡◌, true, take}
-use Rattle.pim_form.specs.Units.{run_groups, run_entries}
-use Rattle.pim_form.specs.Packing.{fits}
-use Rattle.pim_change.specs.Seen.{units_seen}
-use Rattle.pim_change.specs.Written.{weights}
+use Rattle.pim_change.proofs.Words.{◌≡◌, true, take, run_groups, run_entries, fits, units_seen, weights}
 use Rattle.pim_change.proofs.runs.run_length.Given as goal
 
 -- the units before this one fit, and their groups and entries are counted

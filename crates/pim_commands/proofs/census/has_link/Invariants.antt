@@ -1,5 +1,4 @@
-use Rattle.std.proofs.Common.{◌≡◌, drop}
-use Rattle.pim_commands.specs.Census.{has_link}
+use Rattle.pim_commands.proofs.Words.{◌≡◌, drop, has_link}
 use Rattle.pim_commands.proofs.census.has_link.Given as goal
 
 -- one of the ports has a link just if one of those that are left has one

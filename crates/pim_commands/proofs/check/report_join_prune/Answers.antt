@@ -1,5 +1,4 @@
-use Rattle.pim_frame.specs.Frame.{join_prune}
-use Rattle.pim_commands.specs.Report.{IsStated}
+use Rattle.pim_commands.proofs.Words.{join_prune, IsStated}
 use Rattle.pim_commands.proofs.Reports.{if_returned, stated_message}
 use Rattle.pim_commands.proofs.check.report_join_prune.Goals as goal
 

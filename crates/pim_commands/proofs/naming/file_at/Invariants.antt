@@ -1,7 +1,4 @@
-use Rattle.std.proofs.Common.{◌≡◌, ◌≤◌}
-use Rattle.std.specs.Prelude.{filter}
-use Rattle.pim_files.specs.Captures.{files_from}
-use Rattle.pim_commands.specs.Naming.{file_at, are_in}
+use Rattle.pim_commands.proofs.Words.{◌≡◌, ◌≤◌, filter, files_from, file_at, are_in}
 use Rattle.pim_commands.proofs.Named.{left_from}
 use Rattle.pim_commands.proofs.naming.file_at.Given as goal
 

@@ -1,5 +1,4 @@
-use Rattle.std.proofs.Common.{◌-◌, arith}
-use Rattle.pim_files.specs.Captures.{with_more}
+use Rattle.pim_commands.proofs.Words.{◌-◌, arith, with_more}
 use Rattle.pim_commands.proofs.Named.{later_name}
 use Rattle.pim_commands.proofs.naming.name_at.Goals as goal
 

@@ -1,7 +1,4 @@
-use Rattle.std.proofs.Common.{◌≡◌, drop}
-use Rattle.std.specs.Prelude.{filter}
-use Rattle.pim_files.specs.Captures.{is_further, with_more}
-use Rattle.pim_commands.specs.Naming.{further_name, name_at}
+use Rattle.pim_commands.proofs.Words.{◌≡◌, drop, filter, is_further, with_more, further_name, name_at}
 use Rattle.pim_commands.proofs.naming.name_at.Given as goal
 
 -- the file that is sought among those that are left

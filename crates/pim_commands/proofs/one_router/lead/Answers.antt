@@ -1,5 +1,4 @@
-use Rattle.std.proofs.Common.{◌∙◌, sym, ap}
-use Rattle.pim_exchange.specs.Fault.{failures_of_exchange}
+use Rattle.pim_commands.proofs.Words.{◌∙◌, sym, ap, failures_of_exchange}
 use Rattle.pim_commands.proofs.Ran.{failures_replayed, failures_traced}
 use Rattle.pim_commands.proofs.one_router.lead.Goals as goal
 

@@ -1,8 +1,5 @@
-use Rattle.std.proofs.Common.{subst}
-use Rattle.pim_faults.specs.Ending.{IsReported}
+use Rattle.pim_commands.proofs.Words.{subst, IsReported, engine_of, upstream_of, OneRuns}
 use Rattle.pim_commands.specs.declared.one_router.OneRouter.{OneRouter}
-use Rattle.pim_commands.specs.Commands.{engine_of, upstream_of}
-use Rattle.pim_commands.specs.Opening.{OneRuns}
 use Rattle.pim_commands.proofs.one_router.replay.Goals as goal
 
 pub returns-clause-report : goal.returns-clause-report

@@ -1,14 +1,7 @@
-use Rattle.std.proofs.Common.{◌≡◌, ◌∙◌, sym, ap, subst, inl, refl, None, List, map}
+use Rattle.pim_commands.proofs.Words.{◌≡◌, ◌∙◌, sym, ap, subst, inl, refl, None, List, map, PortConfig, setup_seen}
+use Rattle.pim_commands.proofs.Words.{RouterState, Setup, new_router, Port, port_files, engine_seen, Does, is_in}
+use Rattle.pim_commands.proofs.Words.{config_of, config_causes, setup_in, IsFirstCause}
 use Rattle.std.specs.List.{filter}
-use Rattle.pim_router.specs.declared.config.PortConfig.{PortConfig}
-use Rattle.pim_router.specs.Seen.{setup_seen}
-use Rattle.pim_router.specs.State.{RouterState, Setup, new_router}
-use Rattle.pim_words.specs.declared.task.Port.{Port}
-use Rattle.pim_files.specs.Opening.{port_files}
-use Rattle.pim_commands.specs.Commands.{engine_seen}
-use Rattle.pim_commands.specs.Engines.{Does}
-use Rattle.pim_commands.specs.Naming.{is_in}
-use Rattle.pim_commands.specs.Routers.{config_of, config_causes, setup_in, IsFirstCause}
 use Rattle.pim_commands.proofs.Ran.{ran}
 use Rattle.pim_commands.proofs.NewRouters.{all_in, as_many, failures_answered}
 use Rattle.pim_commands.proofs.one_router.run_made.Goals as goal

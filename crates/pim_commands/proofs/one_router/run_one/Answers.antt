@@ -1,8 +1,4 @@
-use Rattle.std.proofs.Common.{subst, inl, refl}
-use Rattle.pim_merge.specs.Next.{MergeState}
-use Rattle.pim_faults.specs.Ending.{IsReported}
-use Rattle.pim_commands.specs.Commands.{engine_of}
-use Rattle.pim_commands.specs.Engines.{RunsOne}
+use Rattle.pim_commands.proofs.Words.{subst, inl, refl, MergeState, IsReported, engine_of, RunsOne}
 use Rattle.pim_commands.proofs.Warned.{nothing_told}
 use Rattle.pim_commands.proofs.Opened.{over_open, not_failed, answered}
 use Rattle.pim_commands.proofs.one_router.run_one.Goals as goal

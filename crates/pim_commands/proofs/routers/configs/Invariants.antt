@@ -1,7 +1,5 @@
-use Rattle.std.proofs.Common.{◌≡◌, ◌++◌, drop, map}
+use Rattle.pim_commands.proofs.Words.{◌≡◌, ◌++◌, drop, map, is_in, config_of}
 use Rattle.std.specs.List.{filter}
-use Rattle.pim_commands.specs.Naming.{is_in}
-use Rattle.pim_commands.specs.Routers.{config_of}
 use Rattle.pim_commands.proofs.routers.configs.Given as goal
 
 -- what is there, with what the ports that are left give, is all

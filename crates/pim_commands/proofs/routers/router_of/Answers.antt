@@ -1,6 +1,4 @@
-use Rattle.pim_router.specs.Config.{config_faults}
-use Rattle.pim_router.specs.Seen.{setup_seen}
-use Rattle.pim_router.specs.State.{Setup, new_router}
+use Rattle.pim_commands.proofs.Words.{config_faults, setup_seen, Setup, new_router}
 use Rattle.pim_commands.proofs.NewRouters.{made_is, unmade_is}
 use Rattle.pim_commands.proofs.routers.router_of.Goals as goal
 

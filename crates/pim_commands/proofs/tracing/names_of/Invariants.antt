@@ -1,5 +1,4 @@
-use Rattle.std.proofs.Common.{◌≡◌, ◌++◌, drop}
-use Rattle.pim_commands.specs.Tracing.{names_of}
+use Rattle.pim_commands.proofs.Words.{◌≡◌, ◌++◌, drop, names_of}
 use Rattle.pim_commands.proofs.tracing.names_of.Given as goal
 
 abbrev pub invariant-loop-port : goal.invariant-loop-port

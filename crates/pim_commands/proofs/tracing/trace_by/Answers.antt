@@ -1,6 +1,5 @@
-use Rattle.std.proofs.Common.{subst}
+use Rattle.pim_commands.proofs.Words.{subst, line_of}
 use Rattle.pim_trace.specs.Trace.{Traces}
-use Rattle.pim_commands.specs.Tracing.{line_of}
 use Rattle.pim_commands.proofs.Traced.{as_json, as_text}
 use Rattle.pim_commands.proofs.tracing.trace_by.Goals as goal
 

@@ -1,17 +1,11 @@
-use Rattle.std.proofs.Common.{◌≡◌, ◌∙◌, sym, ap, subst, inl, refl, [], List, map}
+use Rattle.pim_commands.proofs.Words.{◌≡◌, ◌∙◌, sym, ap, subst, inl, refl, [], List, map, PortConfig, config_faults}
+use Rattle.pim_commands.proofs.Words.{setup_seen, Setup, new_router, Port, of_router, port_files, config_of}
+use Rattle.pim_commands.proofs.Words.{config_causes, writing_of, IsFirstCause}
 use Rattle.std.specs.List.{filter}
 use Rattle.pim_exchange.specs.ChangeText.{WritesChange}
 use Rattle.pim_exchange.specs.Same.{Compares}
-use Rattle.pim_router.specs.declared.config.PortConfig.{PortConfig}
-use Rattle.pim_router.specs.Config.{config_faults}
-use Rattle.pim_router.specs.Seen.{setup_seen}
-use Rattle.pim_router.specs.State.{Setup, new_router}
 use Rattle.pim_words.specs.declared.fault.RouterSide.TheVariants.{A, B}
-use Rattle.pim_words.specs.declared.task.Port.{Port}
 use Rattle.pim_words.specs.Faults.{is_of}
-use Rattle.pim_files.specs.Captures.{of_router}
-use Rattle.pim_files.specs.Opening.{port_files}
-use Rattle.pim_commands.specs.Routers.{config_of, config_causes, writing_of, IsFirstCause}
 use Rattle.pim_commands.proofs.Ran.{ran, not_written, as_made}
 use Rattle.pim_commands.proofs.NewRouters.{as_many, failures_answered, in_front}
 use Rattle.pim_commands.proofs.two_routers.run_command.Goals as goal

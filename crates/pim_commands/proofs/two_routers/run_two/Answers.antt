@@ -1,9 +1,4 @@
-use Rattle.std.proofs.Common.{subst, inl, refl, Some}
-use Rattle.pim_merge.specs.Next.{MergeState}
-use Rattle.pim_faults.specs.Ending.{IsReported}
-use Rattle.pim_commands.specs.Census.{begun}
-use Rattle.pim_commands.specs.Engines.{RunsBoth}
-use Rattle.pim_commands.specs.Routers.{writing_of}
+use Rattle.pim_commands.proofs.Words.{subst, inl, refl, Some, MergeState, IsReported, begun, RunsBoth, writing_of}
 use Rattle.pim_commands.proofs.Warned.{nothing_told}
 use Rattle.pim_commands.proofs.Opened.{over_both, not_failed, answered}
 use Rattle.pim_commands.proofs.two_routers.run_two.Goals as goal

@@ -1,11 +1,5 @@
-use Rattle.std.proofs.Common.{◌∙◌, ◌+◌, refl, sym, subst, arith, List}
-use Rattle.std.specs.Io.KnownBytes.{Appends}
-use Rattle.pim_device.specs.Device.{AppendsFront}
-use Rattle.pim_files.specs.Captures.{PortFiles, with_more}
-use Rattle.pim_files.specs.Opening.{port_files}
-use Rattle.pim_merge.specs.Lane.{tallies_of}
-use Rattle.pim_commands.specs.Naming.{ports_of}
-use Rattle.pim_commands.specs.Warnings.{port_warnings, warnings_from, warnings_text}
+use Rattle.pim_commands.proofs.Words.{◌∙◌, ◌+◌, refl, sym, subst, arith, List, Appends, AppendsFront, PortFiles, with_more}
+use Rattle.pim_commands.proofs.Words.{port_files, tallies_of, ports_of, port_warnings, warnings_from, warnings_text}
 use Rattle.pim_commands.proofs.Named.{same_words}
 use Rattle.pim_commands.proofs.Warned.{IsLeft, left_all, stopped, port_passed, port_stopped, port_warned}
 use Rattle.pim_commands.proofs.warnings.write_router.Goals as goal

@@ -1,8 +1,4 @@
-use Rattle.std.proofs.Common.{◌≡◌, ◌≤◌}
-use Rattle.pim_files.specs.Opening.{port_files}
-use Rattle.pim_merge.specs.Lane.{tallies_of}
-use Rattle.pim_commands.specs.Naming.{ports_of}
-use Rattle.pim_commands.specs.Warnings.{warnings_from, warnings_text}
+use Rattle.pim_commands.proofs.Words.{◌≡◌, ◌≤◌, port_files, tallies_of, ports_of, warnings_from, warnings_text}
 use Rattle.pim_commands.proofs.Named.{left_from}
 use Rattle.pim_commands.proofs.Warned.{IsLeft}
 use Rattle.pim_commands.proofs.warnings.write_router.Given as goal

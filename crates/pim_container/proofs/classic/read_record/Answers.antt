@@ -1,5 +1,4 @@
-use Rattle.std.proofs.Common.{drop, ap, ◌∙◌, None, Some}
-use Rattle.pim_container.specs.EventSeen.{frame_event}
+use Rattle.pim_container.proofs.Words.{drop, ap, ◌∙◌, None, Some, frame_event}
 use Rattle.pim_container.proofs.classic.read_record.Goals as goal
 
 pub returns-clause-event : goal.returns-clause-event

@@ -1,5 +1,4 @@
-use Rattle.std.proofs.Common.{length, ◌+◌, ◌-◌, ◌≡◌, ◌≤◌}
-use Rattle.pim_container.specs.Interface.{settings_of, settings_from, HasName}
+use Rattle.pim_container.proofs.Words.{length, ◌+◌, ◌-◌, ◌≡◌, ◌≤◌, settings_of, settings_from, HasName}
 use Rattle.pim_container.proofs.interface.settings_of.Given as goal
 
 abbrev pub invariant-loop-at : goal.invariant-loop-at

@@ -1,6 +1,4 @@
-use Rattle.std.proofs.Common.{◌≡◌, subst, arith, vec_len}
-use Rattle.std.proofs.lemmas.Result.{err_from_is_err_and}
-use Rattle.pim_device.specs.Device.{ConsumesAtMost}
+use Rattle.pim_container.proofs.Words.{◌≡◌, subst, arith, vec_len, err_from_is_err_and, ConsumesAtMost}
 use Rattle.pim_container.proofs.Taken.{after_head, rest_lost}
 use Rattle.pim_container.proofs.piece.read_after.Goals as goal
 

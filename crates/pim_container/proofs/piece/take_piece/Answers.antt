@@ -1,10 +1,5 @@
-use Rattle.std.proofs.Common.{vec_capacity, subst, sym, ◌∙◌, Ok, Err, inl, refl}
-use Rattle.std.proofs.lemmas.Result.{err_from_is_err_and}
-use Rattle.pim_container.specs.declared.container.Container.{Container}
-use Rattle.pim_container.specs.declared.piece.FoundPiece.{FoundPiece}
-use Rattle.pim_container.specs.declared.event.ContainerEvent.{ContainerEvent}
-use Rattle.pim_container.specs.Next.{IsPiece}
-use Rattle.pim_container.specs.Pieces.{head_faults, extent_of, piece_length}
+use Rattle.pim_container.proofs.Words.{vec_capacity, subst, sym, ◌∙◌, Ok, Err, inl, refl, err_from_is_err_and, Container}
+use Rattle.pim_container.proofs.Words.{FoundPiece, ContainerEvent, IsPiece, head_faults, extent_of, piece_length}
 use Rattle.pim_container.proofs.Whole.{extent_is, head_fault_known, rest_fault_known, told_fault_known, told_known, is_piece}
 use Rattle.pim_container.proofs.Room.{memory_passed, memory_not, room_known, described_known, lacks_known, described_first, asks_place}
 use Rattle.pim_container.proofs.Named.{named_ok, named_none}

@@ -1,17 +1,8 @@
-use Rattle.std.proofs.Common.{vec_capacity, vec_len, true, ◌≡◌, ◌≤◌, length, arith, inl, inr, subst, false, Ok, Err}
-use Rattle.std.specs.Option.{option_map}
-use Rattle.std.proofs.lemmas.Result.{err_from_is_err_and, IfOk-weaker}
-use Rattle.pim_container.specs.declared.classic.ClassicFormat.{ClassicFormat}
-use Rattle.pim_container.specs.declared.reader.ReaderState.TheVariants.{Failed, Pieces}
-use Rattle.pim_container.specs.declared.container.Container.TheVariants.{Classic}
-use Rattle.pim_container.specs.declared.event.ContainerEvent.TheVariants.{Section}
-use Rattle.pim_container.specs.declared.reader.ReaderStep.{ReaderStep}
-use Rattle.pim_container.specs.Block.{is_section}
-use Rattle.pim_container.specs.Next.{answers_in, CountsReads}
+use Rattle.pim_container.proofs.Words.{vec_capacity, vec_len, true, ◌≡◌, ◌≤◌, length, arith, inl, inr, subst, false, Ok, Err}
+use Rattle.pim_container.proofs.Words.{option_map, err_from_is_err_and, IfOk-weaker, ClassicFormat, Failed, Pieces, Classic}
+use Rattle.pim_container.proofs.Words.{Section, ReaderStep, is_section, answers_in, CountsReads, Truncated, first_length}
 use Rattle.pim_container.proofs.Beginnings.{short_known, all_read, classic_fault_known}
 use Rattle.pim_container.proofs.Room.{memory_passed, memory_of, blocks_memory, classic_memory}
-use Rattle.pim_container.specs.declared.fault.ContainerFault.TheVariants.{Truncated}
-use Rattle.pim_container.specs.Room.{first_length}
 use Rattle.pim_container.proofs.Named.{grows_not, grows_first, grows_classic, asks_first, asks_classic}
 use Rattle.pim_container.proofs.Taken.{takes_passed, first_failed, first_lost, blocks_taken, classic_taken}
 use Rattle.pim_container.proofs.Needs.{blocks_pass, classic_passes}

@@ -1,8 +1,4 @@
-use Rattle.std.proofs.Common.{List, ℕ, subst}
-use Rattle.std.proofs.lemmas.Result.{err_from_is_err_and}
-use Rattle.pim_addr.specs.Faults.{Answers}
-use Rattle.pim_container.specs.declared.classic.ClassicFormat.{ClassicFormat}
-use Rattle.pim_container.specs.Classic.{judge_header}
+use Rattle.pim_container.proofs.Words.{List, ℕ, subst, err_from_is_err_and, Answers, ClassicFormat, judge_header}
 use Rattle.pim_container.proofs.Beginnings.{header_known}
 use Rattle.pim_container.proofs.Taken.{takes_passed, takes_result}
 use Rattle.pim_container.proofs.reader.begin_classic.Goals as goal

@@ -1,9 +1,4 @@
-use Rattle.std.proofs.Common.{arith, vec_len}
-use Rattle.std.proofs.lemmas.Result.{err_from_is_err_and}
-use Rattle.pim_container.specs.declared.reader.ReaderState.TheVariants.{Failed}
-use Rattle.pim_container.specs.declared.reader.ReaderStep.{ReaderStep}
-use Rattle.pim_container.specs.declared.piece.FoundPiece.{FoundPiece}
-use Rattle.pim_container.specs.Next.{answers_in}
+use Rattle.pim_container.proofs.Words.{arith, vec_len, err_from_is_err_and, Failed, ReaderStep, FoundPiece, answers_in}
 use Rattle.pim_container.proofs.Steps.{head_some, found_known, fault_known}
 use Rattle.pim_container.proofs.Room.{memory_passed}
 use Rattle.pim_container.proofs.Taken.{takes_passed}

@@ -1,16 +1,9 @@
-use Rattle.std.proofs.Common.{vec_capacity, vec_len, length, subst, arith, inr, Ok, Err}
-use Rattle.std.specs.Option.{option_map}
-use Rattle.std.proofs.lemmas.Result.{err_from_is_err_and, IfOk-weaker}
-use Rattle.pim_container.specs.declared.fault.ContainerFault.TheVariants.{Truncated}
-use Rattle.pim_container.specs.Room.{next_length}
+use Rattle.pim_container.proofs.Words.{vec_capacity, vec_len, length, subst, arith, inr, Ok, Err, option_map}
+use Rattle.pim_container.proofs.Words.{err_from_is_err_and, IfOk-weaker, Truncated, next_length, Ended, Failed}
+use Rattle.pim_container.proofs.Words.{answers_in, Reads, behind, pieces, ReaderStep, End}
 use Rattle.pim_container.proofs.Named.{grows_not, grows_next, asks_next}
 use Rattle.pim_container.proofs.Taken.{front_most, next_failed, next_lost, next_taken}
 use Rattle.pim_container.proofs.Needs.{next_passes}
-use Rattle.pim_container.specs.declared.reader.ReaderState.TheVariants.{Ended, Failed}
-use Rattle.pim_container.specs.Next.{answers_in, Reads, behind}
-use Rattle.pim_container.specs.Pieces.{pieces}
-use Rattle.pim_container.specs.declared.reader.ReaderStep.{ReaderStep}
-use Rattle.pim_container.specs.declared.event.ContainerEvent.TheVariants.{End}
 use Rattle.pim_container.proofs.Beginnings.{end_known, bound_known, cut_known, tells_from, piece_begins}
 use Rattle.pim_container.proofs.Steps.{head_some}
 use Rattle.pim_container.proofs.Room.{memory_of, piece_memory}

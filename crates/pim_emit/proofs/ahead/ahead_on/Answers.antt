@@ -1,5 +1,4 @@
-use Rattle.std.proofs.Common.{◌∙◌, ap, option_map}
-use Rattle.pim_emit.specs.Ahead.{machines_behind}
+use Rattle.pim_emit.proofs.Words.{◌∙◌, ap, option_map, machines_behind}
 use Rattle.pim_emit.proofs.ahead.ahead_on.Goals as goal
 
 pub returns-in_err-next : goal.returns-in_err-next

@@ -1,6 +1,4 @@
-use Rattle.std.proofs.Common.{◌∙◌, ap, sym}
-use Rattle.std.specs.Ordering.{is_eq}
-use Rattle.std.specs.Cmp.Lexicographic.{texts_ties}
+use Rattle.pim_emit.proofs.Words.{◌∙◌, ap, sym, is_eq, texts_ties}
 use Rattle.pim_emit.proofs.ahead.is_same.Goals as goal
 
 pub returns : goal.returns

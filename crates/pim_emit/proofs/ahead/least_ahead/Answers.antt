@@ -1,6 +1,4 @@
-use Rattle.std.proofs.Common.{◌≡◌, ◌∙◌, ◌<◌, length, option_map, sym, subst, arith}
-use Rattle.std.proofs.lemmas.List.{get_or_default}
-use Rattle.pim_emit.specs.Ahead.{least_seen, AreLeastBelow}
+use Rattle.pim_emit.proofs.Words.{◌≡◌, ◌∙◌, ◌<◌, length, option_map, sym, subst, arith, get_or_default, least_seen, AreLeastBelow}
 use Rattle.pim_emit.proofs.LeastAhead.{least_is_next}
 use Rattle.pim_emit.proofs.ahead.least_ahead.Goals as goal
 

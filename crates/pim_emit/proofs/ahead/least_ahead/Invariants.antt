@@ -1,5 +1,4 @@
-use Rattle.std.proofs.Common.{option_map}
-use Rattle.pim_emit.specs.Ahead.{least_seen, AreLeastBelow}
+use Rattle.pim_emit.proofs.Words.{option_map, least_seen, AreLeastBelow}
 use Rattle.pim_emit.proofs.ahead.least_ahead.Given as goal
 
 -- the least of the ports before this one

@@ -1,7 +1,4 @@
-use Rattle.std.proofs.Common.{◌≡◌, ◌&&◌, option_map, sym, subst, arith}
-use Rattle.pim_down.specs.After.{is_above}
-use Rattle.pim_emit.specs.Ahead.{IsNextOn}
-use Rattle.pim_emit.specs.Machines.{is_source_joined}
+use Rattle.pim_emit.proofs.Words.{◌≡◌, ◌&&◌, option_map, sym, subst, arith, is_above, IsNextOn, is_source_joined}
 use Rattle.pim_emit.proofs.PortsBelow.{least_of_none, least_of_more, least_of_all}
 use Rattle.pim_emit.proofs.ahead.least_source.Goals as goal
 

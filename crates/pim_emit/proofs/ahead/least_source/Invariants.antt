@@ -1,8 +1,4 @@
-use Rattle.std.proofs.Common.{◌&&◌, option_map}
-use Rattle.pim_down.specs.After.{is_above}
-use Rattle.pim_form.specs.Wants.{some_below}
-use Rattle.pim_emit.specs.Least.{IsLeast}
-use Rattle.pim_emit.specs.Machines.{is_source_joined}
+use Rattle.pim_emit.proofs.Words.{◌&&◌, option_map, is_above, some_below, IsLeast, is_source_joined}
 use Rattle.pim_emit.proofs.ahead.least_source.Given as goal
 
 -- the least of the ports before this one

@@ -1,6 +1,4 @@
-use Rattle.std.proofs.Common.{◌∙◌, option_map, arith}
-use Rattle.std.proofs.lemmas.List.{length-set}
-use Rattle.pim_emit.specs.Ahead.{IsAheadOn}
+use Rattle.pim_emit.proofs.Words.{◌∙◌, option_map, arith, length-set, IsAheadOn}
 use Rattle.pim_emit.proofs.NextAhead.{each_set}
 use Rattle.pim_emit.proofs.Room.{place_fits}
 use Rattle.pim_emit.proofs.ahead.look_ahead.Goals as goal

@@ -1,5 +1,4 @@
-use Rattle.std.proofs.Common.{◌≡◌, length, option_map}
-use Rattle.pim_emit.specs.Ahead.{AreNextBelow}
+use Rattle.pim_emit.proofs.Words.{◌≡◌, length, option_map, AreNextBelow}
 use Rattle.pim_emit.proofs.ahead.look_ahead.Given as goal
 
 -- the ports before this one are looked up

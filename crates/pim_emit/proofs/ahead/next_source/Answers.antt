@@ -1,7 +1,4 @@
-use Rattle.std.proofs.Common.{Some, None, ap}
-use Rattle.pim_down.specs.Seen.{what_seen, record_of_seen}
-use Rattle.pim_down.specs.declared.machines.key.What.TheVariants.{Source}
-use Rattle.pim_emit.specs.Ahead.{passed}
+use Rattle.pim_emit.proofs.Words.{Some, None, ap, what_seen, record_of_seen, Source, passed}
 use Rattle.pim_emit.proofs.NextMachines.{no_source_next, source_next, other_next, no_source_seen, told_next, left_of}
 use Rattle.pim_emit.proofs.ahead.next_source.Goals as goal
 

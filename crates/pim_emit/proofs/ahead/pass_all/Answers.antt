@@ -1,6 +1,4 @@
-use Rattle.std.proofs.Common.{◌∙◌, Some, sym, subst, arith}
-use Rattle.std.proofs.lemmas.List.{length-set}
-use Rattle.pim_emit.specs.Ahead.{IsAheadOn}
+use Rattle.pim_emit.proofs.Words.{◌∙◌, Some, sym, subst, arith, length-set, IsAheadOn}
 use Rattle.pim_emit.proofs.NextAhead.{each_set, left_set}
 use Rattle.pim_emit.proofs.Room.{place_fits}
 use Rattle.pim_emit.proofs.ahead.pass_all.Goals as goal

@@ -1,5 +1,4 @@
-use Rattle.std.proofs.Common.{◌≡◌, ℕ, List, Option, Some, length}
-use Rattle.pim_emit.specs.Ahead.{AreNext, AreNextBelow, IsNextSource}
+use Rattle.pim_emit.proofs.Words.{◌≡◌, ℕ, List, Option, Some, length, AreNext, AreNextBelow, IsNextSource}
 use Rattle.pim_emit.proofs.NextAhead.{AreSameFrom}
 use Rattle.pim_emit.proofs.ahead.pass_all.Given as goal
 

@@ -1,6 +1,4 @@
-use Rattle.std.proofs.Common.{◌≡◌, ◌∙◌, true, List, ℕ, Option, Some, None, sym, ap}
-use Rattle.std.proofs.lemmas.Bool.{false≢true}
-use Rattle.pim_emit.specs.Ahead.{is_this, its_source}
+use Rattle.pim_emit.proofs.Words.{◌≡◌, ◌∙◌, true, List, ℕ, Option, Some, None, sym, ap, false≢true, is_this, its_source}
 use Rattle.pim_emit.proofs.Addresses.{same_is}
 use Rattle.pim_emit.proofs.NextAhead.{stays_ahead}
 use Rattle.pim_emit.proofs.ahead.pass_on.Goals as goal

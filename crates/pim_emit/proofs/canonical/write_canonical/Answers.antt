@@ -1,7 +1,4 @@
-use Rattle.std.proofs.Common.{◌∙◌, refl, sym, ap, subst, arith}
-use Rattle.pim_emit.specs.DemandSeen.{DemandSeen}
-use Rattle.pim_emit.specs.Drafts.{IsMessage}
-use Rattle.pim_emit.specs.Left.{position_seen}
+use Rattle.pim_emit.proofs.Words.{◌∙◌, refl, sym, ap, subst, arith, DemandSeen, IsMessage, position_seen}
 use Rattle.pim_emit.proofs.Action.{asked_of_writer, none_gone, one_more_gone, all_gone, some_gone}
 use Rattle.pim_emit.proofs.canonical.write_canonical.Goals as goal
 

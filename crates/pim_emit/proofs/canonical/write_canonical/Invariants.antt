@@ -1,6 +1,4 @@
-use Rattle.std.proofs.Common.{◌≡◌, length}
-use Rattle.pim_form.specs.Units.{units_of}
-use Rattle.pim_emit.specs.Left.{left_at, position_seen, IsPosition}
+use Rattle.pim_emit.proofs.Words.{◌≡◌, length, units_of, left_at, position_seen, IsPosition}
 use Rattle.pim_emit.proofs.Action.{AreUnderway}
 use Rattle.pim_emit.proofs.canonical.write_canonical.Given as goal
 

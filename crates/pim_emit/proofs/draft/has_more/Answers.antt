@@ -1,7 +1,4 @@
-use Rattle.std.proofs.Common.{◌∙◌, eqb, sym}
-use Rattle.std.proofs.lemmas.Bool.{eqb-true}
-use Rattle.pim_emit.specs.Left.{piece_seen}
-use Rattle.pim_emit.specs.Sets.{sources_seen}
+use Rattle.pim_emit.proofs.Words.{◌∙◌, eqb, sym, eqb-true, piece_seen, sources_seen}
 use Rattle.pim_emit.proofs.Above.{by_test}
 use Rattle.pim_emit.proofs.DraftSteps.{all_told}
 use Rattle.pim_emit.proofs.draft.has_more.Goals as goal

@@ -1,7 +1,5 @@
-use Rattle.std.proofs.Common.{arith, subst, length}
+use Rattle.pim_emit.proofs.Words.{arith, subst, length, IsNextPiece, position_seen, piece_seen, draft_seen}
 use Rattle.std.specs.Prelude.{option_map}
-use Rattle.pim_emit.specs.Left.{IsNextPiece, position_seen, piece_seen}
-use Rattle.pim_emit.specs.Drafts.{draft_seen}
 use Rattle.pim_emit.proofs.DraftSteps.{few_exceptions, filled_before, one_at_most}
 use Rattle.pim_emit.proofs.draft.write_next.Goals.{then-room-eq0-via-then-room-eq0, then-room-eq0-via-else-room-eq0+then-room-from}
 use Rattle.pim_emit.proofs.draft.write_next.Goals as goal

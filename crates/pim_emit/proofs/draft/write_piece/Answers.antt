@@ -1,8 +1,5 @@
-use Rattle.std.proofs.Common.{◌∙◌, arith, length, ◌+◌, ◌-◌, sym}
+use Rattle.pim_emit.proofs.Words.{◌∙◌, arith, length, ◌+◌, ◌-◌, sym, piece_seen, sources_in, draft_seen, sources_seen}
 use Rattle.std.specs.Prelude.{option_map}
-use Rattle.pim_emit.specs.Left.{piece_seen, sources_in}
-use Rattle.pim_emit.specs.Drafts.{draft_seen}
-use Rattle.pim_emit.specs.Sets.{sources_seen}
 use Rattle.pim_emit.proofs.DraftSteps.{small_room, told_at_most, one_at_most, ends_within, to_behind, to_within, some_left, none_left}
 use Rattle.pim_emit.proofs.draft.write_piece.Goals as goal
 

@@ -1,5 +1,4 @@
-use Rattle.std.proofs.Common.{ap}
-use Rattle.pim_emit.specs.DemandSeen.{DemandSeen}
+use Rattle.pim_emit.proofs.Words.{ap, DemandSeen}
 use Rattle.pim_emit.proofs.Action.{asked_of_writer}
 use Rattle.pim_emit.proofs.KeptMessages.{ask_by}
 use Rattle.pim_emit.proofs.kept.canonical_messages.Goals as goal

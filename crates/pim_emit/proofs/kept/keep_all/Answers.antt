@@ -1,6 +1,4 @@
-use Rattle.std.proofs.Common.{◌∙◌, refl, sym, subst}
-use Rattle.pim_emit.specs.Drafts.{IsMessage}
-use Rattle.pim_emit.specs.Left.{position_seen}
+use Rattle.pim_emit.proofs.Words.{◌∙◌, refl, sym, subst, IsMessage, position_seen}
 use Rattle.pim_emit.proofs.KeptMessages.{AreKept, none_kept, one_more_kept, all_kept}
 use Rattle.pim_emit.proofs.kept.keep_all.Goals as goal
 

@@ -1,5 +1,4 @@
-use Rattle.std.proofs.Common.{◌∙◌, ap, sym}
-use Rattle.std.specs.Ordering.{is_lt}
+use Rattle.pim_emit.proofs.Words.{◌∙◌, ap, sym, is_lt}
 use Rattle.pim_emit.proofs.LeastOfTwo.{other_is_least, one_is_least}
 use Rattle.pim_emit.proofs.least.lesser.Goals as goal
 

@@ -1,5 +1,4 @@
-use Rattle.std.proofs.Common.{◌∙◌, sym}
-use Rattle.pim_emit.specs.Machines.{is_starred}
+use Rattle.pim_emit.proofs.Words.{◌∙◌, sym, is_starred}
 use Rattle.pim_emit.proofs.PortsBelow.{none_at_all, none_more}
 use Rattle.pim_emit.proofs.machines.first_starred.Goals as goal
 

@@ -1,6 +1,4 @@
-use Rattle.std.proofs.Common.{◌≡◌, false}
-use Rattle.pim_form.specs.Wants.{some_below}
-use Rattle.pim_emit.specs.Machines.{is_starred}
+use Rattle.pim_emit.proofs.Words.{◌≡◌, false, some_below, is_starred}
 use Rattle.pim_emit.proofs.machines.first_starred.Given as goal
 
 -- no port before this one has it

@@ -1,6 +1,4 @@
-use Rattle.std.proofs.Common.{◌≡◌, ◌&&◌, option_map, arith}
-use Rattle.pim_down.specs.After.{is_above}
-use Rattle.pim_emit.specs.Machines.{has_group}
+use Rattle.pim_emit.proofs.Words.{◌≡◌, ◌&&◌, option_map, arith, is_above, has_group}
 use Rattle.pim_emit.proofs.NextGroups.{group_is_next}
 use Rattle.pim_emit.proofs.PortsBelow.{least_of_none, least_of_more, least_of_all}
 use Rattle.pim_emit.proofs.machines.least_group.Goals as goal

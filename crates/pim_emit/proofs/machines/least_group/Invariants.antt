@@ -1,8 +1,4 @@
-use Rattle.std.proofs.Common.{◌&&◌, option_map}
-use Rattle.pim_down.specs.After.{is_above}
-use Rattle.pim_form.specs.Wants.{some_below}
-use Rattle.pim_emit.specs.Least.{IsLeast}
-use Rattle.pim_emit.specs.Machines.{has_group}
+use Rattle.pim_emit.proofs.Words.{◌&&◌, option_map, is_above, some_below, IsLeast, has_group}
 use Rattle.pim_emit.proofs.machines.least_group.Given as goal
 
 -- the least of the ports before this one

@@ -1,5 +1,4 @@
-use Rattle.std.proofs.Common.{◌∙◌, ap}
-use Rattle.pim_down.specs.Key.{address_cmp}
+use Rattle.pim_emit.proofs.Words.{◌∙◌, ap, address_cmp}
 use Rattle.pim_emit.proofs.BelowSources.{below_sources}
 use Rattle.pim_emit.proofs.machines.lowest.Goals as goal
 

@@ -1,5 +1,4 @@
-use Rattle.std.proofs.Common.{ℕ, ◌<◌, ◌≤◌}
-use Rattle.pim_down.specs.Hearing.{rpt_count_on}
+use Rattle.pim_emit.proofs.Words.{ℕ, ◌<◌, ◌≤◌, rpt_count_on}
 use Rattle.pim_emit.proofs.machines.most_rpts.Given as goal
 
 -- no port before this one has more

@@ -1,10 +1,5 @@
-use Rattle.std.proofs.Common.{◌∙◌, ◌++◌, List, ℕ, take, drop, refl, sym, subst}
-use Rattle.pim_frame.specs.Frame.{all_routers}
-use Rattle.pim_frame.specs.Seal.{IsSealed}
-use Rattle.pim_frame.specs.declared.frame.MessageType.TheVariants.{JoinPrune}
-use Rattle.pim_jp.specs.Canonical.{canonical_head}
-use Rattle.pim_emit.specs.Drafts.{body_start, draft_seen, IsDraft, IsMessage}
-use Rattle.pim_emit.specs.Left.{position_seen}
+use Rattle.pim_emit.proofs.Words.{◌∙◌, ◌++◌, List, ℕ, take, drop, refl, sym, subst, all_routers, IsSealed, JoinPrune}
+use Rattle.pim_emit.proofs.Words.{canonical_head, body_start, draft_seen, IsDraft, IsMessage, position_seen}
 use Rattle.pim_emit.proofs.NextMessage.{draft_begins, nothing_left, message_made, front_alone}
 use Rattle.pim_emit.proofs.message.next_message.Goals as goal
 

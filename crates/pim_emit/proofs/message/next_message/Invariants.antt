@@ -1,6 +1,4 @@
-use Rattle.std.proofs.Common.{◌≡◌, length}
-use Rattle.pim_emit.specs.Drafts.{draft_seen, IsDraft, steps_left}
-use Rattle.pim_emit.specs.Left.{position_seen}
+use Rattle.pim_emit.proofs.Words.{◌≡◌, length, draft_seen, IsDraft, steps_left, position_seen}
 use Rattle.pim_emit.proofs.message.next_message.Given as goal
 
 -- the message began at the position

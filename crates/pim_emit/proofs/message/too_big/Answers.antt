@@ -1,5 +1,4 @@
-use Rattle.std.proofs.Common.{◌∙◌, ap}
-use Rattle.pim_form.specs.TooBig.{too_big}
+use Rattle.pim_emit.proofs.Words.{◌∙◌, ap, too_big}
 use Rattle.pim_emit.proofs.Pieces.{all_groups}
 use Rattle.pim_emit.proofs.message.too_big.Goals as goal
 

@@ -1,6 +1,4 @@
-use Rattle.std.proofs.Common.{◌∙◌, option_map, sym, ap, subst, arith}
-use Rattle.pim_addr.specs.Address.{IsGroupAddress}
-use Rattle.pim_form.specs.NormalForm.{IsNormalGroup}
+use Rattle.pim_emit.proofs.Words.{◌∙◌, option_map, sym, ap, subst, arith, IsGroupAddress, IsNormalGroup}
 use Rattle.pim_emit.proofs.Above.{next_group, next_group_holds}
 use Rattle.pim_emit.proofs.TooBigSteps.{none_too_big, goes_on_bare, goes_on, ends_here, room_alone, fewer_groups, none_above}
 use Rattle.pim_emit.proofs.message.too_big_above.Goals.{else-has_star-via-then-has_star+else-room-exception_count, else-has_star-via-else-has_star}

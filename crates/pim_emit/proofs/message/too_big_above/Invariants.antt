@@ -1,6 +1,4 @@
-use Rattle.std.proofs.Common.{◌≡◌, length, option_map}
-use Rattle.pim_form.specs.TooBig.{too_big}
-use Rattle.pim_emit.specs.Left.{groups_above}
+use Rattle.pim_emit.proofs.Words.{◌≡◌, length, option_map, too_big, groups_above}
 use Rattle.pim_emit.proofs.message.too_big_above.Given as goal
 
 -- no group that was passed is too big

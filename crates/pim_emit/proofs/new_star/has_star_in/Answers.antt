@@ -1,7 +1,5 @@
-use Rattle.std.proofs.Common.{◌∙◌, ◌∷◌, List, refl, sym, subst}
-use Rattle.std.specs.List.Sorted.{IsStrictlySortedBy}
-use Rattle.pim_down.specs.Key.{address_cmp}
-use Rattle.pim_form.specs.NormalForm.{GroupForm, AreAscending, groups_of}
+use Rattle.pim_emit.proofs.Words.{◌∙◌, ◌∷◌, List, refl, sym, subst, IsStrictlySortedBy, address_cmp, GroupForm}
+use Rattle.pim_emit.proofs.Words.{AreAscending, groups_of}
 use Rattle.pim_emit.proofs.NewStars.{HaveSameStarsFrom, passed, star_here, no_star, no_star_before, stars_above}
 use Rattle.pim_emit.proofs.new_star.has_star_in.Goals as goal
 

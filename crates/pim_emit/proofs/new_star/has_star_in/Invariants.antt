@@ -1,5 +1,4 @@
-use Rattle.std.proofs.Common.{length}
-use Rattle.pim_form.specs.NormalForm.{AreAscending, groups_of}
+use Rattle.pim_emit.proofs.Words.{length, AreAscending, groups_of}
 use Rattle.pim_emit.proofs.NewStars.{HaveSameStarsFrom}
 use Rattle.pim_emit.proofs.new_star.has_star_in.Given as goal
 

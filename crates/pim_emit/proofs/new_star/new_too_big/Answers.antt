@@ -1,7 +1,5 @@
 use Rattle.std.proofs.Common.{◌∙◌, List, None, option_map, is_some, refl, sym, ap, subst}
-use Rattle.pim_form.specs.NormalForm.{GroupForm, AreAscending, groups_of}
-use Rattle.pim_form.specs.TooBig.{too_big}
-use Rattle.pim_emit.specs.Left.{HaveSameStars, groups_above}
+use Rattle.pim_emit.proofs.Words.{GroupForm, AreAscending, groups_of, too_big, HaveSameStars, groups_above}
 use Rattle.pim_emit.proofs.Pieces.{all_groups}
 use Rattle.pim_emit.proofs.NewStars.{new_of, none_new, next_big}
 use Rattle.pim_emit.proofs.new_star.new_too_big.Goals as goal

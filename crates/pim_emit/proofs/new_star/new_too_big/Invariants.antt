@@ -1,7 +1,4 @@
-use Rattle.std.proofs.Common.{◌≡◌, length, option_map}
-use Rattle.pim_form.specs.NormalForm.{AreAscending, groups_of}
-use Rattle.pim_form.specs.TooBig.{too_big}
-use Rattle.pim_emit.specs.Left.{HaveSameStars, groups_above}
+use Rattle.pim_emit.proofs.Words.{◌≡◌, length, option_map, AreAscending, groups_of, too_big, HaveSameStars, groups_above}
 use Rattle.pim_emit.proofs.NewStars.{new_of}
 use Rattle.pim_emit.proofs.new_star.new_too_big.Given as goal
 

@@ -1,9 +1,5 @@
-use Rattle.std.proofs.Common.{◌≡◌, ◌∙◌, true, false, option_map, sym, ap, subst}
-use Rattle.std.specs.Option.{is_some}
-use Rattle.pim_addr.specs.Address.{IsGroupAddress}
-use Rattle.pim_form.specs.NormalForm.{IsNormalGroup}
-use Rattle.pim_emit.specs.declared.position.Position.TheVariants.{Within}
-use Rattle.pim_emit.specs.Left.{IsPosition, IsPiece, IsNextPiece, position_seen, piece_seen, next_above, sources_in}
+use Rattle.pim_emit.proofs.Words.{◌≡◌, ◌∙◌, true, false, option_map, sym, ap, subst, is_some, IsGroupAddress, IsNormalGroup}
+use Rattle.pim_emit.proofs.Words.{Within, IsPosition, IsPiece, IsNextPiece, position_seen, piece_seen, next_above, sources_in}
 use Rattle.pim_emit.proofs.Above.{next_group, next_group_holds}
 use Rattle.pim_emit.proofs.Pieces.{IsBetween, between_start, between_behind, between_within, at_position, group_piece, no_piece, rest_piece, none_there}
 use Rattle.pim_emit.proofs.piece.next_piece.Goals.{in-Start, in-Behind, in-Within+else-has_source}

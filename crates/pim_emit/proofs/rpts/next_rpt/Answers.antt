@@ -1,7 +1,4 @@
-use Rattle.std.proofs.Common.{◌∙◌, Some, None, ap}
-use Rattle.pim_down.specs.declared.machines.key.What.TheVariants.{Rpt}
-use Rattle.pim_down.specs.Seen.{what_seen, record_of_seen}
-use Rattle.pim_emit.specs.Rpts.{RptsLeft}
+use Rattle.pim_emit.proofs.Words.{◌∙◌, Some, None, ap, Rpt, what_seen, record_of_seen, RptsLeft}
 use Rattle.pim_emit.proofs.NextMachines.{no_rpt_next, rpt_next, rpt_state, other_than_rpt_next, no_rpt_seen, told_next, left_of}
 use Rattle.pim_emit.proofs.rpts.next_rpt.Goals as goal
 

@@ -1,5 +1,4 @@
-use Rattle.std.proofs.Common.{◌≡◌, ◌+◌, ◌-◌, ◌≤◌, length, take}
-use Rattle.std.specs.Io.KnownBytes.{Appends}
+use Rattle.pim_emit.proofs.Words.{◌≡◌, ◌+◌, ◌-◌, ◌≤◌, length, take, Appends}
 use Rattle.pim_emit.proofs.sending.send.Given as goal
 
 -- the first so many bytes went out

@@ -1,5 +1,4 @@
-use Rattle.std.proofs.Common.{◌≡◌, ◌/◌, ◌%◌, ◌∷◌, ◌++◌, ◌-◌, [], length, take, subst}
-use Rattle.std.specs.Io.KnownBytes.{Appends}
+use Rattle.pim_emit.proofs.Words.{◌≡◌, ◌/◌, ◌%◌, ◌∷◌, ◌++◌, ◌-◌, [], length, take, subst, Appends}
 use Rattle.pim_emit.proofs.Gone.{head_and_some}
 use Rattle.pim_emit.proofs.sending.send_framed.Goals as goal
 

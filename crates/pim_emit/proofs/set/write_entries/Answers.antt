@@ -1,8 +1,5 @@
-use Rattle.std.proofs.Common.{◌≡◌, ◌+◌, ◌*◌, ◌++◌, ℕ, List, length, take, subst, arith}
-use Rattle.pim_addr.specs.Encoded.{source_length}
-use Rattle.pim_addr.specs.Routes.{rp_of}
-use Rattle.pim_emit.specs.Left.{star_of, exceptions_in, piece_seen}
-use Rattle.pim_emit.specs.Sets.{source_entries, exception_entries, cut_piece, sources_seen}
+use Rattle.pim_emit.proofs.Words.{◌≡◌, ◌+◌, ◌*◌, ◌++◌, ℕ, List, length, take, subst, arith, source_length, rp_of, star_of}
+use Rattle.pim_emit.proofs.Words.{exceptions_in, piece_seen, source_entries, exception_entries, cut_piece, sources_seen}
 use Rattle.pim_emit.proofs.SetWritten.{told_count, joined_count, entries_written, no_exceptions, all_exceptions}
 use Rattle.pim_emit.proofs.set.write_entries.Goals as goal
 

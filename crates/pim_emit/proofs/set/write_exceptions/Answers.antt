@@ -1,9 +1,6 @@
-use Rattle.std.proofs.Common.{◌≡◌, ◌∙◌, ◌∷◌, ◌*◌, ◌+◌, ◌<◌, ◌++◌, subst, List, ℕ, Some, length, take, option_map, sym, ap, refl, arith}
-use Rattle.pim_addr.specs.Encoded.{source_length}
+use Rattle.pim_emit.proofs.Words.{◌≡◌, ◌∙◌, ◌∷◌, ◌*◌, ◌+◌, ◌<◌, ◌++◌, subst, List, ℕ, Some, length, take, option_map, sym, ap}
+use Rattle.pim_emit.proofs.Words.{refl, arith, source_length, canonical_entry, above, exceptions_in, exception_entries}
 use Rattle.pim_jp.specs.declared.entry.Entry.TheVariants.{Rpt}
-use Rattle.pim_jp.specs.Canonical.{canonical_entry}
-use Rattle.pim_emit.specs.Left.{above, exceptions_in}
-use Rattle.pim_emit.specs.Sets.{exception_entries}
 use Rattle.pim_emit.proofs.Above.{above_first, above_none}
 use Rattle.pim_emit.proofs.InForm.{exceptions_ascend}
 use Rattle.pim_emit.proofs.Writing.{one_fewer, room_of_one, room_of_fewer, fewer_left, no_more}
@@ -37,7 +34,6 @@ pub loop-exception-smaller : goal.loop-exception-smaller
 loop-exception-smaller g c =
     let family = g.F.Family.family in
     let bytes_of = g.F.Family.bytes_of in
-    let size = source_length family in
     let all = exceptions_in (bytes_of c.args.group) c.args.demand.now.form in
     let bound = Some c.loop-exception.rpts.bound in
     let exception = bytes_of c.in-Some.exception in

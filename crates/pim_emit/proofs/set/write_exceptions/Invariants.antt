@@ -1,8 +1,5 @@
-use Rattle.std.proofs.Common.{◌≡◌, ◌+◌, ◌*◌, ◌++◌, length, take, Some}
-use Rattle.pim_addr.specs.Encoded.{source_length}
-use Rattle.pim_emit.specs.Left.{above, exceptions_in}
-use Rattle.pim_emit.specs.Rpts.{AreRpts}
-use Rattle.pim_emit.specs.Sets.{exception_entries}
+use Rattle.pim_emit.proofs.Words.{◌≡◌, ◌+◌, ◌*◌, ◌++◌, length, take, Some, source_length, above, exceptions_in, AreRpts}
+use Rattle.pim_emit.proofs.Words.{exception_entries}
 use Rattle.pim_emit.proofs.set.write_exceptions.Given as goal
 
 -- what is written and the exceptions that are left are all

@@ -1,7 +1,4 @@
-use Rattle.std.proofs.Common.{◌∙◌, ◌+◌, ◌/◌, ◌%◌, ℕ, List, [], ◌∷◌, sym, arith}
-use Rattle.pim_addr.specs.Routes.{rp_of}
-use Rattle.pim_emit.specs.Left.{piece_seen}
-use Rattle.pim_emit.specs.Sets.{cut_piece}
+use Rattle.pim_emit.proofs.Words.{◌∙◌, ◌+◌, ◌/◌, ◌%◌, ℕ, List, [], ◌∷◌, sym, arith, rp_of, piece_seen, cut_piece}
 use Rattle.pim_emit.proofs.SetWritten.{pruned_count, set_written}
 use Rattle.pim_emit.proofs.set.write_set.Goals as goal
 

@@ -1,8 +1,6 @@
-use Rattle.std.proofs.Common.{◌≡◌, ◌∙◌, ◌∷◌, ◌*◌, ◌+◌, Some, length, drop, option_map, take, ◌++◌, sym, ap, refl, subst, ◌≤◌, Fits, w64, arith}
-use Rattle.pim_addr.specs.Encoded.{source_length}
+use Rattle.pim_emit.proofs.Words.{◌≡◌, ◌∙◌, ◌∷◌, ◌*◌, ◌+◌, Some, length, drop, option_map, take, ◌++◌, sym, ap, refl, subst, ◌≤◌}
+use Rattle.pim_emit.proofs.Words.{Fits, w64, arith, source_length, canonical_entry, above, sources_in, piece_seen, piece_form}
 use Rattle.pim_jp.specs.declared.entry.Entry.TheVariants.{Source}
-use Rattle.pim_jp.specs.Canonical.{canonical_entry}
-use Rattle.pim_emit.specs.Left.{above, sources_in, piece_seen, piece_form}
 use Rattle.pim_emit.proofs.Above.{above_first, above_none}
 use Rattle.pim_emit.proofs.InForm.{sources_ascend}
 use Rattle.pim_emit.proofs.Room.{one_fits, entry_fits, place_of_entry_fits}

@@ -1,8 +1,5 @@
-use Rattle.std.proofs.Common.{◌≡◌, ◌+◌, ◌*◌, ◌++◌, ◌≤◌, ◌-◌, length, take, drop, option_map}
-use Rattle.pim_addr.specs.Encoded.{source_length}
-use Rattle.pim_emit.specs.Left.{above, sources_in, piece_seen, piece_form}
-use Rattle.pim_emit.specs.Ahead.{AreNext}
-use Rattle.pim_emit.specs.Sets.{source_entries}
+use Rattle.pim_emit.proofs.Words.{◌≡◌, ◌+◌, ◌*◌, ◌++◌, ◌≤◌, ◌-◌, length, take, drop, option_map, source_length, above}
+use Rattle.pim_emit.proofs.Words.{sources_in, piece_seen, piece_form, AreNext, source_entries}
 use Rattle.pim_emit.proofs.set.write_sources_ahead.Given as goal
 
 -- so many of the sources are written, those behind the last one are left, and what comes next on each port is above it

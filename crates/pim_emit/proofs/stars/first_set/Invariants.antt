@@ -1,6 +1,4 @@
-use Rattle.std.proofs.Common.{◌≡◌, ℕ, Bool, false}
-use Rattle.pim_form.specs.Wants.{some_below}
-use Rattle.pim_emit.specs.Stars.{AreFlags}
+use Rattle.pim_emit.proofs.Words.{◌≡◌, ℕ, Bool, false, some_below, AreFlags}
 use Rattle.pim_emit.proofs.stars.first_set.Given as goal
 
 -- none before this one is set

@@ -1,6 +1,4 @@
-use Rattle.std.proofs.Common.{◌≡◌, length}
-use Rattle.pim_emit.specs.Machines.{is_starred}
-use Rattle.pim_emit.specs.Stars.{AreFlags}
+use Rattle.pim_emit.proofs.Words.{◌≡◌, length, is_starred, AreFlags}
 use Rattle.pim_emit.proofs.stars.starred_ports.Given as goal
 
 -- those of the ports before this one are set

@@ -1,6 +1,4 @@
-use Rattle.std.proofs.Common.{◌≡◌, ◌∙◌, ◌<◌, Bool, true, ℕ, sym, ap, arith}
-use Rattle.pim_form.specs.declared.tree.Tree.TheVariants.{Shared}
-use Rattle.pim_form.specs.Wants.{wants_on, some_below}
+use Rattle.pim_emit.proofs.Words.{◌≡◌, ◌∙◌, ◌<◌, Bool, true, ℕ, sym, ap, arith, Shared, wants_on, some_below}
 use Rattle.pim_emit.proofs.PortsBelow.{none_more, found_below}
 use Rattle.pim_emit.proofs.stars.wants_from.Goals as goal
 

@@ -1,6 +1,4 @@
-use Rattle.std.proofs.Common.{◌≡◌, false}
-use Rattle.pim_form.specs.declared.tree.Tree.TheVariants.{Shared}
-use Rattle.pim_form.specs.Wants.{wants_on, some_below}
+use Rattle.pim_emit.proofs.Words.{◌≡◌, false, Shared, wants_on, some_below}
 use Rattle.pim_emit.proofs.stars.wants_from.Given as goal
 
 -- no port before this one wants it

@@ -1,5 +1,4 @@
-use Rattle.std.proofs.Common.{◌≡◌, ◌+◌, ◌*◌, ◌≤◌, length}
-use Rattle.pim_event_lines.specs.Counts.{joined_in}
+use Rattle.pim_event_lines.proofs.Cited.{◌≡◌, ◌+◌, ◌*◌, ◌≤◌, length, joined_in}
 use Rattle.pim_event_lines.proofs.counts.joined_in.Given as goal
 
 -- what is counted and what is left make the whole, and there is room for what is left

@@ -1,5 +1,4 @@
-use Rattle.std.proofs.Common.{rules, subst}
-use Rattle.pim_device.specs.Device.{AppendsAll}
+use Rattle.pim_event_lines.proofs.Cited.{rules, subst, AppendsAll}
 use Rattle.pim_event_lines.proofs.JsonPieces.{counts_members}
 use Rattle.pim_event_lines.proofs.json_machines.write_counts.Goals as goal
 

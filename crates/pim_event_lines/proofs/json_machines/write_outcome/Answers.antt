@@ -1,6 +1,4 @@
-use Rattle.std.proofs.Common.{rules, subst}
-use Rattle.pim_device.specs.Device.{AppendsAll}
-use Rattle.pim_events.specs.Events.{transition_seen}
+use Rattle.pim_event_lines.proofs.Cited.{rules, subst, AppendsAll, transition_seen}
 use Rattle.pim_event_lines.proofs.JsonPieces.{outcome_members}
 use Rattle.pim_event_lines.proofs.json_machines.write_outcome.Goals as goal
 

@@ -1,6 +1,4 @@
-use Rattle.std.proofs.Common.{rules, subst}
-use Rattle.pim_device.specs.Device.{AppendsAll}
-use Rattle.pim_events.specs.Events.{fired_seen}
+use Rattle.pim_event_lines.proofs.Cited.{rules, subst, AppendsAll, fired_seen}
 use Rattle.pim_event_lines.proofs.JsonPieces.{timer_members}
 use Rattle.pim_event_lines.proofs.json_machines.write_timer.Goals as goal
 

@@ -1,6 +1,4 @@
-use Rattle.std.proofs.Common.{rules, subst}
-use Rattle.pim_device.specs.Device.{AppendsAll}
-use Rattle.pim_events.specs.Events.{greeting_seen}
+use Rattle.pim_event_lines.proofs.Cited.{rules, subst, AppendsAll, greeting_seen}
 use Rattle.pim_event_lines.proofs.JsonPieces.{hello_members}
 use Rattle.pim_event_lines.proofs.json_packets.write_hello_json.Goals as goal
 

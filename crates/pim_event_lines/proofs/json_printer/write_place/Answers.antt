@@ -1,6 +1,4 @@
-use Rattle.std.proofs.Common.{rules, subst}
-use Rattle.pim_device.specs.Device.{AppendsAll}
-use Rattle.pim_event_lines.specs.TextLine.{name_of}
+use Rattle.pim_event_lines.proofs.Cited.{rules, subst, AppendsAll, name_of}
 use Rattle.pim_event_lines.proofs.JsonPieces.{place_members}
 use Rattle.pim_event_lines.proofs.json_printer.write_place.Goals as goal
 

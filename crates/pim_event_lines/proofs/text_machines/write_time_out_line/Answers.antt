@@ -1,6 +1,4 @@
-use Rattle.std.proofs.Common.{rules, subst}
-use Rattle.pim_device.specs.Device.{AppendsAll}
-use Rattle.pim_events.specs.Events.{time_out_seen}
+use Rattle.pim_event_lines.proofs.Cited.{rules, subst, AppendsAll, time_out_seen}
 use Rattle.pim_event_lines.proofs.TextPieces.{time_out_pieces}
 use Rattle.pim_event_lines.proofs.text_machines.write_time_out_line.Goals as goal
 

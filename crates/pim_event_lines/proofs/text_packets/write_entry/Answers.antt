@@ -1,6 +1,4 @@
-use Rattle.std.proofs.Common.{rules, subst}
-use Rattle.pim_device.specs.Device.{AppendsAll}
-use Rattle.pim_events.specs.Events.{ignored_seen}
+use Rattle.pim_event_lines.proofs.Cited.{rules, subst, AppendsAll, ignored_seen}
 use Rattle.pim_event_lines.proofs.TextPieces.{entry_pieces}
 use Rattle.pim_event_lines.proofs.text_packets.write_entry.Goals as goal
 

@@ -1,6 +1,4 @@
-use Rattle.std.proofs.Common.{rules, subst}
-use Rattle.pim_device.specs.Device.{AppendsAll}
-use Rattle.pim_events.specs.Events.{greeting_seen}
+use Rattle.pim_event_lines.proofs.Cited.{rules, subst, AppendsAll, greeting_seen}
 use Rattle.pim_event_lines.proofs.TextPieces.{greeting_pieces}
 use Rattle.pim_event_lines.proofs.text_packets.write_greeting.Goals as goal
 

@@ -1,5 +1,4 @@
-use Rattle.std.proofs.Common.{rules, subst}
-use Rattle.pim_device.specs.Device.{AppendsAll}
+use Rattle.pim_event_lines.proofs.Cited.{rules, subst, AppendsAll}
 use Rattle.pim_event_lines.proofs.TextPieces.{sender_pieces}
 use Rattle.pim_event_lines.proofs.text_packets.write_sender.Goals as goal
 

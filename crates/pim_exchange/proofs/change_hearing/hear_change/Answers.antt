@@ -1,6 +1,4 @@
-use Rattle.std.proofs.Common.{◌∙◌, ap, map, arith}
-use Rattle.pim_mirror.specs.Config.{delivery_seen}
-use Rattle.pim_exchange.specs.ChangeHearing.{change_inputs}
+use Rattle.pim_exchange.proofs.Words.{◌∙◌, ap, map, arith, delivery_seen, change_inputs}
 use Rattle.pim_exchange.proofs.Moves.{wants_memory, early_too}
 use Rattle.pim_exchange.proofs.change_hearing.hear_change.Goals as goal
 

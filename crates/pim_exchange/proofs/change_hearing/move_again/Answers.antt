@@ -1,6 +1,4 @@
-use Rattle.std.proofs.Common.{◌∙◌, Ok, Err, subst}
-use Rattle.std.proofs.lemmas.Result.{err_from_is_err_and}
-use Rattle.pim_down.specs.Sound.{IsSound}
+use Rattle.pim_exchange.proofs.Words.{◌∙◌, Ok, Err, subst, err_from_is_err_and, IsSound}
 use Rattle.pim_exchange.proofs.Moves.{change_short, from_own, is_early, one_port, fits_then, moved_again, not_moved}
 use Rattle.pim_exchange.proofs.change_hearing.move_again.Goals as goal
 

@@ -1,5 +1,4 @@
-use Rattle.std.proofs.lemmas.Result.{err_from_is_err_and}
-use Rattle.pim_exchange.specs.ChangeText.{ReportsChange}
+use Rattle.pim_exchange.proofs.Words.{err_from_is_err_and, ReportsChange}
 use Rattle.pim_exchange.proofs.Runs.{both_stopped, not_failed}
 use Rattle.pim_exchange.proofs.change_text.change_into.Goals as goal
 

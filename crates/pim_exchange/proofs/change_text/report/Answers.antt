@@ -1,7 +1,4 @@
-use Rattle.std.proofs.Common.{refl, subst, ◌∙◌}
-use Rattle.pim_report.specs.MessageText.{messages_text}
-use Rattle.pim_exchange.specs.ChangeHearing.{AreCarried, HasRoom}
-use Rattle.pim_exchange.specs.MirrorText.{agrees_line}
+use Rattle.pim_exchange.proofs.Words.{refl, subst, ◌∙◌, messages_text, AreCarried, HasRoom, agrees_line}
 use Rattle.pim_exchange.proofs.Changes.{told_between, not_reported}
 use Rattle.pim_exchange.proofs.Exchanged.{front_agreed, all_agreed}
 use Rattle.pim_exchange.proofs.Written.{front-longer}

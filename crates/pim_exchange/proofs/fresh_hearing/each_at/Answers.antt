@@ -1,5 +1,4 @@
-use Rattle.std.proofs.Common.{map, ap, ◌∙◌}
-use Rattle.pim_mirror.specs.Config.{delivery_seen}
+use Rattle.pim_exchange.proofs.Words.{map, ap, ◌∙◌, delivery_seen}
 use Rattle.pim_exchange.proofs.FreshHearings.{none_yet, one_more}
 use Rattle.pim_exchange.proofs.fresh_hearing.each_at.Goals as goal
 

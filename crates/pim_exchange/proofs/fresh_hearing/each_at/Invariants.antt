@@ -1,6 +1,4 @@
-use Rattle.std.proofs.Common.{◌≡◌, map}
-use Rattle.pim_mirror.specs.Config.{delivery_seen}
-use Rattle.pim_exchange.specs.FreshHearing.{each_at}
+use Rattle.pim_exchange.proofs.Words.{◌≡◌, map, delivery_seen, each_at}
 use Rattle.pim_exchange.proofs.fresh_hearing.each_at.Given as goal
 
 -- those of the messages before this one

@@ -1,7 +1,4 @@
-use Rattle.std.proofs.Common.{sym, subst}
-use Rattle.pim_addr.specs.Routes.{rp_of}
-use Rattle.pim_mirror.specs.Config.{Fresh, fresh_seen}
-use Rattle.pim_mirror.specs.Fits.{Fits}
+use Rattle.pim_exchange.proofs.Words.{sym, subst, rp_of, Fresh, fresh_seen, Fits}
 use Rattle.pim_exchange.proofs.FreshHearings.{fitting, all_short, mirrored, tells_once}
 use Rattle.pim_exchange.proofs.fresh_hearing.mirror_once.Goals as goal
 

@@ -1,7 +1,4 @@
-use Rattle.std.proofs.Common.{refl, subst}
-use Rattle.pim_report.specs.MessageText.{messages_text}
-use Rattle.pim_exchange.specs.FreshHearing.{HaveRoom}
-use Rattle.pim_exchange.specs.MirrorText.{agrees_line}
+use Rattle.pim_exchange.proofs.Words.{refl, subst, messages_text, HaveRoom, agrees_line}
 use Rattle.pim_exchange.proofs.Exchanged.{front_agreed, all_agreed, not_heard}
 use Rattle.pim_exchange.proofs.FreshHearings.{sent_by}
 use Rattle.pim_exchange.proofs.Written.{front-longer}

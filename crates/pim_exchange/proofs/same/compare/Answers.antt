@@ -1,6 +1,4 @@
-use Rattle.std.proofs.Common.{subst}
-use Rattle.std.specs.Io.KnownBytes.{Appends}
-use Rattle.pim_device.specs.Device.{AppendsFront}
+use Rattle.pim_exchange.proofs.Words.{subst, Appends, AppendsFront}
 use Rattle.pim_exchange.proofs.same.compare.Goals as goal
 
 pub returns-in_default-clause-compares : goal.returns-in_default-clause-compares

@@ -1,7 +1,4 @@
-use Rattle.std.proofs.Common.{◌≡◌, ◌<◌, ◌++◌, [], ◌∷◌, List, length, map, Option, arith, subst}
-use Rattle.std.specs.Prelude.{IfOk}
-use Rattle.pim_capture.specs.Capture.{Answer}
-use Rattle.pim_merge.specs.Lane.{coming_on}
+use Rattle.pim_files.proofs.Words.{◌≡◌, ◌<◌, ◌++◌, [], ◌∷◌, List, length, map, Option, arith, subst, IfOk, Answer, coming_on}
 use Rattle.pim_files.proofs.Opened.{classic_results}
 use Rattle.pim_files.proofs.captures.add_classic.Goals as goal
 

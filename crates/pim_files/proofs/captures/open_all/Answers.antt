@@ -1,9 +1,7 @@
-use Rattle.std.proofs.Common.{subst, ap, arith, ◌+◌, suc, List, length, map, take, drop}
-use Rattle.std.proofs.lemmas.List.{length-drop}
-use Rattle.std.proofs.lemmas.Result.{err_from_is_err_and}
+use Rattle.pim_files.proofs.Words.{subst, ap, arith, ◌+◌, suc, List, length, map, take, drop, length-drop}
+use Rattle.pim_files.proofs.Words.{err_from_is_err_and, RequestsFor, PortFiles, all_files, files_from, files_of}
+use Rattle.pim_files.proofs.Words.{first_file, further_file, names_of, with_more, HoldFiles}
 use Rattle.pim_files.specs.declared.fault.OpenFault.TheVariants as opening
-use Rattle.pim_files.specs.Files.{RequestsFor}
-use Rattle.pim_files.specs.Captures.{PortFiles, all_files, files_from, files_of, first_file, further_file, names_of, with_more, HoldFiles}
 use Rattle.pim_files.proofs.Asked.{asks_none, all_in_front}
 use Rattle.pim_files.proofs.Several.{asks_both, front_within, none_present, more_present, present_of, stops_first, stops_within}
 use Rattle.pim_files.proofs.Opened.{new_untaken, one_untaken, lanes_more, none_held, one_more_files, files_around, one_more_lane, all_ports}

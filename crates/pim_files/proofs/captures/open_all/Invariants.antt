@@ -1,7 +1,5 @@
-use Rattle.std.proofs.Common.{◌≡◌, ◌+◌, drop, take, length}
-use Rattle.pim_merge.specs.Next.{IsUntaken}
-use Rattle.pim_files.specs.Files.{RequestsFor}
-use Rattle.pim_files.specs.Captures.{all_files, files_from, names_of, CanOpen, HoldFiles}
+use Rattle.pim_files.proofs.Words.{◌≡◌, ◌+◌, drop, take, length, IsUntaken, RequestsFor, all_files, files_from}
+use Rattle.pim_files.proofs.Words.{names_of, CanOpen, HoldFiles}
 use Rattle.pim_files.proofs.captures.open_all.Given as goal
 
 -- the captures of the ports before this one, of which nothing was taken

@@ -1,5 +1,4 @@
-use Rattle.std.proofs.Common.{◌≡◌, drop}
-use Rattle.pim_files.specs.Held.{held_content}
+use Rattle.pim_files.proofs.Words.{◌≡◌, drop, held_content}
 use Rattle.pim_files.proofs.held.file_of_name.Given as goal
 
 -- the files that are left hold what all hold

@@ -1,8 +1,4 @@
-use Rattle.std.proofs.Common.{inl}
-use Rattle.std.proofs.lemmas.Result.{err_from_is_err_and}
-use Rattle.pim_files.specs.Captures.{all_files, files_from, names_of}
-use Rattle.pim_files.specs.Opening.{port_files}
-use Rattle.pim_files.specs.Table.{table_names}
+use Rattle.pim_files.proofs.Words.{inl, err_from_is_err_and, all_files, files_from, names_of, port_files, table_names}
 use Rattle.pim_files.proofs.AllOpen.{front_of_more, same_files, no_port, port_asked, are_open}
 use Rattle.pim_files.proofs.opening.open_two.Goals as goal
 

@@ -1,10 +1,5 @@
-use Rattle.std.proofs.Common.{◌≡◌, ◌+◌, drop, take, length}
-use Rattle.pim_merge.specs.Next.{IsUntaken}
-use Rattle.std.specs.List.{filter}
-use Rattle.pim_words.specs.declared.fault.RouterSide.TheVariants.{A, B}
-use Rattle.pim_files.specs.Files.{RequestsFor}
-use Rattle.pim_files.specs.Captures.{all_files, files_from, names_of, of_router, CanOpen, HoldFiles}
-use Rattle.pim_words.specs.Faults.{is_of}
+use Rattle.pim_files.proofs.Words.{◌≡◌, ◌+◌, drop, take, length, IsUntaken, filter, A, B, RequestsFor, all_files}
+use Rattle.pim_files.proofs.Words.{files_from, names_of, of_router, CanOpen, HoldFiles, is_of}
 use Rattle.pim_files.proofs.pair.open_both.Given as goal
 
 -- of each router the captures of its ports before this one, of which nothing was taken

@@ -1,8 +1,6 @@
-use Rattle.std.proofs.Common.{◌∙◌, List, map, sym, subst, arith}
-use Rattle.std.proofs.lemmas.Result.{err_from_is_err_and}
+use Rattle.pim_files.proofs.Words.{◌∙◌, List, map, sym, subst, arith, err_from_is_err_and, RequestsFor, FileOfName}
+use Rattle.pim_files.proofs.Words.{first_file, further_file, names_of, with_more, HaveFiles}
 use Rattle.pim_files.specs.declared.fault.OpenFault.TheVariants as opening
-use Rattle.pim_files.specs.Files.{RequestsFor}
-use Rattle.pim_files.specs.Captures.{FileOfName, first_file, further_file, names_of, with_more, HaveFiles}
 use Rattle.pim_files.proofs.Several.{front_of_first, stops_first}
 use Rattle.pim_files.proofs.Further.{same_files, asks_further, front_further, have_further, stops_further, all_by}
 use Rattle.pim_files.proofs.port.open_port.Goals as goal

@@ -1,6 +1,4 @@
-use Rattle.std.proofs.Common.{◌<◌, vec_len}
-use Rattle.pim_files.specs.Files.{RequestsFor}
-use Rattle.pim_files.specs.Captures.{names_of, HaveFiles}
+use Rattle.pim_files.proofs.Words.{◌<◌, vec_len, RequestsFor, names_of, HaveFiles}
 use Rattle.pim_files.proofs.Further.{files_by}
 use Rattle.pim_files.proofs.port.open_port.Given as goal
 

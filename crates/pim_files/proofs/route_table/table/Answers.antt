@@ -1,7 +1,4 @@
-use Rattle.std.proofs.Common.{inr, subst, ap}
-use Rattle.std.proofs.lemmas.Result.{err_from_is_err_and}
-use Rattle.pim_addr.specs.Routes.{RouteTable}
-use Rattle.pim_files.specs.Table.{IsFileFault, name_of, table_names}
+use Rattle.pim_files.proofs.Words.{inr, subst, ap, err_from_is_err_and, RouteTable, IsFileFault, name_of, table_names}
 use Rattle.pim_files.proofs.Asked.{asks_no_names}
 use Rattle.pim_files.proofs.route_table.table.Goals as goal
 

@@ -1,6 +1,4 @@
-use Rattle.std.proofs.Common.{sym, subst}
-use Rattle.pim_form.specs.NormalForm.{IsFormOf}
-use Rattle.pim_form.specs.Collect.{wants_at}
+use Rattle.pim_form.proofs.Words.{sym, subst, IsFormOf, wants_at}
 use Rattle.pim_form.proofs.CollectedWants.{port_form}
 use Rattle.pim_form.proofs.Merging.{kept_of_draft}
 use Rattle.pim_form.proofs.collect.collect.Goals as goal

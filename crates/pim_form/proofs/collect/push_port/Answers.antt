@@ -1,7 +1,5 @@
-use Rattle.std.proofs.Common.{◌∙◌, sym, subst}
-use Rattle.std.proofs.lemmas.Bool.{false≢true}
+use Rattle.pim_form.proofs.Words.{◌∙◌, sym, subst, false≢true, collected, of_port}
 use Rattle.pim_down.specs.Seen.{record_of_seen}
-use Rattle.pim_form.specs.Collect.{collected, of_port}
 use Rattle.pim_form.proofs.Collected.{is_run, IsRun}
 use Rattle.pim_form.proofs.Collecting.{IsCollecting, starts, nothing, takes, same_group, other_group, ends}
 use Rattle.pim_form.proofs.PortDemand.{are_of_port}

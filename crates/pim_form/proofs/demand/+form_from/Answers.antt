@@ -1,5 +1,4 @@
-use Rattle.std.proofs.Common.{◌-◌, ◌/◌, arith}
-use Rattle.std.proofs.lemmas.Result.{IfOk-weaker}
+use Rattle.pim_form.proofs.Words.{◌-◌, ◌/◌, arith, IfOk-weaker}
 use Rattle.pim_form.proofs.AllPorts.{no_ports, one_port, two_parts}
 use Rattle.pim_form.proofs.demand.+form_from.Goals as goal
 

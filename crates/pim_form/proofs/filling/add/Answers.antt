@@ -1,5 +1,4 @@
-use Rattle.std.proofs.Common.{◌+◌, arith, refl}
-use Rattle.std.proofs.lemmas.Result.{IfOk-weaker}
+use Rattle.pim_form.proofs.Words.{◌+◌, arith, refl, IfOk-weaker}
 use Rattle.pim_form.specs.Filling.{star_entries, place_sources}
 use Rattle.pim_form.proofs.PlanCuts.{goes_next, within_of, few_of, room_behind, few_entries, carries}
 use Rattle.pim_form.proofs.filling.add.Goals as goal

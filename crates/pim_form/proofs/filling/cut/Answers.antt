@@ -1,5 +1,4 @@
-use Rattle.std.proofs.Common.{◌∙◌, ◌<◌, ◌+◌, ◌-◌, sym, ap, subst, arith, [], ◌∷◌, ◌++◌, length}
-use Rattle.pim_form.specs.Filling.{Filled, IsFilling}
+use Rattle.pim_form.proofs.Words.{◌∙◌, ◌<◌, ◌+◌, ◌-◌, sym, ap, subst, arith, [], ◌∷◌, ◌++◌, length, Filled, IsFilling}
 use Rattle.pim_form.proofs.PlanCuts.{few_exceptions, first_entries, few_entries, closed_before, less_of_none, less_of_star, groups_before, fewer_sources, closed_within, rest_piece, next_within}
 use Rattle.pim_form.proofs.filling.cut.Goals.{then-room-eq0-via-then-room-eq0, then-room-eq0-via-else-room-eq0+then-room-star}
 use Rattle.pim_form.proofs.filling.cut.Goals as goal

@@ -1,5 +1,4 @@
-use Rattle.std.proofs.Common.{refl}
-use Rattle.std.proofs.lemmas.Bool.{false≢true}
+use Rattle.pim_form.proofs.Words.{refl, false≢true}
 use Rattle.pim_form.proofs.PlanCuts.{goes_next, within_of, few_of, room_behind, no_room_behind}
 use Rattle.pim_form.proofs.filling.fill.Goals as goal
 

@@ -1,5 +1,4 @@
-use Rattle.std.proofs.Common.{◌+◌, List, ◌∷◌}
-use Rattle.pim_form.specs.declared.place.GroupPlace.{GroupPlace}
+use Rattle.pim_form.proofs.Words.{◌+◌, List, ◌∷◌, GroupPlace}
 use Rattle.pim_form.specs.Filling.{IsFilling, IsNext, star_count, place_sources}
 use Rattle.pim_form.proofs.filling.fill.Given as goal
 

@@ -1,5 +1,4 @@
-use Rattle.std.proofs.Common.{◌≡◌, ◌∙◌, sym, ap, subst, []}
-use Rattle.pim_form.specs.Filling.{Filled, IsFilling}
+use Rattle.pim_form.proofs.Words.{◌≡◌, ◌∙◌, sym, ap, subst, [], Filled, IsFilling}
 use Rattle.pim_form.proofs.PlanFilling.{last_closes, plan_ends}
 use Rattle.pim_form.proofs.filling.finish.Goals.{then-filling-ne0+in_ok-close, else-filling-ne0}
 use Rattle.pim_form.proofs.filling.finish.Goals as goal

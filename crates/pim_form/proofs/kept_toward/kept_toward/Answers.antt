@@ -1,7 +1,5 @@
-use Rattle.std.proofs.Common.{List, ℕ, ◌≡◌, ◌∙◌, sym, subst, true}
-use Rattle.pim_addr.specs.Routes.{rp_of}
-use Rattle.pim_form.specs.NormalForm.{GroupForm, IsFormOf, form_wants}
-use Rattle.pim_form.specs.Toward.{via_of, toward, is_toward}
+use Rattle.pim_form.proofs.Words.{List, ℕ, ◌≡◌, ◌∙◌, sym, subst, true, rp_of, GroupForm, IsFormOf, form_wants, via_of}
+use Rattle.pim_form.proofs.Words.{toward, is_toward}
 use Rattle.pim_form.proofs.KeptForm.{form_left, left_is_toward}
 use Rattle.pim_form.proofs.KeptLoop.{HasKept, starts, steps, ends, kept}
 use Rattle.pim_form.proofs.kept_toward.kept_toward.Goals as goal

@@ -1,5 +1,4 @@
-use Rattle.pim_addr.specs.Routes.{rp_of}
-use Rattle.pim_form.specs.Toward.{via_of}
+use Rattle.pim_form.proofs.Words.{rp_of, via_of}
 use Rattle.pim_form.proofs.KeptLoop.{HasKept}
 use Rattle.pim_form.proofs.kept_toward.kept_toward.Given as goal
 

@@ -1,8 +1,4 @@
-use Rattle.std.proofs.Common.{List, ℕ, ◌≡◌, ◌∙◌, ap, map, length, arith}
-use Rattle.std.specs.List.{filter}
-use Rattle.pim_addr.specs.Routes.{rp_of}
-use Rattle.pim_form.specs.Toward.{via_of}
-use Rattle.pim_form.specs.KeptToward.{is_reached, group_toward}
+use Rattle.pim_form.proofs.Words.{List, ℕ, ◌≡◌, ◌∙◌, ap, map, length, arith, filter, rp_of, via_of, is_reached, group_toward}
 use Rattle.pim_form.proofs.PushedGroups.{filter_mapped, pushed}
 use Rattle.pim_form.proofs.kept_toward.push_group.Goals as goal
 

@@ -1,8 +1,4 @@
-use Rattle.std.proofs.Common.{◌≡◌, ◌++◌, drop}
-use Rattle.std.specs.List.{filter}
-use Rattle.pim_addr.specs.Routes.{rp_of}
-use Rattle.pim_form.specs.Toward.{via_of}
-use Rattle.pim_form.specs.KeptToward.{is_reached}
+use Rattle.pim_form.proofs.Words.{◌≡◌, ◌++◌, drop, filter, rp_of, via_of, is_reached}
 use Rattle.pim_form.proofs.kept_toward.push_reached.Given as goal
 
 -- what was appended and what is left to be appended is what all of them give

@@ -1,5 +1,4 @@
-use Rattle.pim_frame.specs.declared.frame.MessageType.TheVariants.{JoinPrune}
-use Rattle.pim_jp.specs.Canonical.{canonical}
+use Rattle.pim_form.proofs.Words.{JoinPrune, canonical}
 use Rattle.pim_form.proofs.laws.sealed_message_is_read.Goals as goal
 
 pub returns : goal.returns

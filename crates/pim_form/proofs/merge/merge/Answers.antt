@@ -1,5 +1,4 @@
-use Rattle.std.proofs.Common.{subst}
-use Rattle.pim_form.specs.NormalForm.{IsNormal}
+use Rattle.pim_form.proofs.Words.{subst, IsNormal}
 use Rattle.pim_form.proofs.Merged.{merged_normal}
 use Rattle.pim_form.proofs.Merging.{kept_of_draft}
 use Rattle.pim_form.proofs.merge.merge.Goals as goal

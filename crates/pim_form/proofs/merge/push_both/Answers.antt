@@ -1,6 +1,4 @@
-use Rattle.std.proofs.Common.{◌∙◌, ◌||◌}
-use Rattle.pim_form.specs.Rows.{star_of, exceptions_of}
-use Rattle.pim_form.specs.Merge.{united, both_stars, both_groups}
+use Rattle.pim_form.proofs.Words.{◌∙◌, ◌||◌, star_of, exceptions_of, united, both_stars, both_groups}
 use Rattle.pim_form.proofs.Drafts.{one_more, one_star}
 use Rattle.pim_form.proofs.merge.push_both.Goals as goal
 

@@ -1,5 +1,4 @@
-use Rattle.std.proofs.Common.{◌+◌, map, length, ◌++◌}
-use Rattle.pim_form.specs.Merge.{common}
+use Rattle.pim_form.proofs.Words.{◌+◌, map, length, ◌++◌, common}
 use Rattle.pim_form.proofs.MergeSteps.{IsMeeting}
 use Rattle.pim_form.proofs.merge.push_common.Given as goal
 

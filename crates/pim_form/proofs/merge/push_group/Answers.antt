@@ -1,6 +1,5 @@
-use Rattle.std.proofs.Common.{◌∙◌, ap, map}
+use Rattle.pim_form.proofs.Words.{◌∙◌, ap, map, star_of}
 use Rattle.std.specs.Option.{is_some}
-use Rattle.pim_form.specs.Rows.{star_of}
 use Rattle.pim_form.proofs.Drafts.{one_more, appended, same_star}
 use Rattle.pim_form.proofs.merge.push_group.Goals as goal
 

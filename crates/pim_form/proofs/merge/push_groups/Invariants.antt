@@ -1,6 +1,4 @@
-use Rattle.std.proofs.Common.{◌++◌, List}
-use Rattle.pim_form.specs.NormalForm.{GroupForm}
-use Rattle.pim_form.specs.Drafts.{IsDraft}
+use Rattle.pim_form.proofs.Words.{◌++◌, List, GroupForm, IsDraft}
 use Rattle.pim_form.proofs.Merging.{IsRest}
 use Rattle.pim_form.proofs.merge.push_groups.Given as goal
 

@@ -1,8 +1,5 @@
-use Rattle.std.proofs.Common.{◌≡◌, ◌∙◌, ◌++◌, List, sym, ap, subst}
-use Rattle.pim_form.specs.NormalForm.{GroupForm}
-use Rattle.pim_form.specs.Rows.{form_seen, place_seen}
-use Rattle.pim_form.specs.Drafts.{IsDraft}
-use Rattle.pim_form.specs.Merge.{both_groups, merged}
+use Rattle.pim_form.proofs.Words.{◌≡◌, ◌∙◌, ◌++◌, List, sym, ap, subst, GroupForm, form_seen, place_seen, IsDraft}
+use Rattle.pim_form.proofs.Words.{both_groups, merged}
 use Rattle.pim_form.proofs.Merging.{Adds, merge_less, merge_equal, merge_greater, merged_first, merged_second}
 use Rattle.pim_form.proofs.merge.push_merged.Given.{Over}
 use Rattle.pim_form.proofs.merge.push_merged.Goals as goal

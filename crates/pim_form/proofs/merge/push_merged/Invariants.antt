@@ -1,6 +1,4 @@
-use Rattle.std.proofs.Common.{◌+◌, length}
-use Rattle.pim_form.specs.Rows.{form_seen}
-use Rattle.pim_form.specs.Merge.{merged}
+use Rattle.pim_form.proofs.Words.{◌+◌, length, form_seen, merged}
 use Rattle.pim_form.proofs.Merging.{IsMerging}
 use Rattle.pim_form.proofs.merge.push_merged.Given as goal
 

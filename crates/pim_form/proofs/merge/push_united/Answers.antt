@@ -1,7 +1,5 @@
-use Rattle.std.proofs.Common.{◌∙◌, sym, refl}
-use Rattle.pim_form.specs.Merge.{itself, first_of}
+use Rattle.pim_form.proofs.Words.{◌∙◌, sym, refl, itself, first_of, on_ok_weaker}
 use Rattle.pim_form.proofs.MergeSteps.{step_less, step_equal, step_greater, ended_first, ended_second}
-use Rattle.std.proofs.lemmas.Result.{on_ok_weaker}
 use Rattle.pim_form.proofs.merge.push_united.Goals as goal
 use Rattle.pim_form.proofs.merge.push_united.Goals.{in-Some+in_default-split_first, in_default}
 

@@ -1,5 +1,4 @@
-use Rattle.std.proofs.Common.{◌≡◌, ◌++◌, ◌+◌, map, length}
-use Rattle.pim_form.specs.Merge.{united}
+use Rattle.pim_form.proofs.Words.{◌≡◌, ◌++◌, ◌+◌, map, length, united}
 use Rattle.pim_form.proofs.merge.push_united.Given as goal
 
 -- what was appended and what is still to be told are both lists

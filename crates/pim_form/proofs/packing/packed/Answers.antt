@@ -1,13 +1,6 @@
-use Rattle.std.proofs.Common.{◌≡◌, ◌∙◌, ℕ, List, ap, Result, Ok, Err, IfOk, subst, sym, map}
-use Rattle.pim_addr.specs.Routes.{rp_of}
-use Rattle.std.specs.List.{AllByRecursion}
-use Rattle.pim_form.specs.NormalForm.{GroupForm}
-use Rattle.pim_form.specs.Units.{units_of}
-use Rattle.pim_form.specs.Rows.{form_seen}
-use Rattle.pim_form.specs.Plan.{IsPlan, parts_from, run_of}
-use Rattle.pim_form.specs.Parts.{PartHasRps}
-use Rattle.pim_form.specs.Messages.{HaveRps, CarryRuns, AreCanonical}
-use Rattle.pim_form.specs.Packing.{IsPacking}
+use Rattle.pim_form.proofs.Words.{◌≡◌, ◌∙◌, ℕ, List, ap, Result, Ok, Err, IfOk, subst, sym, map, rp_of, AllByRecursion}
+use Rattle.pim_form.proofs.Words.{GroupForm, units_of, form_seen, IsPlan, parts_from, run_of, PartHasRps, HaveRps}
+use Rattle.pim_form.proofs.Words.{CarryRuns, AreCanonical, IsPacking}
 use Rattle.pim_form.proofs.PlannedParts.{plan_fits, plan_has_rps}
 use Rattle.pim_form.proofs.packing.packed.Goals as goal
 

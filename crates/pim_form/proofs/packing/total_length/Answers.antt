@@ -1,9 +1,5 @@
-use Rattle.std.proofs.Common.{◌≡◌, ◌∙◌, ◌+◌, ◌≤◌, List, length, get_or, drop, sym, ap, subst, arith}
-use Rattle.pim_form.specs.NormalForm.{GroupForm, IsNormal}
-use Rattle.pim_form.specs.Units.{units_of, run_groups, run_size}
-use Rattle.pim_form.specs.Rows.{between}
-use Rattle.pim_form.specs.Plan.{run_of}
-use Rattle.pim_form.specs.Parts.{IsFitting}
+use Rattle.pim_form.proofs.Words.{◌≡◌, ◌∙◌, ◌+◌, ◌≤◌, List, length, get_or, drop, sym, ap, subst, arith, GroupForm}
+use Rattle.pim_form.proofs.Words.{IsNormal, units_of, run_groups, run_size, between, run_of, IsFitting}
 use Rattle.pim_form.proofs.OnePacking.{fits_parts}
 use Rattle.pim_form.proofs.PlanParts.{next_part, of_next, no_end, of_others, one_more_run, no_more_run}
 use Rattle.pim_form.proofs.packing.total_length.Goals as goal

@@ -1,7 +1,4 @@
-use Rattle.std.proofs.Common.{◌≡◌, ◌+◌, length, map, drop}
-use Rattle.std.specs.List.{AllByRecursion}
-use Rattle.pim_form.specs.Parts.{IsFitting, runs_size}
-use Rattle.pim_form.specs.Plan.{AreEnds, parts_from, run_of}
+use Rattle.pim_form.proofs.Words.{◌≡◌, ◌+◌, length, map, drop, AllByRecursion, IsFitting, runs_size, AreEnds, parts_from, run_of}
 use Rattle.pim_form.proofs.packing.total_length.Given as goal
 
 -- the bytes counted and those of the messages that are left are all

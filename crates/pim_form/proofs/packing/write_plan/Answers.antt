@@ -1,9 +1,5 @@
-use Rattle.std.proofs.Common.{◌≡◌, ◌∙◌, ◌+◌, List, length, get_or, drop, ap, subst, arith}
-use Rattle.pim_addr.specs.Routes.{rp_of}
-use Rattle.pim_form.specs.Messages.{CarriesRun}
-use Rattle.pim_form.specs.Rows.{between}
-use Rattle.pim_form.specs.Plan.{run_of}
-use Rattle.pim_form.specs.Parts.{IsFitting, PartHasRps}
+use Rattle.pim_form.proofs.Words.{◌≡◌, ◌∙◌, ◌+◌, List, length, get_or, drop, ap, subst, arith, rp_of, CarriesRun}
+use Rattle.pim_form.proofs.Words.{between, run_of, IsFitting, PartHasRps}
 use Rattle.pim_form.proofs.PlanParts.{next_part, of_next, no_end, of_others, one_more_told, no_more_told, part_tells}
 use Rattle.pim_form.proofs.packing.write_plan.Goals as goal
 

@@ -1,9 +1,5 @@
-use Rattle.std.proofs.Common.{ℕ, List, ◌++◌, length, map, drop}
-use Rattle.std.specs.List.{AllByRecursion}
-use Rattle.pim_addr.specs.Routes.{rp_of}
-use Rattle.pim_form.specs.Messages.{CarryRuns}
-use Rattle.pim_form.specs.Parts.{IsFitting, PartHasRps}
-use Rattle.pim_form.specs.Plan.{AreEnds, parts_from, run_of}
+use Rattle.pim_form.proofs.Words.{ℕ, List, ◌++◌, length, map, drop, AllByRecursion, rp_of, CarryRuns, IsFitting}
+use Rattle.pim_form.proofs.Words.{PartHasRps, AreEnds, parts_from, run_of}
 use Rattle.pim_form.proofs.packing.write_plan.Given as goal
 
 -- whatever tells the runs that are left tells all of them behind the messages that are there

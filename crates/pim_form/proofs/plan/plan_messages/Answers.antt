@@ -1,8 +1,5 @@
-use Rattle.std.proofs.Common.{◌≡◌, ◌∙◌, ℕ, ◌+◌, ◌<◌, List, [], ◌∷◌, length, drop, get_or, sym, ap, subst, add-one, drop-cons}
-use Rattle.std.proofs.lemmas.Result.{IfOk-weaker}
-use Rattle.std.proofs.Math.ListN.{drop_of_length-le}
-use Rattle.pim_form.specs.declared.place.GroupPlace.{GroupPlace}
-use Rattle.pim_form.specs.Filling.{IsFilling}
+use Rattle.pim_form.proofs.Words.{◌≡◌, ◌∙◌, ℕ, ◌+◌, ◌<◌, List, [], ◌∷◌, length, drop, get_or, sym, ap, subst, add-one}
+use Rattle.pim_form.proofs.Words.{drop-cons, IfOk-weaker, drop_of_length-le, GroupPlace, IsFilling}
 use Rattle.pim_form.proofs.PlanFilling.{starts}
 use Rattle.pim_form.proofs.plan.plan_messages.Goals as goal
 

@@ -1,5 +1,4 @@
-use Rattle.std.proofs.Common.{drop}
-use Rattle.pim_form.specs.Filling.{IsFilling}
+use Rattle.pim_form.proofs.Words.{drop, IsFilling}
 use Rattle.pim_form.proofs.plan.plan_messages.Given as goal
 
 -- the groups from here on are left

@@ -1,6 +1,4 @@
-use Rattle.std.proofs.Common.{◌≡◌}
-use Rattle.std.specs.List.{list_all}
-use Rattle.pim_form.specs.Settled.{group_settles}
+use Rattle.pim_form.proofs.Words.{◌≡◌, list_all, group_settles}
 use Rattle.pim_form.proofs.settling.all_groups_settle.Given as goal
 
 -- all are exactly if all that are left are

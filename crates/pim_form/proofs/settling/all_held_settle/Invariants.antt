@@ -1,7 +1,4 @@
-use Rattle.std.proofs.Common.{◌≡◌}
-use Rattle.std.specs.List.{list_all, filter}
-use Rattle.pim_down.specs.Records.{is_on}
-use Rattle.pim_form.specs.Settled.{record_settles}
+use Rattle.pim_form.proofs.Words.{◌≡◌, list_all, filter, is_on, record_settles}
 use Rattle.pim_form.proofs.settling.all_held_settle.Given as goal
 
 -- all are exactly if all that are left are

@@ -1,5 +1,4 @@
-use Rattle.std.proofs.Common.{◌∙◌, sym, ap, arith}
-use Rattle.pim_form.specs.Settled.{is_in_join, is_joined_at}
+use Rattle.pim_form.proofs.Words.{◌∙◌, sym, ap, arith, is_in_join, is_joined_at}
 use Rattle.pim_form.proofs.Demanded.{stops, goes_on, ended}
 use Rattle.pim_form.proofs.settling.all_joined.Goals as goal
 

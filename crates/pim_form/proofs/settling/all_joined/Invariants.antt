@@ -1,6 +1,4 @@
-use Rattle.std.proofs.Common.{◌≡◌, map, drop}
-use Rattle.std.specs.List.{list_all}
-use Rattle.pim_form.specs.Settled.{is_joined_at}
+use Rattle.pim_form.proofs.Words.{◌≡◌, map, drop, list_all, is_joined_at}
 use Rattle.pim_form.proofs.settling.all_joined.Given as goal
 
 -- all are exactly if all that are left are

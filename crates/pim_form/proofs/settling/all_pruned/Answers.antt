@@ -1,6 +1,4 @@
-use Rattle.std.proofs.Common.{◌∙◌, sym, ap, arith}
-use Rattle.pim_form.specs.Wants.{is_pruned}
-use Rattle.pim_form.specs.Settled.{is_pruned_at}
+use Rattle.pim_form.proofs.Words.{◌∙◌, sym, ap, arith, is_pruned, is_pruned_at}
 use Rattle.pim_form.proofs.Demanded.{stops, goes_on, ended}
 use Rattle.pim_form.proofs.settling.all_pruned.Goals as goal
 

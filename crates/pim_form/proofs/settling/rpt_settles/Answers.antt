@@ -1,5 +1,4 @@
-use Rattle.std.proofs.Common.{sym, subst}
-use Rattle.pim_form.specs.NormalForm.{AreAscending}
+use Rattle.pim_form.proofs.Words.{sym, subst, AreAscending}
 use Rattle.pim_form.proofs.PortSettled.{excepted_up}
 use Rattle.pim_form.proofs.settling.rpt_settles.Goals as goal
 

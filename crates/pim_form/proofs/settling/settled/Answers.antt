@@ -1,6 +1,4 @@
-use Rattle.std.specs.List.{list_all, filter}
-use Rattle.pim_down.specs.Records.{is_on}
-use Rattle.pim_form.specs.Settled.{record_settles, group_settles, IsSettledAt}
+use Rattle.pim_form.proofs.Words.{list_all, filter, is_on, record_settles, group_settles, IsSettledAt}
 use Rattle.pim_form.proofs.PortSettled.{settles_exactly, by_first, by_second}
 use Rattle.pim_form.proofs.settling.settled.Goals as goal
 

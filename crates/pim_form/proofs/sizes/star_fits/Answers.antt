@@ -1,6 +1,4 @@
-use Rattle.std.proofs.Common.{◌≡◌, ◌∙◌, sym, ap, length, true, is_some}
-use Rattle.std.proofs.lemmas.List.{length-map}
-use Rattle.pim_form.specs.Rows.{exceptions_of}
+use Rattle.pim_form.proofs.Words.{◌≡◌, ◌∙◌, sym, ap, length, true, is_some, length-map, exceptions_of}
 use Rattle.pim_form.proofs.StarSize.{star_fits_by}
 use Rattle.pim_form.proofs.sizes.star_fits.Goals as goal
 

@@ -1,5 +1,4 @@
-use Rattle.std.proofs.Common.{◌≡◌}
-use Rattle.pim_form.specs.TooBig.{too_big}
+use Rattle.pim_form.proofs.Words.{◌≡◌, too_big}
 use Rattle.pim_form.proofs.sizes.too_big.Given as goal
 
 -- what is too big of the groups that are left is what is too big of all

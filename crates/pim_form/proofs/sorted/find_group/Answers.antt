@@ -1,6 +1,4 @@
-use Rattle.std.proofs.Common.{rules}
-use Rattle.std.proofs.lemmas.List.Sorted.{answers_always}
-use Rattle.pim_form.specs.Rows.{place_group}
+use Rattle.pim_form.proofs.Words.{rules, answers_always, place_group}
 use Rattle.pim_form.proofs.Searches.{same_at, missed}
 use Rattle.pim_form.proofs.sorted.find_group.Goals as goal
 

@@ -1,5 +1,4 @@
-use Rattle.std.proofs.Common.{◌∙◌, ℕ, List, sym, ap, arith}
-use Rattle.pim_form.specs.Toward.{via_of, is_neighbour}
+use Rattle.pim_form.proofs.Words.{◌∙◌, ℕ, List, sym, ap, arith, via_of, is_neighbour}
 use Rattle.pim_form.proofs.Demanded.{stops, goes_on, ended}
 use Rattle.pim_form.proofs.toward.all_reached.Goals as goal
 

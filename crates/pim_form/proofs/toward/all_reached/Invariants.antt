@@ -1,6 +1,4 @@
-use Rattle.std.proofs.Common.{◌≡◌, ℕ, List, map, drop}
-use Rattle.std.specs.List.{list_all}
-use Rattle.pim_form.specs.Toward.{via_of, is_neighbour}
+use Rattle.pim_form.proofs.Words.{◌≡◌, ℕ, List, map, drop, list_all, via_of, is_neighbour}
 use Rattle.pim_form.proofs.toward.all_reached.Given as goal
 
 -- all are exactly if all that are left are

@@ -1,6 +1,4 @@
-use Rattle.std.proofs.Common.{◌≡◌}
-use Rattle.pim_addr.specs.Routes.{rp_of}
-use Rattle.pim_form.specs.Toward.{via_of, is_toward}
+use Rattle.pim_form.proofs.Words.{◌≡◌, rp_of, via_of, is_toward}
 use Rattle.pim_form.proofs.toward.is_toward.Given as goal
 
 -- the form is exactly if the groups that are left are

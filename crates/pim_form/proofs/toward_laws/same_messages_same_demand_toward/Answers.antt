@@ -1,7 +1,4 @@
-use Rattle.pim_addr.specs.Routes.{rp_of}
-use Rattle.pim_form.specs.Toward.{via_of}
-use Rattle.pim_form.specs.Wants.{wants}
-use Rattle.pim_form.specs.TowardLaws.{demand_toward}
+use Rattle.pim_form.proofs.Words.{rp_of, via_of, wants, demand_toward}
 use Rattle.pim_form.proofs.AskedForAll.{asked_is_toward}
 use Rattle.pim_form.proofs.TableRps.{have_rps}
 use Rattle.pim_form.proofs.toward_laws.same_messages_same_demand_toward.Goals as goal

@@ -1,5 +1,4 @@
-use Rattle.std.proofs.Common.{◌≡◌, Bool, true, ℕ, sym, ◌<◌, arith}
-use Rattle.pim_form.specs.Wants.{wants_on}
+use Rattle.pim_form.proofs.Words.{◌≡◌, Bool, true, ℕ, sym, ◌<◌, arith, wants_on}
 use Rattle.pim_form.proofs.Below.{found_below}
 use Rattle.pim_form.proofs.wanting.wants.Goals as goal
 

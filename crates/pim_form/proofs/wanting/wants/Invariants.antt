@@ -1,5 +1,4 @@
-use Rattle.std.proofs.Common.{◌≡◌, false}
-use Rattle.pim_form.specs.Wants.{wants_on, some_below}
+use Rattle.pim_form.proofs.Words.{◌≡◌, false, wants_on, some_below}
 use Rattle.pim_form.proofs.wanting.wants.Given as goal
 
 -- no port before this one wants it

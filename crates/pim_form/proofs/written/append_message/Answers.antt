@@ -1,7 +1,4 @@
-use Rattle.std.proofs.Common.{◌≡◌, ◌∙◌, ◌+◌, List, take, ap, subst, arith}
-use Rattle.pim_addr.specs.Routes.{rp_of}
-use Rattle.pim_form.specs.NormalForm.{GroupForm}
-use Rattle.pim_form.specs.Added.{CarriesPart}
+use Rattle.pim_form.proofs.Words.{◌≡◌, ◌∙◌, ◌+◌, List, take, ap, subst, arith, rp_of, GroupForm, CarriesPart}
 use Rattle.pim_form.proofs.Additions.{front_stays, cut_behind}
 use Rattle.pim_form.proofs.written.append_message.Goals as goal
 

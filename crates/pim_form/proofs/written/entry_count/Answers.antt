@@ -1,6 +1,4 @@
-use Rattle.std.proofs.Common.{◌≡◌, ◌∙◌, length, sym, ap, arith}
-use Rattle.std.proofs.lemmas.List.{length-map}
-use Rattle.pim_form.specs.Rows.{exceptions_of}
+use Rattle.pim_form.proofs.Words.{◌≡◌, ◌∙◌, length, sym, ap, arith, length-map, exceptions_of}
 use Rattle.pim_form.proofs.Counted.{group_counted}
 use Rattle.pim_form.proofs.written.entry_count.Goals as goal
 

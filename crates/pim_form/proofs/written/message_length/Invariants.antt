@@ -1,5 +1,4 @@
-use Rattle.std.proofs.Common.{◌≡◌, ◌+◌}
-use Rattle.pim_form.specs.Units.{units_of, run_entries}
+use Rattle.pim_form.proofs.Words.{◌≡◌, ◌+◌, units_of, run_entries}
 use Rattle.pim_form.proofs.written.message_length.Given as goal
 
 -- the entries counted so far and those of the groups that are left are all

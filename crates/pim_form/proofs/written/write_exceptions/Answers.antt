@@ -1,7 +1,5 @@
-use Rattle.std.proofs.Common.{arith}
-use Rattle.pim_addr.specs.Encoded.{source_length}
+use Rattle.pim_form.proofs.Words.{arith, source_length, canonical_rpt_entry}
 use Rattle.pim_form.proofs.EntriesWritten.{items_written}
-use Rattle.pim_form.specs.Entries.{canonical_rpt_entry}
 use Rattle.pim_form.proofs.written.write_exceptions.Goals as goal
 
 pub returns : goal.returns

@@ -1,7 +1,4 @@
-use Rattle.std.proofs.Common.{◌∙◌, arith}
-use Rattle.std.proofs.lemmas.List.{length-map}
-use Rattle.pim_addr.specs.Routes.{rp_of}
-use Rattle.pim_form.specs.Messages.{written_set}
+use Rattle.pim_form.proofs.Words.{◌∙◌, arith, length-map, rp_of, written_set}
 use Rattle.pim_form.proofs.PartMessage.{message_is, message_room, sealed_is}
 use Rattle.pim_form.proofs.written.write_message.Goals as goal
 

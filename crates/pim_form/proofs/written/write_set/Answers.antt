@@ -1,12 +1,6 @@
-use Rattle.std.proofs.Common.{◌≡◌, ◌∙◌, ℕ, ◌+◌, ◌*◌, ◌/◌, ◌%◌, ◌≤◌, List, [], ◌∷◌, ◌++◌, length, sym, ap, arith}
-use Rattle.std.specs.List.{flat_map}
-use Rattle.std.proofs.lemmas.List.{length-map}
-use Rattle.pim_addr.specs.Canonical.{canonical_group}
-use Rattle.pim_addr.specs.Encoded.{group_length, source_length}
-use Rattle.pim_addr.specs.Routes.{rp_of}
-use Rattle.pim_form.specs.Entries.{canonical_source_entry, canonical_rpt_entry}
-use Rattle.pim_form.specs.Rows.{exceptions_of}
-use Rattle.pim_form.specs.Messages.{star_entries, written_set}
+use Rattle.pim_form.proofs.Words.{◌≡◌, ◌∙◌, ℕ, ◌+◌, ◌*◌, ◌/◌, ◌%◌, ◌≤◌, List, [], ◌∷◌, ◌++◌, length, sym, ap, arith}
+use Rattle.pim_form.proofs.Words.{flat_map, length-map, canonical_group, group_length, source_length, rp_of}
+use Rattle.pim_form.proofs.Words.{canonical_source_entry, canonical_rpt_entry, exceptions_of, star_entries, written_set}
 use Rattle.pim_form.proofs.Sets.{pruned_count, joined_count, stars_count, exceptions_room, set_spelled}
 use Rattle.pim_form.proofs.written.write_set.Goals as goal
 

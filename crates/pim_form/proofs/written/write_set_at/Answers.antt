@@ -1,7 +1,4 @@
-use Rattle.std.proofs.Common.{◌≡◌, ◌∙◌, ℕ, ◌+◌, List, length, take, ◌++◌, ap, arith}
-use Rattle.pim_jp.specs.Canonical.{canonical_set_length}
-use Rattle.pim_addr.specs.Routes.{rp_of}
-use Rattle.pim_form.specs.Messages.{written_set}
+use Rattle.pim_form.proofs.Words.{◌≡◌, ◌∙◌, ℕ, ◌+◌, List, length, take, ◌++◌, ap, arith, canonical_set_length, rp_of, written_set}
 use Rattle.pim_form.proofs.Sets.{few_sources, front_and_piece}
 use Rattle.pim_form.proofs.written.write_set_at.Goals as goal
 

@@ -1,9 +1,5 @@
-use Rattle.std.proofs.Common.{◌≡◌, ◌∙◌, List, ◌∷◌, map, take, sym, subst}
-use Rattle.std.specs.List.{AllByRecursion}
-use Rattle.pim_jp.specs.Canonical.{IsMessageSet}
-use Rattle.pim_form.specs.NormalForm.{GroupForm}
-use Rattle.pim_form.specs.Messages.{HaveRps, written_set}
-use Rattle.pim_addr.specs.Routes.{rp_of}
+use Rattle.pim_form.proofs.Words.{◌≡◌, ◌∙◌, List, ◌∷◌, map, take, sym, subst, AllByRecursion, IsMessageSet, GroupForm}
+use Rattle.pim_form.proofs.Words.{HaveRps, written_set, rp_of}
 use Rattle.pim_form.proofs.Sets.{room_of_first, room_of_others, one_more_set, no_more_set}
 use Rattle.pim_form.proofs.written.write_sets.Goals as goal
 

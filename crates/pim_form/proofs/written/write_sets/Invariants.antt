@@ -1,8 +1,5 @@
-use Rattle.std.proofs.Common.{◌≡◌, ◌+◌, ◌++◌, length, map, take}
-use Rattle.std.specs.List.{AllByRecursion, flat_map}
-use Rattle.pim_addr.specs.Routes.{rp_of}
-use Rattle.pim_jp.specs.Canonical.{IsMessageSet, canonical_set, canonical_sets_length}
-use Rattle.pim_form.specs.Messages.{HaveRps, written_set}
+use Rattle.pim_form.proofs.Words.{◌≡◌, ◌+◌, ◌++◌, length, map, take, AllByRecursion, flat_map, rp_of, IsMessageSet}
+use Rattle.pim_form.proofs.Words.{canonical_set, canonical_sets_length, HaveRps, written_set}
 use Rattle.pim_form.proofs.written.write_sets.Given as goal
 
 -- what is written and the sets of the groups that are left are the sets of all

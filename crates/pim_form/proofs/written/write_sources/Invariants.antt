@@ -1,7 +1,4 @@
-use Rattle.std.proofs.Common.{◌≡◌, ◌*◌, length, take}
-use Rattle.std.specs.List.{flat_map}
-use Rattle.pim_addr.specs.Encoded.{source_length}
-use Rattle.pim_form.specs.Entries.{canonical_source_entry}
+use Rattle.pim_form.proofs.Words.{◌≡◌, ◌*◌, length, take, flat_map, source_length, canonical_source_entry}
 use Rattle.pim_form.proofs.written.write_sources.Given as goal
 
 abbrev pub invariant-loop-index : goal.invariant-loop-index

@@ -1,6 +1,4 @@
-use Rattle.std.proofs.Common.{◌∷◌, subst}
-use Rattle.std.specs.Prelude.{IfSome}
-use Rattle.pim_hello.specs.KeptDelays.{ComesTo}
+use Rattle.pim_hello.proofs.Words.{◌∷◌, subst, IfSome, ComesTo}
 use Rattle.pim_hello.proofs.GreatestDelays.{in_its_place}
 use Rattle.pim_hello.proofs.delays_heard.known_with.Goals as goal
 use Rattle.pim_hello.proofs.delays_heard.known_with.Goals.{in-Some+else-not-is_no_less, in_default}

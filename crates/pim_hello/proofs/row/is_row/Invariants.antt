@@ -1,5 +1,4 @@
-use Rattle.std.proofs.Common.{◌≡◌, length}
-use Rattle.pim_hello.specs.Row.{is_row}
+use Rattle.pim_hello.proofs.Words.{◌≡◌, length, is_row}
 use Rattle.pim_hello.proofs.row.is_row.Given as goal
 
 abbrev pub invariant-loop-size : goal.invariant-loop-size

@@ -1,6 +1,5 @@
 use Rattle.std.proofs.Common.{◌≡◌, ◌∙◌, ap, ℕ, List, length, map, arith, take, refl, ◌++◌}
-use Rattle.pim_addr.specs.Address.{address_length}
-use Rattle.pim_hello.specs.Spelling.{row_spelled, address_spelled}
+use Rattle.pim_hello.proofs.Words.{address_length, row_spelled, address_spelled}
 use Rattle.pim_hello.proofs.Spelled.{take_two}
 use Rattle.pim_hello.proofs.Each.{room, one_written, one_long, none_long}
 use Rattle.pim_hello.proofs.writing.put_each.Goals as goal

@@ -1,6 +1,5 @@
 use Rattle.std.proofs.Common.{◌≡◌, ◌*◌, map, take}
-use Rattle.pim_addr.specs.Encoded.{unicast_length}
-use Rattle.pim_hello.specs.Spelling.{row_spelled, AreAddresses}
+use Rattle.pim_hello.proofs.Words.{unicast_length, row_spelled, AreAddresses}
 use Rattle.pim_hello.proofs.writing.put_each.Given as goal
 
 -- the addresses so far are written

@@ -1,6 +1,5 @@
-use Rattle.std.proofs.Common.{◌≡◌, ◌++◌, ◌∙◌, ap, sym, ℕ, List, length, arith, append_assoc, length-append}
-use Rattle.pim_hello.specs.Seen.{addresses_seen}
-use Rattle.pim_hello.specs.Spelling.{row_spelled}
+use Rattle.pim_hello.proofs.Words.{◌≡◌, ◌++◌, ◌∙◌, ap, sym, ℕ, List, length, arith, append_assoc, length-append}
+use Rattle.pim_hello.proofs.Words.{addresses_seen, row_spelled}
 use Rattle.pim_hello.proofs.Spelled.{first_size, first_length, take_two}
 use Rattle.pim_hello.proofs.writing.put_row.Goals as goal
 

@@ -1,6 +1,4 @@
-use Rattle.std.proofs.Common.{◌≡◌, ◌+◌, ◌++◌, length, take}
-use Rattle.pim_hello.specs.Seen.{addresses_seen}
-use Rattle.pim_hello.specs.Spelling.{row_spelled}
+use Rattle.pim_hello.proofs.Words.{◌≡◌, ◌+◌, ◌++◌, length, take, addresses_seen, row_spelled}
 use Rattle.pim_hello.proofs.writing.put_row.Given as goal
 
 -- what is written, and then what is left, is the whole row

@@ -1,7 +1,4 @@
-use Rattle.std.proofs.Common.{◌≡◌, ◌∙◌, ap, sym, false}
-use Rattle.pim_addr.specs.Encoded.{source_length, source_value}
-use Rattle.pim_jp.specs.Message.{entry_of}
-use Rattle.pim_jp.specs.Reading.{is_in, entry_at}
+use Rattle.pim_jp.proofs.Words.{◌≡◌, ◌∙◌, ap, sym, false, source_length, source_value, entry_of, is_in, entry_at}
 use Rattle.pim_jp.proofs.EntryLoop.{drop_more}
 use Rattle.pim_jp.proofs.EntryPass.{apart_more}
 use Rattle.pim_jp.proofs.clashes.first_clash_among_few.Goals as goal

@@ -1,6 +1,4 @@
-use Rattle.std.proofs.Common.{◌≡◌, ◌*◌, drop}
-use Rattle.pim_addr.specs.Encoded.{source_length}
-use Rattle.pim_jp.specs.Reading.{AreApart}
+use Rattle.pim_jp.proofs.Words.{◌≡◌, ◌*◌, drop, source_length, AreApart}
 use Rattle.pim_jp.proofs.clashes.first_clash_among_few.Given as goal
 
 abbrev pub invariant-loop-place : goal.invariant-loop-place

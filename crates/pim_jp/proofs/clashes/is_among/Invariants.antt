@@ -1,7 +1,4 @@
-use Rattle.std.proofs.Common.{◌≡◌}
-use Rattle.std.specs.List.{list_any}
-use Rattle.pim_jp.specs.Spelling.{same_source}
-use Rattle.pim_jp.specs.Seen.{entry_seen}
+use Rattle.pim_jp.proofs.Words.{◌≡◌, list_any, same_source, entry_seen}
 use Rattle.pim_jp.proofs.clashes.is_among.Given as goal
 
 abbrev pub invariant-loop-other : goal.invariant-loop-other

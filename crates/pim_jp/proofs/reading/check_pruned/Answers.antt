@@ -1,5 +1,4 @@
-use Rattle.std.proofs.Common.{◌∙◌, sym, arith}
-use Rattle.std.proofs.lemmas.Result.{err_from_is_err_and}
+use Rattle.pim_jp.proofs.Words.{◌∙◌, sym, arith, err_from_is_err_and}
 use Rattle.pim_jp.proofs.EntryPass.{list_passes, list_stops, list_clashed, types_apart, ok_then, err_then}
 use Rattle.pim_jp.proofs.reading.check_pruned.Goals as goal
 

@@ -1,8 +1,4 @@
-use Rattle.std.proofs.Common.{◌≡◌, ◌≤◌, length}
-use Rattle.std.proofs.lemmas.Result.{err_from_is_err_and, IfOk-at_ok}
-use Rattle.pim_addr.specs.Encoded.{group_length}
-use Rattle.pim_jp.specs.Parts.{group}
-use Rattle.pim_jp.specs.Faults.{kinds_at}
+use Rattle.pim_jp.proofs.Words.{◌≡◌, ◌≤◌, length, err_from_is_err_and, IfOk-at_ok, group_length, group, kinds_at}
 use Rattle.pim_jp.proofs.SetLoop.{set_pass, set_stop_lists}
 use Rattle.pim_jp.proofs.reading.check_set.Goals as goal
 

@@ -1,7 +1,4 @@
-use Rattle.std.proofs.Common.{◌∙◌}
-use Rattle.std.proofs.lemmas.Result.{err_from_is_err_and}
-use Rattle.pim_jp.specs.Parts.{rest}
-use Rattle.pim_jp.specs.Faults.{kinds_at}
+use Rattle.pim_jp.proofs.Words.{◌∙◌, err_from_is_err_and, rest, kinds_at}
 use Rattle.pim_jp.proofs.SetLoop.{sets_more, sets_stop, sets_told, sets_all}
 use Rattle.pim_jp.proofs.reading.check_sets.Goals as goal
 

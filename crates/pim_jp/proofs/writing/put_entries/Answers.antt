@@ -1,7 +1,4 @@
-use Rattle.std.proofs.Common.{arith}
-use Rattle.pim_addr.specs.Encoded.{source_length}
-use Rattle.pim_jp.specs.Canonical.{canonical_entry}
-use Rattle.pim_jp.specs.Seen.{entry_seen}
+use Rattle.pim_jp.proofs.Words.{arith, source_length, canonical_entry, entry_seen}
 use Rattle.pim_jp.proofs.EntryPlaces.{items_written}
 use Rattle.pim_jp.proofs.writing.put_entries.Goals as goal
 

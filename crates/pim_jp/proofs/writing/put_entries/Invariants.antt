@@ -1,8 +1,4 @@
-use Rattle.std.proofs.Common.{◌≡◌, ◌*◌, length, take}
-use Rattle.std.specs.List.{flat_map}
-use Rattle.pim_addr.specs.Encoded.{source_length}
-use Rattle.pim_jp.specs.Canonical.{canonical_entry}
-use Rattle.pim_jp.specs.Seen.{entry_seen}
+use Rattle.pim_jp.proofs.Words.{◌≡◌, ◌*◌, length, take, flat_map, source_length, canonical_entry, entry_seen}
 use Rattle.pim_jp.proofs.writing.put_entries.Given as goal
 
 abbrev pub invariant-loop-index : goal.invariant-loop-index

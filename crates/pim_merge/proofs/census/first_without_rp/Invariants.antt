@@ -1,5 +1,4 @@
-use Rattle.std.proofs.Common.{◌≡◌, drop}
-use Rattle.pim_merge.specs.Missing.{first_without_rp}
+use Rattle.pim_merge.proofs.Words.{◌≡◌, drop, first_without_rp}
 use Rattle.pim_merge.proofs.census.first_without_rp.Given as goal
 
 -- the slots that are left give the group

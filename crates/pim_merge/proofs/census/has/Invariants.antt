@@ -1,5 +1,4 @@
-use Rattle.std.proofs.Common.{◌≡◌, drop}
-use Rattle.pim_merge.specs.Missing.{has}
+use Rattle.pim_merge.proofs.Words.{◌≡◌, drop, has}
 use Rattle.pim_merge.proofs.census.has.Given as goal
 
 -- one of the slots has the address just if one of those that are left has it

@@ -1,6 +1,5 @@
-use Rattle.std.proofs.Common.{◌<◌, ◌∙◌, length, set, ap, sym, arith}
+use Rattle.pim_merge.proofs.Words.{◌<◌, ◌∙◌, length, set, ap, sym, arith, with_census}
 use Rattle.std.proofs.lemmas.List.Edits.{map_over_more}
-use Rattle.pim_merge.specs.Lane.{with_census}
 use Rattle.pim_merge.proofs.merge.begin_all.Goals as goal
 
 pub loop-lane-preserved : goal.loop-lane-preserved

@@ -1,5 +1,4 @@
-use Rattle.std.proofs.Common.{◌≡◌, ◌++◌, map, take, drop}
-use Rattle.pim_merge.specs.Lane.{with_census}
+use Rattle.pim_merge.proofs.Words.{◌≡◌, ◌++◌, map, take, drop, with_census}
 use Rattle.pim_merge.proofs.merge.begin_all.Given as goal
 
 abbrev pub invariant-loop-lane : goal.invariant-loop-lane

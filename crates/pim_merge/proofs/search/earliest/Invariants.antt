@@ -1,6 +1,4 @@
-use Rattle.std.proofs.Common.{◌≡◌, drop, map}
-use Rattle.pim_merge.specs.Merge.{sooner, earliest_from}
-use Rattle.pim_merge.specs.Lane.{head_rank}
+use Rattle.pim_merge.proofs.Words.{◌≡◌, drop, map, sooner, earliest_from, head_rank}
 use Rattle.pim_merge.proofs.search.earliest.Given as goal
 
 -- the earliest so far and the heads that are left give the earliest of all

@@ -1,5 +1,4 @@
-use Rattle.std.proofs.Common.{◌∙◌, sym}
-use Rattle.pim_mirror.specs.declared.config.OtherNeighbour.{OtherNeighbour}
+use Rattle.pim_mirror.proofs.Words.{◌∙◌, sym, OtherNeighbour}
 use Rattle.pim_mirror.proofs.Listed.{met_again, not_met}
 use Rattle.pim_mirror.proofs.fitting.are_different.Goals as goal
 

@@ -1,6 +1,4 @@
-use Rattle.std.proofs.Common.{◌≡◌, map, length}
-use Rattle.pim_mirror.specs.Tests.{are_different}
-use Rattle.pim_mirror.specs.declared.config.OtherNeighbour.{OtherNeighbour}
+use Rattle.pim_mirror.proofs.Words.{◌≡◌, map, length, are_different, OtherNeighbour}
 use Rattle.pim_mirror.proofs.fitting.are_different.Given as goal
 
 -- all are different exactly if those that are left are

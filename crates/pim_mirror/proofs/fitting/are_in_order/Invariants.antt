@@ -1,6 +1,4 @@
-use Rattle.std.proofs.Common.{◌≡◌, map, drop}
-use Rattle.pim_mirror.specs.Config.{delivery_seen}
-use Rattle.pim_mirror.specs.Tests.{is_in_order}
+use Rattle.pim_mirror.proofs.Words.{◌≡◌, map, drop, delivery_seen, is_in_order}
 use Rattle.pim_mirror.proofs.fitting.are_in_order.Given as goal
 
 -- the test of those that are left is that of all

@@ -1,5 +1,4 @@
-use Rattle.std.proofs.Common.{◌∙◌, sym}
-use Rattle.std.proofs.lemmas.Bool.{false≢true}
+use Rattle.pim_mirror.proofs.Words.{◌∙◌, sym, false≢true}
 use Rattle.pim_mirror.proofs.Conditions.{clash, listed, named_test, early, early_test, delivered, delivered_test}
 use Rattle.pim_mirror.proofs.fitting.deliveries_fit.Goals as goal
 

@@ -1,5 +1,4 @@
-use Rattle.std.proofs.Common.{refl, arith}
-use Rattle.std.proofs.lemmas.Bool.{false≢true}
+use Rattle.pim_mirror.proofs.Words.{refl, arith, false≢true}
 use Rattle.pim_mirror.proofs.Conditions.{clash}
 use Rattle.pim_mirror.proofs.fitting.each_is_delivered.Goals as goal
 

@@ -1,5 +1,4 @@
-use Rattle.std.proofs.Common.{◌≡◌, ◌<◌, ◌==◌, ℕ, true}
-use Rattle.std.specs.List.{list_any}
+use Rattle.pim_mirror.proofs.Words.{◌≡◌, ◌<◌, ◌==◌, ℕ, true, list_any}
 use Rattle.pim_mirror.specs.declared.config.Delivery.{Delivery}
 use Rattle.pim_mirror.proofs.fitting.each_is_delivered.Given as goal
 

@@ -1,6 +1,4 @@
-use Rattle.std.proofs.Common.{◌≡◌, ◌<◌, ℕ, true, map, None}
-use Rattle.pim_mirror.specs.Config.{delivery_seen}
-use Rattle.pim_mirror.specs.Tests.{is_kept}
+use Rattle.pim_mirror.proofs.Words.{◌≡◌, ◌<◌, ℕ, true, map, None, delivery_seen, is_kept}
 use Rattle.pim_mirror.proofs.fitting.each_is_kept.Given as goal
 
 -- no message before this one is missed

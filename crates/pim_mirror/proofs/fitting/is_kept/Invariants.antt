@@ -1,6 +1,4 @@
-use Rattle.std.proofs.Common.{◌≡◌, map, drop, None}
-use Rattle.pim_mirror.specs.Config.{delivery_seen}
-use Rattle.pim_mirror.specs.Tests.{is_kept}
+use Rattle.pim_mirror.proofs.Words.{◌≡◌, map, drop, None, delivery_seen, is_kept}
 use Rattle.pim_mirror.proofs.fitting.is_kept.Given as goal
 
 -- the test of those that are left is that of all

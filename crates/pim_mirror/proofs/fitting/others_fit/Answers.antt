@@ -1,6 +1,4 @@
-use Rattle.std.proofs.Common.{◌∙◌, sym, ap}
-use Rattle.std.proofs.lemmas.Bool.{false≢true}
-use Rattle.pim_router.specs.State.{Port}
+use Rattle.pim_mirror.proofs.Words.{◌∙◌, sym, ap, false≢true, Port}
 use Rattle.pim_mirror.proofs.Listed.{not_true, false_not}
 use Rattle.pim_mirror.proofs.Conditions.{clash, clash_met, differ, differ_test, apart, apart_test, at_address, few}
 use Rattle.pim_mirror.proofs.fitting.others_fit.Goals as goal

@@ -1,6 +1,4 @@
-use Rattle.std.proofs.Common.{◌∙◌, sym}
-use Rattle.std.proofs.lemmas.Bool.{false≢true}
-use Rattle.pim_mirror.specs.Fits.{expiry_of}
+use Rattle.pim_mirror.proofs.Words.{◌∙◌, sym, false≢true, expiry_of}
 use Rattle.pim_mirror.proofs.Conditions.{clash, stay_at, stay_test_at, timely_at, order_test_at, kept_test_at}
 use Rattle.pim_mirror.proofs.fitting.times_fit.Goals as goal
 

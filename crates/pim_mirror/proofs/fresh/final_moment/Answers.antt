@@ -1,5 +1,4 @@
-use Rattle.std.proofs.Common.{◌∙◌, ◌≤◌, ◌^◌, ℕ, max, sym, ap, subst, arith}
-use Rattle.pim_fresh.specs.Deliveries.{final_moment}
+use Rattle.pim_mirror.proofs.Words.{◌∙◌, ◌≤◌, ◌^◌, ℕ, max, sym, ap, subst, arith, final_moment}
 use Rattle.pim_mirror.proofs.Finals.{newest, final_more, early_last, final_none}
 use Rattle.pim_mirror.proofs.fresh.final_moment.Goals as goal
 

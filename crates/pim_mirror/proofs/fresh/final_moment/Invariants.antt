@@ -1,7 +1,4 @@
-use Rattle.std.proofs.Common.{◌≡◌, ◌≤◌, ◌^◌, map, max, length}
-use Rattle.pim_fresh.specs.Deliveries.{final_moment}
-use Rattle.pim_mirror.specs.Config.{delivery_seen}
-use Rattle.pim_mirror.specs.Tests.{AreEarly}
+use Rattle.pim_mirror.proofs.Words.{◌≡◌, ◌≤◌, ◌^◌, map, max, length, final_moment, delivery_seen, AreEarly}
 use Rattle.pim_mirror.proofs.Finals.{newest}
 use Rattle.pim_mirror.proofs.fresh.final_moment.Given as goal
 

@@ -1,6 +1,4 @@
-use Rattle.std.proofs.Common.{◌≡◌, ◌≤◌, drop}
-use Rattle.pim_hello.specs.Interval.{jp_override_interval}
-use Rattle.pim_mirror.specs.Config.{fresh_seen, interval_of}
+use Rattle.pim_mirror.proofs.Words.{◌≡◌, ◌≤◌, drop, jp_override_interval, fresh_seen, interval_of}
 use Rattle.pim_mirror.proofs.Intervals.{hellos_of}
 use Rattle.pim_mirror.proofs.fresh.interval_of.Given as goal
 

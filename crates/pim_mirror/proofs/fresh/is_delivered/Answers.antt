@@ -1,8 +1,7 @@
-use Rattle.std.proofs.Common.{◌∙◌, ◌==◌, sym, rules, tests}
+use Rattle.pim_mirror.proofs.Words.{◌∙◌, ◌==◌, sym, rules, tests, list_any-IsPermutation, IsPermutation-reverse}
 use Rattle.std.specs.Prelude.{reverse}
 use Rattle.std.proofs.lemmas.Iterator.Adapters.{YieldsList-from_rev_slice}
 use Rattle.std.proofs.lemmas.Iterator.Search.{any_from_yields_List}
-use Rattle.std.proofs.lemmas.List.Sorted.{list_any-IsPermutation, IsPermutation-reverse}
 use Rattle.pim_mirror.specs.declared.config.Delivery.{Delivery}
 use Rattle.pim_mirror.proofs.fresh.is_delivered.Goals as goal
 

@@ -1,7 +1,5 @@
-use Rattle.std.proofs.Common.{◌∙◌, length, ap, refl}
-use Rattle.pim_router.specs.Seen.{port_seen}
-use Rattle.pim_router.specs.State.{new_router}
-use Rattle.pim_mirror.specs.Config.{fresh_seen, neighbour_seen, setup_of, port_of, sender_hello}
+use Rattle.pim_mirror.proofs.Words.{◌∙◌, length, ap, refl, port_seen, new_router, fresh_seen, neighbour_seen, setup_of}
+use Rattle.pim_mirror.proofs.Words.{port_of, sender_hello}
 use Rattle.pim_mirror.proofs.Hellos.{made_is, one_port, all_met}
 use Rattle.pim_mirror.proofs.meeting.introduced.Goals as goal
 

@@ -1,7 +1,4 @@
-use Rattle.std.proofs.Common.{◌∙◌, ◌+◌, List, ◌∷◌, drop, map, sym, subst, ap}
-use Rattle.pim_mirror.specs.Config.{neighbour_seen}
-use Rattle.pim_mirror.specs.declared.config.OtherNeighbour.{OtherNeighbour}
-use Rattle.pim_mirror.specs.Mirror.{PassesHellos}
+use Rattle.pim_mirror.proofs.Words.{◌∙◌, ◌+◌, List, ◌∷◌, drop, map, sym, subst, ap, neighbour_seen, OtherNeighbour, PassesHellos}
 use Rattle.pim_mirror.proofs.Heard.{left_is, none_left}
 use Rattle.pim_mirror.proofs.Hellos.{more_met, no_hellos}
 use Rattle.pim_mirror.proofs.meeting.meet_others.Goals as goal

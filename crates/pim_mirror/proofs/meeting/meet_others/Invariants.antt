@@ -1,7 +1,4 @@
-use Rattle.std.proofs.Common.{◌≡◌, map, drop}
-use Rattle.pim_router.specs.State.{RouterState}
-use Rattle.pim_mirror.specs.Config.{neighbour_seen}
-use Rattle.pim_mirror.specs.Mirror.{PassesHellos}
+use Rattle.pim_mirror.proofs.Words.{◌≡◌, map, drop, RouterState, neighbour_seen, PassesHellos}
 use Rattle.pim_mirror.proofs.meeting.meet_others.Given as goal
 
 -- whom those that are left meet from here, all meet from the start

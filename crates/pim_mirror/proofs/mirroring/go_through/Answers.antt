@@ -1,9 +1,5 @@
-use Rattle.std.proofs.Common.{ℕ, ◌∷◌, [], ◌++◌, Ok, Err, subst}
-use Rattle.std.specs.List.{flat_map}
-use Rattle.std.proofs.lemmas.Result.{err_from_is_err_and}
-use Rattle.pim_router.specs.Course.{runs_to}
-use Rattle.pim_mirror.specs.Config.{fresh_seen}
-use Rattle.pim_mirror.specs.Mirror.{Passes, delivery_inputs}
+use Rattle.pim_mirror.proofs.Words.{ℕ, ◌∷◌, [], ◌++◌, Ok, Err, subst, flat_map, err_from_is_err_and, runs_to}
+use Rattle.pim_mirror.proofs.Words.{fresh_seen, Passes, delivery_inputs}
 use Rattle.pim_mirror.proofs.Heard.{mirror_ends, mirror_stops}
 use Rattle.pim_mirror.proofs.mirroring.go_through.Goals as goal
 

@@ -1,9 +1,6 @@
-use Rattle.std.proofs.Common.{◌∙◌, ◌+◌, List, Ok, drop, map, slice_index_or, sym, subst}
-use Rattle.std.specs.List.{flat_map}
-use Rattle.std.proofs.lemmas.Result.{err_from_is_err_and}
-use Rattle.pim_mirror.specs.Config.{delivery_seen}
+use Rattle.pim_mirror.proofs.Words.{◌∙◌, ◌+◌, List, Ok, drop, map, slice_index_or, sym, subst, flat_map}
+use Rattle.pim_mirror.proofs.Words.{err_from_is_err_and, delivery_seen, Passes, delivery_inputs}
 use Rattle.pim_mirror.specs.declared.config.Delivery as code
-use Rattle.pim_mirror.specs.Mirror.{Passes, delivery_inputs}
 use Rattle.pim_mirror.proofs.Heard.{early_at, left_is, none_left, more_heard, stopped_there}
 use Rattle.pim_mirror.proofs.Refused.{stops_here, stops_behind}
 use Rattle.pim_mirror.proofs.Ways.{nothing_passes}

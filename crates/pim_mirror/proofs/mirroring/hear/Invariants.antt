@@ -1,9 +1,5 @@
-use Rattle.std.proofs.Common.{◌≡◌, map, drop, Result}
-use Rattle.std.specs.List.{flat_map}
-use Rattle.pim_router.specs.State.{RouterState}
-use Rattle.pim_mirror.specs.Config.{delivery_seen}
-use Rattle.pim_mirror.specs.Mirror.{Passes, StopsAt, delivery_inputs}
-use Rattle.pim_mirror.specs.declared.mirroring.MirrorFault.{MirrorFault}
+use Rattle.pim_mirror.proofs.Words.{◌≡◌, map, drop, Result, flat_map, RouterState, delivery_seen, Passes, StopsAt}
+use Rattle.pim_mirror.proofs.Words.{delivery_inputs, MirrorFault}
 use Rattle.pim_mirror.proofs.mirroring.hear.Given as goal
 
 -- what those that are left pass from here, all pass from the start; a refusal among those that are left is one among

@@ -1,8 +1,4 @@
-use Rattle.std.proofs.Common.{map, ◌∷◌, ◌++◌, [], Ok}
-use Rattle.std.specs.List.{flat_map}
-use Rattle.pim_router.specs.Course.{runs_to}
-use Rattle.pim_mirror.specs.Config.{delivery_seen}
-use Rattle.pim_mirror.specs.Mirror.{delivery_inputs}
+use Rattle.pim_mirror.proofs.Words.{map, ◌∷◌, ◌++◌, [], Ok, flat_map, runs_to, delivery_seen, delivery_inputs}
 use Rattle.pim_mirror.proofs.Ways.{reached_passes, then_passes, then_stops, refused_anywhere}
 use Rattle.pim_mirror.proofs.mirroring.hear_deliveries.Goals as goal
 

@@ -1,7 +1,4 @@
-use Rattle.std.proofs.Common.{List, ℕ, ap}
-use Rattle.pim_frame.specs.Frame.{all_routers}
-use Rattle.pim_router.specs.Packets.{Packet}
-use Rattle.pim_mirror.specs.Config.{delivery_seen}
+use Rattle.pim_mirror.proofs.Words.{List, ℕ, ap, all_routers, Packet, delivery_seen}
 use Rattle.pim_mirror.proofs.Heard.{one_heard}
 use Rattle.pim_mirror.proofs.Refused.{stays_reached, refused_there}
 use Rattle.pim_mirror.proofs.mirroring.hear_one.Goals as goal

@@ -1,5 +1,4 @@
-use Rattle.std.proofs.Common.{◌∙◌, sym, ap}
-use Rattle.pim_form.specs.Blocks.{written_bytes}
+use Rattle.pim_mirror.proofs.Words.{◌∙◌, sym, ap, written_bytes}
 use Rattle.pim_mirror.proofs.Heard.{no_bytes_at}
 use Rattle.pim_mirror.proofs.mirroring.message_at.Goals as goal
 

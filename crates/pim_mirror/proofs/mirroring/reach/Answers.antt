@@ -1,5 +1,4 @@
-use Rattle.std.proofs.Common.{◌∙◌, sym, ap}
-use Rattle.pim_router.specs.State.{Setup}
+use Rattle.pim_mirror.proofs.Words.{◌∙◌, sym, ap, Setup}
 use Rattle.pim_mirror.proofs.Ways.{onward, ended}
 use Rattle.pim_mirror.proofs.mirroring.reach.Goals as goal
 

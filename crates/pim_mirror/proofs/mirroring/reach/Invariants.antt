@@ -1,7 +1,4 @@
-use Rattle.std.proofs.Common.{◌≡◌}
-use Rattle.pim_router.specs.State.{RouterState}
-use Rattle.pim_router.specs.Time.{turns_left}
-use Rattle.pim_mirror.specs.Mirror.{HasReached}
+use Rattle.pim_mirror.proofs.Words.{◌≡◌, RouterState, turns_left, HasReached}
 use Rattle.pim_mirror.proofs.mirroring.reach.Given as goal
 
 -- what is reached from here is reached from the start

@@ -1,7 +1,4 @@
-use Rattle.std.proofs.Common.{ℕ, List, [], ◌∷◌, IfErr, subst}
-use Rattle.pim_router.specs.Course.{takes}
-use Rattle.pim_router.specs.Seen.{packet_seen}
-use Rattle.pim_mirror.specs.Mirror.{Passes, IsRefused}
+use Rattle.pim_mirror.proofs.Words.{ℕ, List, [], ◌∷◌, IfErr, subst, takes, packet_seen, Passes, IsRefused}
 use Rattle.pim_mirror.proofs.Refused.{refusal_keeps, is_refused}
 use Rattle.pim_mirror.proofs.Ways.{taken, taken_keeps}
 use Rattle.pim_mirror.proofs.mirroring.take.Goals as goal

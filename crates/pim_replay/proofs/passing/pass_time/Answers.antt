@@ -1,10 +1,6 @@
-use Rattle.std.proofs.Common.{rules, ◌∙◌, refl, subst, arith}
-use Rattle.std.specs.Io.KnownBytes.{Appends}
-use Rattle.pim_device.specs.Device.{AppendsFront}
+use Rattle.pim_replay.proofs.Words.{rules, ◌∙◌, refl, subst, arith, Appends, AppendsFront, RunsPast, fires_behind, PassesTime}
 use Rattle.pim_down.specs.Seen.{what_seen, step_seen}
-use Rattle.pim_router.specs.Refreshes.{RunsPast, fires_behind}
 use Rattle.pim_replay.specs.declared.event.ReplayEvent.TheVariants as event
-use Rattle.pim_replay.specs.Passing.{PassesTime}
 use Rattle.pim_replay.proofs.Told.{tells_err}
 use Rattle.pim_replay.proofs.OnTheWay.{begin, echoed, reached, stopped}
 use Rattle.pim_replay.proofs.passing.pass_time.Goals as goal

@@ -1,6 +1,4 @@
-use Rattle.std.proofs.Common.{◌≡◌, ◌≤◌, max}
-use Rattle.pim_router.specs.State.{setup_of}
-use Rattle.pim_router.specs.Time.{turns_left}
+use Rattle.pim_replay.proofs.Words.{◌≡◌, ◌≤◌, max, setup_of, turns_left}
 use Rattle.pim_replay.proofs.OnTheWay.{IsOnTheWay}
 use Rattle.pim_replay.proofs.passing.pass_time.Given as goal
 

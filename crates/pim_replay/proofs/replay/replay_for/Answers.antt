@@ -1,6 +1,4 @@
-use Rattle.std.proofs.Common.{◌∙◌, ap}
-use Rattle.std.proofs.lemmas.Result.{err_from_is_err_and}
-use Rattle.pim_merge.specs.Ends.{end_moment}
+use Rattle.pim_replay.proofs.Words.{◌∙◌, ap, err_from_is_err_and, end_moment}
 use Rattle.pim_replay.proofs.AllTurns.{run_stopped, all_stopped, all_passed}
 use Rattle.pim_replay.proofs.replay.replay_for.Goals as goal
 

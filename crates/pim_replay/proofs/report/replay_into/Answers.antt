@@ -1,5 +1,4 @@
-use Rattle.std.proofs.Common.{refl}
-use Rattle.std.proofs.lemmas.Result.{err_from_is_err_and}
+use Rattle.pim_replay.proofs.Words.{refl, err_from_is_err_and}
 use Rattle.pim_replay.proofs.Ending.{cut_short, ends_reported, not_told}
 use Rattle.pim_replay.proofs.report.replay_into.Goals as goal
 

@@ -1,8 +1,4 @@
-use Rattle.std.proofs.Common.{rules, refl, ap, ◌∙◌, ◌+◌, min}
-use Rattle.pim_device.specs.Device.{top_count}
-use Rattle.pim_replay.specs.Turn.{skips_in}
-use Rattle.pim_merge.specs.Content.{content_seen}
-use Rattle.pim_merge.specs.Run.{turn_seen}
+use Rattle.pim_replay.proofs.Words.{rules, refl, ap, ◌∙◌, ◌+◌, min, top_count, skips_in, content_seen, turn_seen}
 use Rattle.pim_router.specs.Seen.{packet_seen}
 use Rattle.pim_replay.proofs.Taken.{packet_stays, not_held, none_told, skipped, packet_begun, packet_event}
 use Rattle.pim_replay.proofs.turns.take_record.Goals as goal

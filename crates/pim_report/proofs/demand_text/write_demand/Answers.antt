@@ -1,7 +1,4 @@
-use Rattle.std.proofs.Common.{List, refl, sym, subst, ◌∙◌}
-use Rattle.std.specs.List.{flat_map}
-use Rattle.pim_form.specs.NormalForm.{GroupForm}
-use Rattle.pim_report.specs.DemandText.{group_text}
+use Rattle.pim_report.proofs.Words.{List, refl, sym, subst, ◌∙◌, flat_map, GroupForm, group_text}
 use Rattle.pim_report.proofs.Written.{IsLeft, left_all, first_written, first_stopped, none_left, stopped}
 use Rattle.pim_report.proofs.demand_text.write_demand.Goals as goal
 

@@ -1,6 +1,4 @@
-use Rattle.std.proofs.Common.{◌≡◌}
-use Rattle.std.specs.List.{flat_map}
-use Rattle.pim_report.specs.DemandText.{group_text}
+use Rattle.pim_report.proofs.Words.{◌≡◌, flat_map, group_text}
 use Rattle.pim_report.proofs.Written.{IsLeft}
 use Rattle.pim_report.proofs.demand_text.write_demand.Given as goal
 

@@ -1,5 +1,4 @@
-use Rattle.std.proofs.Common.{option_map, refl, ◌∙◌, arith}
-use Rattle.pim_report.specs.DemandText.{exception_line}
+use Rattle.pim_report.proofs.Words.{option_map, refl, ◌∙◌, arith, exception_line}
 use Rattle.pim_report.proofs.Written.{seen_all, this_written, this_stopped, items_written, stopped}
 use Rattle.pim_report.proofs.demand_text.write_exceptions.Goals as goal
 

@@ -1,6 +1,4 @@
-use Rattle.std.proofs.Common.{◌≡◌, drop, map, option_map}
-use Rattle.std.specs.List.{flat_map}
-use Rattle.pim_report.specs.DemandText.{exception_line}
+use Rattle.pim_report.proofs.Words.{◌≡◌, drop, map, option_map, flat_map, exception_line}
 use Rattle.pim_report.proofs.Written.{IsLeft}
 use Rattle.pim_report.proofs.demand_text.write_exceptions.Given as goal
 

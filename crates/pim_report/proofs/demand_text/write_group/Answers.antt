@@ -1,5 +1,4 @@
-use Rattle.std.proofs.Common.{map, subst}
-use Rattle.pim_device.specs.Device.{AppendsAll}
+use Rattle.pim_report.proofs.Words.{map, subst, AppendsAll}
 use Rattle.pim_report.proofs.Demands.{group_is}
 use Rattle.pim_report.proofs.Written.{both, stopped_first}
 use Rattle.pim_report.proofs.demand_text.write_group.Goals as goal

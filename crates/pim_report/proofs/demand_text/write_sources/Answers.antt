@@ -1,5 +1,4 @@
-use Rattle.std.proofs.Common.{refl, ◌∙◌, arith}
-use Rattle.pim_report.specs.DemandText.{source_line}
+use Rattle.pim_report.proofs.Words.{refl, ◌∙◌, arith, source_line}
 use Rattle.pim_report.proofs.Written.{seen_all, this_written, this_stopped, items_written, stopped}
 use Rattle.pim_report.proofs.demand_text.write_sources.Goals as goal
 

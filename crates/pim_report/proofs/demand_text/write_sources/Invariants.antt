@@ -1,6 +1,4 @@
-use Rattle.std.proofs.Common.{◌≡◌, drop, map}
-use Rattle.std.specs.List.{flat_map}
-use Rattle.pim_report.specs.DemandText.{source_line}
+use Rattle.pim_report.proofs.Words.{◌≡◌, drop, map, flat_map, source_line}
 use Rattle.pim_report.proofs.Written.{IsLeft}
 use Rattle.pim_report.proofs.demand_text.write_sources.Given as goal
 

@@ -1,5 +1,4 @@
-use Rattle.std.proofs.Common.{option_map, map, subst, rules}
-use Rattle.pim_device.specs.Device.{AppendsAll}
+use Rattle.pim_report.proofs.Words.{option_map, map, subst, rules, AppendsAll}
 use Rattle.pim_report.proofs.Demands.{star_is}
 use Rattle.pim_report.proofs.demand_text.write_star.Goals as goal
 

@@ -1,6 +1,4 @@
-use Rattle.std.proofs.Common.{◌∙◌, subst, List, ℕ}
-use Rattle.std.specs.List.{flat_map}
-use Rattle.pim_report.specs.MessageText.{message_line}
+use Rattle.pim_report.proofs.Words.{◌∙◌, subst, List, ℕ, flat_map, message_line}
 use Rattle.pim_report.proofs.MessageTexts.{split_at}
 use Rattle.pim_report.proofs.Written.{IsLeft, left_less, left_stopped, stopped}
 use Rattle.pim_report.proofs.message_text.write_each.Goals as goal

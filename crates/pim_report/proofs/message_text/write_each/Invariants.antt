@@ -1,6 +1,4 @@
-use Rattle.std.proofs.Common.{◌≡◌, drop}
-use Rattle.std.specs.List.{flat_map}
-use Rattle.pim_report.specs.MessageText.{message_line}
+use Rattle.pim_report.proofs.Words.{◌≡◌, drop, flat_map, message_line}
 use Rattle.pim_report.proofs.Written.{IsLeft}
 use Rattle.pim_report.proofs.message_text.write_each.Given as goal
 

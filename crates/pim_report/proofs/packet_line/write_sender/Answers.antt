@@ -1,5 +1,4 @@
-use Rattle.std.proofs.Common.{rules, subst}
-use Rattle.pim_device.specs.Device.{AppendsAll}
+use Rattle.pim_report.proofs.Words.{rules, subst, AppendsAll}
 use Rattle.pim_report.proofs.Texts.{sender_pieces}
 use Rattle.pim_report.proofs.packet_line.write_sender.Goals as goal
 

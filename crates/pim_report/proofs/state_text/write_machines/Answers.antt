@@ -1,8 +1,4 @@
-use Rattle.std.proofs.Common.{List, ℕ, refl, subst, rules}
-use Rattle.std.specs.List.{flat_map}
-use Rattle.pim_device.specs.Device.{AppendsAll}
-use Rattle.pim_report.specs.RecordLine.{record_line}
-use Rattle.pim_report.specs.StateText.{moment_line}
+use Rattle.pim_report.proofs.Words.{List, ℕ, refl, subst, rules, flat_map, AppendsAll, record_line, moment_line}
 use Rattle.pim_report.proofs.States.{machines_are}
 use Rattle.pim_report.proofs.Written.{both, stopped_first}
 use Rattle.pim_report.proofs.state_text.write_machines.Goals as goal

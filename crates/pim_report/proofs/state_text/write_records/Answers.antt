@@ -1,7 +1,4 @@
-use Rattle.std.proofs.Common.{List, ℕ, refl, sym, subst, ◌∙◌}
-use Rattle.std.specs.List.{flat_map}
-use Rattle.pim_down.specs.declared.machines.machine.Record.{Record}
-use Rattle.pim_report.specs.RecordLine.{record_line}
+use Rattle.pim_report.proofs.Words.{List, ℕ, refl, sym, subst, ◌∙◌, flat_map, Record, record_line}
 use Rattle.pim_report.proofs.Written.{IsLeft, left_all, first_written, first_stopped, none_left, stopped}
 use Rattle.pim_report.proofs.state_text.write_records.Goals as goal
 

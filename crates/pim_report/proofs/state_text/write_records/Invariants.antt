@@ -1,6 +1,4 @@
-use Rattle.std.proofs.Common.{◌≡◌}
-use Rattle.std.specs.List.{flat_map}
-use Rattle.pim_report.specs.RecordLine.{record_line}
+use Rattle.pim_report.proofs.Words.{◌≡◌, flat_map, record_line}
 use Rattle.pim_report.proofs.Written.{IsLeft}
 use Rattle.pim_report.proofs.state_text.write_records.Given as goal
 

@@ -1,6 +1,4 @@
-use Rattle.std.proofs.Common.{subst}
-use Rattle.pim_down.specs.Time.{Downstream}
-use Rattle.pim_form.specs.NormalForm.{IsFormOf}
+use Rattle.pim_report.proofs.Words.{subst, Downstream, IsFormOf}
 use Rattle.pim_form.specs.Wants.{wants}
 use Rattle.pim_report.proofs.state_text.write_state.Goals as goal
 

@@ -1,6 +1,4 @@
-use Rattle.std.proofs.Common.{List, ℕ, refl, subst}
-use Rattle.pim_device.specs.Device.{AppendsAll}
-use Rattle.pim_report.specs.StateText.{machines_text, wants_text}
+use Rattle.pim_report.proofs.Words.{List, ℕ, refl, subst, AppendsAll, machines_text, wants_text}
 use Rattle.pim_report.proofs.States.{state_is}
 use Rattle.pim_report.proofs.Written.{both, stopped_first}
 use Rattle.pim_report.proofs.state_text.write_with.Goals as goal

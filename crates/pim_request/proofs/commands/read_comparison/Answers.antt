@@ -1,6 +1,4 @@
-use Rattle.pim_request.specs.Forms.{name, IsFault}
-use Rattle.pim_request.specs.Commands.{comparison_forms, writing_forms}
-use Rattle.pim_request.specs.Steps.{words_left}
+use Rattle.pim_request.proofs.Cited.{name, IsFault, comparison_forms, writing_forms, words_left}
 use Rattle.pim_request.proofs.Faults.{reported, at_each, step}
 use Rattle.pim_request.proofs.commands.read_comparison.Goals as goal
 

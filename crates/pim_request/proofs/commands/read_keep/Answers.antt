@@ -1,7 +1,4 @@
-use Rattle.std.proofs.Common.{[], ◌∷◌}
-use Rattle.pim_request.specs.Forms.{name, address, IsFault}
-use Rattle.pim_request.specs.Commands.{kept_forms, address_forms}
-use Rattle.pim_request.specs.Steps.{words_left}
+use Rattle.pim_request.proofs.Cited.{[], ◌∷◌, name, address, IsFault, kept_forms, address_forms, words_left}
 use Rattle.pim_request.proofs.Faults.{reported, at_slot, step}
 use Rattle.pim_request.proofs.commands.read_keep.Goals as goal
 

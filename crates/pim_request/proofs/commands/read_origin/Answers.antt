@@ -1,7 +1,4 @@
-use Rattle.std.proofs.Common.{refl, decimal}
-use Rattle.pim_request.specs.Forms.{number, address, most, IsFault}
-use Rattle.pim_request.specs.Commands.{sender_forms, destination_forms}
-use Rattle.pim_request.specs.Steps.{words_left}
+use Rattle.pim_request.proofs.Cited.{refl, decimal, number, address, most, IsFault, sender_forms, destination_forms, words_left}
 use Rattle.pim_request.proofs.Faults.{reported, each, at_each, step}
 use Rattle.pim_request.proofs.commands.read_origin.Goals as goal
 

@@ -1,7 +1,5 @@
-use Rattle.std.proofs.Common.{refl, [], ◌∷◌, decimal}
-use Rattle.pim_request.specs.Forms.{number, address, digits, most, IsFault}
-use Rattle.pim_request.specs.Commands.{packet_forms, no_words}
-use Rattle.pim_request.specs.Steps.{words_left}
+use Rattle.pim_request.proofs.Cited.{refl, [], ◌∷◌, decimal, number, address, digits, most, IsFault, packet_forms}
+use Rattle.pim_request.proofs.Cited.{no_words, words_left}
 use Rattle.pim_request.proofs.Faults.{reported, at_slot, at_front, step}
 use Rattle.pim_request.proofs.commands.read_packet.Goals as goal
 

@@ -1,6 +1,4 @@
-use Rattle.pim_request.specs.Forms.{address, IsFault}
-use Rattle.pim_request.specs.Commands.{port_forms, delays_forms}
-use Rattle.pim_request.specs.Steps.{words_left}
+use Rattle.pim_request.proofs.Cited.{address, IsFault, port_forms, delays_forms, words_left}
 use Rattle.pim_request.proofs.Faults.{reported, at_each, step}
 use Rattle.pim_request.proofs.commands.read_port.Goals as goal
 

@@ -1,7 +1,4 @@
-use Rattle.std.proofs.Common.{[], ◌∷◌}
-use Rattle.pim_request.specs.Forms.{prefix, address, IsFault}
-use Rattle.pim_request.specs.Commands.{row_forms, address_forms}
-use Rattle.pim_request.specs.Steps.{words_left}
+use Rattle.pim_request.proofs.Cited.{[], ◌∷◌, prefix, address, IsFault, row_forms, address_forms, words_left}
 use Rattle.pim_request.proofs.Faults.{reported, at_slot, step}
 use Rattle.pim_request.proofs.commands.read_row.Goals as goal
 

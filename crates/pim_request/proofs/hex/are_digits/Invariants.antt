@@ -1,6 +1,4 @@
-use Rattle.std.proofs.Common.{◌≡◌, take}
-use Rattle.std.specs.Char.{is_digit}
-use Rattle.std.specs.List.{list_all}
+use Rattle.pim_request.proofs.Cited.{◌≡◌, take, is_digit, list_all}
 use Rattle.pim_request.proofs.hex.are_digits.Given as goal
 
 -- whether each byte so far is a digit

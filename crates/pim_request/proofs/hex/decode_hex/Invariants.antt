@@ -1,5 +1,4 @@
-use Rattle.std.proofs.Common.{◌≡◌, ◌≤◌, ◌+◌, ◌++◌, length, vec_capacity}
-use Rattle.pim_request.specs.Forms.{IsHex, hex_bytes}
+use Rattle.pim_request.proofs.Cited.{◌≡◌, ◌≤◌, ◌+◌, ◌++◌, length, vec_capacity, IsHex, hex_bytes}
 use Rattle.pim_request.proofs.hex.decode_hex.Given as goal
 
 -- the bytes so far and those of the digits that are left are all bytes, and have room

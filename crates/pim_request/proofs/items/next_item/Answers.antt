@@ -1,9 +1,5 @@
-use Rattle.std.proofs.Common.{◌∙◌, sym, false}
-use Rattle.std.specs.Option.{IfSome}
-use Rattle.std.proofs.lemmas.Bool.{false≢true}
-use Rattle.pim_request.specs.Items.{has_item}
-use Rattle.pim_request.specs.Input.{coming_lines, HasRead, Lacks}
-use Rattle.pim_request.specs.Held.{reading_seen, has_send}
+use Rattle.pim_request.proofs.Cited.{◌∙◌, sym, false, IfSome, false≢true, has_item, coming_lines, HasRead, Lacks}
+use Rattle.pim_request.proofs.Cited.{reading_seen, has_send}
 use Rattle.pim_request.proofs.Devices.{on_err, where_known}
 use Rattle.pim_request.proofs.FirstItem.{some_given, is_line, is_long_line, is_text}
 use Rattle.pim_request.proofs.Whole.{some_taken, text_begun, text_read, still_has, after_passed, line_ends}

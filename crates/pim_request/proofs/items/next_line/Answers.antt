@@ -1,7 +1,5 @@
-use Rattle.std.proofs.Common.{◌≡◌, ◌∙◌, sym, ap, arith, rules, refl}
-use Rattle.std.specs.Option.{IfSome}
-use Rattle.pim_request.specs.Items.{items_of, has_item}
-use Rattle.pim_request.specs.Input.{coming_lines, bytes_left, HasRead, Lacks, NoFeed}
+use Rattle.pim_request.proofs.Cited.{◌≡◌, ◌∙◌, sym, ap, arith, rules, refl, IfSome, items_of, has_item, coming_lines}
+use Rattle.pim_request.proofs.Cited.{bytes_left, HasRead, Lacks, NoFeed}
 use Rattle.pim_request.proofs.Devices.{on_err, if_known, at_value, where_known, proceeds_on, gave_less, gave_passed}
 use Rattle.pim_request.proofs.Itemized.{at_known, given_none, given_some, blank_passed, no_items}
 use Rattle.pim_request.proofs.Whole.{no_item, nothing_passed, blank_passes, taken_cut, line_taken, none_taken, begun_at_once, more_at_once, feed_pends, read_after, read_none}

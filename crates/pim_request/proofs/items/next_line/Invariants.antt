@@ -1,5 +1,4 @@
-use Rattle.pim_request.specs.Input.{bytes_left}
-use Rattle.pim_request.specs.Held.{PassesBlank}
+use Rattle.pim_request.proofs.Cited.{bytes_left, PassesBlank}
 use Rattle.pim_request.proofs.items.next_line.Given as goal
 
 abbrev pub invariant-loop-found : goal.invariant-loop-found

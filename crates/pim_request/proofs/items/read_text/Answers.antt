@@ -1,7 +1,5 @@
-use Rattle.std.proofs.Common.{◌≡◌, ◌∙◌, sym, refl, arith, rules}
-use Rattle.std.specs.Option.{IfSome}
-use Rattle.pim_request.specs.Input.{coming_lines, bytes_left, HasRead, Lacks, NoFeed}
-use Rattle.pim_request.specs.Held.{has_send}
+use Rattle.pim_request.proofs.Cited.{◌≡◌, ◌∙◌, sym, refl, arith, rules, IfSome, coming_lines, bytes_left, HasRead}
+use Rattle.pim_request.proofs.Cited.{Lacks, NoFeed, has_send}
 use Rattle.pim_request.proofs.Devices.{on_err, if_known, at_value, where_known, proceeds_on, gave_less, gave_passed}
 use Rattle.pim_request.proofs.Itemized.{at_known, given_none, given_some, known_line, text_sent, text_ended, text_goes_on, unsent_passed}
 use Rattle.pim_request.proofs.Whole.{no_send, nothing_passed, text_passes, taken_cut, line_taken, none_taken, known_taken, begun_at_once, more_at_once, feed_pends, after_passed, send_ends, read_after, read_none}

@@ -1,5 +1,4 @@
-use Rattle.std.proofs.Common.{ap, ◌∙◌}
-use Rattle.pim_request.specs.Steps.{words_left}
+use Rattle.pim_request.proofs.Cited.{ap, ◌∙◌, words_left}
 use Rattle.pim_request.proofs.Pairs.{one_word}
 use Rattle.pim_request.proofs.slots.next_digits.Goals as goal
 

@@ -1,6 +1,4 @@
-use Rattle.std.proofs.Common.{◌≡◌, ◌∙◌, ap, refl, ◌∷◌}
-use Rattle.pim_request.specs.Forms.{pieces_of}
-use Rattle.pim_request.specs.Steps.{words_left, pieces_left}
+use Rattle.pim_request.proofs.Cited.{◌≡◌, ◌∙◌, ap, refl, ◌∷◌, pieces_of, words_left, pieces_left}
 use Rattle.pim_request.proofs.Prefixes.{is_prefix, no_length, no_name}
 use Rattle.pim_request.proofs.slots.next_prefix.Goals as goal
 

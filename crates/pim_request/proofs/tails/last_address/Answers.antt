@@ -1,7 +1,4 @@
-use Rattle.std.proofs.Common.{[]}
-use Rattle.pim_request.specs.Forms.{address, IsFault}
-use Rattle.pim_request.specs.Commands.{address_forms, no_words}
-use Rattle.pim_request.specs.Steps.{words_left}
+use Rattle.pim_request.proofs.Cited.{[], address, IsFault, address_forms, no_words, words_left}
 use Rattle.pim_request.proofs.Faults.{reported, at_slot, step}
 use Rattle.pim_request.proofs.tails.last_address.Goals as goal
 

@@ -1,9 +1,5 @@
-use Rattle.std.proofs.Common.{[], ◌∷◌, codes}
+use Rattle.pim_request.proofs.Cited.{[], ◌∷◌, codes, WordsFault, number, IsFault, budget_forms, number_forms, words_left}
 use Rattle.std.proofs.lemmas.Result.{IfErr-weaker}
-use Rattle.pim_request.specs.declared.command.WordsFault.{WordsFault}
-use Rattle.pim_request.specs.Forms.{number, IsFault}
-use Rattle.pim_request.specs.Commands.{budget_forms, number_forms}
-use Rattle.pim_request.specs.Steps.{words_left}
 use Rattle.pim_request.proofs.Faults.{another, after_key}
 use Rattle.pim_request.proofs.tails.last_budget.Goals as goal
 

@@ -1,7 +1,4 @@
-use Rattle.std.proofs.Common.{refl, [], ◌∷◌, codes, decimal}
-use Rattle.pim_request.specs.Forms.{number, IsFault}
-use Rattle.pim_request.specs.Commands.{delays_forms, number_forms}
-use Rattle.pim_request.specs.Steps.{words_left}
+use Rattle.pim_request.proofs.Cited.{refl, [], ◌∷◌, codes, decimal, number, IsFault, delays_forms, number_forms, words_left}
 use Rattle.pim_request.proofs.Faults.{reported, at_slot, step, another, after_key}
 use Rattle.pim_request.proofs.tails.last_delays.Goals as goal
 

@@ -1,7 +1,4 @@
-use Rattle.std.proofs.Common.{[], ◌∷◌, codes}
-use Rattle.pim_request.specs.Forms.{address, IsFault}
-use Rattle.pim_request.specs.Commands.{destination_forms}
-use Rattle.pim_request.specs.Steps.{words_left}
+use Rattle.pim_request.proofs.Cited.{[], ◌∷◌, codes, address, IsFault, destination_forms, words_left}
 use Rattle.pim_request.proofs.Faults.{reported, another, after_key}
 use Rattle.pim_request.proofs.tails.last_destination.Goals as goal
 

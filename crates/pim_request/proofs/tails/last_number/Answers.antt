@@ -1,7 +1,4 @@
-use Rattle.std.proofs.Common.{refl, [], decimal}
-use Rattle.pim_request.specs.Forms.{number, IsFault}
-use Rattle.pim_request.specs.Commands.{number_forms, no_words}
-use Rattle.pim_request.specs.Steps.{words_left}
+use Rattle.pim_request.proofs.Cited.{refl, [], decimal, number, IsFault, number_forms, no_words, words_left}
 use Rattle.pim_request.proofs.Faults.{reported, at_slot, step}
 use Rattle.pim_request.proofs.tails.last_number.Goals as goal
 

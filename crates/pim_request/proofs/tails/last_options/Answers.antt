@@ -1,6 +1,4 @@
-use Rattle.pim_request.specs.Forms.{IsFault}
-use Rattle.pim_request.specs.Commands.{option_forms}
-use Rattle.pim_request.specs.Steps.{words_left}
+use Rattle.pim_request.proofs.Cited.{IsFault, option_forms, words_left}
 use Rattle.pim_request.proofs.Faults.{reported}
 use Rattle.pim_request.proofs.Options.{wrong_holdtime, wrong_budget, are_options}
 use Rattle.pim_request.proofs.tails.last_options.Goals as goal

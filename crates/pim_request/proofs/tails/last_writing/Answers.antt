@@ -1,7 +1,4 @@
-use Rattle.std.proofs.Common.{refl, [], ◌∷◌, codes}
-use Rattle.pim_request.specs.Forms.{key, address, number, IsFault}
-use Rattle.pim_request.specs.Commands.{writing_forms, option_forms}
-use Rattle.pim_request.specs.Steps.{words_left}
+use Rattle.pim_request.proofs.Cited.{refl, [], ◌∷◌, codes, key, address, number, IsFault, writing_forms, option_forms, words_left}
 use Rattle.pim_request.proofs.Faults.{reported, each, at_front, step}
 use Rattle.pim_request.proofs.tails.last_writing.Goals as goal
 

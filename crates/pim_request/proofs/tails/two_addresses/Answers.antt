@@ -1,6 +1,4 @@
-use Rattle.pim_request.specs.Forms.{address}
-use Rattle.pim_request.specs.Steps.{words_left, IsFrontFault}
-use Rattle.std.proofs.Common.{[], ◌∷◌}
+use Rattle.pim_request.proofs.Cited.{address, words_left, IsFrontFault, [], ◌∷◌}
 use Rattle.pim_request.proofs.Faults.{reported, front_first, front_second}
 use Rattle.pim_request.proofs.tails.two_addresses.Goals as goal
 

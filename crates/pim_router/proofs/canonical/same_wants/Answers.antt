@@ -1,5 +1,4 @@
-use Rattle.std.proofs.Common.{rules, ◌≡◌, subst}
-use Rattle.pim_addr.specs.Routes.{IsRouteTable}
+use Rattle.pim_router.proofs.Words.{rules, ◌≡◌, subst, IsRouteTable}
 use Rattle.pim_router.proofs.Compared.{same_exactly}
 use Rattle.pim_router.proofs.canonical.same_wants.Goals as goal
 

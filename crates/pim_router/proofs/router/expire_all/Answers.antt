@@ -1,6 +1,5 @@
-use Rattle.std.proofs.Common.{◌<◌, ◌∙◌, length, set, ap, sym, arith}
+use Rattle.pim_router.proofs.Words.{◌<◌, ◌∙◌, length, set, ap, sym, arith, expired_at}
 use Rattle.std.proofs.lemmas.List.Edits.{map_over_more}
-use Rattle.pim_hello.specs.Laws.{expired_at}
 use Rattle.pim_router.proofs.router.expire_all.Goals as goal
 
 pub loop-table-preserved : goal.loop-table-preserved

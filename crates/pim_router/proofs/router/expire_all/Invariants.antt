@@ -1,5 +1,4 @@
-use Rattle.std.proofs.Common.{◌≡◌, ◌++◌, map, take, drop}
-use Rattle.pim_hello.specs.Laws.{expired_at}
+use Rattle.pim_router.proofs.Words.{◌≡◌, ◌++◌, map, take, drop, expired_at}
 use Rattle.pim_router.proofs.router.expire_all.Given as goal
 
 abbrev pub invariant-loop-table : goal.invariant-loop-table

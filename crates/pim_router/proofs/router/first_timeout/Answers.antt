@@ -1,5 +1,4 @@
-use Rattle.std.proofs.Common.{ap, ◌∙◌, arith}
-use Rattle.pim_hello.specs.Neighbours.{sooner, next_end}
+use Rattle.pim_router.proofs.Words.{ap, ◌∙◌, arith, sooner, next_end}
 use Rattle.pim_router.proofs.Timeouts.{one_more, no_more}
 use Rattle.pim_router.proofs.router.first_timeout.Goals as goal
 

@@ -1,6 +1,4 @@
-use Rattle.std.proofs.Common.{◌≡◌, drop}
-use Rattle.pim_hello.specs.Neighbours.{sooner}
-use Rattle.pim_router.specs.Happening.{first_timeout}
+use Rattle.pim_router.proofs.Words.{◌≡◌, drop, sooner, first_timeout}
 use Rattle.pim_router.proofs.router.first_timeout.Given as goal
 
 -- the first of those so far and of those that are left is the first of all

@@ -1,5 +1,4 @@
-use Rattle.std.proofs.Common.{◌≡◌, replicate}
-use Rattle.pim_hello.specs.Neighbours.{no_neighbours}
+use Rattle.pim_router.proofs.Words.{◌≡◌, replicate, no_neighbours}
 use Rattle.pim_router.proofs.router.no_neighbours.Given as goal
 
 abbrev pub invariant-loop : goal.invariant-loop

@@ -1,9 +1,5 @@
-use Rattle.std.proofs.Common.{List, ℕ, subst}
+use Rattle.pim_session.proofs.Words.{List, ℕ, subst, IsItem, fault_words, RequestsLine, request_seen}
 use Rattle.pim_request.specs.declared.items.Item.{Item}
-use Rattle.pim_request.specs.Reading.{IsItem}
-use Rattle.pim_answers.specs.Fault.{fault_words}
-use Rattle.pim_session.specs.Request.{RequestsLine}
-use Rattle.pim_session.specs.Seen.{request_seen}
 use Rattle.pim_session.proofs.Asked.{line_asked, long_asked, long_text_asked, text_asked}
 use Rattle.pim_session.proofs.request.request_of.Goals as goal
 

@@ -1,7 +1,4 @@
-use Rattle.std.proofs.Common.{List, ℕ, subst, ◌∙◌}
-use Rattle.pim_request.specs.Commands.{StatesSender}
-use Rattle.pim_answers.specs.Fault.{fault_words}
-use Rattle.pim_session.specs.Seen.{request_seen}
+use Rattle.pim_session.proofs.Words.{List, ℕ, subst, ◌∙◌, StatesSender, fault_words, request_seen}
 use Rattle.pim_session.proofs.Asked.{all_held, words_asked, long_asked_text, from_asked}
 use Rattle.pim_session.proofs.request.request_of_text.Goals as goal
 

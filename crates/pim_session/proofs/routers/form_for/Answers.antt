@@ -1,8 +1,5 @@
-use Rattle.std.proofs.Common.{Ok, sym, subst}
+use Rattle.pim_session.proofs.Words.{Ok, sym, subst, store_seen, AnyRouter, family_in, state_in, IsKeptFor}
 use Rattle.pim_answers.specs.declared.kept.AnyForm.TheVariants as form
-use Rattle.pim_answers.specs.StoreSeen.{store_seen}
-use Rattle.pim_session.specs.declared.routers.AnyRouter.{AnyRouter}
-use Rattle.pim_session.specs.RouterSeen.{family_in, state_in, IsKeptFor}
 use Rattle.pim_session.proofs.routers.form_for.Goals as goal
 
 pub returns-in-Ok : goal.returns-in-Ok

@@ -1,5 +1,4 @@
-use Rattle.pim_answers.specs.StoreSeen.{store_seen}
-use Rattle.pim_session.specs.RouterSeen.{family_in, state_in}
+use Rattle.pim_session.proofs.Words.{store_seen, family_in, state_in}
 use Rattle.pim_session.proofs.Making.{keep_refused, keep_done, keep_unheld}
 use Rattle.pim_session.proofs.routers.keep_any.Goals as goal
 

@@ -1,8 +1,5 @@
-use Rattle.std.proofs.Common.{Ok, Err, sym, subst}
+use Rattle.pim_session.proofs.Words.{Ok, Err, sym, subst, AnyRows, StartsSo, any_seen}
 use Rattle.pim_session.specs.declared.routers.AnyRouter.TheVariants as router
-use Rattle.pim_session.specs.declared.setup.AnyRows.{AnyRows}
-use Rattle.pim_session.specs.RouterSeen.{StartsSo}
-use Rattle.pim_session.specs.SetupSeen.{any_seen}
 use Rattle.pim_session.proofs.routers.make_router.Goals as goal
 
 pub returns-in-Ok : goal.returns-in-Ok

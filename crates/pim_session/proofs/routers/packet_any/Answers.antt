@@ -1,8 +1,4 @@
-use Rattle.std.proofs.Common.{sym, subst}
-use Rattle.pim_answers.specs.Answered.{Answered}
-use Rattle.pim_answers.specs.Packets.{AnswersPacket}
-use Rattle.pim_session.specs.declared.routers.AnyRouter.{AnyRouter}
-use Rattle.pim_session.specs.RouterSeen.{family_in, state_in}
+use Rattle.pim_session.proofs.Words.{sym, subst, Answered, AnswersPacket, AnyRouter, family_in, state_in}
 use Rattle.pim_session.proofs.routers.packet_any.Goals as goal
 
 pub returns-in-Ipv4-clause-answered : goal.returns-in-Ipv4-clause-answered

@@ -1,10 +1,6 @@
-use Rattle.std.proofs.Common.{sym, subst}
+use Rattle.pim_session.proofs.Words.{sym, subst, kept_as, IsFound, Reports, name_in}
 use Rattle.pim_request.specs.declared.command.Command.{Command}
 use Rattle.pim_answers.specs.Answered.{Wrote}
-use Rattle.pim_answers.specs.Kept.{kept_as}
-use Rattle.pim_answers.specs.StoreSeen.{IsFound}
-use Rattle.pim_session.specs.Answers.{Reports}
-use Rattle.pim_session.specs.RouterSeen.{name_in}
 use Rattle.pim_session.proofs.routers.report.Goals as goal
 
 pub returns-in-Change-clause-reported : goal.returns-in-Change-clause-reported

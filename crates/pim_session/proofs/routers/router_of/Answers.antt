@@ -1,9 +1,6 @@
-use Rattle.std.proofs.Common.{List, Some, Ok, subst}
+use Rattle.pim_session.proofs.Words.{List, Some, Ok, subst, config_faults, IsMadeUnless, new_router, rows_seen}
 use Rattle.pim_router.specs.declared.config.PortConfig.{PortConfig}
-use Rattle.pim_router.specs.Config.{config_faults, IsMadeUnless}
 use Rattle.pim_router.specs.Seen.{setup_seen}
-use Rattle.pim_router.specs.State.{new_router}
-use Rattle.pim_session.specs.SetupSeen.{rows_seen}
 use Rattle.pim_session.proofs.Making.{starts_made}
 use Rattle.pim_session.proofs.routers.router_of.Goals as goal
 

@@ -1,5 +1,4 @@
-use Rattle.pim_answers.specs.StoreSeen.{store_seen}
-use Rattle.pim_session.specs.RouterSeen.{family_in, state_in}
+use Rattle.pim_session.proofs.Words.{store_seen, family_in, state_in}
 use Rattle.pim_session.proofs.Commanded.{command_answered, reset_answered}
 use Rattle.pim_session.proofs.serving.answer_any_command.Goals as goal
 

@@ -1,12 +1,5 @@
-use Rattle.std.proofs.Common.{ℕ, List, refl}
-use Rattle.pim_router.specs.State.{RouterState}
-use Rattle.pim_answers.specs.Demanding.{AnswersKeep}
-use Rattle.pim_answers.specs.Kept.{Kept}
-use Rattle.pim_answers.specs.Packets.{AnswersPacket}
-use Rattle.pim_answers.specs.Running.{AnswersRun}
-use Rattle.pim_answers.specs.StoreSeen.{store_seen}
-use Rattle.pim_session.specs.Answers.{Serves}
-use Rattle.pim_session.specs.RouterSeen.{family_in, state_in}
+use Rattle.pim_session.proofs.Words.{ℕ, List, refl, RouterState, AnswersKeep, Kept, AnswersPacket, AnswersRun}
+use Rattle.pim_session.proofs.Words.{store_seen, Serves, family_in, state_in}
 use Rattle.pim_session.proofs.Commanded.{answered_as, told_as, serves_run, serves_packet, serves_keep, serves_told}
 use Rattle.pim_session.proofs.serving.answer_command.Goals as goal
 

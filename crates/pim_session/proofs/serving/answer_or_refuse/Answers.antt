@@ -1,14 +1,5 @@
-use Rattle.std.proofs.Common.{Result, sym, subst}
-use Rattle.pim_answers.specs.declared.fault.AnswerFault.{AnswerFault}
-use Rattle.pim_answers.specs.Answered.{Answered}
-use Rattle.pim_answers.specs.Fault.{fault_words}
-use Rattle.pim_answers.specs.StoreSeen.{store_seen}
-use Rattle.pim_session.specs.declared.request.Request.{Request}
-use Rattle.pim_session.specs.Answers.{Answers, session_in}
-use Rattle.pim_session.specs.RouterSeen.{family_in, state_in}
-use Rattle.pim_session.specs.Seen.{request_seen}
-use Rattle.pim_session.specs.State.{serving}
-use Rattle.pim_session.specs.Underway.{session_after}
+use Rattle.pim_session.proofs.Words.{Result, sym, subst, AnswerFault, Answered, fault_words, store_seen, Request}
+use Rattle.pim_session.proofs.Words.{Answers, session_in, family_in, state_in, request_seen, serving, session_after}
 use Rattle.pim_session.proofs.Commanded.{fault_answered}
 use Rattle.pim_session.proofs.serving.answer_or_refuse.Goals as goal
 

@@ -1,10 +1,4 @@
-use Rattle.std.proofs.Common.{sym, subst}
-use Rattle.pim_answers.specs.Answered.{Answered}
-use Rattle.pim_answers.specs.StoreSeen.{store_seen}
-use Rattle.pim_session.specs.declared.request.Request.{Request}
-use Rattle.pim_session.specs.Answers.{AnswersAfter}
-use Rattle.pim_session.specs.RouterSeen.{family_in, state_in}
-use Rattle.pim_session.specs.Underway.{session_after}
+use Rattle.pim_session.proofs.Words.{sym, subst, Answered, store_seen, Request, AnswersAfter, family_in, state_in, session_after}
 use Rattle.pim_session.proofs.Commanded.{from_answered}
 use Rattle.pim_session.proofs.serving.answer_request.Goals as goal
 

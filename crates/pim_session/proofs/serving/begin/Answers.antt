@@ -1,7 +1,4 @@
-use Rattle.pim_answers.specs.StoreSeen.{store_seen}
-use Rattle.pim_session.specs.Answers.{session_in}
-use Rattle.pim_session.specs.RouterSeen.{family_in, state_in}
-use Rattle.pim_session.specs.State.{serving}
+use Rattle.pim_session.proofs.Words.{store_seen, session_in, family_in, state_in, serving}
 use Rattle.pim_session.proofs.Served.{begun_serving, begun_failed}
 use Rattle.pim_session.proofs.serving.begin.Goals as goal
 

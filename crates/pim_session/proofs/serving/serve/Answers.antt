@@ -1,11 +1,5 @@
-use Rattle.std.proofs.Common.{Bool, true, false, refl, arith, subst, ◌∙◌}
-use Rattle.pim_answers.specs.Answered.{Whole}
-use Rattle.pim_answers.specs.StoreSeen.{store_seen}
-use Rattle.pim_session.specs.Answers.{Answers, session_in}
-use Rattle.pim_session.specs.RouterSeen.{family_in, state_in}
-use Rattle.pim_session.specs.Seen.{request_seen}
-use Rattle.pim_session.specs.State.{Session, serving}
-use Rattle.pim_session.specs.Underway.{session_after}
+use Rattle.pim_session.proofs.Words.{Bool, true, false, refl, arith, subst, ◌∙◌, Whole, store_seen, Answers, session_in}
+use Rattle.pim_session.proofs.Words.{family_in, state_in, request_seen, Session, serving, session_after}
 use Rattle.pim_session.proofs.Served.{one_given, one_less}
 use Rattle.pim_session.proofs.Underway.{begun, answered, failed}
 use Rattle.pim_session.proofs.serving.serve.Goals as goal

@@ -1,11 +1,4 @@
-use Rattle.std.proofs.Common.{◌≡◌, ◌≤◌}
-use Rattle.std.specs.Option.{IfSome}
-use Rattle.pim_request.specs.Items.{items_of}
-use Rattle.pim_answers.specs.StoreSeen.{store_seen}
-use Rattle.pim_session.specs.Answers.{session_in}
-use Rattle.pim_session.specs.RouterSeen.{family_in, state_in}
-use Rattle.pim_session.specs.State.{serving}
-use Rattle.pim_session.specs.Underway.{GoesOn}
+use Rattle.pim_session.proofs.Words.{◌≡◌, ◌≤◌, IfSome, items_of, store_seen, session_in, family_in, state_in, serving, GoesOn}
 use Rattle.pim_session.proofs.serving.serve.Given as goal
 
 -- some items were answered, and the router is still there

@@ -1,9 +1,4 @@
-use Rattle.pim_answers.specs.Fault.{fault_words}
-use Rattle.pim_answers.specs.StoreSeen.{store_seen}
-use Rattle.pim_session.specs.Answers.{session_in}
-use Rattle.pim_session.specs.RouterSeen.{family_in, state_in}
-use Rattle.pim_session.specs.SetupSeen.{gathered_seen}
-use Rattle.pim_session.specs.State.{gathering, serving}
+use Rattle.pim_session.proofs.Words.{fault_words, store_seen, session_in, family_in, state_in, gathered_seen, gathering, serving}
 use Rattle.pim_session.proofs.Served.{start_served, start_refused, memory_instead}
 use Rattle.pim_session.proofs.serving.start.Goals as goal
 

@@ -1,17 +1,7 @@
-use Rattle.std.proofs.Common.{Ok, Err, List, refl, sym, ap, subst, ◌∙◌}
-use Rattle.std.specs.Option.{IfSome}
+use Rattle.pim_session.proofs.Words.{Ok, Err, List, refl, sym, ap, subst, ◌∙◌, IfSome, items_of, Kept, store_seen, SessionEnd}
+use Rattle.pim_session.proofs.Words.{session_in, Converses, request_seen, gathered_seen, Gathered, gathering, Ended, GoesOn}
 use Rattle.std.proofs.lemmas.Result.{err_from_is_err_and}
 use Rattle.pim_device.specs.declared.device.Failed.{Failed}
-use Rattle.pim_request.specs.Items.{items_of}
-use Rattle.pim_answers.specs.Kept.{Kept}
-use Rattle.pim_answers.specs.StoreSeen.{store_seen}
-use Rattle.pim_session.specs.declared.serving.SessionEnd.{SessionEnd}
-use Rattle.pim_session.specs.Answers.{session_in}
-use Rattle.pim_session.specs.Dialog.{Converses}
-use Rattle.pim_session.specs.Seen.{request_seen}
-use Rattle.pim_session.specs.SetupSeen.{gathered_seen}
-use Rattle.pim_session.specs.State.{Gathered, gathering}
-use Rattle.pim_session.specs.Underway.{Ended, GoesOn}
 use Rattle.pim_session.proofs.Served.{all_by_start, not_recognised, one_given, recognised, started_so}
 use Rattle.pim_session.proofs.Underway.{answered, begun, failed}
 use Rattle.pim_session.proofs.session.answer_all.Goals as goal

@@ -1,11 +1,4 @@
-use Rattle.std.proofs.Common.{◌≡◌}
-use Rattle.std.specs.Option.{IfSome}
-use Rattle.pim_request.specs.Items.{items_of}
-use Rattle.pim_answers.specs.StoreSeen.{store_seen}
-use Rattle.pim_session.specs.Answers.{session_in}
-use Rattle.pim_session.specs.SetupSeen.{gathered_seen}
-use Rattle.pim_session.specs.State.{gathering}
-use Rattle.pim_session.specs.Underway.{GoesOn}
+use Rattle.pim_session.proofs.Words.{◌≡◌, IfSome, items_of, store_seen, session_in, gathered_seen, gathering, GoesOn}
 use Rattle.pim_session.proofs.session.answer_all.Given as goal
 
 -- some items were answered, and there is no router

@@ -1,6 +1,4 @@
-use Rattle.pim_answers.specs.Fault.{done_text}
-use Rattle.pim_session.specs.Answers.{Gathers}
-use Rattle.pim_session.specs.SetupSeen.{gathered_seen}
+use Rattle.pim_session.proofs.Words.{done_text, Gathers, gathered_seen}
 use Rattle.pim_session.proofs.Commanded.{added_row, answered_text}
 use Rattle.pim_session.proofs.session.configure.Goals as goal
 

@@ -1,12 +1,5 @@
-use Rattle.std.proofs.Common.{Result, sym, subst}
-use Rattle.pim_answers.specs.declared.fault.AnswerFault.{AnswerFault}
-use Rattle.pim_answers.specs.Fault.{fault_words}
-use Rattle.pim_session.specs.declared.request.Request.{Request}
-use Rattle.pim_session.specs.Answers.{session_in}
-use Rattle.pim_session.specs.Seen.{request_seen}
-use Rattle.pim_session.specs.SetupSeen.{gathered_seen}
-use Rattle.pim_session.specs.State.{gathering}
-use Rattle.pim_session.specs.Underway.{Configured}
+use Rattle.pim_session.proofs.Words.{Result, sym, subst, AnswerFault, fault_words, Request, session_in, request_seen}
+use Rattle.pim_session.proofs.Words.{gathered_seen, gathering, Configured}
 use Rattle.pim_session.proofs.Commanded.{fault_configured}
 use Rattle.pim_session.proofs.session.configure_by.Goals as goal
 

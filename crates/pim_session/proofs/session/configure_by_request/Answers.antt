@@ -1,10 +1,4 @@
-use Rattle.std.proofs.Common.{Ok, sym, subst}
-use Rattle.pim_answers.specs.Fault.{fault_words}
-use Rattle.pim_session.specs.declared.request.Request.{Request}
-use Rattle.pim_session.specs.Answers.{session_in}
-use Rattle.pim_session.specs.SetupSeen.{gathered_seen}
-use Rattle.pim_session.specs.State.{gathering}
-use Rattle.pim_session.specs.Underway.{Configured}
+use Rattle.pim_session.proofs.Words.{Ok, sym, subst, fault_words, Request, session_in, gathered_seen, gathering, Configured}
 use Rattle.pim_session.proofs.Commanded.{from_configured}
 use Rattle.pim_session.proofs.session.configure_by_request.Goals as goal
 

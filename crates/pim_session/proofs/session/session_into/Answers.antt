@@ -1,10 +1,4 @@
-use Rattle.std.proofs.Common.{List, [], subst}
-use Rattle.std.specs.Option.{IfSome}
-use Rattle.pim_answers.specs.Kept.{Kept}
-use Rattle.pim_session.specs.Answers.{session_in}
-use Rattle.pim_session.specs.SetupSeen.{gathered_seen}
-use Rattle.pim_session.specs.State.{Gathered, gathering}
-use Rattle.pim_session.specs.Dialog.{Converses}
+use Rattle.pim_session.proofs.Words.{List, [], subst, IfSome, Kept, session_in, gathered_seen, Gathered, gathering, Converses}
 use Rattle.pim_session.proofs.session.session_into.Goals as goal
 
 pub returns-clause-converses : goal.returns-clause-converses

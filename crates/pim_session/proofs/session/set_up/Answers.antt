@@ -1,7 +1,4 @@
-use Rattle.pim_answers.specs.Fault.{fault_words}
-use Rattle.pim_answers.specs.Lines.{fault_line}
-use Rattle.pim_session.specs.Answers.{Gathers}
-use Rattle.pim_session.specs.SetupSeen.{gathered_seen}
+use Rattle.pim_session.proofs.Words.{fault_words, fault_line, Gathers, gathered_seen}
 use Rattle.pim_session.proofs.Commanded.{answered_text, limit_answered, forgotten, not_started}
 use Rattle.pim_session.proofs.session.set_up.Goals as goal
 

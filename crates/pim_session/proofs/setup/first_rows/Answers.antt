@@ -1,5 +1,4 @@
-use Rattle.std.proofs.Common.{sym, ap, ◌∙◌}
-use Rattle.pim_session.specs.Gathering.{family_of}
+use Rattle.pim_session.proofs.Words.{sym, ap, ◌∙◌, family_of}
 use Rattle.pim_session.proofs.setup.first_rows.Goals as goal
 
 pub returns-in_ok-first_row-in-V4 : goal.returns-in_ok-first_row-in-V4

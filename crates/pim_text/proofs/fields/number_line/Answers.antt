@@ -1,5 +1,4 @@
-use Rattle.std.proofs.Common.{◌∙◌, sym, [], ◌∷◌, ◌++◌, decimal, arith}
-use Rattle.std.proofs.lemmas.List.{append_cancel_left}
+use Rattle.pim_text.proofs.Words.{◌∙◌, sym, [], ◌∷◌, ◌++◌, decimal, arith, append_cancel_left}
 use Rattle.pim_text.proofs.Bytes.{decimal_is_field}
 use Rattle.pim_text.proofs.FieldEnds.{feed_is_led}
 use Rattle.pim_text.proofs.fields.number_line.Goals as goal

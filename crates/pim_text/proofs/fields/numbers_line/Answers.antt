@@ -1,6 +1,4 @@
-use Rattle.std.proofs.Common.{◌∙◌, sym, [], ◌∷◌, ◌++◌, decimal, arith}
-use Rattle.std.proofs.lemmas.List.{append_cancel_left}
-use Rattle.pim_text.specs.Lines.{number_text}
+use Rattle.pim_text.proofs.Words.{◌∙◌, sym, [], ◌∷◌, ◌++◌, decimal, arith, append_cancel_left, number_text}
 use Rattle.pim_text.proofs.Bytes.{decimal_is_field}
 use Rattle.pim_text.proofs.FieldEnds.{led_then, same_some, not_some}
 use Rattle.pim_text.proofs.fields.numbers_line.Goals as goal

@@ -1,5 +1,4 @@
-use Rattle.std.proofs.Common.{◌∙◌, sym, ◌++◌}
-use Rattle.std.proofs.lemmas.List.{append_cancel_left}
+use Rattle.pim_text.proofs.Words.{◌∙◌, sym, ◌++◌, append_cancel_left}
 use Rattle.pim_text.proofs.Bytes.{named_is_field}
 use Rattle.pim_text.proofs.FieldEnds.{same_some, not_some}
 use Rattle.pim_text.proofs.OneName.{named_too}

@@ -1,5 +1,4 @@
-use Rattle.std.proofs.Common.{◌≡◌, ◌∙◌, sym, ap, subst, ℕ, inl, inr, Some, decimal, arith}
-use Rattle.std.specs.Str.{IsUtf8}
+use Rattle.pim_text.proofs.Words.{◌≡◌, ◌∙◌, sym, ap, subst, ℕ, inl, inr, Some, decimal, arith, IsUtf8}
 use Rattle.pim_text.proofs.Bytes.{decimal_is_text}
 use Rattle.pim_text.proofs.Decimals.{parsed, same_ok, written_again}
 use Rattle.pim_text.proofs.fields.read_decimal.Goals as goal

@@ -1,6 +1,4 @@
-use Rattle.std.specs.List.{AllByRecursion}
-use Rattle.pim_addr.specs.Address.{IsAddress}
-use Rattle.pim_hello.specs.Seen.{addresses_seen}
+use Rattle.pim_text.proofs.Words.{AllByRecursion, IsAddress, addresses_seen}
 use Rattle.pim_text.proofs.hello_law.addresses_are_of_the_family.Given as goal
 
 -- if those that are left are addresses, all are

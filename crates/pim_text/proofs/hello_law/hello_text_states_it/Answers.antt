@@ -1,7 +1,4 @@
-use Rattle.std.proofs.Common.{subst}
-use Rattle.pim_hello.specs.Hello.{Parameters}
-use Rattle.pim_hello.specs.Spelling.{ParametersFit}
-use Rattle.pim_hello.specs.Seen.{hello_seen}
+use Rattle.pim_text.proofs.Words.{subst, Parameters, ParametersFit, hello_seen}
 use Rattle.pim_text.proofs.hello_law.hello_text_states_it.Goals as goal
 
 pub returns : goal.returns

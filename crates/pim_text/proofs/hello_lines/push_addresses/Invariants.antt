@@ -1,7 +1,4 @@
-use Rattle.std.proofs.Common.{◌≡◌, ◌++◌}
-use Rattle.std.specs.List.{flat_map}
-use Rattle.pim_hello.specs.Seen.{addresses_seen}
-use Rattle.pim_text.specs.HelloText.{address_line}
+use Rattle.pim_text.proofs.Words.{◌≡◌, ◌++◌, flat_map, addresses_seen, address_line}
 use Rattle.pim_text.proofs.hello_lines.push_addresses.Given as goal
 
 -- what is there, with the lines of the addresses that are left, is all

@@ -1,6 +1,4 @@
-use Rattle.std.proofs.Common.{◌≡◌, ◌++◌}
-use Rattle.std.specs.List.{flat_map}
-use Rattle.pim_text.specs.JoinPruneText.{set_text, message_text}
+use Rattle.pim_text.proofs.Words.{◌≡◌, ◌++◌, flat_map, set_text, message_text}
 use Rattle.pim_text.proofs.join_prune_lines.message_text.Given as goal
 
 -- what is there, with the texts of the sets that are left, is all

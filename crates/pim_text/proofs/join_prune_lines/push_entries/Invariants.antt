@@ -1,6 +1,4 @@
-use Rattle.std.proofs.Common.{◌≡◌, ◌++◌}
-use Rattle.std.specs.List.{flat_map}
-use Rattle.pim_text.specs.JoinPruneText.{entry_line}
+use Rattle.pim_text.proofs.Words.{◌≡◌, ◌++◌, flat_map, entry_line}
 use Rattle.pim_text.proofs.join_prune_lines.push_entries.Given as goal
 
 -- what is there, with the lines of the entries that are left, is all

@@ -1,5 +1,4 @@
-use Rattle.std.proofs.Common.{◌∙◌, sym, ap, ℕ, List, ◌∷◌}
-use Rattle.pim_text.specs.Lines.{lines}
+use Rattle.pim_text.proofs.Words.{◌∙◌, sym, ap, ℕ, List, ◌∷◌, lines}
 use Rattle.pim_text.proofs.LineCuts.{cut_at, cut_nowhere, lines_of_none}
 use Rattle.pim_text.proofs.line_walk.cut_line.Goals as goal
 

@@ -1,5 +1,4 @@
-use Rattle.std.proofs.Common.{◌∙◌, sym, subst, ℕ, List, arith}
-use Rattle.pim_text.specs.Lines.{lines}
+use Rattle.pim_text.proofs.Words.{◌∙◌, sym, subst, ℕ, List, arith, lines}
 use Rattle.pim_text.proofs.Went.{Went, at_start, one_further, stopped, read, ends_early, number_is_small}
 use Rattle.pim_text.proofs.reading.read_message_text.Goals as goal
 

@@ -1,5 +1,4 @@
-use Rattle.std.proofs.Common.{ap, Some, [], ◌∷◌}
-use Rattle.pim_lines.specs.declared.either.AnyAddress.{AnyAddress}
+use Rattle.pim_text.proofs.Words.{ap, Some, [], ◌∷◌, AnyAddress}
 use Rattle.pim_text.proofs.FieldEnds.{feed_is_led}
 use Rattle.pim_text.proofs.reading_lines.address_line.Goals as goal
 

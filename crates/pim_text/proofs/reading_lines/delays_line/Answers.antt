@@ -1,6 +1,4 @@
-use Rattle.std.proofs.Common.{◌++◌}
-use Rattle.pim_text.specs.HelloText.{bit}
-use Rattle.pim_text.specs.Lines.{delays_text}
+use Rattle.pim_text.proofs.Words.{◌++◌, bit, delays_text}
 use Rattle.pim_text.proofs.reading_lines.delays_line.Goals as goal
 
 pub returns-in_err-rest-clause-only : goal.returns-in_err-rest-clause-only

@@ -1,6 +1,4 @@
-use Rattle.std.proofs.Common.{◌≡◌, ◌∙◌, sym, subst, ℕ, List}
-use Rattle.std.proofs.lemmas.List.{append_cancel_left}
-use Rattle.pim_text.specs.Lines.{IsEntry}
+use Rattle.pim_text.proofs.Words.{◌≡◌, ◌∙◌, sym, subst, ℕ, List, append_cancel_left, IsEntry}
 use Rattle.pim_text.proofs.reading_lines.entry_line.Goals as goal
 
 pub returns-clause-only : goal.returns-clause-only

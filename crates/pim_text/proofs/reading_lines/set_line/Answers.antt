@@ -1,5 +1,4 @@
-use Rattle.std.proofs.Common.{Some, codes, drop}
-use Rattle.pim_text.specs.Lines.{numbers_text}
+use Rattle.pim_text.proofs.Words.{Some, codes, drop, numbers_text}
 use Rattle.pim_text.proofs.FieldEnds.{space_is_led}
 use Rattle.pim_text.proofs.reading_lines.set_line.Goals as goal
 

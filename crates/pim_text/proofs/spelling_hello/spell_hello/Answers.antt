@@ -1,8 +1,5 @@
-use Rattle.std.proofs.Common.{◌≡◌, ◌∙◌, ap, subst, ℕ, List}
-use Rattle.std.specs.Prelude.{map}
-use Rattle.pim_hello.specs.Kept.{parameters_seen}
-use Rattle.pim_hello.specs.Spelling.{spelling_of}
-use Rattle.pim_text.specs.SpelledHello.{hello_of, SpellsHello, IsHelloFault, IsTooLong}
+use Rattle.pim_text.proofs.Words.{◌≡◌, ◌∙◌, ap, subst, ℕ, List, map, parameters_seen, spelling_of, hello_of}
+use Rattle.pim_text.proofs.Words.{SpellsHello, IsHelloFault, IsTooLong}
 use Rattle.pim_text.proofs.WrittenHello.{Gathering, at_start, is_asked, is_within, one_further, at_end, if_ok_more, if_err_more}
 use Rattle.pim_text.proofs.spelling_hello.spell_hello.Goals as goal
 

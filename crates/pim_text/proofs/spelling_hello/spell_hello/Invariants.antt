@@ -1,5 +1,4 @@
-use Rattle.std.specs.Prelude.{map}
-use Rattle.pim_hello.specs.Kept.{parameters_seen}
+use Rattle.pim_text.proofs.Words.{map, parameters_seen}
 use Rattle.pim_text.proofs.WrittenHello.{Gathering}
 use Rattle.pim_text.proofs.spelling_hello.spell_hello.Given as goal
 

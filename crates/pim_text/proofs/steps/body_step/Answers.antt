@@ -1,5 +1,4 @@
-use Rattle.std.proofs.Common.{◌∙◌, sym, ap}
-use Rattle.pim_text.specs.declared.line.Line.TheVariants.{Set, Join, Prune}
+use Rattle.pim_text.proofs.Words.{◌∙◌, sym, ap, Set, Join, Prune}
 use Rattle.pim_text.proofs.FieldEnds.{same_some, not_some}
 use Rattle.pim_text.proofs.WhichLine.{a_join, a_prune, a_set}
 use Rattle.pim_text.proofs.steps.body_step.Goals as goal

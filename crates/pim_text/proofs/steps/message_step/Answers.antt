@@ -1,7 +1,5 @@
-use Rattle.std.proofs.Common.{◌∙◌, sym, ap}
-use Rattle.pim_text.specs.declared.line.Line.TheVariants.{Head}
+use Rattle.pim_text.proofs.Words.{◌∙◌, sym, ap, Head, false≢true}
 use Rattle.pim_text.proofs.FieldEnds.{same_some, not_some}
-use Rattle.std.proofs.lemmas.Bool.{false≢true}
 use Rattle.pim_text.proofs.WhichLine.{a_head}
 use Rattle.pim_text.proofs.steps.message_step.Goals as goal
 

@@ -1,6 +1,4 @@
-use Rattle.std.proofs.Common.{◌≡◌, subst, Some}
-use Rattle.pim_text.specs.declared.line.Expected.{Expected}
-use Rattle.pim_text.specs.Expected.{after}
+use Rattle.pim_text.proofs.Words.{◌≡◌, subst, Some, Expected, after}
 use Rattle.pim_text.proofs.steps.step.Goals as goal
 
 pub returns-in-Body-clause-only : goal.returns-in-Body-clause-only

@@ -1,6 +1,4 @@
-use Rattle.std.proofs.Common.{sym, ap, ◌-◌, ◌<◌, arith}
-use Rattle.pim_time.specs.Calendar.{days_in_month}
-use Rattle.pim_time.specs.declared.calendar.Date.{Date}
+use Rattle.pim_time.proofs.Words.{sym, ap, ◌-◌, ◌<◌, arith, days_in_month, Date}
 use Rattle.pim_time.proofs.Walks.{at_same, within_month, over_any_month}
 use Rattle.pim_time.proofs.Days.{year_below}
 use Rattle.pim_time.proofs.calendar.date_of.Goals as goal

@@ -1,6 +1,4 @@
-use Rattle.std.proofs.Common.{◌+◌, ◌-◌, ◌≡◌, ◌≤◌}
-use Rattle.pim_time.specs.Calendar.{date_of}
-use Rattle.pim_time.specs.Dates.{first_day}
+use Rattle.pim_time.proofs.Words.{◌+◌, ◌-◌, ◌≡◌, ◌≤◌, date_of, first_day}
 use Rattle.pim_time.proofs.calendar.date_of.Given as goal
 
 abbrev pub invariant-loop-left : goal.invariant-loop-left

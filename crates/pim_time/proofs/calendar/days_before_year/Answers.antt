@@ -1,5 +1,4 @@
-use Rattle.std.proofs.Common.{refl, arith}
-use Rattle.pim_time.specs.Calendar.{date_of}
+use Rattle.pim_time.proofs.Words.{refl, arith, date_of}
 use Rattle.pim_time.proofs.Walks.{at_same, over_year}
 use Rattle.pim_time.proofs.calendar.days_before_year.Goals as goal
 

@@ -1,8 +1,5 @@
-use Rattle.std.proofs.Common.{◌≡◌, ◌∙◌, sym, ap, subst, ℕ, ◌+◌, ◌-◌, Some, arith}
-use Rattle.std.proofs.lemmas.Bool.{false≢true}
-use Rattle.pim_time.specs.Calendar.{date_of}
-use Rattle.pim_time.specs.Dates.{first_day, IsCivil}
-use Rattle.pim_time.specs.declared.calendar.Date.{Date}
+use Rattle.pim_time.proofs.Words.{◌≡◌, ◌∙◌, sym, ap, subst, ℕ, ◌+◌, ◌-◌, Some, arith, false≢true, date_of, first_day}
+use Rattle.pim_time.proofs.Words.{IsCivil, Date}
 use Rattle.pim_time.proofs.Walks.{day_of, within_month}
 use Rattle.pim_time.proofs.Days.{is_civil, one_day}
 use Rattle.pim_time.proofs.calendar.days_of.Goals as goal

@@ -1,9 +1,6 @@
-use Rattle.std.proofs.Common.{◌≡◌, sym, subst, ℕ, ◌^◌, ◌<◌, ◌≤◌, List, get_or, take, arith, length-take}
-use Rattle.std.specs.Char.{digit_value}
-use Rattle.std.specs.Str.Parse.{AllDigits, digits_value}
-use Rattle.std.proofs.lemmas.Bool.Decides.{nat_tests}
+use Rattle.pim_time.proofs.Words.{◌≡◌, sym, subst, ℕ, ◌^◌, ◌<◌, ◌≤◌, List, get_or, take, arith, length-take}
+use Rattle.pim_time.proofs.Words.{digit_value, AllDigits, digits_value, nat_tests, digit_at}
 use Rattle.std.proofs.lemmas.Int.Digits.{digits_value_more, digits_more}
-use Rattle.std.proofs.lemmas.Str.Parse.{digit_at}
 use Rattle.pim_time.proofs.Numbers.{few_digits}
 use Rattle.pim_time.proofs.digits.read_number.Goals as goal
 

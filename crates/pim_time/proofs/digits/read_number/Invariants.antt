@@ -1,5 +1,4 @@
-use Rattle.std.proofs.Common.{◌≡◌, take}
-use Rattle.std.specs.Str.Parse.{AllDigits, digits_value}
+use Rattle.pim_time.proofs.Words.{◌≡◌, take, AllDigits, digits_value}
 use Rattle.pim_time.proofs.digits.read_number.Given as goal
 
 abbrev pub invariant-loop-byte : goal.invariant-loop-byte

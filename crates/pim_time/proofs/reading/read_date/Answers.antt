@@ -1,5 +1,4 @@
-use Rattle.std.proofs.Common.{sym, subst}
-use Rattle.pim_time.specs.Text.{second_text, IsEnd}
+use Rattle.pim_time.proofs.Words.{sym, subst, second_text, IsEnd}
 use Rattle.pim_time.proofs.Points.{not_some}
 use Rattle.pim_time.proofs.Seconds.{before_end}
 use Rattle.pim_time.proofs.reading.read_date.Goals as goal

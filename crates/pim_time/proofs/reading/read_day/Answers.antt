@@ -1,6 +1,4 @@
-use Rattle.std.proofs.Common.{◌∷◌, ◌++◌, arith}
-use Rattle.pim_time.specs.Calendar.{date_of}
-use Rattle.pim_time.specs.Text.{two_digits}
+use Rattle.pim_time.proofs.Words.{◌∷◌, ◌++◌, arith, date_of, two_digits}
 use Rattle.pim_time.proofs.Days.{is_civil}
 use Rattle.pim_time.proofs.Walks.{month_high}
 use Rattle.pim_time.proofs.reading.read_day.Goals as goal

@@ -1,5 +1,4 @@
-use Rattle.std.proofs.Common.{◌∙◌, sym, ◌/◌, ◌%◌, ◌∷◌, ◌++◌, arith}
-use Rattle.pim_time.specs.Text.{clock_text}
+use Rattle.pim_time.proofs.Words.{◌∙◌, sym, ◌/◌, ◌%◌, ◌∷◌, ◌++◌, arith, clock_text}
 use Rattle.pim_time.proofs.Seconds.{joined, its_day, tails}
 use Rattle.pim_time.proofs.reading.read_second.Goals as goal
 

@@ -1,5 +1,4 @@
-use Rattle.std.proofs.Common.{◌∙◌, sym, subst}
-use Rattle.pim_time.specs.Text.{IsPart}
+use Rattle.pim_time.proofs.Words.{◌∙◌, sym, subst, IsPart}
 use Rattle.pim_time.proofs.Forms.{spelled_by_point}
 use Rattle.pim_time.proofs.Points.{not_some}
 use Rattle.pim_time.proofs.reading.read_seconds.Goals as goal

@@ -1,7 +1,4 @@
-use Rattle.std.proofs.Common.{◌≡◌, sym, ap, subst, ℕ, List, Some, inl, inr}
-use Rattle.pim_time.specs.Text.{IsNumber, IsSeconds, IsTime}
-use Rattle.pim_time.specs.declared.reading.Time.{Time}
-use Rattle.pim_time.specs.declared.reading.Time.TheVariants.{Moment, Epoch}
+use Rattle.pim_time.proofs.Words.{◌≡◌, sym, ap, subst, ℕ, List, Some, inl, inr, IsNumber, IsSeconds, IsTime, Time, Moment, Epoch}
 use Rattle.pim_time.proofs.Forms.{number_or_seconds, number_or_date, seconds_or_date}
 use Rattle.pim_time.proofs.Points.{same_some}
 use Rattle.pim_time.proofs.reading.read_time.Goals as goal

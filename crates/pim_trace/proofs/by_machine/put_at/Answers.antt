@@ -1,6 +1,4 @@
-use Rattle.std.proofs.Common.{◌∙◌, subst}
-use Rattle.std.specs.List.{insert}
-use Rattle.pim_trace.specs.Machines.{IsPlaceFor}
+use Rattle.pim_trace.proofs.Words.{◌∙◌, subst, insert, IsPlaceFor}
 use Rattle.pim_trace.proofs.Machines.{order_set, holds_set, order_inserted, holds_inserted}
 use Rattle.pim_trace.proofs.by_machine.put_at.Goals as goal
 

@@ -1,5 +1,4 @@
-use Rattle.std.proofs.Common.{subst}
-use Rattle.pim_trace.specs.Machines.{IsPlaceFor}
+use Rattle.pim_trace.proofs.Words.{subst, IsPlaceFor}
 use Rattle.pim_trace.proofs.Machines.{order_left, holds_left, holds_none}
 use Rattle.pim_trace.proofs.by_machine.remove_at.Goals as goal
 

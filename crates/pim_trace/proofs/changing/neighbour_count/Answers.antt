@@ -1,5 +1,4 @@
-use Rattle.std.proofs.Common.{◌∙◌, length, ap, sym}
-use Rattle.pim_hello.specs.Neighbours.{Table}
+use Rattle.pim_trace.proofs.Words.{◌∙◌, length, ap, sym, Table}
 use Rattle.pim_trace.proofs.Neighbours.{all_on}
 use Rattle.pim_trace.proofs.changing.neighbour_count.Goals as goal
 

@@ -1,16 +1,5 @@
-use Rattle.std.proofs.Common.{List, ℕ, length, refl, sym, ap, subst, ◌∙◌}
-use Rattle.std.specs.Io.KnownBytes.{Appends}
-use Rattle.pim_device.specs.Device.{AppendsFront}
-use Rattle.pim_down.specs.Time.{Downstream}
-use Rattle.pim_router.specs.Packets.{neighbours_on}
-use Rattle.pim_events.specs.declared.event.Cause.{Cause}
-use Rattle.pim_events.specs.Events.{cause_seen}
-use Rattle.pim_transitions.specs.declared.transition.Transition.{Transition}
-use Rattle.pim_transitions.specs.Affected.{transitions_to}
-use Rattle.pim_trace.specs.Heard.{as_cause}
-use Rattle.pim_trace.specs.Kept.{ledger_seen}
-use Rattle.pim_trace.specs.Ledger.{with_changes}
-use Rattle.pim_trace.specs.Read.{packet_in}
+use Rattle.pim_trace.proofs.Words.{List, ℕ, length, refl, sym, ap, subst, ◌∙◌, Appends, AppendsFront, Downstream, neighbours_on}
+use Rattle.pim_trace.proofs.Words.{Cause, cause_seen, Transition, transitions_to, as_cause, ledger_seen, with_changes, packet_in}
 use Rattle.pim_trace.proofs.Loops.{AreLeft, all_left, change_told, change_begun, changes_told, all_kept, same_text}
 use Rattle.pim_trace.proofs.Writing.{start_writing, stopped}
 use Rattle.pim_trace.proofs.changing.write_changes.Goals as goal

@@ -1,7 +1,4 @@
-use Rattle.std.proofs.Common.{◌≡◌}
-use Rattle.pim_events.specs.Events.{cause_seen}
-use Rattle.pim_transitions.specs.Affected.{transitions_to}
-use Rattle.pim_trace.specs.Kept.{ledger_seen}
+use Rattle.pim_trace.proofs.Words.{◌≡◌, cause_seen, transitions_to, ledger_seen}
 use Rattle.pim_trace.proofs.Loops.{AreLeft}
 use Rattle.pim_trace.proofs.changing.write_changes.Given as goal
 

@@ -1,11 +1,5 @@
-use Rattle.std.proofs.Common.{subst}
-use Rattle.pim_addr.specs.Routes.{RouteTable, rp_of}
-use Rattle.pim_down.specs.Hearing.{events_of, start_of}
-use Rattle.pim_down.specs.Sound.{IsSound}
-use Rattle.pim_down.specs.Time.{Downstream}
-use Rattle.pim_router.specs.Packets.{timing_on}
-use Rattle.pim_transitions.specs.Affected.{IsAffected, transitions_to}
-use Rattle.pim_trace.specs.Heard.{records_after, AreTransitionsOf}
+use Rattle.pim_trace.proofs.Words.{subst, RouteTable, rp_of, events_of, start_of, IsSound, Downstream, timing_on}
+use Rattle.pim_trace.proofs.Words.{IsAffected, transitions_to, records_after, AreTransitionsOf}
 use Rattle.pim_trace.proofs.Hearings.{if_ok}
 use Rattle.pim_trace.proofs.hearing.affected_by.Goals as goal
 

@@ -1,6 +1,5 @@
-use Rattle.std.proofs.Common.{None, Some, sym, ap, ◌∙◌}
+use Rattle.pim_trace.proofs.Words.{None, Some, sym, ap, ◌∙◌, neighbour_seen}
 use Rattle.std.specs.Option.{option_map}
-use Rattle.pim_hello.specs.Walk.{neighbour_seen}
 use Rattle.pim_trace.proofs.Neighbours.{kept_by}
 use Rattle.pim_trace.proofs.hearing.generation_kept.Goals as goal
 

@@ -1,8 +1,5 @@
-use Rattle.std.proofs.Common.{refl, ap}
+use Rattle.pim_trace.proofs.Words.{refl, ap, ledger_seen, packet_in, message_in}
 use Rattle.pim_hello.specs.Seen.{hello_seen}
-use Rattle.pim_trace.specs.Kept.{ledger_seen}
-use Rattle.pim_trace.specs.Read.{packet_in}
-use Rattle.pim_trace.specs.Reading.{message_in}
 use Rattle.pim_trace.proofs.Hearings.{hello_stopped, hello_told, own_told, verdict_told}
 use Rattle.pim_trace.proofs.hearing.hear_hello.Goals as goal
 

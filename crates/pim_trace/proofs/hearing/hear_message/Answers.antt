@@ -1,10 +1,4 @@
-use Rattle.std.proofs.Common.{List, ℕ, Some, Ok, refl}
-use Rattle.pim_down.specs.declared.machines.machine.Record.{Record}
-use Rattle.pim_router.specs.Packets.{received}
-use Rattle.pim_transitions.specs.Affected.{transitions_to}
-use Rattle.pim_trace.specs.Heard.{HearsPacket}
-use Rattle.pim_trace.specs.Kept.{ledger_seen}
-use Rattle.pim_trace.specs.Read.{packet_in}
+use Rattle.pim_trace.proofs.Words.{List, ℕ, Some, Ok, refl, Record, received, transitions_to, HearsPacket, ledger_seen, packet_in}
 use Rattle.pim_trace.proofs.Hearings.{no_hello, message_stopped, verdict_begun, begun_err, other_told, was_applied, not_applied, applied_told}
 use Rattle.pim_trace.proofs.hearing.hear_message.Goals as goal
 

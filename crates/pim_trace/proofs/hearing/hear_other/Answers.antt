@@ -1,8 +1,5 @@
-use Rattle.std.proofs.Common.{◌∙◌, Ok, Err, ap}
-use Rattle.pim_router.specs.Reading.{reading_seen, packet_read}
-use Rattle.pim_trace.specs.Kept.{ledger_seen}
-use Rattle.pim_trace.specs.Read.{packet_in, IsNoHello}
-use Rattle.pim_trace.specs.Reading.{hello_in, message_in}
+use Rattle.pim_trace.proofs.Words.{◌∙◌, Ok, Err, ap, reading_seen, packet_read, ledger_seen, packet_in, IsNoHello}
+use Rattle.pim_trace.proofs.Words.{hello_in, message_in}
 use Rattle.pim_trace.proofs.Hearings.{other_unapplied, other_told}
 use Rattle.pim_trace.proofs.hearing.hear_other.Goals as goal
 

@@ -1,11 +1,6 @@
-use Rattle.std.proofs.Common.{[], ◌∷◌, None, sym, subst}
-use Rattle.std.specs.Prelude.{slice_index_or}
-use Rattle.pim_device.specs.Device.{AppendsFront}
+use Rattle.pim_trace.proofs.Words.{[], ◌∷◌, None, sym, subst, slice_index_or, AppendsFront, judgment, restart_of}
+use Rattle.pim_trace.proofs.Words.{ledger_seen, packet_in, text_on}
 use Rattle.pim_router.specs.declared.verdict.Verdict.TheVariants.{Mine}
-use Rattle.pim_trace.specs.Heard.{judgment, restart_of}
-use Rattle.pim_trace.specs.Kept.{ledger_seen}
-use Rattle.pim_trace.specs.Read.{packet_in}
-use Rattle.pim_trace.specs.WrittenEvents.{text_on}
 use Rattle.pim_trace.proofs.Written.{front-longer}
 use Rattle.pim_trace.proofs.Writing.{stopped, text-append}
 use Rattle.pim_trace.proofs.hearing.hear_own.Goals as goal

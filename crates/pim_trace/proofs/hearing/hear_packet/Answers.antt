@@ -1,5 +1,4 @@
-use Rattle.std.proofs.Common.{◌∙◌, sym, ap}
-use Rattle.pim_router.specs.Reading.{reading_seen}
+use Rattle.pim_trace.proofs.Words.{◌∙◌, sym, ap, reading_seen}
 use Rattle.pim_trace.proofs.hearing.hear_packet.Goals as goal
 
 pub hear_hello-requires-clause-read : goal.hear_hello-requires-clause-read

@@ -1,5 +1,4 @@
-use Rattle.pim_router.specs.Reading.{reading_seen, read_causes, read_received}
-use Rattle.pim_trace.specs.Read.{packet_in}
+use Rattle.pim_trace.proofs.Words.{reading_seen, read_causes, read_received, packet_in}
 use Rattle.pim_trace.proofs.Verdicts.{received_ok, received_moment}
 use Rattle.pim_trace.proofs.hearing.take.Goals as goal
 

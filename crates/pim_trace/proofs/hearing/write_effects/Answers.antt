@@ -1,12 +1,5 @@
-use Rattle.std.proofs.Common.{length, sym, subst}
-use Rattle.pim_device.specs.Device.{AppendsFront, AppendsAll}
-use Rattle.pim_addr.specs.Routes.{rp_of}
-use Rattle.pim_router.specs.Packets.{neighbours_on}
-use Rattle.pim_transitions.specs.Affected.{transitions_to}
-use Rattle.pim_trace.specs.Heard.{all_ignored, changes_of, as_cause}
-use Rattle.pim_trace.specs.Kept.{ledger_seen}
-use Rattle.pim_trace.specs.Read.{packet_in}
-use Rattle.pim_trace.specs.WrittenEvents.{text_on}
+use Rattle.pim_trace.proofs.Words.{length, sym, subst, AppendsFront, AppendsAll, rp_of, neighbours_on, transitions_to}
+use Rattle.pim_trace.proofs.Words.{all_ignored, changes_of, as_cause, ledger_seen, packet_in, text_on}
 use Rattle.pim_trace.proofs.Written.{front-longer}
 use Rattle.pim_trace.proofs.Writing.{all-more, text-append}
 use Rattle.pim_trace.proofs.hearing.write_effects.Goals as goal

@@ -1,7 +1,4 @@
-use Rattle.std.proofs.Common.{refl, ◌∙◌}
-use Rattle.pim_addr.specs.Routes.{rp_of}
-use Rattle.pim_trace.specs.Heard.{ignored_in}
-use Rattle.pim_trace.specs.Kept.{ledger_seen}
+use Rattle.pim_trace.proofs.Words.{refl, ◌∙◌, rp_of, ignored_in, ledger_seen}
 use Rattle.pim_trace.proofs.Loops.{item_told, item_begun}
 use Rattle.pim_trace.proofs.Writing.{stopped}
 use Rattle.pim_trace.proofs.ignoring.write_ignored.Goals as goal

@@ -1,9 +1,4 @@
-use Rattle.std.proofs.Common.{subst, ◌∙◌}
-use Rattle.pim_device.specs.Device.{AppendsFront}
-use Rattle.pim_addr.specs.Routes.{rp_of}
-use Rattle.pim_trace.specs.Heard.{ignored_entry, ignored_in}
-use Rattle.pim_trace.specs.Kept.{ledger_seen}
-use Rattle.pim_trace.specs.WrittenEvents.{text_on}
+use Rattle.pim_trace.proofs.Words.{subst, ◌∙◌, AppendsFront, rp_of, ignored_entry, ignored_in, ledger_seen, text_on}
 use Rattle.pim_trace.proofs.Loops.{told_of, item_told, item_begun}
 use Rattle.pim_trace.proofs.Writing.{stopped}
 use Rattle.pim_trace.proofs.ignoring.write_ignored_in.Goals as goal

@@ -1,7 +1,4 @@
-use Rattle.std.proofs.Common.{◌≡◌}
-use Rattle.pim_addr.specs.Routes.{rp_of}
-use Rattle.pim_trace.specs.Heard.{ignored_entry}
-use Rattle.pim_trace.specs.Kept.{ledger_seen}
+use Rattle.pim_trace.proofs.Words.{◌≡◌, rp_of, ignored_entry, ledger_seen}
 use Rattle.pim_trace.proofs.Loops.{told_of}
 use Rattle.pim_trace.proofs.Writing.{IsWriting}
 use Rattle.pim_trace.proofs.ignoring.write_ignored_in.Given as goal

@@ -1,8 +1,6 @@
-use Rattle.std.proofs.Common.{◌∙◌, [], ◌∷◌, refl, sym, subst, arith}
+use Rattle.pim_trace.proofs.Words.{◌∙◌, [], ◌∷◌, refl, sym, subst, arith, firing_seen, timer_fired, Passes, FiresTo}
+use Rattle.pim_trace.proofs.Words.{FiresAfter, ledger_seen}
 use Rattle.std.specs.Prelude.{option_map}
-use Rattle.pim_down.specs.Seen.{firing_seen}
-use Rattle.pim_router.specs.Happening.{timer_fired, Passes, FiresTo, FiresAfter}
-use Rattle.pim_trace.specs.Kept.{ledger_seen}
 use Rattle.pim_trace.proofs.Fires.{fires_alone, nobody_after, ends_alone}
 use Rattle.pim_trace.proofs.Listed.{tells_err}
 use Rattle.pim_trace.proofs.OnTheWay.{begin, further, stopped, arrived}

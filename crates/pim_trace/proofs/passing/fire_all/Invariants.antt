@@ -1,8 +1,4 @@
-use Rattle.std.proofs.Common.{◌≡◌, ◌≤◌, [], max}
-use Rattle.pim_router.specs.State.{setup_of}
-use Rattle.pim_router.specs.Time.{turns_left}
-use Rattle.pim_trace.specs.Kept.{ledger_seen}
-use Rattle.pim_trace.specs.Passing.{gone_by}
+use Rattle.pim_trace.proofs.Words.{◌≡◌, ◌≤◌, [], max, setup_of, turns_left, ledger_seen, gone_by}
 use Rattle.pim_trace.proofs.OnTheWay.{IsOnTheWay}
 use Rattle.pim_trace.proofs.passing.fire_all.Given as goal
 

@@ -1,8 +1,5 @@
-use Rattle.std.proofs.Common.{subst, arith}
+use Rattle.pim_trace.proofs.Words.{subst, arith, firing_seen, FiresTo, FiresAfter, ledger_seen}
 use Rattle.std.specs.Prelude.{option_map}
-use Rattle.pim_down.specs.Seen.{firing_seen}
-use Rattle.pim_router.specs.Happening.{FiresTo, FiresAfter}
-use Rattle.pim_trace.specs.Kept.{ledger_seen}
 use Rattle.pim_trace.proofs.Fires.{nobody_at, there_next}
 use Rattle.pim_trace.proofs.Listed.{tells_err}
 use Rattle.pim_trace.proofs.Millisecond.{gone_begun, gone_only, fired_begun, fired_way}

@@ -1,5 +1,4 @@
-use Rattle.std.proofs.Common.{◌∙◌, refl, arith}
-use Rattle.pim_trace.specs.Kept.{ledger_seen}
+use Rattle.pim_trace.proofs.Words.{◌∙◌, refl, arith, ledger_seen}
 use Rattle.pim_trace.proofs.Fires.{nobody_until}
 use Rattle.pim_trace.proofs.Listed.{tells_err}
 use Rattle.pim_trace.proofs.OnTheWay.{begin, part_told, part_begun, rest_tells}

@@ -1,6 +1,4 @@
-use Rattle.std.proofs.Common.{◌≡◌, ◌≤◌, ◌-◌, max}
-use Rattle.pim_router.specs.State.{setup_of}
-use Rattle.pim_trace.specs.Kept.{ledger_seen}
+use Rattle.pim_trace.proofs.Words.{◌≡◌, ◌≤◌, ◌-◌, max, setup_of, ledger_seen}
 use Rattle.pim_trace.proofs.OnTheWay.{IsOnTheWay}
 use Rattle.pim_trace.proofs.passing.pass_time.Given as goal
 

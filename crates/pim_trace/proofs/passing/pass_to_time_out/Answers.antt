@@ -1,6 +1,4 @@
-use Rattle.std.proofs.Common.{◌≡◌, ◌-◌, ◌<◌, subst, arith}
-use Rattle.pim_router.specs.Time.{rests, turn}
-use Rattle.pim_trace.specs.Kept.{ledger_seen}
+use Rattle.pim_trace.proofs.Words.{◌≡◌, ◌-◌, ◌<◌, subst, arith, rests, turn, ledger_seen}
 use Rattle.pim_trace.proofs.Fires.{nobody_before}
 use Rattle.pim_trace.proofs.Listed.{tells_err}
 use Rattle.pim_trace.proofs.OnTheWay.{begin, part_told, part_begun, rest_tells}

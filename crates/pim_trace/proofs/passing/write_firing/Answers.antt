@@ -1,10 +1,6 @@
-use Rattle.std.proofs.Common.{ℕ, List, subst, ap}
-use Rattle.pim_device.specs.Device.{AppendsAll}
-use Rattle.pim_down.specs.Seen.{firing_seen, what_seen}
+use Rattle.pim_trace.proofs.Words.{ℕ, List, subst, ap, AppendsAll, firing_seen, what_seen, Cause, ledger_seen}
 use Rattle.pim_router.specs.Happening as happening
-use Rattle.pim_events.specs.declared.event.Cause.{Cause}
 use Rattle.pim_events.specs.Events.{Occurrence, timer_fired}
-use Rattle.pim_trace.specs.Kept.{ledger_seen}
 use Rattle.pim_trace.proofs.Listed.{tells_one, same_event, is_stays}
 use Rattle.pim_trace.proofs.passing.write_firing.Goals as goal
 

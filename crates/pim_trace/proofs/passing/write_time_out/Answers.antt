@@ -1,9 +1,4 @@
-use Rattle.std.proofs.Common.{subst, ap}
-use Rattle.pim_device.specs.Device.{AppendsAll}
-use Rattle.pim_router.specs.Happening.{timed_out}
-use Rattle.pim_events.specs.Events.{Occurrence, neighbour_gone}
-use Rattle.pim_trace.specs.declared.ledger.Sent.{Sent}
-use Rattle.pim_trace.specs.Kept.{ledger_seen}
+use Rattle.pim_trace.proofs.Words.{subst, ap, AppendsAll, timed_out, Occurrence, neighbour_gone, Sent, ledger_seen}
 use Rattle.pim_trace.proofs.Listed.{tells_one, same_event, is_stays}
 use Rattle.pim_trace.proofs.passing.write_time_out.Goals as goal
 

@@ -1,7 +1,4 @@
-use Rattle.std.proofs.Common.{◌∙◌, ◌<◌, ◌≤◌, ◌+◌, length, refl, arith}
-use Rattle.pim_router.specs.State.{table_at}
-use Rattle.pim_trace.specs.Kept.{ledger_seen}
-use Rattle.pim_trace.specs.Passing.{time_outs, time_outs_on}
+use Rattle.pim_trace.proofs.Words.{◌∙◌, ◌<◌, ◌≤◌, ◌+◌, length, refl, arith, table_at, ledger_seen, time_outs, time_outs_on}
 use Rattle.pim_trace.proofs.Listed.{begin, same_left, all_told, part_told, part_begun, over_from, from_first, from_next, from_none, all_err}
 use Rattle.pim_trace.proofs.passing.write_time_outs.Goals as goal
 

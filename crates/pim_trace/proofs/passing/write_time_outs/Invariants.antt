@@ -1,6 +1,4 @@
-use Rattle.std.proofs.Common.{◌≡◌}
-use Rattle.pim_trace.specs.Kept.{ledger_seen}
-use Rattle.pim_trace.specs.Passing.{time_outs}
+use Rattle.pim_trace.proofs.Words.{◌≡◌, ledger_seen, time_outs}
 use Rattle.pim_trace.proofs.Listed.{IsTelling, over_from}
 use Rattle.pim_trace.proofs.passing.write_time_outs.Given as goal
 

@@ -1,10 +1,5 @@
-use Rattle.std.proofs.Common.{◌∙◌, ◌<◌, ◌-◌, [], ◌∷◌, length, refl, sym, ap, arith}
-use Rattle.pim_hello.specs.Neighbours.{no_neighbours}
-use Rattle.pim_hello.specs.Walk.{neighbour_seen}
-use Rattle.pim_router.specs.Happening.{timed_out}
-use Rattle.pim_router.specs.State.{table_at}
-use Rattle.pim_trace.specs.Kept.{ledger_seen}
-use Rattle.pim_trace.specs.Passing.{time_outs_on}
+use Rattle.pim_trace.proofs.Words.{◌∙◌, ◌<◌, ◌-◌, [], ◌∷◌, length, refl, sym, ap, arith, no_neighbours, neighbour_seen}
+use Rattle.pim_trace.proofs.Words.{timed_out, table_at, ledger_seen, time_outs_on}
 use Rattle.pim_trace.proofs.Listed.{begin, same_left, all_told, part_told, part_begun, over_in, over_first, over_not, over_none, over_on, all_current, all_err}
 use Rattle.pim_trace.proofs.passing.write_time_outs_on.Goals as goal
 

@@ -1,7 +1,4 @@
-use Rattle.std.proofs.Common.{◌≡◌}
-use Rattle.pim_router.specs.State.{table_at}
-use Rattle.pim_trace.specs.Kept.{ledger_seen}
-use Rattle.pim_trace.specs.Passing.{time_outs_on}
+use Rattle.pim_trace.proofs.Words.{◌≡◌, table_at, ledger_seen, time_outs_on}
 use Rattle.pim_trace.proofs.Listed.{IsTelling, over_in}
 use Rattle.pim_trace.proofs.passing.write_time_outs_on.Given as goal
 

@@ -1,5 +1,4 @@
-use Rattle.std.proofs.Common.{◌≡◌, ◌≤◌, ◌+◌, ◌*◌, drop}
-use Rattle.pim_trace.specs.Trace.{neighbours_in}
+use Rattle.pim_trace.proofs.Words.{◌≡◌, ◌≤◌, ◌+◌, ◌*◌, drop, neighbours_in}
 use Rattle.pim_trace.proofs.trace.neighbour_count.Given as goal
 
 -- the neighbours of the ports so far were counted

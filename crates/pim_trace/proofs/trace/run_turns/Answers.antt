@@ -1,5 +1,4 @@
-use Rattle.std.proofs.Common.{inl, inr}
-use Rattle.pim_trace.specs.Kept.{ledger_seen}
+use Rattle.pim_trace.proofs.Words.{inl, inr, ledger_seen}
 use Rattle.pim_trace.proofs.Underway.{new_frames, new_own, has_all, broken_off, stops_at, failed_on_the_way, stopped}
 use Rattle.pim_trace.proofs.trace.run_turns.Goals as goal
 

@@ -1,5 +1,4 @@
-use Rattle.std.proofs.Common.{◌∙◌, ap, inl}
-use Rattle.pim_trace.specs.Ledger.{new_ledger}
+use Rattle.pim_trace.proofs.Words.{◌∙◌, ap, inl, new_ledger}
 use Rattle.pim_trace.proofs.Ending.{nothing_yet}
 use Rattle.pim_trace.proofs.Underway.{untaken}
 use Rattle.pim_trace.proofs.trace.trace_into.Goals as goal

@@ -1,7 +1,5 @@
-use Rattle.std.proofs.Common.{◌∙◌, ap, inr}
+use Rattle.pim_trace.proofs.Words.{◌∙◌, ap, inr, end_moment, ledger_seen}
 use Rattle.std.proofs.lemmas.Result.{err_from_is_err_and}
-use Rattle.pim_merge.specs.Ends.{end_moment}
-use Rattle.pim_trace.specs.Kept.{ledger_seen}
 use Rattle.pim_trace.proofs.Ending.{turns_end_it, counts_all, stopped_behind, end_told, end_begun}
 use Rattle.pim_trace.proofs.trace.trace_with.Goals as goal
 

@@ -1,7 +1,4 @@
-use Rattle.std.proofs.Common.{◌∙◌, ap, sym}
-use Rattle.pim_capture.specs.Next.{event_seen}
-use Rattle.pim_merge.specs.Content.{content_seen}
-use Rattle.pim_trace.specs.Kept.{ledger_seen}
+use Rattle.pim_trace.proofs.Words.{◌∙◌, ap, sym, event_seen, content_seen, ledger_seen}
 use Rattle.pim_trace.proofs.TakenTurn.{content_tells, rest_tells}
 use Rattle.pim_trace.proofs.turns.take_record.Goals as goal
 

@@ -1,5 +1,4 @@
-use Rattle.std.proofs.Common.{◌≡◌, map, length}
-use Rattle.pim_transitions.specs.Affected.{candidate_seen, transitions_to}
+use Rattle.pim_transitions.proofs.Words.{◌≡◌, map, length, candidate_seen, transitions_to}
 use Rattle.pim_transitions.proofs.changes.first_change.Given as goal
 
 -- no change was passed over

@@ -1,7 +1,4 @@
-use Rattle.std.proofs.Common.{◌≡◌, ◌++◌, map, length}
-use Rattle.pim_down.specs.Seen.{event_seen}
-use Rattle.pim_transitions.specs.Marks.{candidate_of, lasts}
-use Rattle.pim_transitions.specs.Affected.{candidate_seen}
+use Rattle.pim_transitions.proofs.Words.{◌≡◌, ◌++◌, map, length, event_seen, candidate_of, lasts, candidate_seen}
 use Rattle.pim_transitions.proofs.marks.look_up.Given as goal
 
 -- the candidates so far and those of the marks that are left are all

@@ -1,7 +1,4 @@
-use Rattle.std.proofs.Common.{◌≡◌, ◌++◌, map}
-use Rattle.pim_down.specs.Hearing.{list_events}
-use Rattle.pim_addr.specs.Routes.{rp_of}
-use Rattle.pim_down.specs.Seen.{event_seen}
+use Rattle.pim_transitions.proofs.Words.{◌≡◌, ◌++◌, map, list_events, rp_of, event_seen}
 use Rattle.pim_transitions.proofs.marks.push_list.Given as goal
 
 -- the marks so far and the events of the entries that are left are those before and those of all

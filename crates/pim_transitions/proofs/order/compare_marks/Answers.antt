@@ -1,6 +1,4 @@
-use Rattle.std.proofs.Common.{◌∙◌}
-use Rattle.std.specs.Ordering.{ordering_then}
-use Rattle.pim_down.specs.Seen.{event_seen}
+use Rattle.pim_transitions.proofs.Words.{◌∙◌, ordering_then, event_seen}
 use Rattle.pim_transitions.proofs.Keys.{marks_cmp}
 use Rattle.pim_transitions.proofs.order.compare_marks.Goals as goal
 

@@ -1,5 +1,4 @@
-use Rattle.std.proofs.Common.{rules}
-use Rattle.std.proofs.lemmas.Result.{on_ok_weaker}
+use Rattle.pim_transitions.proofs.Words.{rules, on_ok_weaker}
 use Rattle.pim_transitions.proofs.Sorting.{stays_by, sorts_by, mark_key, rise_of, keep_of}
 use Rattle.pim_transitions.proofs.order.put_in_key_order.Goals as goal
 

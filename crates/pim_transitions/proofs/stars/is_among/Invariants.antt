@@ -1,7 +1,4 @@
-use Rattle.std.proofs.Common.{◌≡◌, map, drop}
-use Rattle.std.specs.Prelude.{nat_eq}
-use Rattle.std.specs.Cmp.Lexicographic.{pointwise}
-use Rattle.std.specs.List.{list_any}
+use Rattle.pim_transitions.proofs.Words.{◌≡◌, map, drop, nat_eq, pointwise, list_any}
 use Rattle.pim_transitions.proofs.stars.is_among.Given as goal
 
 -- one of those that are left is the group exactly where one of all is

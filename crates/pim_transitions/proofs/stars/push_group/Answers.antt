@@ -1,8 +1,4 @@
-use Rattle.std.proofs.Common.{◌∙◌, map, sym, ap, subst}
-use Rattle.std.specs.List.{AllByRecursion}
-use Rattle.std.proofs.lemmas.List.{map-append}
-use Rattle.pim_down.specs.Seen.{event_seen}
-use Rattle.pim_transitions.specs.Marks.{HaveRptsOf}
+use Rattle.pim_transitions.proofs.Words.{◌∙◌, map, sym, ap, subst, AllByRecursion, map-append, event_seen, HaveRptsOf}
 use Rattle.pim_transitions.proofs.StarSets.{group_there, group_added, walked_more}
 use Rattle.pim_transitions.proofs.stars.push_group.Goals as goal
 

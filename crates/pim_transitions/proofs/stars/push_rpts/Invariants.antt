@@ -1,7 +1,5 @@
-use Rattle.std.proofs.Common.{◌≡◌, ◌++◌, map, flat_map, length}
-use Rattle.pim_down.specs.Records.{IsAscending}
-use Rattle.pim_down.specs.Seen.{event_seen, what_seen}
-use Rattle.pim_transitions.specs.Marks.{rpt_mark, rpt_marks}
+use Rattle.pim_transitions.proofs.Words.{◌≡◌, ◌++◌, map, flat_map, length, IsAscending, event_seen, what_seen, rpt_mark}
+use Rattle.pim_transitions.proofs.Words.{rpt_marks}
 use Rattle.pim_transitions.proofs.Walks.{walk_left}
 use Rattle.pim_transitions.proofs.stars.push_rpts.Given as goal
 

@@ -1,6 +1,4 @@
-use Rattle.std.proofs.Common.{◌∙◌, sym}
-use Rattle.std.proofs.lemmas.Result.{on_ok_weaker}
-use Rattle.pim_addr.specs.Routes.{rp_of}
+use Rattle.pim_transitions.proofs.Words.{◌∙◌, sym, on_ok_weaker, rp_of}
 use Rattle.pim_transitions.proofs.StarSets.{set_without, set_with}
 use Rattle.pim_transitions.proofs.stars.push_set.Goals as goal
 

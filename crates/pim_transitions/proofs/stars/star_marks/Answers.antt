@@ -1,6 +1,4 @@
-use Rattle.std.proofs.Common.{flat_map, ap}
-use Rattle.pim_down.specs.Hearing.{set_events, events_of}
-use Rattle.pim_addr.specs.Routes.{rp_of}
+use Rattle.pim_transitions.proofs.Words.{flat_map, ap, set_events, events_of, rp_of}
 use Rattle.pim_transitions.proofs.StarSets.{marked_more, all_marked}
 use Rattle.pim_transitions.proofs.stars.star_marks.Goals as goal
 

@@ -1,7 +1,4 @@
-use Rattle.std.proofs.Common.{map, flat_map}
-use Rattle.pim_down.specs.Hearing.{set_events, events_of}
-use Rattle.pim_addr.specs.Routes.{rp_of}
-use Rattle.pim_down.specs.Seen.{event_seen}
+use Rattle.pim_transitions.proofs.Words.{map, flat_map, set_events, events_of, rp_of, event_seen}
 use Rattle.pim_transitions.proofs.StarSets.{AreMarkedTo}
 use Rattle.pim_transitions.proofs.stars.star_marks.Given as goal
 

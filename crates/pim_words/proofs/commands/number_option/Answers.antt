@@ -1,6 +1,4 @@
-use Rattle.std.proofs.Common.{◌≡◌, Some, ap}
-use Rattle.clap.specs.Words.{Rule}
-use Rattle.clap.specs.declared.builder.value_parser.ValueParser.TheVariants.{Unsigned}
+use Rattle.pim_words.proofs.Words.{◌≡◌, Some, ap, Rule, Unsigned}
 use Rattle.pim_words.proofs.commands.number_option.Goals as goal
 
 pub returns-clause-rule : goal.returns-clause-rule

@@ -1,7 +1,4 @@
-use Rattle.std.proofs.Common.{◌∙◌, ap}
-use Rattle.std.proofs.lemmas.Result.{IfOk-weaker}
-use Rattle.clap.specs.Words.{App}
-use Rattle.pim_words.specs.Rows.{with_rows}
+use Rattle.pim_words.proofs.Words.{◌∙◌, ap, IfOk-weaker, App, with_rows}
 use Rattle.pim_words.proofs.commands.offered.Goals as goal
 
 pub returns-clause-shape : goal.returns-clause-shape

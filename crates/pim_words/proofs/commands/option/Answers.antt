@@ -1,5 +1,4 @@
-use Rattle.std.proofs.Common.{Some, true, ap}
-use Rattle.clap.specs.Words.{Rule}
+use Rattle.pim_words.proofs.Words.{Some, true, ap, Rule}
 use Rattle.clap.specs.declared.builder.action.ArgAction.TheVariants.{Append}
 use Rattle.pim_words.proofs.commands.option.Goals as goal
 

@@ -1,7 +1,4 @@
-use Rattle.std.proofs.Common.{◌∙◌, ap}
-use Rattle.std.specs.List.{fold}
-use Rattle.clap.specs.Words.{App, app_of, with_subcommand}
-use Rattle.pim_words.specs.Rows.{program, shape_by}
+use Rattle.pim_words.proofs.Words.{◌∙◌, ap, fold, App, app_of, with_subcommand, program, shape_by}
 use Rattle.pim_words.proofs.Tables.{all_added, one_more}
 use Rattle.pim_words.proofs.commands.program.Goals as goal
 

@@ -1,8 +1,4 @@
-use Rattle.std.proofs.Common.{◌≡◌, drop, false}
-use Rattle.std.specs.List.{fold}
-use Rattle.clap.specs.Words.{app_of, with_subcommand}
-use Rattle.clap.specs.declared.builder.command.Command.TheViews.{out-Command}
-use Rattle.pim_words.specs.Rows.{program, shape_by}
+use Rattle.pim_words.proofs.Words.{◌≡◌, drop, false, fold, app_of, with_subcommand, out-Command, program, shape_by}
 use Rattle.pim_words.proofs.commands.program.Given as goal
 
 abbrev pub invariant-loop-offer : goal.invariant-loop-offer

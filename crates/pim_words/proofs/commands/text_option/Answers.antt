@@ -1,5 +1,4 @@
-use Rattle.std.proofs.Common.{Some, ap}
-use Rattle.clap.specs.Words.{Rule}
+use Rattle.pim_words.proofs.Words.{Some, ap, Rule}
 use Rattle.pim_words.proofs.commands.text_option.Goals as goal
 
 pub returns-clause-rule : goal.returns-clause-rule

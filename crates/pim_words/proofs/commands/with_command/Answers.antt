@@ -1,5 +1,4 @@
-use Rattle.std.proofs.Common.{◌∙◌, refl}
-use Rattle.std.proofs.lemmas.Result.{IfOk-weaker}
+use Rattle.pim_words.proofs.Words.{◌∙◌, refl, IfOk-weaker}
 use Rattle.pim_words.proofs.commands.with_command.Goals as goal
 
 pub returns-clause-app : goal.returns-clause-app

@@ -1,6 +1,4 @@
-use Rattle.std.proofs.Common.{◌∙◌, ap}
-use Rattle.clap.specs.Words.{app_of, with_rule}
-use Rattle.pim_words.specs.Rows.{rule_by, with_rows}
+use Rattle.pim_words.proofs.Words.{◌∙◌, ap, app_of, with_rule, rule_by, with_rows}
 use Rattle.pim_words.proofs.Tables.{all_added, one_more}
 use Rattle.pim_words.proofs.commands.with_rows.Goals as goal
 

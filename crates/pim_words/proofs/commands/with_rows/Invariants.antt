@@ -1,7 +1,4 @@
-use Rattle.std.proofs.Common.{◌≡◌, drop, false}
-use Rattle.clap.specs.Words.{app_of}
-use Rattle.clap.specs.declared.builder.command.Command.TheViews.{out-Command}
-use Rattle.pim_words.specs.Rows.{with_rows}
+use Rattle.pim_words.proofs.Words.{◌≡◌, drop, false, app_of, out-Command, with_rows}
 use Rattle.pim_words.proofs.commands.with_rows.Given as goal
 
 abbrev pub invariant-loop-row : goal.invariant-loop-row

@@ -1,6 +1,4 @@
-use Rattle.std.proofs.Common.{◌∙◌}
-use Rattle.clap.specs.Words.{found_of}
-use Rattle.clap.proofs.WalkLemmas.{first_value-rows}
+use Rattle.pim_words.proofs.Words.{◌∙◌, found_of, first_value-rows}
 use Rattle.pim_words.proofs.given.option_of.Goals as goal
 
 pub returns : goal.returns

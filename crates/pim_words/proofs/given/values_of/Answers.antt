@@ -1,6 +1,4 @@
-use Rattle.std.proofs.Common.{◌∙◌}
-use Rattle.clap.specs.Words.{found_of, rows_of}
-use Rattle.clap.proofs.WalkLemmas.{raw_values-rows}
+use Rattle.pim_words.proofs.Words.{◌∙◌, found_of, rows_of, raw_values-rows}
 use Rattle.pim_words.proofs.Values.{values_are}
 use Rattle.pim_words.proofs.given.values_of.Goals as goal
 

@@ -1,5 +1,4 @@
-use Rattle.std.proofs.Common.{◌≡◌, drop}
-use Rattle.pim_words.specs.Labels.{has_name}
+use Rattle.pim_words.proofs.Words.{◌≡◌, drop, has_name}
 use Rattle.pim_words.proofs.label.has_name.Given as goal
 
 -- one of the ports that are left has the name exactly where one of all has

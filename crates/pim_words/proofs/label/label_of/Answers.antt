@@ -1,8 +1,5 @@
-use Rattle.std.proofs.Common.{◌∙◌, None, Some, refl, sym, subst, lit<}
-use Rattle.std.proofs.lemmas.Bool.{false≢true}
-use Rattle.std.proofs.lemmas.Str.Pattern.{contains_char, split_after, split_parts}
-use Rattle.clap.specs.Words.{Text}
-use Rattle.pim_words.specs.Ports.{LacksAtSign}
+use Rattle.pim_words.proofs.Words.{◌∙◌, None, Some, refl, sym, subst, lit<, false≢true, contains_char, split_after}
+use Rattle.pim_words.proofs.Words.{split_parts, Text, LacksAtSign}
 use Rattle.pim_words.proofs.label.label_of.Goals as goal
 
 pub returns-in_default-split_once : goal.returns-in_default-split_once

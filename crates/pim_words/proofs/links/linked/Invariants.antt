@@ -1,5 +1,4 @@
-use Rattle.std.proofs.Common.{◌≡◌, ◌++◌, drop}
-use Rattle.pim_words.specs.Seen.{with_links}
+use Rattle.pim_words.proofs.Words.{◌≡◌, ◌++◌, drop, with_links}
 use Rattle.pim_words.proofs.links.linked.Given as goal
 
 abbrev pub invariant-loop-number : goal.invariant-loop-number

@@ -1,7 +1,4 @@
-use Rattle.std.proofs.Common.{◌≡◌, ◌∙◌, ap, length, List}
-use Rattle.clap.specs.Words.{Text, found_of, rows_of}
-use Rattle.pim_words.specs.Links.{word_count}
-use Rattle.pim_words.specs.Ports.{port_words}
+use Rattle.pim_words.proofs.Words.{◌≡◌, ◌∙◌, ap, length, List, Text, found_of, rows_of, word_count, port_words}
 use Rattle.pim_words.proofs.Further.{counted}
 use Rattle.pim_words.proofs.links.read_part.Goals as goal
 

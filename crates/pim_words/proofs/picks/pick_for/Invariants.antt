@@ -1,5 +1,4 @@
-use Rattle.std.proofs.Common.{◌≡◌, drop}
-use Rattle.pim_words.specs.Links.{pick_for}
+use Rattle.pim_words.proofs.Words.{◌≡◌, drop, pick_for}
 use Rattle.pim_words.proofs.picks.pick_for.Given as goal
 
 abbrev pub invariant-loop-pick : goal.invariant-loop-pick

@@ -1,5 +1,4 @@
-use Rattle.std.proofs.Common.{◌∙◌, sym, ap}
-use Rattle.std.specs.Prelude.{is_some}
+use Rattle.pim_words.proofs.Words.{◌∙◌, sym, ap, is_some}
 use Rattle.pim_words.proofs.Picking.{not_fresh, no_link}
 use Rattle.pim_words.proofs.picks.read_pick.Goals as goal
 

@@ -1,5 +1,4 @@
-use Rattle.std.proofs.Common.{None, Some, refl, inl, inr, lit<}
-use Rattle.std.proofs.lemmas.Str.Pattern.{split_parts}
+use Rattle.pim_words.proofs.Words.{None, Some, refl, inl, inr, lit<, split_parts}
 use Rattle.pim_words.proofs.Picking.{no_tag, no_tags}
 use Rattle.pim_words.proofs.picks.read_vlan.Goals as goal
 

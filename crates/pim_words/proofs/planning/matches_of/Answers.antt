@@ -1,7 +1,4 @@
-use Rattle.std.proofs.Common.{sym, ◌∙◌, map}
-use Rattle.std.proofs.lemmas.Bool.{false≢true}
-use Rattle.std.proofs.lemmas.Result.{err_from_is_err_and}
-use Rattle.clap.specs.Words.{app_of, subcommand_rows_of}
+use Rattle.pim_words.proofs.Words.{sym, ◌∙◌, map, false≢true, err_from_is_err_and, app_of, subcommand_rows_of}
 use Rattle.pim_words.proofs.Offered.{given}
 use Rattle.pim_words.proofs.Planned.{some_given}
 use Rattle.pim_words.proofs.planning.matches_of.Goals as goal

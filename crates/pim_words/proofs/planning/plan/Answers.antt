@@ -1,6 +1,4 @@
-use Rattle.std.proofs.Common.{sym, subst, map}
-use Rattle.clap.specs.Words.{app_of}
-use Rattle.pim_words.specs.Seen.{IsOffered}
+use Rattle.pim_words.proofs.Words.{sym, subst, map, app_of, IsOffered}
 use Rattle.pim_words.proofs.Offered.{planned_in_range, whole}
 use Rattle.pim_words.proofs.planning.plan.Goals as goal
 

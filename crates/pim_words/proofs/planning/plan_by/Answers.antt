@@ -1,6 +1,5 @@
 use Rattle.std.specs.Prelude.{map}
-use Rattle.std.proofs.Common.{sym}
-use Rattle.clap.specs.Words.{app_of, subcommand_rows_of}
+use Rattle.pim_words.proofs.Words.{sym, app_of, subcommand_rows_of}
 use Rattle.pim_words.proofs.Planned.{planned}
 use Rattle.pim_words.proofs.Refusals.{caused}
 use Rattle.pim_words.proofs.planning.plan_by.Goals as goal

@@ -1,5 +1,4 @@
-use Rattle.std.proofs.Common.{refl}
-use Rattle.clap.specs.Words.{found_of, rows_of}
+use Rattle.pim_words.proofs.Words.{refl, found_of, rows_of}
 use Rattle.pim_words.specs.Given.{kind_name}
 use Rattle.pim_words.proofs.Planned.{of_task}
 use Rattle.pim_words.proofs.planning.plan_kind.Goals as goal

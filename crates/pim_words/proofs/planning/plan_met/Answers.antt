@@ -1,8 +1,6 @@
-use Rattle.std.proofs.Common.{sym, subst, MatchResult}
+use Rattle.pim_words.proofs.Words.{sym, subst, MatchResult, Text, found_of, rows_of, IsPlanOf, IsWrongOf}
 use Rattle.std.specs.Box.{box_value}
 use Rattle.clap.specs.declared.parser.matches.ArgMatches.TheViews.{out-ArgMatches, out-SubCommand}
-use Rattle.clap.specs.Words.{Text, found_of, rows_of}
-use Rattle.pim_words.specs.Plan.{IsPlanOf, IsWrongOf}
 use Rattle.pim_words.proofs.Planned.{of_met}
 use Rattle.pim_words.proofs.planning.plan_met.Goals as goal
 

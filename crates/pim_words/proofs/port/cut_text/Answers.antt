@@ -1,5 +1,4 @@
-use Rattle.std.proofs.Common.{None, Some, refl, lit<}
-use Rattle.std.proofs.lemmas.Str.Pattern.{split_parts}
+use Rattle.pim_words.proofs.Words.{None, Some, refl, lit<, split_parts}
 use Rattle.pim_words.proofs.port.cut_text.Goals as goal
 
 pub returns-in-Some : goal.returns-in-Some

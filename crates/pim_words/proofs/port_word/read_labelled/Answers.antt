@@ -1,5 +1,4 @@
-use Rattle.std.proofs.Common.{◌≡◌, arith, length, sym, ◌∙◌}
-use Rattle.std.proofs.lemmas.Result.{err_from_is_err_and}
+use Rattle.pim_words.proofs.Words.{◌≡◌, arith, length, sym, ◌∙◌, err_from_is_err_and}
 use Rattle.pim_words.proofs.Orders.{accepted}
 use Rattle.pim_words.proofs.Labelling.{all_read, no_further, no_port, one_further, one_more}
 use Rattle.pim_words.proofs.port_word.read_labelled.Goals as goal

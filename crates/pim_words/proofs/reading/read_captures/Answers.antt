@@ -1,7 +1,4 @@
-use Rattle.std.proofs.Common.{Option, subst}
-use Rattle.std.proofs.lemmas.Result.{err_from_is_err_and}
-use Rattle.clap.specs.Words.{Text, found_of, rows_of}
-use Rattle.pim_words.specs.Ends.{IsTimed}
+use Rattle.pim_words.proofs.Words.{Option, subst, err_from_is_err_and, Text, found_of, rows_of, IsTimed}
 use Rattle.pim_words.proofs.Orders.{wrong_ports}
 use Rattle.pim_words.proofs.reading.read_captures.Goals as goal
 

@@ -1,5 +1,4 @@
-use Rattle.std.proofs.lemmas.Result.{err_from_is_err_and}
-use Rattle.clap.specs.Words.{found_of, rows_of}
+use Rattle.pim_words.proofs.Words.{err_from_is_err_and, found_of, rows_of}
 use Rattle.pim_words.proofs.Linking.{linked_ports}
 use Rattle.pim_words.proofs.Orders.{wrong_words_of}
 use Rattle.pim_words.proofs.reading.read_linked.Goals as goal

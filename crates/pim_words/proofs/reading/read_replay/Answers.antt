@@ -1,7 +1,4 @@
-use Rattle.std.proofs.Common.{Option, subst}
-use Rattle.std.proofs.lemmas.Result.{err_from_is_err_and}
-use Rattle.clap.specs.Words.{Text, found_of, rows_of}
-use Rattle.pim_words.specs.Reading.{ReadsAddressOption}
+use Rattle.pim_words.proofs.Words.{Option, subst, err_from_is_err_and, Text, found_of, rows_of, ReadsAddressOption}
 use Rattle.pim_words.proofs.Unreadable.{of_replay}
 use Rattle.pim_words.proofs.reading.read_replay.Goals as goal
 

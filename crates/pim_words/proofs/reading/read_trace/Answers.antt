@@ -1,8 +1,5 @@
-use Rattle.std.proofs.Common.{Option, subst, inl}
-use Rattle.std.proofs.lemmas.Result.{err_from_is_err_and}
-use Rattle.clap.specs.Words.{Text, found_of, rows_of}
-use Rattle.pim_words.specs.Ends.{IsTimed}
-use Rattle.pim_words.specs.Reading.{ReadsAddressOption, IsWrongTrace}
+use Rattle.pim_words.proofs.Words.{Option, subst, inl, err_from_is_err_and, Text, found_of, rows_of, IsTimed}
+use Rattle.pim_words.proofs.Words.{ReadsAddressOption, IsWrongTrace}
 use Rattle.pim_words.proofs.Orders.{or_memory, wrong_shown, wrong_words}
 use Rattle.pim_words.proofs.Unreadable.{of_trace}
 use Rattle.pim_words.proofs.reading.read_trace.Goals as goal

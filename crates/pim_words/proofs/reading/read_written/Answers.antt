@@ -1,5 +1,4 @@
-use Rattle.std.proofs.lemmas.Result.{err_from_is_err_and}
-use Rattle.clap.specs.Words.{found_of, rows_of}
+use Rattle.pim_words.proofs.Words.{err_from_is_err_and, found_of, rows_of}
 use Rattle.pim_words.proofs.Unreadable.{of_written}
 use Rattle.pim_words.proofs.reading.read_written.Goals as goal
 

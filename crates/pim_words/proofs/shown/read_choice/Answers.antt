@@ -1,5 +1,4 @@
-use Rattle.std.proofs.Common.{arith, refl, sym, ◌∙◌, ◌+◌, ◌≤◌, length}
-use Rattle.std.proofs.lemmas.Result.{err_from_is_err_and}
+use Rattle.pim_words.proofs.Words.{arith, refl, sym, ◌∙◌, ◌+◌, ◌≤◌, length, err_from_is_err_and}
 use Rattle.pim_words.proofs.Choosing.{all_read, one_more, one_too_many, unread}
 use Rattle.pim_words.proofs.Orders.{accepted}
 use Rattle.pim_words.proofs.shown.read_choice.Goals as goal

@@ -1,5 +1,4 @@
-use Rattle.std.proofs.Common.{drop}
-use Rattle.pim_lines.specs.AnyAddress.{is_in, address_in}
+use Rattle.pim_words.proofs.Words.{drop, is_in, address_in}
 use Rattle.pim_words.proofs.OneFamily.{IsSoFar}
 use Rattle.pim_words.proofs.typed.all_in_family.Given as goal
 

@@ -1,7 +1,4 @@
-use Rattle.std.proofs.Common.{sym, ◌∙◌}
-use Rattle.std.proofs.lemmas.Result.{err_from_is_err_and}
-use Rattle.pim_lines.specs.AnyAddress.{is_in}
-use Rattle.pim_words.specs.Typed.{port_seen}
+use Rattle.pim_words.proofs.Words.{sym, ◌∙◌, err_from_is_err_and, is_in, port_seen}
 use Rattle.pim_words.proofs.Orders.{accepted}
 use Rattle.pim_words.proofs.OneFamily.{all_typed, foreign, one_more}
 use Rattle.pim_words.proofs.typed.ports_in_family.Goals as goal

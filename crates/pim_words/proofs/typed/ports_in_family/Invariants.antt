@@ -1,6 +1,4 @@
-use Rattle.std.proofs.Common.{drop}
-use Rattle.pim_lines.specs.AnyAddress.{is_in}
-use Rattle.pim_words.specs.Typed.{port_seen}
+use Rattle.pim_words.proofs.Words.{drop, is_in, port_seen}
 use Rattle.pim_words.proofs.OneFamily.{IsSoFar}
 use Rattle.pim_words.proofs.typed.ports_in_family.Given as goal
 

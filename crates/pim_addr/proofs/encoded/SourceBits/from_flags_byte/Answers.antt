@@ -1,5 +1,4 @@
-use Rattle.std.proofs.Common.{ap, nat_eq}
-use Rattle.std.proofs.lemmas.Nat.{and_assoc}
+use Rattle.pim_addr.proofs.Words.{ap, nat_eq, and_assoc}
 use Rattle.pim_addr.proofs.encoded.SourceBits.from_flags_byte.Goals as goal
 
 pub returns-clause-wildcard : goal.returns-clause-wildcard

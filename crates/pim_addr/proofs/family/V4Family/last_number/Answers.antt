@@ -1,6 +1,4 @@
-use Rattle.std.proofs.Common.{◌≤◌, ◌^◌, ◌-◌, ◌*◌, ◌%◌, ◌==◌, ◌∙◌, ap, sym, subst, arith}
-use Rattle.std.proofs.Math.Nat.{one-mul, mod-le}
-use Rattle.pim_addr.specs.declared.family.AddressFamily.TheVariants.{Ipv4}
+use Rattle.pim_addr.proofs.Words.{◌≤◌, ◌^◌, ◌-◌, ◌*◌, ◌%◌, ◌==◌, ◌∙◌, ap, sym, subst, arith, one-mul, mod-le, Ipv4}
 use Rattle.pim_addr.proofs.Numbers.{last_of_all, no_carry}
 use Rattle.pim_addr.proofs.family.V4Family.last_number.Goals as goal
 

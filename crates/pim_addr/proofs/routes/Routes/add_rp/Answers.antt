@@ -1,6 +1,4 @@
-use Rattle.std.proofs.Common.{◌≡◌, true, sym, ◌∙◌}
-use Rattle.std.proofs.lemmas.Bool.{false≢true}
-use Rattle.pim_addr.specs.Routes.{Prefix, is_group_prefix}
+use Rattle.pim_addr.proofs.Words.{◌≡◌, true, sym, ◌∙◌, false≢true, Prefix, is_group_prefix}
 use Rattle.pim_addr.proofs.OneMoreRow.{all_added}
 use Rattle.pim_addr.proofs.routes.Routes.add_rp.Goals as goal
 use Rattle.pim_addr.proofs.routes.Routes.add_rp.Goals.{then-is_source, else-is_source}

@@ -1,5 +1,4 @@
-use Rattle.std.proofs.Common.{◌∙◌, sym, ap, option_map}
-use Rattle.pim_answers.specs.StoreSeen.{any_seen}
+use Rattle.pim_answers.proofs.Words.{◌∙◌, sym, ap, option_map, any_seen}
 use Rattle.pim_answers.proofs.Stores.{not_kept, kept_here}
 use Rattle.pim_answers.proofs.kept.KeptForms.get.Goals as goal
 

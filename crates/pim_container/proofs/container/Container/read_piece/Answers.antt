@@ -1,6 +1,4 @@
-use Rattle.std.proofs.Common.{◌≡◌, List, ℕ, Ok, ap, sym, subst, inr}
-use Rattle.pim_container.specs.Classic.{record_event}
-use Rattle.pim_container.specs.EventSeen.{event_seen}
+use Rattle.pim_container.proofs.Words.{◌≡◌, List, ℕ, Ok, ap, sym, subst, inr, record_event, event_seen}
 use Rattle.pim_container.proofs.container.Container.read_piece.Goals as goal
 
 pub returns-in-Classic-clause-answer : goal.returns-in-Classic-clause-answer

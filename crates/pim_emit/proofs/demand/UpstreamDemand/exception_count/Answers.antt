@@ -1,6 +1,4 @@
-use Rattle.std.proofs.Common.{List, ℕ, Some, length, ap, arith}
-use Rattle.pim_emit.specs.DemandSeen.{DemandSeen}
-use Rattle.pim_emit.specs.Left.{above, exceptions_in}
+use Rattle.pim_emit.proofs.Words.{List, ℕ, Some, length, ap, arith, DemandSeen, above, exceptions_in}
 use Rattle.pim_emit.proofs.AskedSources.{asked_as_seen}
 use Rattle.pim_emit.proofs.AskedExceptions.{few_exceptions, one_exception_fewer, none_above}
 use Rattle.pim_emit.proofs.demand.UpstreamDemand.exception_count.Goals as goal

@@ -1,6 +1,4 @@
-use Rattle.std.proofs.Common.{◌≡◌, ◌+◌, Some, length}
-use Rattle.pim_emit.specs.Left.{above, exceptions_in}
-use Rattle.pim_emit.specs.Rpts.{AreRpts}
+use Rattle.pim_emit.proofs.Words.{◌≡◌, ◌+◌, Some, length, above, exceptions_in, AreRpts}
 use Rattle.pim_emit.proofs.demand.UpstreamDemand.exception_count.Given as goal
 
 -- those that are counted, and those above the bound

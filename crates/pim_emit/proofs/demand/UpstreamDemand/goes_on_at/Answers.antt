@@ -1,6 +1,4 @@
-use Rattle.std.proofs.Common.{◌<◌, ap, option_map, true, sym, subst}
-use Rattle.pim_down.specs.Time.{Downstream}
-use Rattle.pim_emit.specs.DemandSeen.{DemandSeen}
+use Rattle.pim_emit.proofs.Words.{◌<◌, ap, option_map, true, sym, subst, Downstream, DemandSeen}
 use Rattle.pim_emit.proofs.AskedSources.{asked_as_seen, reached_is_some, is_via}
 use Rattle.pim_emit.proofs.demand.UpstreamDemand.goes_on_at.Goals as goal
 

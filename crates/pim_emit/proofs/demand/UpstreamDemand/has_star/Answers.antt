@@ -1,5 +1,4 @@
-use Rattle.std.proofs.Common.{◌∙◌, sym, ap, option_map}
-use Rattle.pim_emit.specs.DemandSeen.{DemandSeen}
+use Rattle.pim_emit.proofs.Words.{◌∙◌, sym, ap, option_map, DemandSeen}
 use Rattle.pim_emit.proofs.AskedSources.{asked_as_seen}
 use Rattle.pim_emit.proofs.AskedExceptions.{star_if_reached, is_reached}
 use Rattle.pim_emit.proofs.demand.UpstreamDemand.has_star.Goals as goal

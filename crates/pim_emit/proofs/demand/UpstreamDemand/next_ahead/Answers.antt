@@ -1,8 +1,5 @@
-use Rattle.std.proofs.Common.{◌∙◌, ap, subst, refl, sym, Some, option_map, true, false, arith}
-use Rattle.pim_down.specs.Time.{Downstream}
-use Rattle.pim_emit.specs.DemandSeen.{DemandSeen}
-use Rattle.pim_emit.specs.Left.{sources_in}
-use Rattle.pim_emit.specs.Ahead.{AreNext}
+use Rattle.pim_emit.proofs.Words.{◌∙◌, ap, subst, refl, sym, Some, option_map, true, false, arith, Downstream}
+use Rattle.pim_emit.proofs.Words.{DemandSeen, sources_in, AreNext}
 use Rattle.pim_emit.proofs.ListedAbove.{answered}
 use Rattle.pim_emit.proofs.AskedSources.{asked_as_seen, no_source_left, reached_next, unreached_passed, fewer_sources, is_via}
 use Rattle.pim_emit.proofs.demand.UpstreamDemand.next_ahead.Goals as goal

@@ -1,8 +1,4 @@
-use Rattle.std.proofs.Common.{◌≡◌, ◌≤◌, List, ℕ, length, option_map}
-use Rattle.pim_down.specs.declared.machines.machine.Record.{Record}
-use Rattle.pim_down.specs.Key.{source_of}
-use Rattle.pim_emit.specs.Left.{next_above, sources_in}
-use Rattle.pim_emit.specs.Ahead.{AreNext}
+use Rattle.pim_emit.proofs.Words.{◌≡◌, ◌≤◌, List, ℕ, length, option_map, Record, source_of, next_above, sources_in, AreNext}
 use Rattle.pim_emit.proofs.CountAbove.{count_above}
 use Rattle.pim_emit.proofs.demand.UpstreamDemand.next_ahead.Given as goal
 

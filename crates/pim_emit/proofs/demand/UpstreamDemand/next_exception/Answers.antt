@@ -1,9 +1,6 @@
-use Rattle.std.proofs.Common.{◌∙◌, ◌<◌, List, ℕ, ap, refl, sym, subst, Some}
-use Rattle.pim_down.specs.declared.machines.machine.Record.{Record}
-use Rattle.pim_down.specs.Key.{source_of}
+use Rattle.pim_emit.proofs.Words.{◌∙◌, ◌<◌, List, ℕ, ap, refl, sym, subst, Some, Record, source_of, DemandSeen}
+use Rattle.pim_emit.proofs.Words.{next_above, exceptions_in}
 use Rattle.pim_emit.proofs.CountAbove.{count_above}
-use Rattle.pim_emit.specs.DemandSeen.{DemandSeen}
-use Rattle.pim_emit.specs.Left.{next_above, exceptions_in}
 use Rattle.pim_emit.proofs.ListedAbove.{answered}
 use Rattle.pim_emit.proofs.AskedSources.{asked_as_seen}
 use Rattle.pim_emit.proofs.AskedExceptions.{stars_inside, first_of_stars, some_port_has_star, on_first, of_first, rpts_inside, no_exception_left, unwanted_next, wanted_passed, fewer_rpts}
@@ -31,12 +28,8 @@ loop-held-init g c = record {
 
 pub wants_shared-requires : goal.wants_shared-requires
 wants_shared-requires g c =
-    let family = g.F.Family.family in
     let bytes_of = g.F.Family.bytes_of in
-    let table = c.self.inside.routes.now in
-    let upstream = bytes_of c.self.inside.upstream in
     let state = c.self.inside.ports in
-    let form = c.args.self.now.form in
     let group = bytes_of c.args.group in
     let stars = stars_inside c.args.self.now.machines state group c.args.stars.now (ap (λ (s : DemandSeen). s.machines) c.self.view_is) c.requires.stars in
     record {

@@ -1,8 +1,4 @@
-use Rattle.std.proofs.Common.{◌≡◌, List, ℕ, Some}
-use Rattle.pim_down.specs.declared.machines.machine.Record.{Record}
-use Rattle.pim_down.specs.Key.{source_of}
-use Rattle.pim_emit.specs.Left.{next_above, exceptions_in}
-use Rattle.pim_emit.specs.Rpts.{AreRpts}
+use Rattle.pim_emit.proofs.Words.{◌≡◌, List, ℕ, Some, Record, source_of, next_above, exceptions_in, AreRpts}
 use Rattle.pim_emit.proofs.CountAbove.{count_above}
 use Rattle.pim_emit.proofs.demand.UpstreamDemand.next_exception.Given as goal
 

@@ -1,6 +1,4 @@
-use Rattle.std.proofs.Common.{ap, option_map}
-use Rattle.pim_form.specs.NormalForm.{groups_of}
-use Rattle.pim_emit.specs.DemandSeen.{DemandSeen}
+use Rattle.pim_emit.proofs.Words.{ap, option_map, groups_of, DemandSeen}
 use Rattle.pim_emit.proofs.ListedAbove.{answered}
 use Rattle.pim_emit.proofs.AskedSources.{asked_as_seen}
 use Rattle.pim_emit.proofs.AskedGroups.{found_group, no_group_left, something_next, nothing_passed, fewer_groups}

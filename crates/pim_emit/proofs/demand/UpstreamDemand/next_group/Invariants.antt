@@ -1,7 +1,4 @@
-use Rattle.std.proofs.Common.{◌≡◌, List, ℕ, option_map}
-use Rattle.pim_down.specs.declared.machines.machine.Record.{Record}
-use Rattle.pim_form.specs.NormalForm.{groups_of}
-use Rattle.pim_emit.specs.Left.{next_above}
+use Rattle.pim_emit.proofs.Words.{◌≡◌, List, ℕ, option_map, Record, groups_of, next_above}
 use Rattle.pim_emit.proofs.CountAbove.{count_above}
 use Rattle.pim_emit.proofs.demand.UpstreamDemand.next_group.Given as goal
 

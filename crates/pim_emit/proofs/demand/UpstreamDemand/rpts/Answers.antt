@@ -1,5 +1,4 @@
-use Rattle.std.proofs.Common.{ap}
-use Rattle.pim_emit.specs.DemandSeen.{DemandSeen}
+use Rattle.pim_emit.proofs.Words.{ap, DemandSeen}
 use Rattle.pim_emit.proofs.AskedSources.{asked_as_seen}
 use Rattle.pim_emit.proofs.AskedExceptions.{all_over}
 use Rattle.pim_emit.proofs.demand.UpstreamDemand.rpts.Goals as goal

@@ -1,6 +1,4 @@
-use Rattle.std.proofs.Common.{List, ℕ, subst, arith}
-use Rattle.std.proofs.lemmas.Result.{err_from_is_err_and}
-use Rattle.pim_files.specs.RoutesFile.{lines_of}
+use Rattle.pim_files.proofs.Words.{List, ℕ, subst, arith, err_from_is_err_and, lines_of}
 use Rattle.pim_files.proofs.Added.{Went, number_is_small, one_further, stopped}
 use Rattle.pim_files.proofs.routes.reading.add_lines.Goals as goal
 

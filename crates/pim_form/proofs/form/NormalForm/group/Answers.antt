@@ -1,7 +1,5 @@
-use Rattle.std.proofs.Common.{◌≡◌, ◌∙◌, sym, ap, subst, ℕ, ◌<◌, List, length, get_or, map, false}
-use Rattle.pim_form.specs.NormalForm.{GroupForm, IsNormalGroup, is_listed}
-use Rattle.pim_form.specs.Rows.{place_group, place_seen}
-use Rattle.pim_form.specs.Settled.{group_in}
+use Rattle.pim_form.proofs.Words.{◌≡◌, ◌∙◌, sym, ap, subst, ℕ, ◌<◌, List, length, get_or, map, false, GroupForm}
+use Rattle.pim_form.proofs.Words.{IsNormalGroup, is_listed, place_group, place_seen, group_in}
 use Rattle.pim_form.proofs.Kept.{ascending, normal_at}
 use Rattle.pim_form.proofs.PortSettled.{group_found, group_missed}
 use Rattle.pim_form.proofs.form.NormalForm.group.Goals as goal

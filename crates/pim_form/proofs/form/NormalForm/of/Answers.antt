@@ -1,7 +1,4 @@
-use Rattle.std.proofs.Common.{subst}
-use Rattle.std.proofs.lemmas.Result.{IfOk-weaker}
-use Rattle.pim_form.specs.NormalForm.{IsFormOf}
-use Rattle.pim_form.specs.Collect.{wants_from}
+use Rattle.pim_form.proofs.Words.{subst, IfOk-weaker, IsFormOf, wants_from}
 use Rattle.pim_form.proofs.AllPorts.{all_ports}
 use Rattle.pim_form.proofs.form.NormalForm.of.Goals as goal
 

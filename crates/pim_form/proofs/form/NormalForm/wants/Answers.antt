@@ -1,6 +1,5 @@
-use Rattle.std.proofs.Common.{◌≡◌, ◌∙◌, sym, ap, subst, ℕ, ◌<◌, List, length, get_or, map, false}
-use Rattle.pim_form.specs.NormalForm.{GroupForm, IsNormalGroup, is_listed, group_wants, form_wants}
-use Rattle.pim_form.specs.Rows.{place_group, place_seen}
+use Rattle.pim_form.proofs.Words.{◌≡◌, ◌∙◌, sym, ap, subst, ℕ, ◌<◌, List, length, get_or, map, false, GroupForm}
+use Rattle.pim_form.proofs.Words.{IsNormalGroup, is_listed, group_wants, form_wants, place_group, place_seen}
 use Rattle.pim_form.proofs.Kept.{ascending, normal_at, wants_found, wants_none}
 use Rattle.pim_form.proofs.form.NormalForm.wants.Goals as goal
 

@@ -1,8 +1,5 @@
-use Rattle.std.proofs.Common.{◌≡◌, ◌∙◌, ℕ, List, ◌∷◌, length, sym, ap, subst}
-use Rattle.pim_addr.specs.declared.family.AddressFamily.{AddressFamily}
-use Rattle.pim_form.specs.declared.place.GroupPlace.{GroupPlace}
-use Rattle.pim_form.specs.NormalForm.{GroupForm, IsNormalGroup}
-use Rattle.pim_form.specs.Rows.{IsWithin, AreKept, place_seen, form_seen}
+use Rattle.pim_form.proofs.Words.{◌≡◌, ◌∙◌, ℕ, List, ◌∷◌, length, sym, ap, subst, AddressFamily, GroupPlace, GroupForm}
+use Rattle.pim_form.proofs.Words.{IsNormalGroup, IsWithin, AreKept, place_seen, form_seen}
 use Rattle.pim_form.proofs.groups.GroupsIterator.next.Goals as goal
 
 cut : {A : Type 0} (bytes_of : A → List ℕ) (family : AddressFamily) (row : List A) (place : GroupPlace A) (others all : List (GroupPlace A)) → all ≡ place ∷ others

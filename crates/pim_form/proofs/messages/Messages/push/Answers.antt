@@ -1,5 +1,4 @@
-use Rattle.std.proofs.Common.{◌∙◌, List, [], ◌∷◌, ◌++◌, ℕ, ap, arith}
-use Rattle.pim_form.specs.declared.messages.Span.{Span}
+use Rattle.pim_form.proofs.Words.{◌∙◌, List, [], ◌∷◌, ◌++◌, ℕ, ap, arith, Span}
 use Rattle.pim_form.proofs.Additions.{spans_within, message_added}
 use Rattle.pim_form.proofs.messages.Messages.push.Goals as goal
 

@@ -1,7 +1,5 @@
-use Rattle.std.proofs.Common.{◌≤◌, ◌≡◌, ◌∙◌, sym, arith, false}
-use Rattle.pim_form.specs.Messages.{Writing}
+use Rattle.pim_form.proofs.Words.{◌≤◌, ◌≡◌, ◌∙◌, sym, arith, false, Writing, has_bad_address}
 use Rattle.pim_form.specs.Seen.{writing_seen}
-use Rattle.pim_form.specs.Writer.{has_bad_address}
 use Rattle.pim_form.proofs.Writers.{address_told, holdtime_told, budget_told, taken, is_writing}
 use Rattle.pim_form.proofs.writer.Writer.new.Goals as goal
 

@@ -1,5 +1,4 @@
-use Rattle.std.proofs.Common.{ap, ◌∙◌}
-use Rattle.pim_hello.specs.Row.{addresses_of}
+use Rattle.pim_hello.proofs.Words.{ap, ◌∙◌, addresses_of}
 use Rattle.pim_hello.proofs.Again.{addresses_in_row}
 use Rattle.pim_hello.proofs.addresses.Addresses.put.Goals as goal
 

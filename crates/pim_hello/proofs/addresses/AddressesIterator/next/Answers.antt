@@ -1,5 +1,4 @@
-use Rattle.std.proofs.Common.{◌∷◌, rules, arith, sym, ap, ◌∙◌, length, List, ℕ}
-use Rattle.pim_hello.specs.Row.{addresses_of}
+use Rattle.pim_hello.proofs.Words.{◌∷◌, rules, arith, sym, ap, ◌∙◌, length, List, ℕ, addresses_of}
 use Rattle.pim_hello.proofs.Rows.{address_more, address_passed}
 use Rattle.pim_hello.proofs.addresses.AddressesIterator.next.Goals as goal
 

@@ -1,5 +1,4 @@
-use Rattle.std.proofs.Common.{◌≡◌, length}
-use Rattle.pim_hello.specs.Seen.{addresses_seen}
+use Rattle.pim_hello.proofs.Words.{◌≡◌, length, addresses_seen}
 use Rattle.pim_hello.proofs.addresses.AddressesIterator.next.Given as goal
 
 abbrev pub invariant-loop-size : goal.invariant-loop-size

@@ -1,11 +1,6 @@
-use Rattle.std.proofs.Common.{◌<◌, ℕ, List, length, sym, ap, ◌∙◌, arith}
+use Rattle.pim_hello.proofs.Words.{◌<◌, ℕ, List, length, sym, ap, ◌∙◌, arith, judged, HelloFault, faults_of, hello_of}
+use Rattle.pim_hello.proofs.Words.{hello_seen, over}
 use Rattle.std.proofs.lemmas.Result.{err_from_is_err_and}
-use Rattle.pim_addr.specs.Faults.{judged}
-use Rattle.pim_hello.specs.declared.fault.HelloFault.{HelloFault}
-use Rattle.pim_hello.specs.Faults.{faults_of}
-use Rattle.pim_hello.specs.Value.{hello_of}
-use Rattle.pim_hello.specs.Seen.{hello_seen}
-use Rattle.pim_hello.specs.Steps.{over}
 use Rattle.pim_hello.proofs.Parts.{parts_left, behind_shorter, read_start, read_end, keep_told, keep_said, fault_told}
 use Rattle.pim_hello.proofs.hello.Hello.read.Goals as goal
 

@@ -1,8 +1,4 @@
-use Rattle.std.proofs.Common.{◌≡◌, ◌≤◌, length}
-use Rattle.pim_hello.specs.Faults.{faults_of, faults}
-use Rattle.pim_hello.specs.Value.{hello_of}
-use Rattle.pim_hello.specs.Seen.{hello_seen}
-use Rattle.pim_hello.specs.Steps.{over}
+use Rattle.pim_hello.proofs.Words.{◌≡◌, ◌≤◌, length, faults_of, faults, hello_of, hello_seen, over}
 use Rattle.pim_hello.proofs.Parts.{parts_left}
 use Rattle.pim_hello.proofs.hello.Hello.read.Given as goal
 

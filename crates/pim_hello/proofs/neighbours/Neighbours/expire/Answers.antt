@@ -1,6 +1,4 @@
-use Rattle.std.proofs.Common.{arith, ◌∙◌, sym, ap}
-use Rattle.pim_hello.specs.Neighbours.{without_ended}
-use Rattle.pim_hello.specs.Kept.{table_seen}
+use Rattle.pim_hello.proofs.Words.{arith, ◌∙◌, sym, ap, without_ended, table_seen}
 use Rattle.pim_hello.proofs.Kept.{passed_seen, removed_seen, settled_seen}
 use Rattle.pim_hello.proofs.neighbours.Neighbours.expire.Goals as goal
 

@@ -1,6 +1,4 @@
-use Rattle.std.proofs.Common.{◌≡◌, ◌≤◌, length}
-use Rattle.pim_hello.specs.Neighbours.{without_ended}
-use Rattle.pim_hello.specs.Kept.{table_seen}
+use Rattle.pim_hello.proofs.Words.{◌≡◌, ◌≤◌, length, without_ended, table_seen}
 use Rattle.pim_hello.proofs.neighbours.Neighbours.expire.Given as goal
 
 -- what is to be removed from here on is what was to be removed at the start

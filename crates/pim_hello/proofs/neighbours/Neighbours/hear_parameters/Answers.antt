@@ -1,8 +1,5 @@
-use Rattle.std.proofs.Common.{◌∙◌, sym, ap, refl, rules}
-use Rattle.std.specs.Prelude.{option_map}
-use Rattle.std.proofs.lemmas.Bool.{false≢true}
-use Rattle.pim_hello.specs.Kept.{parameters_seen, kept_seen}
-use Rattle.pim_hello.specs.Neighbours.{heard_unless_goodbye}
+use Rattle.pim_hello.proofs.Words.{◌∙◌, sym, ap, refl, rules, option_map, false≢true, parameters_seen, kept_seen}
+use Rattle.pim_hello.proofs.Words.{heard_unless_goodbye}
 use Rattle.pim_hello.proofs.Kept.{goodbye_seen, keeps_seen, record_of_seen, full_seen, memory_seen, no_room_seen}
 use Rattle.pim_hello.proofs.neighbours.Neighbours.hear_parameters.Goals as goal
 

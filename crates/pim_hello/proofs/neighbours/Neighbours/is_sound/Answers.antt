@@ -1,6 +1,5 @@
 use Rattle.pim_hello.proofs.Kept.{ascending_seen}
-use Rattle.std.proofs.Common.{arith, rules}
-use Rattle.std.proofs.lemmas.Grind.{common_steps}
+use Rattle.pim_hello.proofs.Words.{arith, rules, common_steps}
 use Rattle.pim_hello.proofs.neighbours.Neighbours.is_sound.Goals as goal
 
 pub returns : goal.returns

@@ -1,5 +1,4 @@
-use Rattle.std.proofs.Common.{ap, ◌∙◌}
-use Rattle.std.specs.Prelude.{is_some}
+use Rattle.pim_hello.proofs.Words.{ap, ◌∙◌, is_some}
 use Rattle.pim_hello.proofs.Kept.{known_seen}
 use Rattle.pim_hello.proofs.neighbours.Neighbours.knows.Goals as goal
 

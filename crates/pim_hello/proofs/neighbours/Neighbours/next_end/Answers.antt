@@ -1,5 +1,4 @@
-use Rattle.std.proofs.Common.{Some, ap, ◌∙◌}
-use Rattle.std.specs.Prelude.{max, option_map}
+use Rattle.pim_hello.proofs.Words.{Some, ap, ◌∙◌, max, option_map}
 use Rattle.pim_hello.proofs.NextEnd.{next_seen}
 use Rattle.pim_hello.proofs.neighbours.Neighbours.next_end.Goals as goal
 

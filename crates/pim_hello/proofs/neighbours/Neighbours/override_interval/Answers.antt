@@ -1,5 +1,4 @@
-use Rattle.std.proofs.Common.{◌∙◌, ap}
-use Rattle.pim_hello.specs.Interval.{jp_override_interval}
+use Rattle.pim_hello.proofs.Words.{◌∙◌, ap, jp_override_interval}
 use Rattle.pim_hello.proofs.Kept.{hellos_seen}
 use Rattle.pim_hello.proofs.neighbours.Neighbours.override_interval.Goals as goal
 

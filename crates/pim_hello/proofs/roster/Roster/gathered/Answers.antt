@@ -1,8 +1,4 @@
-use Rattle.std.proofs.Common.{ap, ◌∙◌}
-use Rattle.std.specs.Prelude.{map, max, option_map}
-use Rattle.std.specs.BTreeMap.{values}
-use Rattle.pim_hello.specs.Delays.{delays_seen}
-use Rattle.pim_hello.specs.Kept.{hello_of_kept}
+use Rattle.pim_hello.proofs.Words.{ap, ◌∙◌, map, max, option_map, values, delays_seen, hello_of_kept}
 use Rattle.pim_hello.proofs.GreatestDelays.{greatest_so_far}
 use Rattle.pim_hello.proofs.roster.Roster.gathered.Goals as goal
 

@@ -1,7 +1,4 @@
-use Rattle.std.proofs.Common.{◌≡◌}
-use Rattle.std.specs.Prelude.{map}
-use Rattle.std.specs.BTreeMap.{values}
-use Rattle.pim_hello.specs.Kept.{hello_of_kept}
+use Rattle.pim_hello.proofs.Words.{◌≡◌, map, values, hello_of_kept}
 use Rattle.pim_hello.proofs.GreatestDelays.{with_numbers, greatest_sent}
 use Rattle.pim_hello.proofs.roster.Roster.gathered.Given as goal
 

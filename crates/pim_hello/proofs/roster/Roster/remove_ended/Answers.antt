@@ -1,5 +1,4 @@
-use Rattle.std.proofs.Common.{arith, sym, ◌∙◌}
-use Rattle.std.proofs.lemmas.Bool.{false≢true}
+use Rattle.pim_hello.proofs.Words.{arith, sym, ◌∙◌, false≢true}
 use Rattle.pim_hello.proofs.Index.{none_ended, first_end_le, ended, fewer, not_empty}
 use Rattle.pim_hello.proofs.roster.Roster.remove_ended.Goals as goal
 

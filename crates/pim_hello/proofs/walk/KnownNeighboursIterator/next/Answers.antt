@@ -1,6 +1,5 @@
 use Rattle.std.proofs.Common.{List, ℕ, ◌∷◌, map, ap, sym, ◌∙◌}
-use Rattle.pim_hello.specs.Neighbours.{Neighbour}
-use Rattle.pim_hello.specs.Kept.{entry_seen}
+use Rattle.pim_hello.proofs.Words.{Neighbour, entry_seen}
 use Rattle.pim_hello.proofs.walk.KnownNeighboursIterator.next.Goals as goal
 
 pub returns-clause-steps : goal.returns-clause-steps

@@ -1,5 +1,4 @@
-use Rattle.std.proofs.Common.{◌≡◌, ◌∙◌, ap, take}
-use Rattle.std.proofs.lemmas.List.{take-take}
+use Rattle.pim_jp.proofs.Words.{◌≡◌, ◌∙◌, ap, take, take-take}
 use Rattle.pim_jp.proofs.SortedSources.{listed_elsewhere, and_left, and_right}
 use Rattle.pim_jp.proofs.clashes.blocks.are_numbers_unlisted.Goals as goal
 

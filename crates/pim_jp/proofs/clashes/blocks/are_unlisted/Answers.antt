@@ -1,8 +1,5 @@
-use Rattle.std.proofs.Common.{◌≡◌, ◌∙◌, ◌||◌, false, ap, sym, take, drop, length, arith}
-use Rattle.pim_addr.specs.Address.{AreBytes}
-use Rattle.pim_jp.specs.Message.{entries_of}
-use Rattle.pim_jp.specs.Reading.{is_in, entry_at}
-use Rattle.pim_jp.specs.Sources.{is_listed}
+use Rattle.pim_jp.proofs.Words.{◌≡◌, ◌∙◌, ◌||◌, false, ap, sym, take, drop, length, arith, AreBytes, entries_of, is_in}
+use Rattle.pim_jp.proofs.Words.{entry_at, is_listed}
 use Rattle.pim_jp.proofs.Walks.{entries_count}
 use Rattle.pim_jp.proofs.SortedSources.{entry_has_address, entry_is_there, in_none, none_listed, listed_alone}
 use Rattle.pim_jp.proofs.clashes.blocks.are_unlisted.Goals as goal

@@ -1,7 +1,4 @@
-use Rattle.std.proofs.Common.{◌≡◌, ◌+◌, ◌≤◌, ◌||◌, List, ℕ, length, take, drop}
-use Rattle.pim_jp.specs.declared.entry.Entry.{Entry}
-use Rattle.pim_jp.specs.Reading.{is_in}
-use Rattle.pim_jp.specs.Sources.{HasAddress, is_listed}
+use Rattle.pim_jp.proofs.Words.{◌≡◌, ◌+◌, ◌≤◌, ◌||◌, List, ℕ, length, take, drop, Entry, is_in, HasAddress, is_listed}
 use Rattle.pim_jp.proofs.clashes.blocks.fill.Given as goal
 
 abbrev pub invariant-loop-index : goal.invariant-loop-index

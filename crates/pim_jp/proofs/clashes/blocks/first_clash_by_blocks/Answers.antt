@@ -1,8 +1,4 @@
-use Rattle.std.proofs.Common.{◌≡◌, ◌∙◌, ap, ℕ, take, drop, arith}
-use Rattle.std.proofs.lemmas.List.{take-take}
-use Rattle.pim_addr.specs.Address.{AreBytes}
-use Rattle.pim_jp.specs.Merging.{AreSame}
-use Rattle.pim_jp.specs.Reading.{is_in, entry_at}
+use Rattle.pim_jp.proofs.Words.{◌≡◌, ◌∙◌, ap, ℕ, take, drop, arith, take-take, AreBytes, AreSame, is_in, entry_at}
 use Rattle.pim_jp.proofs.SortedSources.{entry_has_address, in_left, in_block, in_none, still_clash}
 use Rattle.pim_jp.proofs.clashes.blocks.first_clash_by_blocks.Goals as goal
 

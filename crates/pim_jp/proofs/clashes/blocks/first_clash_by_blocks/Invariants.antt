@@ -1,5 +1,4 @@
-use Rattle.std.proofs.Common.{◌≡◌, ◌≤◌, ◌<◌, ℕ, true, length}
-use Rattle.pim_jp.specs.Reading.{is_in, entry_at}
+use Rattle.pim_jp.proofs.Words.{◌≡◌, ◌≤◌, ◌<◌, ℕ, true, length, is_in, entry_at}
 use Rattle.pim_jp.proofs.clashes.blocks.first_clash_by_blocks.Given as goal
 
 abbrev pub invariant-loop-left : goal.invariant-loop-left

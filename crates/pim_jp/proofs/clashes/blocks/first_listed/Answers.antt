@@ -1,5 +1,4 @@
-use Rattle.std.proofs.Common.{◌∙◌, arith}
-use Rattle.pim_jp.specs.Sources.{is_listed}
+use Rattle.pim_jp.proofs.Words.{◌∙◌, arith, is_listed}
 use Rattle.pim_jp.proofs.SortedSources.{found_later, left_more, passed_more}
 use Rattle.pim_jp.proofs.clashes.blocks.first_listed.Goals as goal
 

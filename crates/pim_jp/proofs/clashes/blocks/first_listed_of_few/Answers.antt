@@ -1,8 +1,4 @@
-use Rattle.std.proofs.Common.{◌≡◌, ◌∙◌, ap, sym, ℕ, false}
-use Rattle.pim_addr.specs.Encoded.{source_length, source_value}
-use Rattle.pim_jp.specs.Message.{entry_of}
-use Rattle.pim_jp.specs.Reading.{entry_at}
-use Rattle.pim_jp.specs.Sources.{is_listed}
+use Rattle.pim_jp.proofs.Words.{◌≡◌, ◌∙◌, ap, sym, ℕ, false, source_length, source_value, entry_of, entry_at, is_listed}
 use Rattle.pim_jp.proofs.EntryLoop.{drop_more}
 use Rattle.pim_jp.proofs.SortedSources.{place_more}
 use Rattle.pim_jp.proofs.clashes.blocks.first_listed_of_few.Goals as goal

@@ -1,7 +1,4 @@
-use Rattle.std.proofs.Common.{◌≡◌, ◌*◌, ◌<◌, ℕ, false, drop}
-use Rattle.pim_addr.specs.Encoded.{source_length}
-use Rattle.pim_jp.specs.Reading.{entry_at}
-use Rattle.pim_jp.specs.Sources.{is_listed}
+use Rattle.pim_jp.proofs.Words.{◌≡◌, ◌*◌, ◌<◌, ℕ, false, drop, source_length, entry_at, is_listed}
 use Rattle.pim_jp.proofs.clashes.blocks.first_listed_of_few.Given as goal
 
 abbrev pub invariant-loop-place : goal.invariant-loop-place

@@ -1,5 +1,4 @@
-use Rattle.std.proofs.Common.{◌∙◌, ap, sym, nat_eq}
-use Rattle.pim_addr.specs.Address.{number_of}
+use Rattle.pim_jp.proofs.Words.{◌∙◌, ap, sym, nat_eq, number_of}
 use Rattle.pim_jp.proofs.SortedSources.{same_number}
 use Rattle.pim_jp.proofs.clashes.blocks.number_of_source.Goals as goal
 

@@ -1,5 +1,4 @@
-use Rattle.std.proofs.Common.{◌≡◌, ◌≤◌, ◌||◌, ℕ, length, take, drop}
-use Rattle.pim_jp.specs.Sources.{is_among, is_marked}
+use Rattle.pim_jp.proofs.Words.{◌≡◌, ◌≤◌, ◌||◌, ℕ, length, take, drop, is_among, is_marked}
 use Rattle.pim_jp.proofs.clashes.marked.copy_marked.Given as goal
 
 abbrev pub invariant-loop-index : goal.invariant-loop-index

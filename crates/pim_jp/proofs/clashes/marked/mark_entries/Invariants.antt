@@ -1,7 +1,4 @@
-use Rattle.std.proofs.Common.{◌≡◌, ◌||◌, List, ℕ, true, length}
-use Rattle.pim_jp.specs.declared.entry.Entry.{Entry}
-use Rattle.pim_jp.specs.Reading.{is_in}
-use Rattle.pim_jp.specs.Sources.{HasAddress, is_listed, has_mark}
+use Rattle.pim_jp.proofs.Words.{◌≡◌, ◌||◌, List, ℕ, true, length, Entry, is_in, HasAddress, is_listed, has_mark}
 use Rattle.pim_jp.proofs.clashes.marked.mark_entries.Given as goal
 
 abbrev pub invariant-loop-entry : goal.invariant-loop-entry

@@ -1,5 +1,4 @@
-use Rattle.std.proofs.Common.{◌≡◌, ◌*◌, ◌<◌, ℕ, false, get_or}
-use Rattle.pim_jp.specs.Sources.{is_among}
+use Rattle.pim_jp.proofs.Words.{◌≡◌, ◌*◌, ◌<◌, ℕ, false, get_or, is_among}
 use Rattle.pim_jp.proofs.clashes.pairs.are_missing.Given as goal
 
 abbrev pub invariant-loop-pair : goal.invariant-loop-pair

@@ -1,5 +1,4 @@
-use Rattle.std.proofs.Common.{◌∙◌, ap}
-use Rattle.std.specs.Ordering.{is_lt}
+use Rattle.pim_jp.proofs.Words.{◌∙◌, ap, is_lt}
 use Rattle.pim_jp.proofs.SortedSources.{missed_at_end, missed_inside}
 use Rattle.pim_jp.proofs.clashes.pairs.is_between.Goals as goal
 

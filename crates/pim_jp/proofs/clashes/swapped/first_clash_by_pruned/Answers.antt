@@ -1,10 +1,5 @@
-use Rattle.std.proofs.Common.{◌≡◌, ◌∙◌, ◌||◌, false, ap, sym, take, drop, length, arith}
-use Rattle.std.proofs.lemmas.List.{take-take}
-use Rattle.pim_addr.specs.Address.{AreBytes}
-use Rattle.pim_jp.specs.Message.{entries_of}
-use Rattle.pim_jp.specs.Merging.{AreSame}
-use Rattle.pim_jp.specs.Reading.{is_in, entry_at}
-use Rattle.pim_jp.specs.Sources.{is_listed}
+use Rattle.pim_jp.proofs.Words.{◌≡◌, ◌∙◌, ◌||◌, false, ap, sym, take, drop, length, arith, take-take, AreBytes}
+use Rattle.pim_jp.proofs.Words.{entries_of, AreSame, is_in, entry_at, is_listed}
 use Rattle.pim_jp.proofs.Walks.{entries_count}
 use Rattle.pim_jp.proofs.SortedSources.{entry_has_address, entry_is_there, in_none, listed_alone, listed_permuted}
 use Rattle.pim_jp.proofs.clashes.swapped.first_clash_by_pruned.Goals as goal

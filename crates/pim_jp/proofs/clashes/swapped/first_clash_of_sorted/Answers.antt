@@ -1,6 +1,4 @@
-use Rattle.std.proofs.Common.{◌∙◌, ◌<◌, arith}
-use Rattle.pim_addr.specs.Address.{AreBytes}
-use Rattle.pim_jp.specs.Reading.{entry_at}
+use Rattle.pim_jp.proofs.Words.{◌∙◌, ◌<◌, arith, AreBytes, entry_at}
 use Rattle.pim_jp.proofs.SortedSources.{entry_has_address, in_none}
 use Rattle.pim_jp.proofs.OtherWay.{not_in, clash_in}
 use Rattle.pim_jp.proofs.clashes.swapped.first_clash_of_sorted.Goals as goal

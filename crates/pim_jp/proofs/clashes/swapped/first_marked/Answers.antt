@@ -1,7 +1,4 @@
-use Rattle.std.proofs.Common.{◌≡◌, ◌∙◌, ◌<◌, ap, take, arith}
-use Rattle.pim_addr.specs.Address.{AreBytes}
-use Rattle.pim_jp.specs.Reading.{entry_at}
-use Rattle.pim_jp.specs.Sources.{is_among}
+use Rattle.pim_jp.proofs.Words.{◌≡◌, ◌∙◌, ◌<◌, ap, take, arith, AreBytes, entry_at, is_among}
 use Rattle.pim_jp.proofs.SortedSources.{entry_has_address}
 use Rattle.pim_jp.proofs.Marks.{same_as_copies}
 use Rattle.pim_jp.proofs.clashes.swapped.first_marked.Goals as goal

@@ -1,6 +1,4 @@
-use Rattle.std.proofs.Common.{◌∙◌, take, drop}
-use Rattle.pim_jp.specs.Reading.{is_in}
-use Rattle.pim_jp.specs.Sources.{is_listed}
+use Rattle.pim_jp.proofs.Words.{◌∙◌, take, drop, is_in, is_listed}
 use Rattle.pim_jp.proofs.OtherWay.{passed_by}
 use Rattle.pim_jp.proofs.clashes.swapped.from_listed.Goals as goal
 

@@ -1,6 +1,4 @@
-use Rattle.std.proofs.Common.{◌≤◌, ◌-◌, length, drop, ap, ◌∙◌, arith}
-use Rattle.pim_addr.specs.Encoded.{source_length}
-use Rattle.pim_jp.specs.Message.{entries_of}
+use Rattle.pim_jp.proofs.Words.{◌≤◌, ◌-◌, length, drop, ap, ◌∙◌, arith, source_length, entries_of}
 use Rattle.pim_jp.proofs.Walks.{entries_count, entries_passed, entries_fit}
 use Rattle.pim_jp.proofs.entries.Entries.pass.Goals as goal
 

@@ -1,6 +1,4 @@
-use Rattle.std.proofs.Common.{arith}
-use Rattle.pim_addr.specs.Address.{AreBytes}
-use Rattle.pim_jp.specs.Message.{message_of}
+use Rattle.pim_jp.proofs.Words.{arith, AreBytes, message_of}
 use Rattle.pim_jp.proofs.Legal.{legal_body}
 use Rattle.pim_jp.proofs.Canonical.{message_in_range}
 use Rattle.pim_jp.proofs.view.JpView.read.Goals as goal

@@ -1,5 +1,4 @@
-use Rattle.std.proofs.Common.{◌≡◌}
-use Rattle.pim_merge.specs.Census.{stars_with}
+use Rattle.pim_merge.proofs.Words.{◌≡◌, stars_with}
 use Rattle.pim_merge.proofs.census.counting.add_all_joined.Given as goal
 
 -- the sets that are left are still to be added

@@ -1,6 +1,4 @@
-use Rattle.std.proofs.Common.{◌≡◌}
-use Rattle.std.specs.List.{list_any}
-use Rattle.pim_jp.specs.Spelling.{is_star}
+use Rattle.pim_merge.proofs.Words.{◌≡◌, list_any, is_star}
 use Rattle.pim_merge.proofs.census.counting.joins_star.Given as goal
 
 -- a star is joined just if one is among the entries that are left

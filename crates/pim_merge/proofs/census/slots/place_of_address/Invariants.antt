@@ -1,5 +1,4 @@
-use Rattle.std.proofs.Common.{◌≡◌, ◌+◌, drop, bytes_eq}
-use Rattle.pim_merge.specs.CensusPlaces.{place_of}
+use Rattle.pim_merge.proofs.Words.{◌≡◌, ◌+◌, drop, bytes_eq, place_of}
 use Rattle.pim_merge.proofs.census.slots.place_of_address.Given as goal
 
 -- the place is among the slots that are left

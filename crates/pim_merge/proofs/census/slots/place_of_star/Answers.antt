@@ -1,5 +1,4 @@
-use Rattle.std.proofs.Common.{◌∙◌, sym, arith}
-use Rattle.pim_merge.specs.CensusSlots.{same_star}
+use Rattle.pim_merge.proofs.Words.{◌∙◌, sym, arith, same_star}
 use Rattle.pim_merge.proofs.CensusPlaces.{place_here, place_later, place_none}
 use Rattle.pim_merge.proofs.census.slots.place_of_star.Goals as goal
 

@@ -1,6 +1,4 @@
-use Rattle.std.proofs.Common.{◌≡◌, ◌+◌, drop}
-use Rattle.pim_merge.specs.CensusPlaces.{place_of}
-use Rattle.pim_merge.specs.CensusSlots.{same_star}
+use Rattle.pim_merge.proofs.Words.{◌≡◌, ◌+◌, drop, place_of, same_star}
 use Rattle.pim_merge.proofs.census.slots.place_of_star.Given as goal
 
 -- the place is among the slots that are left

@@ -1,8 +1,5 @@
-use Rattle.std.proofs.Common.{◌∙◌, ◌<◌, ◌+◌, sym, ap, arith, drop, length}
-use Rattle.pim_container.specs.Choice.{choice_of, first_of}
-use Rattle.pim_container.specs.Next.{coming}
-use Rattle.pim_merge.specs.Chosen.{all_known, known_too}
-use Rattle.pim_merge.specs.Source.{later_of, left_of_file}
+use Rattle.pim_merge.proofs.Words.{◌∙◌, ◌<◌, ◌+◌, sym, ap, arith, drop, length, choice_of, first_of, coming, all_known}
+use Rattle.pim_merge.proofs.Words.{known_too, later_of, left_of_file}
 use Rattle.pim_merge.proofs.Choosing.{no_file, next_file}
 use Rattle.pim_merge.proofs.Following.{none_follow, one_follows, others_follow}
 use Rattle.pim_merge.proofs.chosen.Chosen.go_on.Goals as goal

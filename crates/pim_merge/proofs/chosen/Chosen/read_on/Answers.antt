@@ -1,9 +1,5 @@
-use Rattle.std.specs.Bool.{⊤}
-use Rattle.std.proofs.Common.{◌+◌, ◌≤◌, Ok, Option, subst, inr}
-use Rattle.pim_capture.specs.declared.event.Event.{Event}
-use Rattle.pim_capture.specs.Next.{event_seen}
-use Rattle.pim_merge.specs.Source.{Steps, StaysComing, step_count, chosen_failures, chosen_left, read_coming}
-use Rattle.std.proofs.lemmas.Result.{err_from_is_err_and}
+use Rattle.pim_merge.proofs.Words.{⊤, ◌+◌, ◌≤◌, Ok, Option, subst, inr, Event, event_seen, Steps, StaysComing}
+use Rattle.pim_merge.proofs.Words.{step_count, chosen_failures, chosen_left, read_coming, err_from_is_err_and}
 use Rattle.pim_merge.proofs.Choosing.{next_after, begin_passing, pass_more}
 use Rattle.pim_merge.proofs.Needing.{failed_after, begin_holding, hold_more, memory_weaker}
 use Rattle.pim_merge.proofs.chosen.Chosen.read_on.Goals as goal

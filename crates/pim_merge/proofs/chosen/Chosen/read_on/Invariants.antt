@@ -1,6 +1,5 @@
-use Rattle.std.proofs.Common.{◌≤◌, vec_len, vec_capacity}
-use Rattle.pim_capture.specs.Capture.{most_captured}
-use Rattle.pim_merge.specs.Source.{read_coming, chosen_failures, chosen_left, piece_capacity, places, read_needs}
+use Rattle.pim_merge.proofs.Words.{◌≤◌, vec_len, vec_capacity, most_captured, read_coming, chosen_failures, chosen_left}
+use Rattle.pim_merge.proofs.Words.{piece_capacity, places, read_needs}
 use Rattle.pim_merge.proofs.Choosing.{HasPassed}
 use Rattle.pim_merge.proofs.Needing.{HasHeld}
 use Rattle.pim_merge.proofs.chosen.Chosen.read_on.Given as goal

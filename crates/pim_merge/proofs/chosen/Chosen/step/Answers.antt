@@ -1,11 +1,8 @@
-use Rattle.std.proofs.Common.{◌∙◌, ◌*◌, ◌⊎◌, List, ℕ, Option, Ok, IfSome, length, inr, sym, ap, subst, arith, vec_len, vec_capacity}
-use Rattle.std.proofs.lemmas.Result.{IfOk-weaker}
-use Rattle.pim_container.specs.Choice.{choice_of, first_of}
+use Rattle.pim_merge.proofs.Words.{◌∙◌, ◌*◌, ◌⊎◌, List, ℕ, Option, Ok, IfSome, length, inr, sym, ap, subst, arith}
+use Rattle.pim_merge.proofs.Words.{vec_len, vec_capacity, IfOk-weaker, choice_of, first_of, Need, needs_of, all_known}
+use Rattle.pim_merge.proofs.Words.{event_given, later_of, piece_capacity, places, read_needs, SomeExceeds, GrowsWithin}
 use Rattle.pim_container.specs.Next.{coming, IsNext, pieces_left}
 use Rattle.pim_container.specs.EventSeen.{event_seen}
-use Rattle.pim_container.specs.Room.{Need, needs_of}
-use Rattle.pim_merge.specs.Chosen.{all_known, event_given}
-use Rattle.pim_merge.specs.Source.{later_of, piece_capacity, places, read_needs, SomeExceeds, GrowsWithin}
 use Rattle.pim_merge.proofs.Needing.{within_same, memory_of, fails_memory, uncut_needs, asks_need, grows_need, asks_record, passes_given, passes_uncut, given_none, if_ok, grows_up, list_up}
 use Rattle.pim_merge.proofs.Failures.{moves}
 use Rattle.pim_merge.proofs.Choosing.{stepped, after_cut, after_end, fails, fails_reads, fails_left, fails_payload, fails_moment, no_reads, stepped_left, ended_left}

@@ -1,9 +1,6 @@
-use Rattle.std.proofs.Common.{◌≡◌, ◌∙◌, ℕ, List, ap, arith, IfOk, IfErr}
-use Rattle.std.specs.List.{AllByRecursion}
-use Rattle.pim_capture.specs.Capture.{Answer}
-use Rattle.pim_merge.specs.Merge.{turn, fails}
-use Rattle.pim_merge.specs.Lane.{IsComing, IsLooked, KeepRooms, FailsAt, tallies_of}
-use Rattle.pim_merge.specs.Next.{MergeState, with_fault, CountsFailures, IsFailed, IsNumbered}
+use Rattle.pim_merge.proofs.Words.{◌≡◌, ◌∙◌, ℕ, List, ap, arith, IfOk, IfErr, AllByRecursion, Answer, turn, fails}
+use Rattle.pim_merge.proofs.Words.{IsComing, IsLooked, KeepRooms, FailsAt, tallies_of, MergeState, with_fault}
+use Rattle.pim_merge.proofs.Words.{CountsFailures, IsFailed, IsNumbered}
 use Rattle.pim_merge.proofs.Repeating.{put_back}
 use Rattle.pim_merge.proofs.merge.Merge.look.Goals as goal
 

@@ -1,9 +1,5 @@
-use Rattle.std.proofs.Common.{◌≤◌, ◌∙◌, sym, ap, subst, arith, [], length}
-use Rattle.pim_capture.specs.Capture.{most_captured}
-use Rattle.pim_capture.specs.Next.{latest_moment, PayloadLiesIn, event_seen}
-use Rattle.pim_merge.specs.Tally.{tallies_with}
-use Rattle.pim_merge.specs.Merge.{clock_after, moment_of, is_past, turn}
-use Rattle.pim_merge.specs.Lane.{head_time, lane_at}
+use Rattle.pim_merge.proofs.Words.{◌≤◌, ◌∙◌, sym, ap, subst, arith, [], length, most_captured, latest_moment, PayloadLiesIn}
+use Rattle.pim_merge.proofs.Words.{event_seen, tallies_with, clock_after, moment_of, is_past, turn, head_time, lane_at}
 use Rattle.pim_merge.proofs.Taking.{no_turn, by_then, found_within, found_head, same_bytes, stamped, takes_turn, takes_one, reads_none, same_length, keeps_rooms, moves_tally}
 use Rattle.pim_merge.proofs.Until.{ends_by, takes_by, passes_turn}
 use Rattle.pim_merge.proofs.merge.Merge.next_by.Goals as goal

@@ -1,8 +1,4 @@
-use Rattle.std.proofs.Common.{◌≤◌, ◌∙◌, length, IfSome, ap, subst}
-use Rattle.pim_capture.specs.Capture.{most_captured}
-use Rattle.pim_capture.specs.Next.{PayloadLiesIn}
-use Rattle.pim_merge.specs.Lane.{LaneState}
-use Rattle.pim_merge.specs.Next.{MergeState}
+use Rattle.pim_merge.proofs.Words.{◌≤◌, ◌∙◌, length, IfSome, ap, subst, most_captured, PayloadLiesIn, LaneState, MergeState}
 use Rattle.pim_merge.proofs.Taking.{lane_there, head_of_lane, bytes_of_lane}
 use Rattle.pim_merge.proofs.merge.Merge.take.Goals as goal
 

@@ -1,7 +1,4 @@
-use Rattle.std.proofs.Common.{ap, subst, sym, ◌≤◌, ◌∙◌}
-use Rattle.pim_merge.specs.Merge.{moment_of, clock_after}
-use Rattle.pim_merge.specs.Next.{MergeState}
-use Rattle.pim_capture.specs.Next.{latest_moment}
+use Rattle.pim_merge.proofs.Words.{ap, subst, sym, ◌≤◌, ◌∙◌, moment_of, clock_after, MergeState, latest_moment}
 use Rattle.pim_merge.proofs.Clocks.{after_bound}
 use Rattle.pim_merge.proofs.merge.Merge.tick.Goals as goal
 

@@ -1,7 +1,4 @@
-use Rattle.pim_merge.specs.Run.{turn_seen}
-use Rattle.pim_replay.specs.Passing.{PassesTime}
-use Rattle.pim_replay.specs.Turn.{taking, TakesRecord, WritesTurn}
-use Rattle.std.proofs.Common.{refl}
+use Rattle.pim_replay.proofs.Words.{turn_seen, PassesTime, taking, TakesRecord, WritesTurn, refl}
 use Rattle.pim_replay.proofs.Told.{both, begun_longer, happens_then, begun_then}
 use Rattle.pim_replay.proofs.turns.ReplayHooksCounts.take.Goals as goal
 

@@ -1,5 +1,4 @@
-use Rattle.std.proofs.Common.{◌≡◌, sym, subst, true, false, ◌||◌}
-use Rattle.pim_request.specs.Held.{HoldsText}
+use Rattle.pim_request.proofs.Cited.{◌≡◌, sym, subst, true, false, ◌||◌, HoldsText}
 use Rattle.pim_request.proofs.Held.{added, not_added}
 use Rattle.pim_request.proofs.held_text.HeldText.add.Goals as goal
 use Rattle.pim_request.proofs.held_text.HeldText.add.Goals.{then-self-via-then-self, then-self-via-else-self+then-self-2}

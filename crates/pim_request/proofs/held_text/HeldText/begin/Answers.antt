@@ -1,6 +1,4 @@
-use Rattle.std.proofs.Common.{false, sym, subst, List, ℕ}
-use Rattle.pim_request.specs.Items.{text_after}
-use Rattle.pim_request.specs.Held.{HoldsText}
+use Rattle.pim_request.proofs.Cited.{false, sym, subst, List, ℕ, text_after, HoldsText}
 use Rattle.pim_request.proofs.Held.{begun}
 use Rattle.pim_request.proofs.held_text.HeldText.begin.Goals as goal
 

@@ -1,5 +1,4 @@
-use Rattle.std.proofs.Common.{◌≡◌, arith, ℕ, List, Option, Some, None, take, drop}
-use Rattle.std.specs.List.{position}
+use Rattle.pim_request.proofs.Cited.{◌≡◌, arith, ℕ, List, Option, Some, None, take, drop, position}
 use Rattle.pim_request.proofs.Feeds.{is_feed}
 use Rattle.pim_request.proofs.Steps.{sound_searched, found_after}
 use Rattle.pim_request.proofs.input.Input.find_feed.Goals as goal

@@ -1,7 +1,5 @@
-use Rattle.std.proofs.Common.{true, ◌≡◌, ◌∙◌, ap, refl, subst, inl, inr, ◌⊎◌, ℕ, ◌<◌, Option, Some, None, length, arith}
-use Rattle.std.specs.Option.{IfSome}
-use Rattle.std.specs.Io.KnownBytes.{IsAtEnd}
-use Rattle.pim_request.specs.Input.{Lines, IsReached, IsFeedAt, NoFeed, HasRead, room, coming_lines}
+use Rattle.pim_request.proofs.Cited.{true, ◌≡◌, ◌∙◌, ap, refl, subst, inl, inr, ◌⊎◌, ℕ, ◌<◌, Option, Some, None, length, arith}
+use Rattle.pim_request.proofs.Cited.{IfSome, IsAtEnd, Lines, IsReached, IsFeedAt, NoFeed, HasRead, room, coming_lines}
 use Rattle.pim_request.proofs.Devices.{on_err, where_known}
 use Rattle.pim_request.proofs.Found.{found_fed, found_unfed, found_long, taken_fed, long_early}
 use Rattle.pim_request.proofs.input.Input.next_line.Goals as goal

@@ -1,6 +1,5 @@
-use Rattle.std.proofs.Common.{◌≡◌, ◌∙◌, sym, ap, subst, inr, ℕ, ◌+◌, List, [], length, drop, arith}
-use Rattle.std.proofs.lemmas.List.{drop_all}
-use Rattle.pim_request.specs.Input.{Lines, Passing}
+use Rattle.pim_request.proofs.Cited.{◌≡◌, ◌∙◌, sym, ap, subst, inr, ℕ, ◌+◌, List, [], length, drop, arith, drop_all}
+use Rattle.pim_request.proofs.Cited.{Lines, Passing}
 use Rattle.pim_request.proofs.Devices.{where_known, proceeds_on}
 use Rattle.pim_request.proofs.Passed.{passing_more, passing_end, passing_found}
 use Rattle.pim_request.proofs.input.Input.pass_line.Goals as goal

@@ -1,10 +1,5 @@
-use Rattle.std.proofs.Common.{◌≡◌, ◌∙◌, sym, ap, refl, []}
-use Rattle.std.specs.Option.{IfSome}
-use Rattle.std.proofs.lemmas.Bool.{false≢true}
-use Rattle.pim_request.specs.Items.{has_item}
-use Rattle.pim_request.specs.Reading.{Reading, EndsEarly}
-use Rattle.pim_request.specs.Input.{coming_lines}
-use Rattle.pim_request.specs.Held.{reading_seen}
+use Rattle.pim_request.proofs.Cited.{◌≡◌, ◌∙◌, sym, ap, refl, [], IfSome, false≢true, has_item, Reading, EndsEarly}
+use Rattle.pim_request.proofs.Cited.{coming_lines, reading_seen}
 use Rattle.pim_request.proofs.Devices.{on_err, if_known}
 use Rattle.pim_request.proofs.Whole.{no_item, empty}
 use Rattle.pim_request.proofs.items.InputItems.next.Goals as goal

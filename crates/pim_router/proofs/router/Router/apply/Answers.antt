@@ -1,5 +1,4 @@
-use Rattle.std.proofs.Common.{◌∙◌, ap}
-use Rattle.pim_router.specs.Packets.{timing_on}
+use Rattle.pim_router.proofs.Words.{◌∙◌, ap, timing_on}
 use Rattle.pim_router.proofs.Receiving.{applied_now, applied_wants}
 use Rattle.pim_router.proofs.router.Router.apply.Goals as goal
 

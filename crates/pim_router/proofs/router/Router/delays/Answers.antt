@@ -1,5 +1,4 @@
-use Rattle.std.proofs.Common.{◌≤◌, [], ap, arith}
-use Rattle.pim_router.specs.State.{Port}
+use Rattle.pim_router.proofs.Words.{◌≤◌, [], ap, arith, Port}
 use Rattle.pim_router.proofs.Current.{all_at}
 use Rattle.pim_router.proofs.router.Router.delays.Goals as goal
 

@@ -1,5 +1,4 @@
-use Rattle.std.proofs.Common.{◌≡◌, ◌∙◌, ◌+◌, ◌*◌, length, map, ap, arith}
-use Rattle.pim_hello.specs.Laws.{expired_at}
+use Rattle.pim_router.proofs.Words.{◌≡◌, ◌∙◌, ◌+◌, ◌*◌, length, map, ap, arith, expired_at}
 use Rattle.pim_router.proofs.RunTo.{kept_all}
 use Rattle.pim_router.proofs.ToFiring.{fires_ran, fires_sound, setup_stays}
 use Rattle.pim_router.proofs.router.Router.fire_machines.Goals as goal

@@ -1,7 +1,4 @@
-use Rattle.std.proofs.Common.{◌∙◌, sym, ap, subst, List}
-use Rattle.pim_hello.specs.Neighbours.{Table}
-use Rattle.pim_router.specs.Sound.{IsRouter}
-use Rattle.pim_router.specs.Seen.{router_seen}
+use Rattle.pim_router.proofs.Words.{◌∙◌, sym, ap, subst, List, Table, IsRouter, router_seen}
 use Rattle.pim_router.proofs.Current.{put_back}
 use Rattle.pim_router.proofs.router.Router.gather_delays.Goals as goal
 

@@ -1,9 +1,5 @@
-use Rattle.std.proofs.Common.{◌<◌, sym, subst, length, arith}
+use Rattle.pim_router.proofs.Words.{◌<◌, sym, subst, length, arith, Parameters, RouterState, IsRouter, router_seen}
 use Rattle.pim_hello.specs.Seen.{hello_seen}
-use Rattle.pim_hello.specs.Hello.{Parameters}
-use Rattle.pim_router.specs.State.{RouterState}
-use Rattle.pim_router.specs.Sound.{IsRouter}
-use Rattle.pim_router.specs.Seen.{router_seen}
 use Rattle.pim_router.proofs.HeardHello.{hello_ends, hello_told, hello_wants, hello_wants_told, stays_router}
 use Rattle.pim_router.proofs.router.Router.hear_hello.Goals as goal
 

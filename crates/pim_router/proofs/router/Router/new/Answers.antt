@@ -1,10 +1,5 @@
-use Rattle.std.proofs.Common.{◌≡◌, ◌∙◌, sym, ap, subst, arith, Ok}
-use Rattle.pim_addr.specs.Faults.{judged}
-use Rattle.pim_down.specs.Time.{Downstream}
-use Rattle.pim_router.specs.Config.{config_faults}
-use Rattle.pim_router.specs.Seen.{setup_seen}
-use Rattle.pim_router.specs.Sound.{IsRouter}
-use Rattle.pim_router.specs.State.{Setup, new_router}
+use Rattle.pim_router.proofs.Words.{◌≡◌, ◌∙◌, sym, ap, subst, arith, Ok, judged, Downstream, config_faults, setup_seen}
+use Rattle.pim_router.proofs.Words.{IsRouter, Setup, new_router}
 use Rattle.pim_router.proofs.Made.{made, new_is_sound, is_new}
 use Rattle.pim_router.proofs.router.Router.new.Goals as goal
 

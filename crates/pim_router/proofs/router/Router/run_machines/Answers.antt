@@ -1,5 +1,4 @@
-use Rattle.std.proofs.Common.{◌≡◌, ◌∙◌, length, map, ap, arith}
-use Rattle.pim_hello.specs.Laws.{expired_at}
+use Rattle.pim_router.proofs.Words.{◌≡◌, ◌∙◌, length, map, ap, arith, expired_at}
 use Rattle.pim_router.proofs.RunTo.{kept_all}
 use Rattle.pim_router.proofs.PastRefreshes.{past_ran, past_sound}
 use Rattle.pim_router.proofs.router.Router.run_machines.Goals as goal

@@ -1,5 +1,4 @@
-use Rattle.pim_down.specs.Seen.{step_seen}
-use Rattle.pim_router.specs.Refreshes.{fires_behind}
+use Rattle.pim_router.proofs.Words.{step_seen, fires_behind}
 use Rattle.pim_router.proofs.PastRefreshes.{past_keeps, past_nearer, seen_behind}
 use Rattle.pim_router.proofs.router.Router.run_past_refreshes.Goals as goal
 

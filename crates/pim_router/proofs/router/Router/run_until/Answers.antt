@@ -1,5 +1,4 @@
-use Rattle.std.proofs.Common.{◌≡◌, ◌+◌, ◌∙◌, length, map, min, ap, refl, arith}
-use Rattle.pim_hello.specs.Laws.{expired_at}
+use Rattle.pim_router.proofs.Words.{◌≡◌, ◌+◌, ◌∙◌, length, map, min, ap, refl, arith, expired_at}
 use Rattle.pim_router.proofs.RunTo.{echo_told, reached_told, refresh_told, sound_again, kept_all}
 use Rattle.pim_router.proofs.router.Router.run_until.Goals as goal
 

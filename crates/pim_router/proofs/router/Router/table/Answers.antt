@@ -1,10 +1,5 @@
-use Rattle.std.proofs.Common.{◌≡◌, ◌∙◌, ◌<◌, sym, subst, length, get_or, arith}
-use Rattle.std.proofs.lemmas.List.{get_or_read}
-use Rattle.pim_hello.specs.Neighbours.{no_neighbours}
-use Rattle.pim_router.specs.Packets.{neighbours_on}
-use Rattle.pim_router.specs.State.{RouterState}
-use Rattle.pim_router.specs.Sound.{IsCurrent, IsRouter}
-use Rattle.pim_router.specs.Seen.{router_seen}
+use Rattle.pim_router.proofs.Words.{◌≡◌, ◌∙◌, ◌<◌, sym, subst, length, get_or, arith, get_or_read, no_neighbours}
+use Rattle.pim_router.proofs.Words.{neighbours_on, RouterState, IsCurrent, IsRouter, router_seen}
 use Rattle.pim_router.proofs.Current.{all_at, all_there}
 use Rattle.pim_router.proofs.router.Router.table.Goals as goal
 

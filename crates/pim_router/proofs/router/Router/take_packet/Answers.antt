@@ -1,5 +1,4 @@
-use Rattle.pim_router.specs.Reading.{reading_seen}
-use Rattle.pim_router.specs.Seen.{packet_seen}
+use Rattle.pim_router.proofs.Words.{reading_seen, packet_seen}
 use Rattle.pim_router.proofs.AsRead.{as_packet, packet_wants}
 use Rattle.pim_router.proofs.router.Router.take_packet.Goals as goal
 

@@ -1,8 +1,5 @@
-use Rattle.std.proofs.Common.{rules, ◌≡◌, false, nat_eq}
-use Rattle.std.specs.Cmp.Lexicographic.{pointwise}
+use Rattle.pim_router.proofs.Words.{rules, ◌≡◌, false, nat_eq, pointwise, own_address, reading_seen, message_refusals, read_taken}
 use Rattle.pim_router.specs.declared.verdict.Verdict.TheVariants.{Mine}
-use Rattle.pim_router.specs.Packets.{own_address}
-use Rattle.pim_router.specs.Reading.{reading_seen, message_refusals, read_taken}
 use Rattle.pim_router.proofs.Setups.{reading_keeps}
 use Rattle.pim_router.proofs.Unless.{not_first}
 use Rattle.pim_router.proofs.router.Router.take_read.Goals as goal

@@ -1,8 +1,4 @@
-use Rattle.std.proofs.Common.{ℕ, List, Some, sym, subst}
-use Rattle.pim_addr.specs.declared.family.AddressFamily.TheVariants.{Ipv4, Ipv6}
-use Rattle.pim_answers.specs.Fault.{done_text}
-use Rattle.pim_session.specs.declared.setup.AnyRows.{AnyRows}
-use Rattle.pim_session.specs.SetupSeen.{rows_seen, any_seen, Adds}
+use Rattle.pim_session.proofs.Words.{ℕ, List, Some, sym, subst, Ipv4, Ipv6, done_text, AnyRows, rows_seen, any_seen, Adds}
 use Rattle.pim_session.proofs.Adding.{more_added}
 use Rattle.pim_session.proofs.setup.Setup.add.Goals as goal
 

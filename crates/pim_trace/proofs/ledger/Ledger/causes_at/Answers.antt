@@ -1,7 +1,5 @@
-use Rattle.std.proofs.Common.{◌∙◌, sym, ap}
+use Rattle.pim_trace.proofs.Words.{◌∙◌, sym, ap, causes_seen, both_by, no_cause}
 use Rattle.std.specs.Prelude.{option_map, unwrap_or}
-use Rattle.pim_trace.specs.Kept.{causes_seen}
-use Rattle.pim_trace.specs.Ledger.{both_by, no_cause}
 use Rattle.pim_trace.proofs.Maps.{causes_found}
 use Rattle.pim_trace.proofs.ledger.Ledger.causes_at.Goals as goal
 

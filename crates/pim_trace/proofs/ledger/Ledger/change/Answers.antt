@@ -1,8 +1,4 @@
-use Rattle.std.proofs.Common.{◌∙◌, None, Some, sym, ap}
-use Rattle.pim_events.specs.Events.{cause_seen}
-use Rattle.pim_down.specs.Seen.{key_seen}
-use Rattle.pim_trace.specs.Kept.{ledger_seen}
-use Rattle.pim_trace.specs.Ledger.{caused, causes_of}
+use Rattle.pim_trace.proofs.Words.{◌∙◌, None, Some, sym, ap, cause_seen, key_seen, ledger_seen, caused, causes_of}
 use Rattle.pim_trace.proofs.Maps.{causes_put}
 use Rattle.pim_trace.proofs.ledger.Ledger.change.Goals as goal
 

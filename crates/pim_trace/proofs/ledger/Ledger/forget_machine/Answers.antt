@@ -1,5 +1,4 @@
-use Rattle.std.proofs.Common.{refl, None}
-use Rattle.pim_trace.specs.Kept.{ledger_seen}
+use Rattle.pim_trace.proofs.Words.{refl, None, ledger_seen}
 use Rattle.pim_trace.proofs.Maps.{causes_put}
 use Rattle.pim_trace.proofs.ledger.Ledger.forget_machine.Goals as goal
 

@@ -1,6 +1,4 @@
-use Rattle.std.proofs.Common.{◌∙◌, None, ap, sym}
-use Rattle.pim_trace.specs.Kept.{ledger_seen}
-use Rattle.pim_trace.specs.Ledger.{sent_or_none}
+use Rattle.pim_trace.proofs.Words.{◌∙◌, None, ap, sym, ledger_seen, sent_or_none}
 use Rattle.pim_trace.proofs.Maps.{hello_found, hello_put}
 use Rattle.pim_trace.proofs.ledger.Ledger.forget_neighbour.Goals as goal
 

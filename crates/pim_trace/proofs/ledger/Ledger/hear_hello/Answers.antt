@@ -1,5 +1,4 @@
-use Rattle.std.proofs.Common.{Some}
-use Rattle.pim_trace.specs.Kept.{ledger_seen}
+use Rattle.pim_trace.proofs.Words.{Some, ledger_seen}
 use Rattle.pim_trace.proofs.Maps.{hello_put}
 use Rattle.pim_trace.proofs.ledger.Ledger.hear_hello.Goals as goal
 

@@ -1,5 +1,4 @@
-use Rattle.std.proofs.Common.{None}
-use Rattle.pim_trace.specs.Ledger.{none_skipped}
+use Rattle.pim_trace.proofs.Words.{None, none_skipped}
 use Rattle.pim_trace.proofs.Maps.{no_hellos, no_causes}
 use Rattle.pim_trace.proofs.ledger.Ledger.new.Goals as goal
 

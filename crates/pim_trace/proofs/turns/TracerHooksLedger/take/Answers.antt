@@ -1,9 +1,4 @@
-use Rattle.std.proofs.Common.{◌≡◌, ◌∙◌, ap}
-use Rattle.pim_merge.specs.Run.{turn_seen}
-use Rattle.pim_trace.specs.Kept.{ledger_seen}
-use Rattle.pim_capture.specs.Next.{event_seen}
-use Rattle.pim_trace.specs.Ledger.{frame_of, frame_after, opened}
-use Rattle.pim_trace.specs.Turn.{counting}
+use Rattle.pim_trace.proofs.Words.{◌≡◌, ◌∙◌, ap, turn_seen, ledger_seen, event_seen, frame_of, frame_after, opened, counting}
 use Rattle.pim_trace.proofs.TakenTurn.{stopped_on_the_way, turn_over}
 use Rattle.pim_trace.proofs.turns.TracerHooksLedger.take.Goals as goal
 

@@ -1,7 +1,4 @@
-use Rattle.std.proofs.Common.{sym, subst}
-use Rattle.pim_down.specs.Hearing.{events_of}
-use Rattle.pim_addr.specs.Routes.{rp_of}
-use Rattle.pim_transitions.specs.Affected.{IsAffected}
+use Rattle.pim_transitions.proofs.Words.{sym, subst, events_of, rp_of, IsAffected}
 use Rattle.pim_transitions.proofs.Listing.{marks_named}
 use Rattle.pim_transitions.proofs.affected.Affected.of.Goals as goal
 
