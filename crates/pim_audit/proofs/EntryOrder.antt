@@ -1,0 +1,36 @@
+-- The order of entries is total.
+use Rattle.std.proofs.Common.{◌≡◌, ◌∙◌, List, [], ◌∷◌, ap, sym}
+use Rattle.std.specs.Cmp.{IsTotalOrder}
+use Rattle.std.specs.Ordering.{ordering_reverse}
+use Rattle.std.specs.List.{AllByRecursion}
+use Rattle.std.specs.declared.cmp.Ordering.TheVariants.{Less, Equal, Greater}
+use Rattle.std.proofs.lemmas.Cmp.{nat_cmp_total, nat_list_cmp_total, on_total, then_total}
+use Rattle.pim_down.specs.Hearing.{Event}
+use Rattle.pim_down.specs.Key.{what_cmp, rank, source_of}
+use Rattle.pim_audit.specs.Order.{entry_rank, entry_cmp}
+
+pub entry_total : IsTotalOrder entry_cmp
+unfolding entry_cmp what_cmp
+entry_total =
+    then_total
+    (then_total (on_total (λ (e : Event). e.group) nat_list_cmp_total) (on_total entry_rank nat_cmp_total))
+    (on_total (λ (e : Event). e.what) (then_total (on_total rank nat_cmp_total) (on_total source_of nat_list_cmp_total)))
+
+pub greater_less : (a b : Event) → entry_cmp a b ≡ Greater → entry_cmp b a ≡ Less
+greater_less a b is = entry_total.antisymm b a ∙ ap ordering_reverse is
+
+pub less_greater : (a b : Event) → entry_cmp a b ≡ Less → entry_cmp b a ≡ Greater
+less_greater a b is = entry_total.antisymm b a ∙ ap ordering_reverse is
+
+-- what stands after an entry stands after a lesser one
+pub all_after : (a b : Event) (es : List Event) → entry_cmp a b ≡ Less → AllByRecursion (λ e. entry_cmp b e ≡ Less) es
+    → AllByRecursion (λ e. entry_cmp a e ≡ Less) es
+all_after a b [] less after = tt
+all_after a b (e ∷ es) less after = (entry_total.trans a b e less after.0, all_after a b es less after.1)
+
+-- what stands after an entry stands after an equal one
+pub all_after_equal : (a b : Event) (es : List Event) → entry_cmp a b ≡ Equal → AllByRecursion (λ e. entry_cmp a e ≡ Less) es
+    → AllByRecursion (λ e. entry_cmp b e ≡ Less) es
+all_after_equal a b [] equal after = tt
+all_after_equal a b (e ∷ es) equal after =
+    (sym (entry_total.congr a b e equal) ∙ after.0, all_after_equal a b es equal after.1)

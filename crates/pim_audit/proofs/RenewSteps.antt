@@ -1,0 +1,164 @@
+-- One step of a walk over what was due and what is due now.
+use Rattle.std.proofs.Common.{◌≡◌, ◌∙◌, ℕ, ◌+◌, length, arith, Bool, true, false, ◌&&◌, ◌||◌, not, cond, List, [], ◌∷◌, ◌++◌, Option, None, Some, map, refl, sym, ap, ap₂}
+use Rattle.std.specs.List.{AllByRecursion, filter, find, list_any}
+use Rattle.std.specs.List.Sorted.{IsStrictlySortedBy}
+use Rattle.std.specs.Ordering.{is_eq}
+use Rattle.std.specs.declared.cmp.Ordering.TheVariants.{Less, Equal, Greater}
+use Rattle.std.proofs.lemmas.List.{append_assoc}
+use Rattle.pim_down.specs.Hearing.{Event}
+use Rattle.pim_audit.specs.Order.{entry_cmp, same_entry, AreInOrder}
+use Rattle.pim_audit.specs.Look.{DueEntry, entries_of, or_new, due_at, is_new, has_ended}
+use Rattle.pim_audit.proofs.EntryOrder.{entry_total, greater_less, less_greater, all_after, all_after_equal}
+
+-- an entry that is held hides nothing of those after it
+due_past : (x : DueEntry) (xs : List DueEntry) (moment : ℕ) (es : List Event)
+    → AllByRecursion (λ e. entry_cmp x.entry e ≡ Less) es → map (due_at (x ∷ xs) moment) es ≡ map (due_at xs moment) es
+due_past x xs moment [] after = refl
+due_past x xs moment (e ∷ es) after =
+    ap₂ (λ (d : DueEntry) (ds : List DueEntry). d ∷ ds)
+    (ap (λ b. or_new moment e (cond b (Some x) (find (λ (held : DueEntry). same_entry held.entry e) xs))) (ap is_eq after.0))
+    (due_past x xs moment es after.1)
+
+new_past : (x : DueEntry) (xs : List DueEntry) (es : List Event) → AllByRecursion (λ e. entry_cmp x.entry e ≡ Less) es
+    → filter (is_new (x ∷ xs)) es ≡ filter (is_new xs) es
+new_past x xs [] after = refl
+new_past x xs (e ∷ es) after =
+    ap₂ (λ b (l : List Event). cond (not (b || list_any (λ (held : DueEntry). same_entry held.entry e) xs)) (e ∷ l) l)
+    (ap is_eq after.0) (new_past x xs es after.1)
+
+-- no held entry after this one is the same
+all_apart : (y : Event) (ds : List DueEntry) → AllByRecursion (λ e. entry_cmp y e ≡ Less) (entries_of ds)
+    → AllByRecursion (λ (d : DueEntry). same_entry d.entry y ≡ false) ds
+all_apart y [] after = tt
+all_apart y (d ∷ ds) after = (ap is_eq (less_greater y d.entry after.0), all_apart y ds after.1)
+
+none_held : (y : Event) (ds : List DueEntry) → AllByRecursion (λ (d : DueEntry). same_entry d.entry y ≡ false) ds
+    → find (λ (held : DueEntry). same_entry held.entry y) ds ≡ None
+none_held y [] apart = refl
+none_held y (d ∷ ds) apart =
+    ap (λ b. cond b (Some d) (find (λ (held : DueEntry). same_entry held.entry y) ds)) apart.0 ∙ none_held y ds apart.1
+
+none_same_held : (y : Event) (ds : List DueEntry) → AllByRecursion (λ (d : DueEntry). same_entry d.entry y ≡ false) ds
+    → list_any (λ (held : DueEntry). same_entry held.entry y) ds ≡ false
+none_same_held y [] apart = refl
+none_same_held y (d ∷ ds) apart =
+    ap (λ b. b || list_any (λ (held : DueEntry). same_entry held.entry y) ds) apart.0 ∙ none_same_held y ds apart.1
+
+-- an entry that is due now ends nothing and keeps nothing of the others
+ended_past : (y : Event) (ys : List Event) (ds : List DueEntry) → AllByRecursion (λ (d : DueEntry). same_entry d.entry y ≡ false) ds
+    → filter (has_ended (y ∷ ys)) ds ≡ filter (has_ended ys) ds
+ended_past y ys [] apart = refl
+ended_past y ys (d ∷ ds) apart =
+    ap₂ (λ b (l : List DueEntry). cond (d.is_reported && not (b || list_any (λ e. same_entry d.entry e) ys)) (d ∷ l) l)
+    apart.0 (ended_past y ys ds apart.1)
+
+none_same : (x : DueEntry) (es : List Event) → AllByRecursion (λ e. entry_cmp x.entry e ≡ Less) es
+    → list_any (λ e. same_entry x.entry e) es ≡ false
+none_same x [] after = refl
+none_same x (e ∷ es) after = ap (λ b. b || list_any (λ f. same_entry x.entry f) es) (ap is_eq after.0) ∙ none_same x es after.1
+
+-- what is left to do of a look at this moment, where these were added so far
+pub record IsRenewing (moment so_far_new : ℕ) (so_far_due so_far_ended left : List DueEntry) (right : List Event) (all_new : ℕ)
+    (all_due all_ended : List DueEntry) : Type 0 where
+  pub left_up : AreInOrder (entries_of left)
+  pub right_up : AreInOrder right
+  pub new : so_far_new + length (filter (is_new left) right) ≡ all_new
+  pub due : so_far_due ++ map (due_at left moment) right ≡ all_due
+  pub ended : so_far_ended ++ filter (has_ended right) left ≡ all_ended
+
+-- what was added at once, or is added one by one
+one_more : {A : Type 0} (xs : List A) (x : A) (ys : List A) → (xs ++ x ∷ []) ++ ys ≡ xs ++ x ∷ ys
+one_more xs x ys = append_assoc xs (x ∷ []) ys
+
+module _ (moment new : ℕ) (due ended : List DueEntry) (x : DueEntry) (xs : List DueEntry) (y : Event) (ys : List Event)
+    (all_new : ℕ) (all_due all_ended : List DueEntry)
+    (is : IsRenewing moment new due ended (x ∷ xs) (y ∷ ys) all_new all_due all_ended) where
+  xs_up : AreInOrder (entries_of xs)
+  unfolding IsStrictlySortedBy
+  xs_up = is.left_up.1
+
+  after_x : AllByRecursion (λ e. entry_cmp x.entry e ≡ Less) (entries_of xs)
+  unfolding IsStrictlySortedBy
+  after_x = is.left_up.0
+
+  ys_up : AreInOrder ys
+  unfolding IsStrictlySortedBy
+  ys_up = is.right_up.1
+
+  after_y : AllByRecursion (λ e. entry_cmp y e ≡ Less) ys
+  unfolding IsStrictlySortedBy
+  after_y = is.right_up.0
+
+  pub less_renews : (ended' : List DueEntry) → entry_cmp x.entry y ≡ Less → ended' ≡ ended ++ filter (has_ended []) (x ∷ [])
+      → IsRenewing moment new due ended' xs (y ∷ ys) all_new all_due all_ended
+  less_renews ended' less more =
+      let after : AllByRecursion (λ e. entry_cmp x.entry e ≡ Less) (y ∷ ys) = (less, all_after x.entry y ys less after_y) in
+      let none : list_any (λ e. same_entry x.entry e) (y ∷ ys) ≡ false = none_same x (y ∷ ys) after in
+      record {
+        left_up = xs_up;
+        right_up = is.right_up;
+        new = ap (λ (l : List Event). new + length l) (sym (new_past x xs (y ∷ ys) after)) ∙ is.new;
+        due = ap (λ (l : List DueEntry). due ++ l) (sym (due_past x xs moment (y ∷ ys) after)) ∙ is.due;
+        ended = ap (λ (l : List DueEntry). l ++ filter (has_ended (y ∷ ys)) xs) more
+            ∙ append_assoc ended (filter (has_ended []) (x ∷ [])) (filter (has_ended (y ∷ ys)) xs)
+            ∙ ap (λ (l : List DueEntry). ended ++ l) (first x.is_reported (filter (has_ended (y ∷ ys)) xs))
+            ∙ ap (λ b. ended ++ cond (x.is_reported && not b) (x ∷ filter (has_ended (y ∷ ys)) xs) (filter (has_ended (y ∷ ys)) xs)) (sym none)
+            ∙ is.ended;
+      }
+    where
+      first : (b : Bool) (l : List DueEntry) → cond (b && not false) (x ∷ []) [] ++ l ≡ cond (b && not false) (x ∷ l) l
+      first true l = refl
+      first false l = refl
+
+  pub equal_renews : (due' : List DueEntry) → entry_cmp x.entry y ≡ Equal → due' ≡ due ++ or_new moment y (Some x) ∷ []
+      → IsRenewing moment new due' ended xs ys all_new all_due all_ended
+  equal_renews due' equal more =
+      let after : AllByRecursion (λ e. entry_cmp y e ≡ Less) (entries_of xs) = all_after_equal x.entry y (entries_of xs) equal after_x in
+      let same : same_entry x.entry y ≡ true = ap is_eq equal in
+      record {
+        left_up = xs_up;
+        right_up = ys_up;
+        new = ap (λ (l : List Event). new + length l) (sym (new_past x xs ys (all_before ys equal after_y)))
+            ∙ ap (λ b. new + length (cond (not (b || list_any (λ held. same_entry held.entry y) xs)) (y ∷ filter (is_new (x ∷ xs)) ys) (filter (is_new (x ∷ xs)) ys))) (sym same)
+            ∙ is.new;
+        due = ap (λ (l : List DueEntry). l ++ map (due_at xs moment) ys) more ∙ one_more due (or_new moment y (Some x)) (map (due_at xs moment) ys)
+            ∙ ap (λ (l : List DueEntry). due ++ or_new moment y (Some x) ∷ l) (sym (due_past x xs moment ys (all_before ys equal after_y)))
+            ∙ ap (λ b. due ++ or_new moment y (cond b (Some x) (find (λ (held : DueEntry). same_entry held.entry y) xs)) ∷ map (due_at (x ∷ xs) moment) ys) (sym same)
+            ∙ is.due;
+        ended = ap (λ (l : List DueEntry). ended ++ l) (sym (ended_past y ys xs (all_apart y xs after)))
+            ∙ ap (λ (l : List DueEntry). ended ++ l) (sym (kept x.is_reported (filter (has_ended (y ∷ ys)) xs)))
+            ∙ ap (λ b. ended ++ cond (x.is_reported && not (b || list_any (λ e. same_entry x.entry e) ys)) (x ∷ filter (has_ended (y ∷ ys)) xs) (filter (has_ended (y ∷ ys)) xs)) (sym same)
+            ∙ is.ended;
+      }
+    where
+      kept : (b : Bool) (l : List DueEntry) → cond (b && not true) (x ∷ l) l ≡ l
+      kept true l = refl
+      kept false l = refl
+
+      all_before : (es : List Event) → entry_cmp x.entry y ≡ Equal → AllByRecursion (λ e. entry_cmp y e ≡ Less) es
+          → AllByRecursion (λ e. entry_cmp x.entry e ≡ Less) es
+      all_before [] equal after = tt
+      all_before (e ∷ es) equal after = (entry_total.congr x.entry y e equal ∙ after.0, all_before es equal after.1)
+
+  pub greater_renews : (due' : List DueEntry) → entry_cmp x.entry y ≡ Greater
+      → due' ≡ due ++ record { entry = y; since = moment; is_reported = false } ∷ []
+      → IsRenewing moment (new + 1) due' ended (x ∷ xs) ys all_new all_due all_ended
+  greater_renews due' greater more =
+      let less = greater_less x.entry y greater in
+      let apart : AllByRecursion (λ (d : DueEntry). same_entry d.entry y ≡ false) (x ∷ xs) =
+      all_apart y (x ∷ xs) (less, all_after y x.entry (entries_of xs) less after_x) in
+      let begun : DueEntry = record { entry = y; since = moment; is_reported = false } in
+      record {
+        left_up = is.left_up;
+        right_up = ys_up;
+        new = one_new ∙ ap (λ b. new + length (cond (not b) (y ∷ filter (is_new (x ∷ xs)) ys) (filter (is_new (x ∷ xs)) ys))) (sym (none_same_held y (x ∷ xs) apart))
+            ∙ is.new;
+        due = ap (λ (l : List DueEntry). l ++ map (due_at (x ∷ xs) moment) ys) more
+            ∙ one_more due begun (map (due_at (x ∷ xs) moment) ys)
+            ∙ ap (λ (o : Option DueEntry). due ++ or_new moment y o ∷ map (due_at (x ∷ xs) moment) ys) (sym (none_held y (x ∷ xs) apart))
+            ∙ is.due;
+        ended = ap (λ (l : List DueEntry). ended ++ l) (sym (ended_past y ys (x ∷ xs) apart)) ∙ is.ended;
+      }
+    where
+      one_new : new + 1 + length (filter (is_new (x ∷ xs)) ys) ≡ new + length (y ∷ filter (is_new (x ∷ xs)) ys)
+      one_new = omega arith

@@ -1,0 +1,17 @@
+use Rattle.std.proofs.Common.{◌≤◌, ℕ, List, sym, ap, subst}
+use Rattle.pim_down.specs.Time.{Downstream}
+use Rattle.pim_audit.specs.declared.due.Due.{Due}
+use Rattle.pim_audit.specs.Look.{entries_of}
+use Rattle.pim_audit.specs.Order.{AreInOrder}
+use Rattle.pim_audit.specs.Seen.{dues_seen}
+use Rattle.pim_audit.proofs.Neighbours.{nothing_in_order}
+use Rattle.pim_audit.proofs.audit.Audit.new.Goals as goal
+
+pub invariant_of-result : goal.invariant_of-result
+invariant_of-result g c = record {
+  order = subst (λ (due : List (Due g.row.F-Addr.Denot)). AreInOrder (entries_of (dues_seen g.F.Family.bytes_of due)))
+      (sym c.new-2.ensures.items) nothing_in_order;
+  port = ap (λ (asked : Downstream). asked.ports) c.new.ensures;
+  room = subst (λ (n : ℕ). 1 ≤ n) (sym (ap (λ (asked : Downstream). asked.limit) c.new.ensures)) c.requires.room;
+  limit = subst (λ (n : ℕ). n ≤ 100000) (sym (ap (λ (asked : Downstream). asked.limit) c.new.ensures)) c.requires.limit;
+}

@@ -1,0 +1,17 @@
+use Rattle.std.proofs.Common.{◌∙◌, arith}
+use Rattle.pim_audit.proofs.HappensOn.{happens_first, happens_last}
+use Rattle.pim_audit.proofs.passing.pass_router.Goals as goal
+
+pub loop-firing-preserved : goal.loop-firing-preserved
+loop-firing-preserved g c = record {
+  on = λ after happens. c.loop-firing.invariant.on after
+      (happens_first c.firing_passes.ensures c.happening_goes_on.ensures c.args.moment c.loop-firing.router c.fire_to.new.self after _
+      c.in-Some.ensures.fires happens);
+  setup = c.fire_to.ensures.setup ∙ c.loop-firing.invariant.setup;
+  later = omega (arith, c.fire_to.ensures.later, c.loop-firing.invariant.later);
+  within = omega (arith, c.fire_to.ensures.moment, c.loop-firing.invariant.within);
+}
+
+pub returns-clause-happens : goal.returns-clause-happens
+returns-clause-happens g c =
+    c.loop-firing.invariant.on c.fire_to.new.self (happens_last c.args.moment c.loop-firing.router c.fire_to.new.self c.in_default.ensures.fires)

@@ -1,0 +1,17 @@
+use Rattle.std.proofs.Common.{◌≡◌, ◌≤◌, max}
+use Rattle.pim_router.specs.State.{RouterState, setup_of}
+use Rattle.pim_router.specs.Time.{turns_left}
+use Rattle.pim_audit.specs.Passing.{HappensTo}
+use Rattle.pim_audit.proofs.passing.pass_router.Given as goal
+
+-- what happens from here happens from the start
+abbrev pub invariant-loop-firing : goal.invariant-loop-firing
+invariant-loop-firing g l = record {
+  on : (after : RouterState) → HappensTo l.moment l.router after → HappensTo l.moment l.fn.router after;
+  setup : setup_of l.router ≡ setup_of l.fn.router;
+  later : l.fn.router.machines.moment ≤ l.router.machines.moment;
+  within : l.router.machines.moment ≤ max l.fn.router.machines.moment l.moment;
+}
+
+abbrev pub decreases-loop-firing : goal.decreases-loop-firing
+decreases-loop-firing g l = turns_left l.moment l.router

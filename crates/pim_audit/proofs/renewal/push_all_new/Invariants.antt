@@ -1,0 +1,12 @@
+use Rattle.std.proofs.Common.{◌≡◌, ◌++◌, [], map, drop}
+use Rattle.pim_down.specs.Seen.{event_seen}
+use Rattle.pim_audit.specs.Look.{due_at}
+use Rattle.pim_audit.specs.Seen.{dues_seen}
+use Rattle.pim_audit.proofs.renewal.push_all_new.Given as goal
+
+-- what was added and what is left to add are all
+abbrev pub invariant-loop-entry : goal.invariant-loop-entry
+invariant-loop-entry g l =
+    let bytes_of = g.F.Family.bytes_of in
+    dues_seen bytes_of l.due.items ++ map (due_at [] l.moment) (map (event_seen bytes_of) (drop l.entry-index l.entries))
+    ≡ dues_seen bytes_of l.fn.due.items ++ map (due_at [] l.moment) (map (event_seen bytes_of) l.entries)

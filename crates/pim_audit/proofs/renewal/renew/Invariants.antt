@@ -1,0 +1,23 @@
+use Rattle.std.proofs.Common.{◌++◌, ◌+◌, ◌≤◌, length, map}
+use Rattle.std.specs.List.{filter}
+use Rattle.pim_down.specs.Seen.{event_seen}
+use Rattle.pim_audit.specs.Look.{due_at, is_new, has_ended}
+use Rattle.pim_audit.specs.Seen.{dues_seen}
+use Rattle.pim_audit.proofs.Walks.{Walks}
+use Rattle.pim_audit.proofs.renewal.renew.Given as goal
+
+abbrev pub invariant-loop-held : goal.invariant-loop-held
+invariant-loop-held g l =
+    let bytes_of = g.F.Family.bytes_of in
+    let old = dues_seen bytes_of l.old in
+    let entries = map (event_seen bytes_of) l.entries in
+    record {
+      walks : Walks bytes_of l.moment l.new l.due.items l.ended.items l.left l.right
+          (length (filter (is_new old) entries))
+          (dues_seen bytes_of l.fn.due.items ++ map (due_at old l.moment) entries)
+          (dues_seen bytes_of l.fn.ended.items ++ filter (has_ended entries) old);
+      few : l.new + length l.right ≤ length l.entries;
+    }
+
+abbrev pub decreases-loop-held : goal.decreases-loop-held
+decreases-loop-held g l = length l.left + length l.right

@@ -1,0 +1,225 @@
+//! An audit of a router.
+
+ghost use Rattle.std.specs.Prelude.{◌≡◌, ◌≤◌, ◌<◌, ◌^◌, [], length, map, max, IfOk, OnOk, OnErr};
+ghost use Rattle.std.specs.Option.{is_some};
+ghost use Rattle.pim_hello.specs.Neighbours.{neighbour_at};
+ghost use Rattle.pim_addr.specs.Routes.{rp_of};
+ghost use Rattle.pim_down.specs.Heard.{needed_for, new_for, IsWithin, MayWantMemory};
+ghost use Rattle.pim_down.specs.Seen.{event_seen};
+ghost use Rattle.pim_down.specs.Time.{IsNextDue};
+ghost use Rattle.pim_router.specs.State.{table_at};
+ghost use Rattle.pim_audit.specs.Asked.{PassesTo, AskedBy};
+ghost use Rattle.pim_audit.specs.Audited.{AreDueIf, LooksAt, has_neighbour, is_heard};
+ghost use Rattle.pim_audit.specs.Audited.{with_due, with_asked, without_records};
+ghost use Rattle.pim_audit.specs.Order.{AreInOrder};
+ghost use Rattle.pim_audit.specs.Seen.{dues_seen, report_seen};
+
+use crate::asked::{hear_at_once, pass_to};
+use crate::between::due_entries;
+use crate::due::Due;
+use crate::look::{Look, look_at};
+use pim_addr::{Family, Routes};
+use pim_down::{Event, HearFault, Ports};
+use pim_jp::JpView;
+use pim_router::Router;
+use std::alloc::{AllocError, Global};
+use std::marker::Model;
+
+/// What a look reports. Both lists are in order.
+#[derive(Drop)]
+pub struct Report<A> {
+    /// How many entries weren't due at the last look.
+    pub new: usize,
+    /// What is no longer due of the entries that were reported as late.
+    pub ended: Vec<Due<A>>,
+    /// The entries that become late.
+    pub late: Vec<Due<A>>,
+}
+
+/// What an upstream neighbour was asked for, and what is due toward it. It has a router of its own
+/// beside it, whose machines say what has to be asked.
+#[derive(Drop)]
+pub struct Audit<F: Family> {
+    upstream: F::Addr,
+    grace: u64,
+    asked: Ports<F>,
+    due: Vec<Due<F::Addr>>,
+}
+
+impl<F: Family> Model for Audit<F> {
+    ghost use Rattle.pim_audit.specs.Audited.{AuditState, IsAudit};
+    ghost use Rattle.pim_audit.specs.Seen.{dues_seen};
+
+    ghost Value = { AuditState };
+
+    ghost view = { λ audit. record {
+      upstream = F.bytes_of audit.upstream;
+      grace = audit.grace;
+      asked = audit.asked;
+      due = dues_seen F.bytes_of audit.due.items;
+    } };
+
+    ghost invariant = { λ audit. IsAudit (record {
+      upstream = F.bytes_of audit.upstream;
+      grace = audit.grace;
+      asked = audit.asked;
+      due = dues_seen F.bytes_of audit.due.items;
+    }) };
+}
+
+/// Whether the router has a neighbour with this address on the port.
+fn has_neighbour_on<F: Family>(router: &Router<'_, F>, port: usize, address: F::Addr) -> bool
+    requires { port < length router.now.ports }
+    ensures { result ≡ is_some (neighbour_at (F.bytes_of address) (table_at port router.now)) }
+{
+    router.neighbour(port, address).is_some()
+}
+
+/// Whether the router has a neighbour with this address on some port.
+pub(crate) fn has_neighbour<F: Family>(router: &Router<'_, F>, address: F::Addr) -> bool
+    ensures { result ≡ has_neighbour (F.bytes_of address) router.now }
+{
+    for port in 0..router.port_count() {
+        if has_neighbour_on::<F>(router, port, address) {
+            return true;
+        }
+    }
+    false
+}
+
+impl<F: Family> Audit<F> {
+    /// Begins the audit of what a router asks of this neighbour. An entry is late if it is due for
+    /// more than `grace` milliseconds. At most `limit` records are kept of what is asked, 1 to
+    /// 100,000.
+    pub fn new(alloc: Global, upstream: F::Addr, grace: u64, limit: usize) -> Self
+        requires room { 1 ≤ limit }
+        requires limit { limit ≤ 100000 }
+        ensures { result ≡ record {
+          upstream = F.bytes_of upstream;
+          grace = grace;
+          asked = record { ports = 1; limit = limit; moment = 0; records = [] };
+          due = [];
+        } }
+    {
+        Audit {
+            upstream,
+            grace,
+            asked: Ports::new(alloc, 1, limit),
+            due: Vec::new(alloc),
+        }
+    }
+
+    /// The upstream neighbour.
+    pub fn upstream(&self) -> F::Addr
+        ensures { F.bytes_of result ≡ self.now.upstream }
+    {
+        self.upstream
+    }
+
+    /// The first moment, from the present one on, at which a timer of what was asked ends; `None`
+    /// if none ever does.
+    pub(crate) fn next_due(&self) -> Option<u64>
+        ensures { IsNextDue self.now.asked result }
+    {
+        self.asked.next_due()
+    }
+
+    /// The entries that are due now: none while the upstream neighbour is no neighbour.
+    fn entries_now(
+        &self,
+        alloc: Global,
+        router: &Router<'_, F>,
+    ) -> Result<Vec<Event<F::Addr>>, AllocError>
+        ensures due { IfOk result (λ entries. AreDueIf (has_neighbour self.now.upstream router.now)
+            F.family self.now router.now (map (event_seen F.bytes_of) entries.items)) }
+        ensures order { IfOk result (λ entries.
+            AreInOrder (map (event_seen F.bytes_of) entries.items)) }
+    {
+        if !has_neighbour::<F>(router, self.upstream) {
+            return Ok(Vec::new(alloc));
+        }
+        let (wanted, routes) = (router.ports(), router.routes());
+        due_entries::<F>(alloc, &self.asked, wanted, routes, self.upstream)
+    }
+
+    /// Looks at what is due at the router's present moment.
+    ///
+    /// # Errors
+    /// Memory was refused. Then nothing has changed.
+    pub fn look(
+        &mut self,
+        alloc: Global,
+        router: &Router<'_, F>,
+    ) -> Result<Report<F::Addr>, AllocError>
+        ensures looks { IfOk result (λ report.
+            LooksAt F.family self.old router.now (report_seen F.bytes_of self.new.due report)) }
+        ensures rest { self.new ≡ with_due self.old self.new.due }
+        ensures err { OnErr result (self.new ≡ self.old) }
+    {
+        let entries = self.entries_now(alloc, router)?;
+        let Look {
+            due,
+            new,
+            ended,
+            late,
+        } = look_at::<F>(alloc, &self.due, &entries, router.now(), self.grace)?;
+        self.due = due;
+        Ok(Report { new, ended, late })
+    }
+
+    /// Whether the upstream neighbour hears this message of this source on the port: the message
+    /// names it and is not its own, and the source is the router itself or a neighbour of it.
+    pub fn hears(
+        &self,
+        router: &Router<'_, F>,
+        port: usize,
+        src: F::Addr,
+        message: &JpView<'_, F>,
+    ) -> bool
+        requires { port < length router.now.ports }
+        ensures { result ≡ is_heard port (F.bytes_of src) message.now self.now router.now }
+    {
+        message.upstream() == self.upstream
+            && src != self.upstream
+            && (src == router.port(port).address || has_neighbour_on::<F>(router, port, src))
+    }
+
+    /// Lets the upstream neighbour hear a message. Its Prunes take effect at once.
+    ///
+    /// # Errors
+    /// As those of `Ports::hear`. Then nothing has changed.
+    pub fn hear(&mut self, message: &JpView<'_, F>, routes: &Routes<F>) -> Result<(), HearFault>
+        requires { self.old.asked.moment ≤ 10 ^ 15 }
+        ensures ok { OnOk result (AskedBy message.now (rp_of F.family routes.now)
+            self.old.asked self.new.asked) }
+        ensures rest { self.new ≡ with_asked self.old self.new.asked }
+        ensures err { OnErr result (self.new ≡ self.old) }
+        ensures room { IsWithin self.old.asked.limit
+            (needed_for 0 message.now (rp_of F.family routes.now) self.old.asked) result }
+        ensures memory { MayWantMemory
+            (new_for 0 message.now (rp_of F.family routes.now) self.old.asked) result }
+        ensures present { self.new.asked.moment ≡ self.old.asked.moment }
+    {
+        hear_at_once::<F>(&mut self.asked, message, routes)
+    }
+
+    /// Lets time pass for what was asked, up to this moment, at most 10^15 milliseconds.
+    pub fn pass_to(&mut self, moment: u64)
+        requires { moment ≤ 10 ^ 15 }
+        ensures passes { PassesTo moment self.old.asked self.new.asked }
+        ensures rest { self.new ≡ with_asked self.old self.new.asked }
+        ensures moment { self.new.asked.moment ≡ max self.old.asked.moment moment }
+    {
+        pass_to::<F>(&mut self.asked, moment);
+    }
+
+    /// Forgets what the upstream neighbour was asked for: it restarted, or it is gone.
+    pub fn forget(&mut self, alloc: Global)
+        requires { self.old.asked.moment ≤ 10 ^ 15 }
+        ensures { self.new ≡ with_asked self.old (without_records self.old.asked) }
+    {
+        let mut asked = Ports::new(alloc, 1, self.asked.limit());
+        pass_to::<F>(&mut asked, self.asked.now());
+        self.asked = asked;
+    }
+}

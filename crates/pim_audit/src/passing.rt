@@ -1,0 +1,105 @@
+//! Time that passes for a router and for what its upstream neighbour was asked for.
+
+ghost use Rattle.std.specs.Prelude.{◌≡◌, ◌≤◌, ◌^◌, max, IfOk};
+ghost use Rattle.pim_hello.specs.Neighbours.{sooner};
+ghost use Rattle.pim_router.specs.State.{setup_of};
+ghost use Rattle.pim_audit.specs.Passing.{HappensTo, IsNextEnd};
+ghost use Rattle.pim_audit.specs.Seen.{report_seen};
+ghost use Rattle.pim_audit.specs.Steps.{HasPassed};
+
+use crate::audit::{Audit, Report, has_neighbour};
+use pim_addr::Family;
+use pim_router::Router;
+use pim_router::laws::{firing_passes, happening_goes_on};
+use std::alloc::{AllocError, Global};
+
+/// What happens when time passes for an audit.
+#[derive(Drop)]
+pub enum Passed<A> {
+    /// The moment is reached, and nothing ended on the way.
+    Reached,
+    /// The time of a timer or of a neighbour ended, and a look followed.
+    Ended(Ended<A>),
+}
+
+/// An end of a time, and the look that followed.
+#[derive(Drop)]
+pub struct Ended<A> {
+    /// Whether the upstream neighbour is gone, and so forgot what it was asked.
+    pub is_gone: bool,
+    /// What the look reports.
+    pub report: Report<A>,
+}
+
+/// The sooner of two moments; `None` is never.
+fn sooner(a: Option<u64>, b: Option<u64>) -> Option<u64>
+    ensures { result ≡ sooner a b }
+{
+    match (a, b) {
+        (Some(a), Some(b)) => Some(a.min(b)),
+        (a, None) => a,
+        (None, b) => b,
+    }
+}
+
+/// Lets time pass for the router up to this moment, in milliseconds, at most 10^15. An earlier
+/// moment counts as the present one. Each timer on the way fires, through PruneEchoes and
+/// refreshes, and neighbours go.
+fn pass_router<F: Family>(router: &mut Router<'_, F>, moment: u64)
+    requires { moment ≤ 10 ^ 15 }
+    ensures happens { HappensTo moment router.old router.new }
+    ensures moment { router.new.machines.moment ≡ max router.old.machines.moment moment }
+    ensures setup { setup_of router.new ≡ setup_of router.old }
+{
+    firing_passes();
+    happening_goes_on();
+    while let Some(_firing) = router.fire_to(moment) {}
+}
+
+/// The next moment, from the present one on, at which a timer or the time of a neighbour ends;
+/// `None` if none ever does.
+fn next_end<F: Family>(audit: &Audit<F>, router: &Router<'_, F>) -> Option<u64>
+    ensures { IsNextEnd audit.now router.now result }
+{
+    let of_router = sooner(router.ports().next_due(), router.next_timeout());
+    sooner(of_router, audit.next_due())
+}
+
+/// Lets time pass for the router and the audit up to the next end of a timer or of a neighbour's
+/// time, and looks. If no end comes by this moment, time passes up to it. The moment is at most
+/// 10^15 milliseconds. A caller goes on until `Reached`.
+///
+/// # Errors
+/// Memory was refused: time has passed for both, but no look followed.
+pub fn pass<F: Family>(
+    alloc: Global,
+    audit: &mut Audit<F>,
+    router: &mut Router<'_, F>,
+    moment: u64,
+) -> Result<Passed<F::Addr>, AllocError>
+    requires moment { moment ≤ 10 ^ 15 }
+    requires step { audit.old.asked.moment ≡ router.old.machines.moment }
+    requires present { router.old.machines.moment ≤ 10 ^ 15 }
+    ensures passed { IfOk result (λ passed. HasPassed F.family F.bytes_of moment
+        audit.old router.old passed audit.new router.new) }
+    ensures step { audit.new.asked.moment ≡ router.new.machines.moment }
+    ensures setup { setup_of router.new ≡ setup_of router.old }
+{
+    let end = match next_end::<F>(audit, router) {
+        Some(end) if end <= moment => end,
+        _ => {
+            pass_router::<F>(router, moment);
+            audit.pass_to(moment);
+            return Ok(Passed::Reached);
+        }
+    };
+    let was_neighbour = has_neighbour::<F>(router, audit.upstream());
+    pass_router::<F>(router, end);
+    audit.pass_to(end);
+    let is_gone = was_neighbour && !has_neighbour::<F>(router, audit.upstream());
+    if is_gone {
+        audit.forget(alloc);
+    }
+    let report = audit.look(alloc, router)?;
+    Ok(Passed::Ended(Ended { is_gone, report }))
+}
