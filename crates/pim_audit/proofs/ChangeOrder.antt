@@ -1,26 +1,17 @@
 -- The entries of a change are in order.
-use Rattle.std.proofs.Common.{◌≡◌, ◌∙◌, ℕ, ◌+◌, ◌<◌, ◌≤◌, ◌==◌, Bool, true, false, cond, List, [], ◌∷◌, ◌++◌, Option, None, Some, map, refl, sym, ap, subst, arith}
-use Rattle.std.specs.List.{AllByRecursion, flat_map}
-use Rattle.std.specs.List.Sorted.{IsStrictlySortedBy}
+use Rattle.pim_audit.proofs.Words.{◌≡◌, ◌∙◌, ℕ, ◌+◌, ◌<◌, ◌≤◌, ◌==◌, Bool, true, false, cond, List, [], ◌∷◌, ◌++◌, Option, None}
+use Rattle.pim_audit.proofs.Words.{Some, map, refl, sym, ap, subst, arith, AllByRecursion, flat_map, IsStrictlySortedBy, nat_cmp}
+use Rattle.pim_audit.proofs.Words.{ordering_then, Less, Equal, Greater, lt-ltb, nat_list_cmp_total, tied_itself, append-nil}
+use Rattle.pim_audit.proofs.Words.{map-append, AddressFamily, Event, address_cmp, what_cmp, JoinRpt, PruneRpt, JoinSource}
+use Rattle.pim_audit.proofs.Words.{PruneSource, entry_rank, entry_cmp, AreInOrder, entry, source_entry, unit_entries, due_entries}
 use Rattle.std.specs.Cmp.Lexicographic.{slice_cmp}
-use Rattle.std.specs.Ordering.{nat_cmp, ordering_then}
-use Rattle.std.specs.declared.cmp.Ordering.TheVariants.{Less, Equal, Greater}
-use Rattle.std.proofs.lemmas.Bool.{lt-ltb}
-use Rattle.std.proofs.lemmas.Cmp.{nat_list_cmp_total, tied_itself}
 use Rattle.std.proofs.lemmas.Grind.{flat_map-append}
-use Rattle.std.proofs.lemmas.List.{append-nil, map-append}
 use Rattle.std.proofs.lemmas.List.Kept.{IsStrictlySortedBy-filter}
-use Rattle.pim_addr.specs.declared.family.AddressFamily.{AddressFamily}
 use Rattle.pim_down.specs.declared.machines.key.What.TheVariants.{Star}
-use Rattle.pim_down.specs.Hearing.{Event}
-use Rattle.pim_down.specs.Key.{address_cmp, what_cmp}
 use Rattle.pim_form.specs.NormalForm.{GroupForm, IsNormal, IsNormalGroup, AreAscending, AreExceptions, same_address, groups_of}
 use Rattle.pim_form.specs.Settled.{group_in}
 use Rattle.pim_change.specs.declared.unit.ActionKind.{ActionKind}
-use Rattle.pim_change.specs.declared.unit.ActionKind.TheVariants.{JoinRpt, PruneRpt, JoinSource, PruneSource}
 use Rattle.pim_change.specs.Change.{Action, of_source, lacking, star_change, sources_change, group_change, ChangeUnit, unit_of, about, change_at, change, in_order}
-use Rattle.pim_audit.specs.Order.{entry_rank, entry_cmp, AreInOrder}
-use Rattle.pim_audit.specs.Entries.{entry, source_entry, unit_entries, due_entries}
 
 -- ---- lists in order
 

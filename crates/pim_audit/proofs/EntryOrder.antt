@@ -1,13 +1,8 @@
 -- The order of entries is total.
-use Rattle.std.proofs.Common.{◌≡◌, ◌∙◌, List, [], ◌∷◌, ap, sym}
+use Rattle.pim_audit.proofs.Words.{◌≡◌, ◌∙◌, List, [], ◌∷◌, ap, sym, ordering_reverse, AllByRecursion, Less, Equal, Greater}
+use Rattle.pim_audit.proofs.Words.{nat_cmp_total, nat_list_cmp_total, on_total, then_total, Event, what_cmp, rank, source_of}
+use Rattle.pim_audit.proofs.Words.{entry_rank, entry_cmp}
 use Rattle.std.specs.Cmp.{IsTotalOrder}
-use Rattle.std.specs.Ordering.{ordering_reverse}
-use Rattle.std.specs.List.{AllByRecursion}
-use Rattle.std.specs.declared.cmp.Ordering.TheVariants.{Less, Equal, Greater}
-use Rattle.std.proofs.lemmas.Cmp.{nat_cmp_total, nat_list_cmp_total, on_total, then_total}
-use Rattle.pim_down.specs.Hearing.{Event}
-use Rattle.pim_down.specs.Key.{what_cmp, rank, source_of}
-use Rattle.pim_audit.specs.Order.{entry_rank, entry_cmp}
 
 pub entry_total : IsTotalOrder entry_cmp
 unfolding entry_cmp what_cmp

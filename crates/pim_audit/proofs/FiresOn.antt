@@ -1,14 +1,9 @@
 -- Timers that fire one after the other.
-use Rattle.std.proofs.Common.{◌≡◌, ◌∙◌, ◌<◌, ◌-◌, ℕ, zero, suc, List, [], ◌∷◌, Option, None, Some, map, refl, sym, ap, subst}
-use Rattle.std.proofs.lemmas.Bool.{false≢true}
-use Rattle.std.specs.Option.{is_some, option_map}
-use Rattle.pim_down.specs.declared.machines.step.Firing.{Firing}
-use Rattle.pim_down.specs.declared.machines.machine.Record.{Record}
-use Rattle.pim_down.specs.Ends.{weight}
+use Rattle.pim_audit.proofs.Words.{◌≡◌, ◌∙◌, ◌<◌, ◌-◌, ℕ, zero, suc, List, [], ◌∷◌, Option, None, Some, map, refl, sym, ap, subst}
+use Rattle.pim_audit.proofs.Words.{false≢true, is_some, option_map, Firing, Record, weight, Downstream, first_due, record_after}
+use Rattle.pim_audit.proofs.Words.{tick, ticks, FiresThrough, PassesTo}
 use Rattle.pim_down.specs.Firing.{FiresTo, firing, fired_in, firing_in, step_of}
 use Rattle.pim_down.specs.Laws.{TimersRunOut, FiringSaysMore, said_of}
-use Rattle.pim_down.specs.Time.{Downstream, first_due, record_after, tick, ticks}
-use Rattle.pim_audit.specs.Asked.{FiresThrough, PassesTo}
 
 module _ (timers : TimersRunOut) (says : FiringSaysMore) where
   same_weight : (count : ℕ) (state : Downstream) → weight (ticks count state).records ≡ weight state.records

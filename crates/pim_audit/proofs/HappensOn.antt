@@ -1,10 +1,6 @@
 -- What happens to a router, one timer after the other.
-use Rattle.std.proofs.Common.{ℕ, List, [], ◌∷◌, ◌++◌, None, Some, arith}
-use Rattle.pim_down.specs.declared.machines.step.Firing.{Firing}
-use Rattle.pim_router.specs.Happening.{FiresTo, gone_between, timer_fired}
-use Rattle.pim_router.specs.Laws.{FiringPasses, HappeningGoesOn}
-use Rattle.pim_router.specs.State.{RouterState}
-use Rattle.pim_audit.specs.Passing.{HappensTo}
+use Rattle.pim_audit.proofs.Words.{ℕ, List, [], ◌∷◌, ◌++◌, None, Some, arith, Firing, FiresTo, gone_between, timer_fired}
+use Rattle.pim_audit.proofs.Words.{FiringPasses, HappeningGoesOn, RouterState, HappensTo}
 
 pub happens_first : FiringPasses → HappeningGoesOn → (moment : ℕ) (router middle after : RouterState) (f : Firing (List ℕ))
     → FiresTo moment router (Some f) middle → HappensTo moment middle after → HappensTo moment router after

@@ -1,3 +1,4 @@
+pub mod Words
 pub mod EntryOrder
 pub mod RenewSteps
 pub mod Walks
@@ -6,3 +7,6 @@ pub mod ChangeOrder
 pub mod FiresOn
 pub mod Neighbours
 pub mod HappensOn
+pub mod Quiet
+pub mod PassSteps
+pub mod AddedLines

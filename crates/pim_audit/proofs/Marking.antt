@@ -1,13 +1,9 @@
 -- One step of a walk that marks late entries.
-use Rattle.std.proofs.Common.{◌≡◌, ◌∙◌, ℕ, zero, suc, ◌+◌, ◌<◌, Bool, List, [], ◌∷◌, ◌++◌, Option, None, Some, length, get_or, set, take, drop, map, add-one, refl, sym, ap, ap₂, subst, arith}
-use Rattle.std.specs.List.{filter, find}
-use Rattle.std.proofs.lemmas.List.{map-set, get_or-map, append_assoc, drop_more, length-map}
+use Rattle.pim_audit.proofs.Words.{◌≡◌, ◌∙◌, ℕ, zero, suc, ◌+◌, ◌<◌, Bool, List, [], ◌∷◌, ◌++◌, Option, None, Some, length}
+use Rattle.pim_audit.proofs.Words.{get_or, set, take, drop, map, add-one, refl, sym, ap, ap₂, subst, arith, filter, find, map-set}
+use Rattle.pim_audit.proofs.Words.{get_or-map, append_assoc, drop_more, length-map, Event, Due, DueEntry, entries_of, or_new}
+use Rattle.pim_audit.proofs.Words.{due_at, marked, same_entry, due_seen, dues_seen}
 use Rattle.std.proofs.lemmas.List.Elements.{filter-append}
-use Rattle.pim_down.specs.Hearing.{Event}
-use Rattle.pim_audit.specs.declared.due.Due.{Due}
-use Rattle.pim_audit.specs.Look.{DueEntry, entries_of, or_new, due_at, marked}
-use Rattle.pim_audit.specs.Order.{same_entry}
-use Rattle.pim_audit.specs.Seen.{due_seen, dues_seen}
 
 module _ (f : DueEntry → DueEntry) where
   -- the entry at this index is the next to be changed

@@ -1,10 +1,7 @@
 -- A router that has a neighbour on some port, and lists of nothing.
-use Rattle.std.proofs.Common.{◌≡◌, ◌∙◌, ℕ, zero, suc, ◌<◌, Bool, true, false, ◌||◌, [], Option, None, Some, ◌+◌, add-one, inl, inr, refl, sym, ap, subst, arith}
-use Rattle.std.proofs.lemmas.Bool.{cases_lt}
-use Rattle.std.specs.Option.{is_some, option_map}
-use Rattle.std.specs.List.Sorted.{IsStrictlySortedBy}
-use Rattle.pim_form.specs.Wants.{some_below}
-use Rattle.pim_audit.specs.Order.{AreInOrder}
+use Rattle.pim_audit.proofs.Words.{◌≡◌, ◌∙◌, ℕ, zero, suc, ◌<◌, Bool, true, false, ◌||◌, [], Option, None, Some, ◌+◌, add-one}
+use Rattle.pim_audit.proofs.Words.{inl, inr, refl, sym, ap, subst, arith, cases_lt, is_some, option_map, IsStrictlySortedBy}
+use Rattle.pim_audit.proofs.Words.{some_below, AreInOrder}
 
 pub some_at : (test : ℕ → Bool) (count index : ℕ) → index < count → test index ≡ true → some_below count test ≡ true
 unfolding some_below

@@ -1,13 +1,8 @@
 -- One step of a walk over what was due and what is due now.
-use Rattle.std.proofs.Common.{◌≡◌, ◌∙◌, ℕ, ◌+◌, length, arith, Bool, true, false, ◌&&◌, ◌||◌, not, cond, List, [], ◌∷◌, ◌++◌, Option, None, Some, map, refl, sym, ap, ap₂}
-use Rattle.std.specs.List.{AllByRecursion, filter, find, list_any}
-use Rattle.std.specs.List.Sorted.{IsStrictlySortedBy}
-use Rattle.std.specs.Ordering.{is_eq}
-use Rattle.std.specs.declared.cmp.Ordering.TheVariants.{Less, Equal, Greater}
-use Rattle.std.proofs.lemmas.List.{append_assoc}
-use Rattle.pim_down.specs.Hearing.{Event}
-use Rattle.pim_audit.specs.Order.{entry_cmp, same_entry, AreInOrder}
-use Rattle.pim_audit.specs.Look.{DueEntry, entries_of, or_new, due_at, is_new, has_ended}
+use Rattle.pim_audit.proofs.Words.{◌≡◌, ◌∙◌, ℕ, ◌+◌, length, arith, Bool, true, false, ◌&&◌, ◌||◌, not, cond, List, [], ◌∷◌, ◌++◌}
+use Rattle.pim_audit.proofs.Words.{Option, None, Some, map, refl, sym, ap, ap₂, AllByRecursion, filter, find, list_any}
+use Rattle.pim_audit.proofs.Words.{IsStrictlySortedBy, is_eq, Less, Equal, Greater, append_assoc, Event, entry_cmp, same_entry}
+use Rattle.pim_audit.proofs.Words.{AreInOrder, DueEntry, entries_of, or_new, due_at, is_new, has_ended}
 use Rattle.pim_audit.proofs.EntryOrder.{entry_total, greater_less, less_greater, all_after, all_after_equal}
 
 -- an entry that is held hides nothing of those after it

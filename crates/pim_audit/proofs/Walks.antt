@@ -1,14 +1,8 @@
 -- A walk over what was due and what is due now, as the code holds both.
-use Rattle.std.proofs.Common.{◌≡◌, ◌∙◌, ℕ, ◌+◌, false, suc, refl, List, [], ◌∷◌, ◌++◌, length, map, sym, ap, subst}
-use Rattle.std.specs.List.{filter}
-use Rattle.std.specs.declared.cmp.Ordering.TheVariants.{Less, Equal, Greater}
-use Rattle.std.proofs.lemmas.List.{map-append, nil_from_length}
-use Rattle.pim_down.specs.Seen.{event_seen}
+use Rattle.pim_audit.proofs.Words.{◌≡◌, ◌∙◌, ℕ, ◌+◌, false, suc, refl, List, [], ◌∷◌, ◌++◌, length, map, sym, ap, subst, filter}
+use Rattle.pim_audit.proofs.Words.{Less, Equal, Greater, map-append, nil_from_length, event_seen, Due, entry_cmp, DueEntry}
+use Rattle.pim_audit.proofs.Words.{due_at, is_new, has_ended, due_seen, dues_seen}
 use Rattle.pim_down.specs.declared.machines.event.Event.{Event as EventOf}
-use Rattle.pim_audit.specs.declared.due.Due.{Due}
-use Rattle.pim_audit.specs.Order.{entry_cmp}
-use Rattle.pim_audit.specs.Look.{DueEntry, due_at, is_new, has_ended}
-use Rattle.pim_audit.specs.Seen.{due_seen, dues_seen}
 use Rattle.pim_audit.proofs.RenewSteps.{IsRenewing, less_renews, equal_renews, greater_renews}
 
 module _ {A : Type 0} (bytes_of : A → List ℕ) where

@@ -8,4 +8,8 @@ pub mod Audited
 pub mod Passing
 pub mod Steps
 pub mod Taking
+pub mod Turn
+pub mod Lines
+pub mod LinesSeen
+pub mod TurnLines
 pub mod Seen

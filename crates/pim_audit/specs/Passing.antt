@@ -1,8 +1,8 @@
 -- Time that passes for a router and for what its upstream neighbour was asked for.
-use Rattle.std.specs.Prelude.{◌≡◌, ℕ, ◌≤◌, ◌<◌, Bool, ◌&&◌, not, List, Option, None, Some, if◌then◌else◌}
+use Rattle.std.specs.Prelude.{◌≡◌, ℕ, ◌≤◌, ◌<◌, Bool, ◌&&◌, not, List, Option, None, Some, max, if◌then◌else◌}
 use Rattle.pim_addr.specs.declared.family.AddressFamily.{AddressFamily}
 use Rattle.pim_hello.specs.Neighbours.{sooner}
-use Rattle.pim_down.specs.Time.{Downstream, IsNextDue}
+use Rattle.pim_down.specs.Time.{Downstream, IsNextDue, fired}
 use Rattle.pim_router.specs.Happening.{Happening, Happens, first_timeout}
 use Rattle.pim_router.specs.State.{RouterState}
 use Rattle.pim_audit.specs.Asked.{PassesTo}
@@ -46,11 +46,10 @@ is_gone upstream before after = has_neighbour upstream before && not (has_neighb
 abbrev pub if_gone : Bool → Downstream → Downstream
 if_gone gone asked = if gone then without_records asked else asked
 
--- Time passes up to the next end, which comes by the moment. If the upstream neighbour is then gone,
+-- Time passes up to the next end, at this moment `end`, which comes by `moment`. If the upstream neighbour is then gone,
 -- it forgets what it was asked. Then a look finds this.
-pub record PassesToEnd (family : AddressFamily) (moment : ℕ) (audit : AuditState) (router : RouterState) (gone : Bool)
+pub record PassesToEnd (family : AddressFamily) (moment end : ℕ) (audit : AuditState) (router : RouterState) (gone : Bool)
     (found : Found) (after : AuditState) (router' : RouterState) : Type 0 where
-  pub end : ℕ
   pub is_next : IsNextEnd audit router (Some end)
   pub within : end ≤ moment
   pub asked : Downstream
@@ -59,3 +58,9 @@ pub record PassesToEnd (family : AddressFamily) (moment : ℕ) (audit : AuditSta
   pub is_gone_now : gone ≡ is_gone audit.upstream router router'
   pub looks : LooksAt family (with_asked audit (if_gone gone asked)) router' found
   pub rest : after ≡ with_due (with_asked audit (if_gone gone asked)) found.due
+  pub reached : router'.machines.moment ≡ max router.machines.moment end
+
+-- No timer of the router's machines or of what was asked is due now.
+pub record IsQuiet (audit : AuditState) (router : RouterState) : Type 0 where
+  pub of_router : fired router.machines.records ≡ None
+  pub of_asked : fired audit.asked.records ≡ None

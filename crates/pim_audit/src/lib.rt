@@ -3,8 +3,10 @@
 //!
 //! - An `Audit` keeps what the neighbour was asked for, as machines of one port that hears what the
 //!   neighbour hears, and what was due at the last look.
-//! - `take` lets a port of the router take a message, and the audit hear it. `pass` lets time pass
-//!   for both, up to the next end of a timer or of a neighbour's time.
+//! - `take_turn` lets time pass for the router and the audit, looks, lets a port of the router take
+//!   a message, and looks again. `pass_time` and `take` are its parts: a look follows each end of a
+//!   timer or of a neighbour's time.
+//! - `push_turn` and `push_ends` list the lines of a turn and of the ends of a time, as values.
 //! - `Audit::look` compares what was asked with what the router wants of the neighbour: which
 //!   entries are new, which ended, and which are late, since they are due for more than the grace.
 //!
@@ -18,13 +20,17 @@ mod due;
 mod entries;
 mod late;
 pub mod laws;
+mod lines;
 mod look;
 mod order;
 mod passing;
 mod renewal;
 mod taking;
+mod turn;
 
 pub use audit::{Audit, Report};
 pub use due::Due;
-pub use passing::{Ended, Passed, pass};
+pub use lines::{AuditEvent, AuditLine, Loss, MessageOrigin, push_ends, push_turn};
+pub use passing::{Ended, pass_time};
 pub use taking::{Effect, take};
+pub use turn::{TurnMessage, TurnReport, take_turn};

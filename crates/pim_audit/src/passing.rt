@@ -1,21 +1,21 @@
 //! Time that passes for a router and for what its upstream neighbour was asked for.
 
-ghost use Rattle.std.specs.Prelude.{◌≡◌, ◌≤◌, ◌^◌, max, IfOk};
+ghost use Rattle.std.specs.Prelude.{◌≡◌, ◌≤◌, ◌^◌, max, IfOk, OnOk};
 ghost use Rattle.pim_hello.specs.Neighbours.{sooner};
 ghost use Rattle.pim_router.specs.State.{setup_of};
-ghost use Rattle.pim_audit.specs.Passing.{HappensTo, IsNextEnd};
+ghost use Rattle.pim_audit.specs.Passing.{HappensTo, IsNextEnd, IsQuiet};
 ghost use Rattle.pim_audit.specs.Seen.{report_seen};
-ghost use Rattle.pim_audit.specs.Steps.{HasPassed};
+ghost use Rattle.pim_audit.specs.Steps.{HasPassed, PassesAll};
 
 use crate::audit::{Audit, Report, has_neighbour};
 use pim_addr::Family;
 use pim_router::Router;
-use pim_router::laws::{firing_passes, happening_goes_on};
+use pim_router::laws::{firing_passes, happening_goes_on, the_ended_go_at_first_timeout};
 use std::alloc::{AllocError, Global};
 
 /// What happens when time passes for an audit.
 #[derive(Drop)]
-pub enum Passed<A> {
+enum Passed<A> {
     /// The moment is reached, and nothing ended on the way.
     Reached,
     /// The time of a timer or of a neighbour ended, and a look followed.
@@ -25,6 +25,8 @@ pub enum Passed<A> {
 /// An end of a time, and the look that followed.
 #[derive(Drop)]
 pub struct Ended<A> {
+    /// Its moment, in milliseconds.
+    pub moment: u64,
     /// Whether the upstream neighbour is gone, and so forgot what it was asked.
     pub is_gone: bool,
     /// What the look reports.
@@ -67,11 +69,11 @@ fn next_end<F: Family>(audit: &Audit<F>, router: &Router<'_, F>) -> Option<u64>
 
 /// Lets time pass for the router and the audit up to the next end of a timer or of a neighbour's
 /// time, and looks. If no end comes by this moment, time passes up to it. The moment is at most
-/// 10^15 milliseconds. A caller goes on until `Reached`.
+/// 10^15 milliseconds.
 ///
 /// # Errors
 /// Memory was refused: time has passed for both, but no look followed.
-pub fn pass<F: Family>(
+fn pass<F: Family>(
     alloc: Global,
     audit: &mut Audit<F>,
     router: &mut Router<'_, F>,
@@ -82,6 +84,9 @@ pub fn pass<F: Family>(
     requires present { router.old.machines.moment ≤ 10 ^ 15 }
     ensures passed { IfOk result (λ passed. HasPassed F.family F.bytes_of moment
         audit.old router.old passed audit.new router.new) }
+    ensures quiet { IfOk result (λ _. IsQuiet audit.new router.new) }
+    ensures later { router.old.machines.moment ≤ router.new.machines.moment }
+    ensures present { router.new.machines.moment ≤ 10 ^ 15 }
     ensures step { audit.new.asked.moment ≡ router.new.machines.moment }
     ensures setup { setup_of router.new ≡ setup_of router.old }
 {
@@ -101,5 +106,41 @@ pub fn pass<F: Family>(
         audit.forget(alloc);
     }
     let report = audit.look(alloc, router)?;
-    Ok(Passed::Ended(Ended { is_gone, report }))
+    Ok(Passed::Ended(Ended {
+        moment: end,
+        is_gone,
+        report,
+    }))
+}
+
+/// Lets time pass for the router and the audit up to this moment, at most 10^15 milliseconds. A
+/// look follows each end of a timer or of a neighbour's time. Adds these ends to `ended` in order
+/// of time.
+///
+/// # Errors
+/// Memory was refused: time has passed up to some moment, and `ended` has some first ends.
+pub fn pass_time<F: Family>(
+    alloc: Global,
+    audit: &mut Audit<F>,
+    router: &mut Router<'_, F>,
+    moment: u64,
+    ended: &mut Vec<Ended<F::Addr>>,
+) -> Result<(), AllocError>
+    requires moment { moment ≤ 10 ^ 15 }
+    requires step { audit.old.asked.moment ≡ router.old.machines.moment }
+    requires present { router.old.machines.moment ≤ 10 ^ 15 }
+    ensures passed { OnOk result (PassesAll F.family F.bytes_of moment ended.old.items
+        audit.old router.old ended.new.items audit.new router.new) }
+    ensures step { audit.new.asked.moment ≡ router.new.machines.moment }
+    ensures present { OnOk result (router.new.machines.moment ≤ 10 ^ 15) }
+    ensures setup { setup_of router.new ≡ setup_of router.old }
+{
+    the_ended_go_at_first_timeout();
+    let mut passed = pass::<F>(alloc, audit, router, moment)?;
+    while let Passed::Ended(this) = passed {
+        router.is_router();
+        ended.push(this)?;
+        passed = pass::<F>(alloc, audit, router, moment)?;
+    }
+    Ok(())
 }

@@ -1,7 +1,4 @@
-use Rattle.std.proofs.Common.{◌≡◌, ◌≤◌, max}
-use Rattle.pim_down.specs.Ends.{weight}
-use Rattle.pim_down.specs.Time.{Downstream}
-use Rattle.pim_audit.specs.Asked.{PassesTo}
+use Rattle.pim_audit.proofs.Words.{◌≡◌, ◌≤◌, max, weight, Downstream, PassesTo}
 use Rattle.pim_audit.proofs.asked.pass_to.Given as goal
 
 -- what passes from here passes from the start

@@ -1,7 +1,4 @@
-use Rattle.std.proofs.Common.{◌∙◌, length, sym, arith}
-use Rattle.std.specs.Option.{is_some}
-use Rattle.pim_hello.specs.Neighbours.{neighbour_at}
-use Rattle.pim_router.specs.State.{table_at}
+use Rattle.pim_audit.proofs.Words.{◌∙◌, length, sym, arith, is_some, neighbour_at, table_at}
 use Rattle.pim_audit.proofs.Neighbours.{some_at, none_more, none_yet}
 use Rattle.pim_audit.proofs.audit.has_neighbour.Goals as goal
 

@@ -1,8 +1,4 @@
-use Rattle.std.proofs.Common.{◌≡◌, false}
-use Rattle.std.specs.Option.{is_some}
-use Rattle.pim_hello.specs.Neighbours.{neighbour_at}
-use Rattle.pim_form.specs.Wants.{some_below}
-use Rattle.pim_router.specs.State.{table_at}
+use Rattle.pim_audit.proofs.Words.{◌≡◌, false, is_some, neighbour_at, some_below, table_at}
 use Rattle.pim_audit.proofs.audit.has_neighbour.Given as goal
 
 -- no port so far has the neighbour

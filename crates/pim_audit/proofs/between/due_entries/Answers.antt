@@ -1,10 +1,6 @@
-use Rattle.std.proofs.Common.{◌∙◌, ◌++◌, List, map, sym, ap, subst}
-use Rattle.std.specs.List.{flat_map}
-use Rattle.pim_down.specs.Seen.{event_seen}
+use Rattle.pim_audit.proofs.Words.{◌∙◌, ◌++◌, List, map, sym, ap, subst, flat_map, event_seen, units_seen, unit_entries}
+use Rattle.pim_audit.proofs.Words.{AreInOrder}
 use Rattle.pim_down.specs.declared.machines.event.Event.{Event}
-use Rattle.pim_change.specs.Seen.{units_seen}
-use Rattle.pim_audit.specs.Entries.{unit_entries}
-use Rattle.pim_audit.specs.Order.{AreInOrder}
 use Rattle.pim_audit.proofs.between.due_entries.Goals as goal
 
 pub returns-clause-due : goal.returns-clause-due

@@ -1,8 +1,4 @@
-use Rattle.std.proofs.Common.{◌≡◌, ◌++◌, map, drop}
-use Rattle.std.specs.List.{flat_map}
-use Rattle.pim_down.specs.Seen.{event_seen}
-use Rattle.pim_change.specs.Seen.{units_seen}
-use Rattle.pim_audit.specs.Entries.{unit_entries}
+use Rattle.pim_audit.proofs.Words.{◌≡◌, ◌++◌, map, drop, flat_map, event_seen, units_seen, unit_entries}
 use Rattle.pim_audit.proofs.entries.push_entries.Given as goal
 
 -- what was added and what is left to add are all

@@ -1,7 +1,4 @@
-use Rattle.std.proofs.Common.{◌≡◌, ◌++◌, map, drop}
-use Rattle.pim_down.specs.Seen.{event_seen}
-use Rattle.pim_change.specs.declared.unit.ActionKind.TheVariants.{PruneRpt}
-use Rattle.pim_audit.specs.Entries.{source_entry}
+use Rattle.pim_audit.proofs.Words.{◌≡◌, ◌++◌, map, drop, event_seen, PruneRpt, source_entry}
 use Rattle.pim_audit.proofs.entries.push_exceptions.Given as goal
 
 -- what was added and what is left to add are all

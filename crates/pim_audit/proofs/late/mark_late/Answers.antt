@@ -1,7 +1,4 @@
-use Rattle.std.proofs.Common.{◌++◌}
-use Rattle.std.specs.List.{filter}
-use Rattle.pim_audit.specs.Look.{becomes_late, marked}
-use Rattle.pim_audit.specs.Seen.{dues_seen}
+use Rattle.pim_audit.proofs.Words.{◌++◌, filter, becomes_late, marked, dues_seen}
 use Rattle.pim_audit.proofs.Marking.{marked_more, late_more}
 use Rattle.pim_audit.proofs.late.mark_late.Goals as goal
 

@@ -1,7 +1,4 @@
-use Rattle.std.proofs.Common.{◌≡◌, ◌++◌, map, take, drop}
-use Rattle.std.specs.List.{filter}
-use Rattle.pim_audit.specs.Look.{becomes_late, marked}
-use Rattle.pim_audit.specs.Seen.{dues_seen}
+use Rattle.pim_audit.proofs.Words.{◌≡◌, ◌++◌, map, take, drop, filter, becomes_late, marked, dues_seen}
 use Rattle.pim_audit.proofs.late.mark_late.Given as goal
 
 -- those so far are marked, and those that became late so far and from here on are all

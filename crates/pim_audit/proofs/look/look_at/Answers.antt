@@ -1,10 +1,5 @@
-use Rattle.std.proofs.Common.{◌≡◌, ◌∙◌, ◌++◌, List, length, map, sym, ap}
-use Rattle.std.specs.List.{filter}
-use Rattle.std.proofs.lemmas.List.{length-map, take_at}
-use Rattle.pim_down.specs.Seen.{event_seen}
-use Rattle.pim_audit.specs.declared.due.Due.{Due}
-use Rattle.pim_audit.specs.Look.{entries_of, marked, due_at, has_ended, becomes_late}
-use Rattle.pim_audit.specs.Seen.{due_seen, dues_seen}
+use Rattle.pim_audit.proofs.Words.{◌≡◌, ◌∙◌, ◌++◌, List, length, map, sym, ap, filter, length-map, take_at, event_seen, Due}
+use Rattle.pim_audit.proofs.Words.{entries_of, marked, due_at, has_ended, becomes_late, due_seen, dues_seen}
 use Rattle.pim_audit.proofs.Marking.{entries_kept}
 use Rattle.pim_audit.proofs.look.look_at.Goals as goal
 

@@ -1,7 +1,4 @@
-use Rattle.std.proofs.Common.{◌≡◌, ◌≤◌, max}
-use Rattle.pim_router.specs.State.{RouterState, setup_of}
-use Rattle.pim_router.specs.Time.{turns_left}
-use Rattle.pim_audit.specs.Passing.{HappensTo}
+use Rattle.pim_audit.proofs.Words.{◌≡◌, ◌≤◌, max, RouterState, setup_of, turns_left, HappensTo}
 use Rattle.pim_audit.proofs.passing.pass_router.Given as goal
 
 -- what happens from here happens from the start

@@ -1,7 +1,4 @@
-use Rattle.std.proofs.Common.{◌≡◌, ◌++◌, [], drop}
-use Rattle.std.specs.List.{filter}
-use Rattle.pim_audit.specs.Look.{has_ended}
-use Rattle.pim_audit.specs.Seen.{dues_seen}
+use Rattle.pim_audit.proofs.Words.{◌≡◌, ◌++◌, [], drop, filter, has_ended, dues_seen}
 use Rattle.pim_audit.proofs.renewal.push_all_ended.Given as goal
 
 -- what was added and what is left to add are all

@@ -1,7 +1,4 @@
-use Rattle.std.proofs.Common.{◌≡◌, ◌++◌, [], map, drop}
-use Rattle.pim_down.specs.Seen.{event_seen}
-use Rattle.pim_audit.specs.Look.{due_at}
-use Rattle.pim_audit.specs.Seen.{dues_seen}
+use Rattle.pim_audit.proofs.Words.{◌≡◌, ◌++◌, [], map, drop, event_seen, due_at, dues_seen}
 use Rattle.pim_audit.proofs.renewal.push_all_new.Given as goal
 
 -- what was added and what is left to add are all

@@ -1,8 +1,4 @@
-use Rattle.std.proofs.Common.{◌++◌, ◌+◌, ◌≤◌, length, map}
-use Rattle.std.specs.List.{filter}
-use Rattle.pim_down.specs.Seen.{event_seen}
-use Rattle.pim_audit.specs.Look.{due_at, is_new, has_ended}
-use Rattle.pim_audit.specs.Seen.{dues_seen}
+use Rattle.pim_audit.proofs.Words.{◌++◌, ◌+◌, ◌≤◌, length, map, filter, event_seen, due_at, is_new, has_ended, dues_seen}
 use Rattle.pim_audit.proofs.Walks.{Walks}
 use Rattle.pim_audit.proofs.renewal.renew.Given as goal
 

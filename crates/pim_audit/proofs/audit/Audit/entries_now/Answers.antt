@@ -1,7 +1,5 @@
-use Rattle.std.proofs.Common.{List, map, sym, subst}
-use Rattle.pim_down.specs.Seen.{event_seen}
+use Rattle.pim_audit.proofs.Words.{List, map, sym, subst, event_seen, AreInOrder}
 use Rattle.pim_down.specs.declared.machines.event.Event.{Event}
-use Rattle.pim_audit.specs.Order.{AreInOrder}
 use Rattle.pim_audit.proofs.Neighbours.{nothing_in_order}
 use Rattle.pim_audit.proofs.audit.Audit.entries_now.Goals as goal
 

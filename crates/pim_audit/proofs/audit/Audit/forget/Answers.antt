@@ -1,7 +1,4 @@
-use Rattle.std.proofs.Common.{◌≡◌, ◌∙◌, max, sym, ap, arith}
-use Rattle.pim_down.specs.Time.{Downstream}
-use Rattle.pim_audit.specs.Audited.{AuditState, with_asked, without_records}
-use Rattle.pim_audit.specs.Seen.{dues_seen}
+use Rattle.pim_audit.proofs.Words.{◌≡◌, ◌∙◌, max, sym, ap, arith, Downstream, AuditState, with_asked, without_records, dues_seen}
 use Rattle.pim_audit.proofs.FiresOn.{stays_empty}
 use Rattle.pim_audit.proofs.audit.Audit.forget.Goals as goal
 

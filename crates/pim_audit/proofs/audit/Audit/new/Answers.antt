@@ -1,9 +1,4 @@
-use Rattle.std.proofs.Common.{◌≤◌, ℕ, List, sym, ap, subst}
-use Rattle.pim_down.specs.Time.{Downstream}
-use Rattle.pim_audit.specs.declared.due.Due.{Due}
-use Rattle.pim_audit.specs.Look.{entries_of}
-use Rattle.pim_audit.specs.Order.{AreInOrder}
-use Rattle.pim_audit.specs.Seen.{dues_seen}
+use Rattle.pim_audit.proofs.Words.{◌≤◌, ℕ, List, sym, ap, subst, Downstream, Due, entries_of, AreInOrder, dues_seen}
 use Rattle.pim_audit.proofs.Neighbours.{nothing_in_order}
 use Rattle.pim_audit.proofs.audit.Audit.new.Goals as goal
 

@@ -1,0 +1,31 @@
+-- How contracts see the lines of an audit: addresses as lists of bytes.
+use Rattle.std.specs.Prelude.{ℕ, List, map}
+use Rattle.std.specs.Option.{option_map}
+use Rattle.pim_down.specs.Seen.{event_seen}
+use Rattle.pim_audit.specs.declared.lines.AuditEvent.{AuditEvent}
+use Rattle.pim_audit.specs.declared.lines.AuditEvent.TheVariants.{Late, Sent, Dropped, Lost, Full}
+use Rattle.pim_audit.specs.declared.lines.AuditLine.{AuditLine}
+use Rattle.pim_audit.specs.declared.lines.MessageOrigin.{MessageOrigin}
+use Rattle.pim_audit.specs.Lines.{Origin, Saying, late, sent, dropped, lost, full, Statement}
+
+module _ {A : Type 0} (bytes_of : A → List ℕ) where
+  -- The record of a message.
+  abbrev pub origin_seen : MessageOrigin A → Origin
+  origin_seen origin = record { port = origin.port; frame = origin.frame; from = bytes_of origin.from }
+
+  -- What a line says.
+  abbrev pub said_seen : AuditEvent A → Saying
+  said_seen (Late entry since) = late (event_seen bytes_of entry) since
+  said_seen (Sent entry after) = sent (event_seen bytes_of entry) after
+  said_seen (Dropped entry after) = dropped (event_seen bytes_of entry) after
+  said_seen (Lost loss) = lost loss
+  said_seen (Full needed) = full needed
+
+  -- A line.
+  abbrev pub line_seen : AuditLine A → Statement
+  line_seen line =
+      record { moment = line.moment; origin = option_map origin_seen line.origin; said = said_seen line.said }
+
+  -- Lines.
+  abbrev pub lines_seen : List (AuditLine A) → List Statement
+  lines_seen lines = map line_seen lines
