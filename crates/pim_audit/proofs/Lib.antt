@@ -9,4 +9,5 @@ pub mod Neighbours
 pub mod HappensOn
 pub mod Quiet
 pub mod PassSteps
+pub mod ReadMoment
 pub mod AddedLines

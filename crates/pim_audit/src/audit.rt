@@ -116,6 +116,13 @@ impl<F: Family> Audit<F> {
         self.upstream
     }
 
+    /// The present moment of what was asked, in milliseconds.
+    pub fn now(&self) -> u64
+        ensures { result ≡ self.now.asked.moment }
+    {
+        self.asked.now()
+    }
+
     /// The first moment, from the present one on, at which a timer of what was asked ends; `None`
     /// if none ever does.
     pub(crate) fn next_due(&self) -> Option<u64>

@@ -95,6 +95,7 @@ pub fn take<F: Family>(
     ensures takes { IfOk result (λ effect. Takes F.family port (F.bytes_of src)
         (reading_seen F.family message.now) audit.old router.old effect audit.new router.new) }
     ensures step { audit.new.asked.moment ≡ audit.old.asked.moment }
+    ensures moment { router.new.machines.moment ≡ router.old.machines.moment }
     ensures setup { setup_of router.new ≡ setup_of router.old }
 {
     let heard = match message {

@@ -1,6 +1,6 @@
 //! A turn of an audit.
 
-ghost use Rattle.std.specs.Prelude.{◌≡◌, ◌≤◌, ◌<◌, ◌^◌, length, IfOk};
+ghost use Rattle.std.specs.Prelude.{◌≡◌, ◌≤◌, ◌<◌, ◌^◌, length, IfOk, OnOk};
 ghost use Rattle.pim_router.specs.Reading.{reading_seen};
 ghost use Rattle.pim_router.specs.State.{setup_of};
 ghost use Rattle.pim_audit.specs.Turn.{TakesTurn};
@@ -13,6 +13,7 @@ use pim_router::{PimMessage, Router};
 use std::alloc::{AllocError, Global};
 
 /// A message that a port of the router takes.
+#[derive(Drop)]
 pub struct TurnMessage<'m, 'b, F: Family> {
     /// The moment, in milliseconds, at most 10^15.
     pub moment: u64,
@@ -58,6 +59,8 @@ pub fn take_turn<F: Family>(
       source = F.bytes_of turn.now.source;
       reading = reading_seen F.family turn.now.message.now;
     }) audit.old router.old report audit.new router.new) }
+    ensures step { OnOk result (audit.new.asked.moment ≡ router.new.machines.moment) }
+    ensures present { OnOk result (router.new.machines.moment ≤ 10 ^ 15) }
     ensures setup { setup_of router.new ≡ setup_of router.old }
 {
     let mut ended = Vec::new(alloc);
