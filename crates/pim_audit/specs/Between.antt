@@ -10,8 +10,9 @@ use Rattle.pim_form.specs.Toward.{toward, via_of}
 use Rattle.pim_form.specs.Wants.{wants}
 use Rattle.pim_audit.specs.Entries.{due_entries}
 
--- These entries are due toward an upstream neighbour: they are those of the change from the normal
--- form of what it was asked for to that of what the router's machines want of it (RFC 7761, 4.5).
+-- These entries are due toward an upstream neighbour. They are those of a change (RFC 7761, 4.5):
+-- from the normal form of what the neighbour was asked for to that of what the router's machines
+-- want of it.
 pub record AreDue (family : AddressFamily) (table : RouteTable) (upstream : List ℕ) (asked wanted : Downstream) (entries : List Event)
     : Type 0 where
   pub old : List GroupForm

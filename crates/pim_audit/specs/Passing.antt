@@ -14,8 +14,8 @@ pub record HappensTo (moment : ℕ) (router after : RouterState) : Type 0 where
   pub reported : List (ℕ × Happening)
   pub happens : Happens moment router reported after
 
--- The next moment, from the present one on, at which a timer of the router's machines or of what was
--- asked ends, or the time of a neighbour of the router. `None` is never.
+-- The next end, from the present moment on: of a timer of the router's machines or of what was
+-- asked, or of the time of a neighbour of the router. `None` is never.
 pub record IsNextEnd (audit : AuditState) (router : RouterState) (next : Option ℕ) : Type 0 where
   pub of_router : Option ℕ
   pub of_asked : Option ℕ

@@ -1,8 +1,8 @@
 //! An audit of a router toward its upstream neighbour: which entries of Join/Prune messages are
 //! *due*, that is, which the router has to send and did not send yet (RFC 7761, 4.5).
 //!
-//! - An `Audit` keeps what the neighbour was asked for, as machines of one port that hears what the
-//!   neighbour hears, and what was due at the last look.
+//! - An `Audit` keeps what the neighbour was asked for, and what was due at the last look. The
+//!   former are the machines of one port that hears what the neighbour hears.
 //! - `take_turn` lets time pass for the router and the audit, looks, lets a port of the router take
 //!   a message, and looks again. `pass_time` and `take` are its parts: a look follows each end of a
 //!   timer or of a neighbour's time.

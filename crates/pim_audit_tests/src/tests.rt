@@ -81,8 +81,8 @@ enum Body {
 /// A message: its moment, its port, its source and its body.
 type Row = (u64, usize, [u8; 4], Body);
 
-/// One entry that is late and then sent, one that is late and then no longer due, and one that is
-/// late after the neighbour's restart, and no longer due once the neighbour is gone.
+/// One entry is late and then sent, and one is late and then no longer due. One is late after the
+/// neighbour's restart, and no longer due once the neighbour is gone.
 const ROWS: [Row; 12] = [
     (0, 0, ANNE, Body::Hello(&HELLO)),
     (0, 1, BERT, Body::Hello(&SEVEN)),
