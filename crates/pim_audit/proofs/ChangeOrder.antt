@@ -3,7 +3,7 @@ use Rattle.pim_audit.proofs.Words.{◌≡◌, ◌∙◌, ℕ, ◌+◌, ◌<◌, 
 use Rattle.pim_audit.proofs.Words.{Some, map, refl, sym, ap, subst, arith, AllByRecursion, flat_map, IsStrictlySortedBy, nat_cmp}
 use Rattle.pim_audit.proofs.Words.{ordering_then, Less, Equal, Greater, lt-ltb, nat_list_cmp_total, tied_itself, append-nil}
 use Rattle.pim_audit.proofs.Words.{map-append, AddressFamily, Event, address_cmp, what_cmp, JoinRpt, PruneRpt, JoinSource}
-use Rattle.pim_audit.proofs.Words.{PruneSource, entry_rank, entry_cmp, AreInOrder, entry, source_entry, unit_entries, due_entries}
+use Rattle.pim_audit.proofs.Words.{PruneSource, entry_rank, entry_cmp, EntriesAscend, entry, source_entry, announced_entries, due_entries}
 use Rattle.std.specs.Cmp.Lexicographic.{slice_cmp}
 use Rattle.std.proofs.lemmas.Grind.{flat_map-append}
 use Rattle.std.proofs.lemmas.List.Kept.{IsStrictlySortedBy-filter}
@@ -24,8 +24,8 @@ all_by P Q more [] all = tt
 all_by P Q more (x ∷ xs) all = (more x all.0, all_by P Q more xs all.1)
 
 -- two lists one after the other, if each of the first comes before each of the second
-append_up : (xs ys : List Event) → AreInOrder xs → AreInOrder ys
-    → AllByRecursion (λ x. AllByRecursion (λ y. entry_cmp x y ≡ Less) ys) xs → AreInOrder (xs ++ ys)
+append_up : (xs ys : List Event) → EntriesAscend xs → EntriesAscend ys
+    → AllByRecursion (λ x. AllByRecursion (λ y. entry_cmp x y ≡ Less) ys) xs → EntriesAscend (xs ++ ys)
 unfolding IsStrictlySortedBy
 append_up [] ys up up' before = up'
 append_up (x ∷ xs) ys up up' before =
@@ -64,7 +64,7 @@ all_before group low middle high xs ys of_xs of_ys =
 
 -- in order, and of one group within these ranks
 record Part (group : List ℕ) (low high : ℕ) (entries : List Event) : Type 0 where
-  up : AreInOrder entries
+  up : EntriesAscend entries
   within : AllByRecursion (Within group low high) entries
 
 both_parts : (group : List ℕ) (low middle high : ℕ) → low ≤ middle → middle ≤ high → (xs ys : List Event) → Part group low middle xs
@@ -126,11 +126,11 @@ sources_part group kind (s ∷ sources) up =
 
 -- the entries of what is said of a group
 abbrev group_entries : List ℕ → List Action → List Event
-group_entries group actions = flat_map unit_entries (about group actions)
+group_entries group actions = flat_map announced_entries (about group actions)
 
 entries_both : (group : List ℕ) (xs ys : List Action) → group_entries group (xs ++ ys) ≡ group_entries group xs ++ group_entries group ys
 entries_both group xs ys =
-    ap (flat_map unit_entries) (map-append (unit_of group) xs ys) ∙ flat_map-append unit_entries (about group xs) (about group ys)
+    ap (flat_map announced_entries) (map-append (unit_of group) xs ys) ∙ flat_map-append announced_entries (about group xs) (about group ys)
 
 entries_of_sources : (group : List ℕ) (kind : ActionKind) (sources : List (List ℕ))
     → group_entries group (map (of_source kind) sources) ≡ map (source_entry group kind) sources
@@ -242,7 +242,7 @@ module _ (E : List ℕ → List Event) (part : (group : List ℕ) → Part group
       ap (λ o. ordering_then (ordering_then o (nat_cmp (entry_rank a) (entry_rank b))) (what_cmp a.what b.what))
       (ap (λ g. address_cmp g b.group) of_a.same ∙ after)
 
-  groups_up : (groups : List (List ℕ)) → AreAscending groups → AreInOrder (flat_map E groups)
+  groups_up : (groups : List (List ℕ)) → AreAscending groups → EntriesAscend (flat_map E groups)
   unfolding IsStrictlySortedBy
   groups_up [] up = tt
   groups_up (group ∷ groups) up = append_up (E group) (flat_map E groups) (part group).up (groups_up groups up.1)
@@ -252,20 +252,20 @@ module _ (E : List ℕ → List Event) (part : (group : List ℕ) → Part group
       (E group) (part group).within)
 
 flat_twice : (units : List ℕ → List ChangeUnit) (groups : List (List ℕ))
-    → flat_map unit_entries (flat_map units groups) ≡ flat_map (λ group. flat_map unit_entries (units group)) groups
+    → flat_map announced_entries (flat_map units groups) ≡ flat_map (λ group. flat_map announced_entries (units group)) groups
 flat_twice units [] = refl
 flat_twice units (group ∷ groups) =
-    flat_map-append unit_entries (units group) (flat_map units groups)
-    ∙ ap (λ (l : List Event). flat_map unit_entries (units group) ++ l) (flat_twice units groups)
+    flat_map-append announced_entries (units group) (flat_map units groups)
+    ∙ ap (λ (l : List Event). flat_map announced_entries (units group) ++ l) (flat_twice units groups)
 
 pub due_up : (family : AddressFamily) (asked wanted : List GroupForm)
     → ((addresses : List (List ℕ)) → AreAscending (in_order addresses))
-    → IsNormal family asked → IsNormal family wanted → AreInOrder (due_entries asked wanted)
+    → IsNormal family asked → IsNormal family wanted → EntriesAscend (due_entries asked wanted)
 unfolding change
 due_up family asked wanted ascend of_asked of_wanted =
     let groups : List (List ℕ) = in_order (groups_of asked ++ groups_of wanted) in
-    subst AreInOrder (sym (flat_twice (change_at asked wanted) groups))
-    (groups_up (λ group. flat_map unit_entries (change_at asked wanted group))
+    subst EntriesAscend (sym (flat_twice (change_at asked wanted) groups))
+    (groups_up (λ group. flat_map announced_entries (change_at asked wanted group))
     (λ group. group_part group (group_in group asked) (group_in group wanted)
     (group_in_up family group asked of_asked.groups) (group_in_up family group wanted of_wanted.groups))
     groups (ascend (groups_of asked ++ groups_of wanted)))

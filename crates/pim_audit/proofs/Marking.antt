@@ -1,7 +1,7 @@
 -- One step of a walk that marks late entries.
 use Rattle.pim_audit.proofs.Words.{◌≡◌, ◌∙◌, ℕ, zero, suc, ◌+◌, ◌<◌, Bool, List, [], ◌∷◌, ◌++◌, Option, None, Some, length}
 use Rattle.pim_audit.proofs.Words.{get_or, set, take, drop, map, add-one, refl, sym, ap, ap₂, subst, arith, filter, find, map-set}
-use Rattle.pim_audit.proofs.Words.{get_or-map, append_assoc, drop_more, length-map, Event, Due, DueEntry, entries_of, or_new}
+use Rattle.pim_audit.proofs.Words.{get_or-map, append_assoc, drop_more, length-map, Event, Due, DueEntry, held_entries, or_new}
 use Rattle.pim_audit.proofs.Words.{due_at, marked, same_entry, due_seen, dues_seen}
 use Rattle.std.proofs.lemmas.List.Elements.{filter-append}
 
@@ -67,7 +67,7 @@ module _ (f : DueEntry → DueEntry) where
 
 -- what is due after a look has the entries that are due now
 pub entries_kept : (old : List DueEntry) (moment grace : ℕ) (entries : List Event)
-    → entries_of (map (marked moment grace) (map (due_at old moment) entries)) ≡ entries
+    → held_entries (map (marked moment grace) (map (due_at old moment) entries)) ≡ entries
 entries_kept old moment grace [] = refl
 entries_kept old moment grace (e ∷ entries) =
     ap₂ (λ (x : Event) (l : List Event). x ∷ l) (own (find (λ (held : DueEntry). same_entry held.entry e) old)) (entries_kept old moment grace entries)

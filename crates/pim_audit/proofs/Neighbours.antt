@@ -1,7 +1,7 @@
 -- A router that has a neighbour on some port, and lists of nothing.
 use Rattle.pim_audit.proofs.Words.{◌≡◌, ◌∙◌, ℕ, zero, suc, ◌<◌, Bool, true, false, ◌||◌, [], Option, None, Some, ◌+◌, add-one}
 use Rattle.pim_audit.proofs.Words.{inl, inr, refl, sym, ap, subst, arith, cases_lt, is_some, option_map, IsStrictlySortedBy}
-use Rattle.pim_audit.proofs.Words.{some_below, AreInOrder}
+use Rattle.pim_audit.proofs.Words.{some_below, EntriesAscend}
 
 pub some_at : (test : ℕ → Bool) (count index : ℕ) → index < count → test index ≡ true → some_below count test ≡ true
 unfolding some_below
@@ -22,7 +22,7 @@ some_at test (suc count) index within is =
     or_right true e = refl
     or_right false e = e
 
-pub nothing_in_order : AreInOrder []
+pub nothing_in_order : EntriesAscend []
 unfolding IsStrictlySortedBy
 nothing_in_order = tt
 

@@ -4,7 +4,7 @@ use Rattle.pim_audit.proofs.Words.{append_assoc, AddressFamily, TheEndedGoAtFirs
 use Rattle.pim_audit.proofs.Words.{AuditState, IsQuiet}
 use Rattle.pim_audit.specs.declared.passing.Ended.{Ended as EndedOf}
 use Rattle.pim_audit.specs.declared.passing.Passed.TheVariants.{Reached, Ended}
-use Rattle.pim_audit.specs.Steps.{HasPassed, PassesThrough, PassesAll}
+use Rattle.pim_audit.specs.Steps.{PassesStep, PassesThrough, PassesAll}
 use Rattle.pim_audit.proofs.Quiet.{end_later}
 
 -- the time left to a moment, twice, and one more where a step is to come
@@ -23,7 +23,7 @@ module _ {A : Type 0} (family : AddressFamily) (bytes_of : A → List ℕ) (mome
         → PassesAll family bytes_of moment before start began all after router'
 
     pub first_leads : (passed : Passed A) (audit : AuditState) (router : RouterState)
-        → HasPassed family bytes_of moment start began passed audit router → Leads before passed audit router
+        → PassesStep family bytes_of moment start began passed audit router → Leads before passed audit router
     unfolding PassesThrough
     first_leads Reached audit router has = record { ends = []; added = sym (append-nil before); through = has }
     first_leads (Ended ended) audit router has = λ others all after router' is through.
@@ -31,7 +31,7 @@ module _ {A : Type 0} (family : AddressFamily) (bytes_of : A → List ℕ) (mome
 
     pub next_leads : (so_far so_far' : List (EndedOf A)) (ended : EndedOf A) (passed : Passed A) (audit : AuditState) (router : RouterState)
         (after : AuditState) (router' : RouterState) → Leads so_far (Ended ended) audit router → so_far' ≡ so_far ++ ended ∷ []
-        → HasPassed family bytes_of moment audit router passed after router' → Leads so_far' passed after router'
+        → PassesStep family bytes_of moment audit router passed after router' → Leads so_far' passed after router'
     unfolding PassesThrough
     next_leads so_far so_far' ended Reached audit router after router' leads is has = leads [] so_far' after router' is has
     next_leads so_far so_far' ended (Ended next) audit router after router' leads is has = λ others all last router'' all_is through.
@@ -43,7 +43,7 @@ module _ {A : Type 0} (family : AddressFamily) (bytes_of : A → List ℕ) (mome
   pub step_smaller : TheEndedGoAtFirstTimeout → (ended : EndedOf A) (passed : Passed A) (audit : AuditState) (router : RouterState)
       (after : AuditState) (router' : RouterState) → IsRouter router → audit.asked.moment ≡ router.machines.moment
       → IsQuiet audit router → router.machines.moment ≤ router'.machines.moment
-      → HasPassed family bytes_of moment audit router passed after router'
+      → PassesStep family bytes_of moment audit router passed after router'
       → time_left moment passed router' < time_left moment (Ended ended) router
   step_smaller law ended Reached audit router after router' is step quiet later has = omega (arith, later)
   step_smaller law ended (Ended next) audit router after router' is step quiet later has =

@@ -1,7 +1,7 @@
 -- A walk over what was due and what is due now, as the code holds both.
 use Rattle.pim_audit.proofs.Words.{◌≡◌, ◌∙◌, ℕ, ◌+◌, false, suc, refl, List, [], ◌∷◌, ◌++◌, length, map, sym, ap, subst, filter}
 use Rattle.pim_audit.proofs.Words.{Less, Equal, Greater, map-append, nil_from_length, event_seen, Due, entry_cmp, DueEntry}
-use Rattle.pim_audit.proofs.Words.{due_at, is_new, has_ended, due_seen, dues_seen}
+use Rattle.pim_audit.proofs.Words.{due_at, is_newly_due, ends_reported, due_seen, dues_seen}
 use Rattle.pim_down.specs.declared.machines.event.Event.{Event as EventOf}
 use Rattle.pim_audit.proofs.RenewSteps.{IsRenewing, less_renews, equal_renews, greater_renews}
 
@@ -24,7 +24,7 @@ module _ {A : Type 0} (bytes_of : A → List ℕ) where
         (subst (λ l. Walks moment new due ended l right all_new all_due all_ended) is_left walks)
 
     pub less_walks : entry_cmp (event_seen bytes_of x.entry) (event_seen bytes_of y) ≡ Less
-        → dues_seen bytes_of ended' ≡ dues_seen bytes_of ended ++ filter (has_ended []) (dues_seen bytes_of (x ∷ []))
+        → dues_seen bytes_of ended' ≡ dues_seen bytes_of ended ++ filter (ends_reported []) (dues_seen bytes_of (x ∷ []))
         → Walks moment new due ended' left' right all_new all_due all_ended
     less_walks less more = subst (λ r. Walks moment new due ended' left' r all_new all_due all_ended) (sym is_right)
         (less_renews moment new (dues_seen bytes_of due) (dues_seen bytes_of ended) (due_seen bytes_of x) (dues_seen bytes_of left')
@@ -49,8 +49,8 @@ module _ {A : Type 0} (bytes_of : A → List ℕ) where
   module _ (moment new : ℕ) (due due' ended ended' left : List (Due A)) (right : List (EventOf A))
       (all_new : ℕ) (all_due all_ended : List DueEntry) (walks : Walks moment new due ended left right all_new all_due all_ended)
       (came : dues_seen bytes_of due' ≡ dues_seen bytes_of due ++ map (due_at [] moment) (map (event_seen bytes_of) right))
-      (gone : dues_seen bytes_of ended' ≡ dues_seen bytes_of ended ++ filter (has_ended []) (dues_seen bytes_of left)) where
-    every_new : (entries : List (EventOf A)) → length (filter (is_new []) (map (event_seen bytes_of) entries)) ≡ length entries
+      (gone : dues_seen bytes_of ended' ≡ dues_seen bytes_of ended ++ filter (ends_reported []) (dues_seen bytes_of left)) where
+    every_new : (entries : List (EventOf A)) → length (filter (is_newly_due []) (map (event_seen bytes_of) entries)) ≡ length entries
     every_new [] = refl
     every_new (y ∷ entries) = ap suc (every_new entries)
 
@@ -67,7 +67,7 @@ module _ {A : Type 0} (bytes_of : A → List ℕ) where
         record {
           count = ap (λ n. new + n) (sym (every_new right)) ∙ walks'.new;
           listed = came ∙ walks'.due;
-          gone_now = gone ∙ ap (λ (l : List (Due A)). dues_seen bytes_of ended ++ filter (has_ended []) (dues_seen bytes_of l)) empty ∙ walks'.ended;
+          gone_now = gone ∙ ap (λ (l : List (Due A)). dues_seen bytes_of ended ++ filter (ends_reported []) (dues_seen bytes_of l)) empty ∙ walks'.ended;
         }
 
     pub nothing_now : length right ≡ 0 → Ends

@@ -33,9 +33,9 @@ pub use Rattle.std.specs.declared.cmp.Ordering.TheVariants.{Equal, Greater, Less
 pub use Rattle.pim_audit.specs.Asked.{PassesTo}
 unfoldable pub use Rattle.pim_audit.specs.Asked.{FiresThrough}
 pub use Rattle.pim_audit.specs.Audited.{AuditState, with_asked, without_records}
-pub use Rattle.pim_audit.specs.Entries.{due_entries, entry, source_entry, unit_entries}
-pub use Rattle.pim_audit.specs.Look.{DueEntry, becomes_late, due_at, entries_of, has_ended, is_new, marked, or_new}
-pub use Rattle.pim_audit.specs.Order.{AreInOrder, entry_rank, same_entry}
+pub use Rattle.pim_audit.specs.Entries.{due_entries, entry, source_entry, announced_entries}
+pub use Rattle.pim_audit.specs.Look.{DueEntry, becomes_late, due_at, held_entries, ends_reported, is_newly_due, marked, or_new}
+pub use Rattle.pim_audit.specs.Order.{EntriesAscend, entry_rank, same_entry}
 unfoldable pub use Rattle.pim_audit.specs.Order.{entry_cmp}
 pub use Rattle.pim_audit.specs.Passing.{HappensTo, IsAfter, IsNextEnd, IsQuiet, if_gone}
 pub use Rattle.pim_audit.specs.Seen.{due_seen, dues_seen}

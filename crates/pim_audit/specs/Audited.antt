@@ -11,8 +11,8 @@ use Rattle.pim_form.specs.Wants.{some_below}
 use Rattle.pim_router.specs.Packets.{own_address}
 use Rattle.pim_router.specs.State.{RouterState, table_at}
 use Rattle.pim_audit.specs.Between.{AreDue}
-use Rattle.pim_audit.specs.Look.{DueEntry, Found, Finds, entries_of}
-use Rattle.pim_audit.specs.Order.{AreInOrder}
+use Rattle.pim_audit.specs.Look.{DueEntry, Found, LookFinds, held_entries}
+use Rattle.pim_audit.specs.Order.{EntriesAscend}
 
 -- What an audit keeps: the machines that heard what the upstream neighbour heard, and what was due
 -- at the last look. Lateness is more than `grace` milliseconds.
@@ -24,7 +24,7 @@ pub record AuditState : Type 0 where
 
 -- What holds of an audit between calls.
 pub record IsAudit (audit : AuditState) : Type 0 where
-  pub order : AreInOrder (entries_of audit.due)
+  pub order : EntriesAscend (held_entries audit.due)
   pub port : audit.asked.ports ≡ 1
   pub room : 1 ≤ audit.asked.limit
   pub limit : audit.asked.limit ≤ 100000
@@ -64,4 +64,4 @@ with_due audit due = record { upstream = audit.upstream; grace = audit.grace; as
 pub record LooksAt (family : AddressFamily) (audit : AuditState) (router : RouterState) (found : Found) : Type 0 where
   pub entries : List Event
   pub are : AreDueIf (has_neighbour audit.upstream router) family audit router entries
-  pub finds : Finds audit.due entries router.machines.moment audit.grace found
+  pub finds : LookFinds audit.due entries router.machines.moment audit.grace found

@@ -10,7 +10,7 @@ use Rattle.pim_form.specs.NormalForm.{GroupForm, IsNormal}
 use Rattle.pim_change.specs.declared.unit.ActionKind.{ActionKind}
 use Rattle.pim_change.specs.declared.unit.ActionKind.TheVariants.{JoinRpt, PruneRpt, JoinSource, PruneSource}
 use Rattle.pim_change.specs.Change.{Action, star_joined, star_pruned, of_source, ChangeUnit, change}
-use Rattle.pim_audit.specs.Order.{AreInOrder}
+use Rattle.pim_audit.specs.Order.{EntriesAscend}
 
 -- A Join or a Prune of this machine of the group.
 abbrev pub entry : Bool → List ℕ → What (List ℕ) → Event
@@ -31,14 +31,14 @@ action_entries group star_pruned = entry false group Star ∷ []
 action_entries group (of_source kind source) = source_entry group kind source ∷ []
 
 -- The entries of a unit of a change.
-abbrev pub unit_entries : ChangeUnit → List Event
-unit_entries unit = action_entries unit.group unit.action
+abbrev pub announced_entries : ChangeUnit → List Event
+announced_entries unit = action_entries unit.group unit.action
 
 -- The entries that are due where the first form was asked for and the second form has to be.
 abbrev pub due_entries : List GroupForm → List GroupForm → List Event
-due_entries asked wanted = flat_map unit_entries (change asked wanted)
+due_entries asked wanted = flat_map announced_entries (change asked wanted)
 
 -- What is due between two normal forms is in order.
 abbrev pub DueEntriesAreInOrder : Type 0
 DueEntriesAreInOrder = (family : AddressFamily) (asked wanted : List GroupForm) → IsNormal family asked →
-    IsNormal family wanted → AreInOrder (due_entries asked wanted)
+    IsNormal family wanted → EntriesAscend (due_entries asked wanted)

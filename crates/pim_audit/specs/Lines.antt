@@ -59,6 +59,6 @@ effect_lines moment origin Gone = line moment (Some origin) (lost loss.Gone) ∷
 effect_lines moment origin _ = []
 
 -- The origin of a message that was heard.
-abbrev pub heard_from : Origin → Effect → Option Origin
-heard_from origin Heard = Some origin
-heard_from origin _ = None
+abbrev pub origin_if_heard : Origin → Effect → Option Origin
+origin_if_heard origin Heard = Some origin
+origin_if_heard origin _ = None

@@ -11,8 +11,8 @@ pub record DueEntry : Type 0 where
   pub is_reported : Bool
 
 -- The entries of what is due.
-abbrev pub entries_of : List DueEntry → List Event
-entries_of due = map (λ (held : DueEntry). held.entry) due
+abbrev pub held_entries : List DueEntry → List Event
+held_entries due = map (λ (held : DueEntry). held.entry) due
 
 -- An entry that was due before stays due since then; another one is due since this moment.
 abbrev pub or_new : ℕ → Event → Option DueEntry → DueEntry
@@ -24,12 +24,12 @@ abbrev pub due_at : List DueEntry → ℕ → Event → DueEntry
 due_at old moment entry = or_new moment entry (find (λ held. same_entry held.entry entry) old)
 
 -- An entry is new if it wasn't due before.
-abbrev pub is_new : List DueEntry → Event → Bool
-is_new old entry = not (list_any (λ held. same_entry held.entry entry) old)
+abbrev pub is_newly_due : List DueEntry → Event → Bool
+is_newly_due old entry = not (list_any (λ held. same_entry held.entry entry) old)
 
 -- An entry has ended if it was reported as late and isn't among those that are due now.
-abbrev pub has_ended : List Event → DueEntry → Bool
-has_ended entries held = held.is_reported && not (list_any (λ entry. same_entry held.entry entry) entries)
+abbrev pub ends_reported : List Event → DueEntry → Bool
+ends_reported entries held = held.is_reported && not (list_any (λ entry. same_entry held.entry entry) entries)
 
 -- An entry becomes late if it has been due for more than the grace and wasn't reported before.
 abbrev pub becomes_late : ℕ → ℕ → DueEntry → Bool
@@ -50,9 +50,9 @@ pub record Found : Type 0 where
 
 -- What a look finds at a moment, by the grace, if `old` was due at the last look and `entries` are
 -- due now. All lists are in order.
-pub record Finds (old : List DueEntry) (entries : List Event) (moment grace : ℕ) (found : Found)
+pub record LookFinds (old : List DueEntry) (entries : List Event) (moment grace : ℕ) (found : Found)
     : Type 0 where
   pub due : found.due ≡ map (marked moment grace) (map (due_at old moment) entries)
-  pub new : found.new ≡ length (filter (is_new old) entries)
-  pub ended : found.ended ≡ filter (has_ended entries) old
+  pub new : found.new ≡ length (filter (is_newly_due old) entries)
+  pub ended : found.ended ≡ filter (ends_reported entries) old
   pub late : found.late ≡ filter (becomes_late moment grace) (map (due_at old moment) entries)

@@ -33,5 +33,5 @@ abbrev pub same_entry : Event → Event → Bool
 same_entry a b = is_eq (entry_cmp a b)
 
 -- The entries ascend strictly.
-abbrev pub AreInOrder : List Event → Type 0
-AreInOrder entries = IsStrictlySortedBy entry_cmp entries
+abbrev pub EntriesAscend : List Event → Type 0
+EntriesAscend entries = IsStrictlySortedBy entry_cmp entries

@@ -10,21 +10,21 @@ use Rattle.pim_audit.specs.Passing.{PassesQuietly, PassesToEnd}
 use Rattle.pim_audit.specs.Seen.{report_seen}
 
 -- Nothing ended up to the moment, or time passed up to the next end, and a look followed.
-abbrev pub HasPassed : {A : Type 0} → AddressFamily → (A → List ℕ) → ℕ → AuditState → RouterState → Passed A → AuditState →
+abbrev pub PassesStep : {A : Type 0} → AddressFamily → (A → List ℕ) → ℕ → AuditState → RouterState → Passed A → AuditState →
     RouterState → Type 0
-HasPassed family bytes_of moment audit router Reached after router' =
+PassesStep family bytes_of moment audit router Reached after router' =
     PassesQuietly moment audit router after router'
-HasPassed family bytes_of moment audit router (Ended ended) after router' =
+PassesStep family bytes_of moment audit router (Ended ended) after router' =
     PassesToEnd family moment ended.moment audit router ended.is_gone (report_seen bytes_of after.due ended.report) after router'
 
 -- Time passes from end to end, one step after the other, and then up to the moment.
 unfoldable pub PassesThrough : {A : Type 0} → AddressFamily → (A → List ℕ) → ℕ → List (EndedOf A) → AuditState → RouterState →
     AuditState → RouterState → Type 0
 PassesThrough family bytes_of moment [] audit router after router' =
-    HasPassed family bytes_of moment audit router Reached after router'
+    PassesStep family bytes_of moment audit router Reached after router'
 PassesThrough family bytes_of moment (ended ∷ others) audit router after router' =
     (middle : AuditState) × (between : RouterState)
-    × HasPassed family bytes_of moment audit router (Ended ended) middle between
+    × PassesStep family bytes_of moment audit router (Ended ended) middle between
     × PassesThrough family bytes_of moment others middle between after router'
 
 -- Time passes up to the moment, and these ends are added to the list.

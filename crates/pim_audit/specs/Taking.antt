@@ -57,7 +57,7 @@ module _ (family : AddressFamily) (port : ℕ) (source : List ℕ) (audit : Audi
   IsTakenBy None reading = IsAsked reading
 
 -- A port of the router takes a message from this source, and the audit follows.
-pub record Takes (family : AddressFamily) (port : ℕ) (source : List ℕ) (reading : Reading) (audit : AuditState) (router : RouterState)
+pub record TakesMessage (family : AddressFamily) (port : ℕ) (source : List ℕ) (reading : Reading) (audit : AuditState) (router : RouterState)
     (effect : Effect) (after : AuditState) (router' : RouterState) : Type 0 where
   pub verdict : Verdict
   pub received : (verdict, router') ≡ read_received family port source router reading

@@ -8,7 +8,7 @@ use Rattle.pim_audit.specs.declared.turn.TurnReport.{TurnReport}
 use Rattle.pim_audit.specs.Audited.{AuditState, LooksAt, with_due}
 use Rattle.pim_audit.specs.Seen.{report_seen}
 use Rattle.pim_audit.specs.Steps.{PassesAll}
-use Rattle.pim_audit.specs.Taking.{Takes}
+use Rattle.pim_audit.specs.Taking.{TakesMessage}
 
 -- What a port of a router takes: a message from this source, at this moment.
 pub record TurnMessage : Type 0 where
@@ -18,7 +18,7 @@ pub record TurnMessage : Type 0 where
   pub reading : Reading
 
 -- The audit and the router before the message: time has passed, and a look has followed.
-pub record ComesTo {A : Type 0} (family : AddressFamily) (bytes_of : A → List ℕ) (moment : ℕ) (audit : AuditState) (router : RouterState)
+pub record ReachesTurn {A : Type 0} (family : AddressFamily) (bytes_of : A → List ℕ) (moment : ℕ) (audit : AuditState) (router : RouterState)
     (report : TurnReport A) (looked : AuditState) (router' : RouterState) : Type 0 where
   pub passed : AuditState
   pub passes : PassesAll family bytes_of moment [] audit router report.ended.items passed router'
@@ -31,7 +31,7 @@ pub record TakesTurn {A : Type 0} (family : AddressFamily) (bytes_of : A → Lis
   pub looked : AuditState
   pub reached : RouterState
   pub taken : AuditState
-  pub comes : ComesTo family bytes_of turn.moment audit router report looked reached
-  pub takes : Takes family turn.port turn.source turn.reading looked reached report.effect taken router'
+  pub comes : ReachesTurn family bytes_of turn.moment audit router report looked reached
+  pub takes : TakesMessage family turn.port turn.source turn.reading looked reached report.effect taken router'
   pub looks : LooksAt family taken router' (report_seen bytes_of after.due report.after)
   pub rest : after ≡ with_due taken after.due

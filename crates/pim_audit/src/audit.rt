@@ -11,7 +11,7 @@ ghost use Rattle.pim_router.specs.State.{table_at};
 ghost use Rattle.pim_audit.specs.Asked.{PassesTo, AskedBy};
 ghost use Rattle.pim_audit.specs.Audited.{AreDueIf, LooksAt, has_neighbour, is_heard};
 ghost use Rattle.pim_audit.specs.Audited.{with_due, with_asked, without_records};
-ghost use Rattle.pim_audit.specs.Order.{AreInOrder};
+ghost use Rattle.pim_audit.specs.Order.{EntriesAscend};
 ghost use Rattle.pim_audit.specs.Seen.{dues_seen, report_seen};
 
 use crate::asked::{hear_at_once, pass_to};
@@ -140,7 +140,7 @@ impl<F: Family> Audit<F> {
         ensures due { IfOk result (λ entries. AreDueIf (has_neighbour self.now.upstream router.now)
             F.family self.now router.now (map (event_seen F.bytes_of) entries.items)) }
         ensures order { IfOk result (λ entries.
-            AreInOrder (map (event_seen F.bytes_of) entries.items)) }
+            EntriesAscend (map (event_seen F.bytes_of) entries.items)) }
     {
         if !has_neighbour::<F>(router, self.upstream) {
             return Ok(Vec::new(alloc));

@@ -3,7 +3,7 @@
 ghost use Rattle.std.specs.Prelude.{map, IfOk};
 ghost use Rattle.pim_down.specs.Seen.{event_seen};
 ghost use Rattle.pim_audit.specs.Between.{AreDue};
-ghost use Rattle.pim_audit.specs.Order.{AreInOrder};
+ghost use Rattle.pim_audit.specs.Order.{EntriesAscend};
 
 use crate::entries::push_entries;
 use crate::laws::due_entries_are_in_order;
@@ -30,7 +30,7 @@ pub(crate) fn due_entries<F: Family>(
     ensures due { IfOk result (λ entries. AreDue F.family routes.now (F.bytes_of upstream)
         asked.now wanted.now (map (event_seen F.bytes_of) entries.items)) }
     ensures order { IfOk result (λ entries.
-        AreInOrder (map (event_seen F.bytes_of) entries.items)) }
+        EntriesAscend (map (event_seen F.bytes_of) entries.items)) }
 {
     due_entries_are_in_order();
     let old = NormalForm::of(alloc, asked)?;

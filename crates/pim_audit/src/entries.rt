@@ -5,7 +5,7 @@ ghost use Rattle.std.specs.List.{flat_map};
 ghost use Rattle.pim_down.specs.Seen.{event_seen};
 ghost use Rattle.pim_change.specs.declared.unit.ActionKind.TheVariants.{PruneRpt};
 ghost use Rattle.pim_change.specs.Seen.{unit_seen, units_seen};
-ghost use Rattle.pim_audit.specs.Entries.{source_entry, unit_entries};
+ghost use Rattle.pim_audit.specs.Entries.{source_entry, announced_entries};
 
 use pim_addr::Family;
 use pim_change::{Action, ActionKind, Unit};
@@ -50,7 +50,7 @@ fn push_unit<F: Family>(
 ) -> Result<(), AllocError>
     ensures { OnOk result (map (event_seen F.bytes_of) entries.new.items
         ≡ map (event_seen F.bytes_of) entries.old.items
-        ++ unit_entries (unit_seen F.bytes_of unit.now)) }
+        ++ announced_entries (unit_seen F.bytes_of unit.now)) }
 {
     let group = unit.group;
     let what = What::Star;
@@ -80,7 +80,7 @@ pub(crate) fn push_entries<F: Family>(
 ) -> Result<(), AllocError>
     ensures { OnOk result (map (event_seen F.bytes_of) entries.new.items
         ≡ map (event_seen F.bytes_of) entries.old.items
-        ++ flat_map unit_entries (units_seen F.bytes_of units.now)) }
+        ++ flat_map announced_entries (units_seen F.bytes_of units.now)) }
 {
     for unit in units {
         push_unit::<F>(entries, unit)?;

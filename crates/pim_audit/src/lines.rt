@@ -4,7 +4,7 @@ ghost use Rattle.std.specs.Prelude.{◌≡◌, ◌++◌, ℕ, List, map, OnOk};
 ghost use Rattle.std.specs.List.{flat_map};
 ghost use Rattle.std.specs.Option.{option_map};
 ghost use Rattle.pim_audit.specs.Lines.{ended_line, late_line, look_lines, effect_lines};
-ghost use Rattle.pim_audit.specs.Lines.{heard_from};
+ghost use Rattle.pim_audit.specs.Lines.{origin_if_heard};
 ghost use Rattle.pim_audit.specs.LinesSeen.{origin_seen, line_seen, lines_seen};
 ghost use Rattle.pim_audit.specs.Seen.{due_seen, dues_seen};
 ghost use Rattle.pim_audit.specs.TurnLines.{end_lines, turn_lines};
@@ -221,9 +221,9 @@ fn push_effect<F: Family>(
 }
 
 /// The origin of a message, if it was heard.
-fn heard_from<A: Copy>(origin: MessageOrigin<A>, effect: Effect) -> Option<MessageOrigin<A>>
+fn origin_if_heard<A: Copy>(origin: MessageOrigin<A>, effect: Effect) -> Option<MessageOrigin<A>>
     ensures { (bytes_of : A → List ℕ) → option_map (origin_seen bytes_of) result
-        ≡ heard_from (origin_seen bytes_of origin) effect }
+        ≡ origin_if_heard (origin_seen bytes_of origin) effect }
 {
     match effect {
         Effect::Heard => Some(origin),
@@ -248,6 +248,6 @@ pub fn push_turn<F: Family>(
     push_ends::<F>(lines, &report.ended)?;
     push_look::<F>(lines, moment, None, &report.before)?;
     push_effect::<F>(lines, moment, origin, report.effect)?;
-    let heard = heard_from(origin, report.effect);
+    let heard = origin_if_heard(origin, report.effect);
     push_look::<F>(lines, moment, heard, &report.after)
 }

@@ -2,8 +2,8 @@
 
 ghost use Rattle.std.specs.Prelude.{◌≡◌, map, IfOk};
 ghost use Rattle.pim_down.specs.Seen.{event_seen};
-ghost use Rattle.pim_audit.specs.Look.{Finds, entries_of};
-ghost use Rattle.pim_audit.specs.Order.{AreInOrder};
+ghost use Rattle.pim_audit.specs.Look.{LookFinds, held_entries};
+ghost use Rattle.pim_audit.specs.Order.{EntriesAscend};
 ghost use Rattle.pim_audit.specs.Seen.{dues_seen, look_seen};
 
 use crate::due::Due;
@@ -38,11 +38,11 @@ pub(crate) fn look_at<F: Family>(
     moment: u64,
     grace: u64,
 ) -> Result<Look<F::Addr>, AllocError>
-    requires old { AreInOrder (entries_of (dues_seen F.bytes_of old.now)) }
-    requires entries { AreInOrder (map (event_seen F.bytes_of) entries.now) }
-    ensures finds { IfOk result (λ look. Finds (dues_seen F.bytes_of old.now)
+    requires old { EntriesAscend (held_entries (dues_seen F.bytes_of old.now)) }
+    requires entries { EntriesAscend (map (event_seen F.bytes_of) entries.now) }
+    ensures finds { IfOk result (λ look. LookFinds (dues_seen F.bytes_of old.now)
         (map (event_seen F.bytes_of) entries.now) moment grace (look_seen F.bytes_of look)) }
-    ensures entries { IfOk result (λ look. entries_of (dues_seen F.bytes_of look.due.items)
+    ensures entries { IfOk result (λ look. held_entries (dues_seen F.bytes_of look.due.items)
         ≡ map (event_seen F.bytes_of) entries.now) }
 {
     let mut due = Vec::new(alloc);

@@ -5,7 +5,7 @@ ghost use Rattle.pim_hello.specs.Neighbours.{sooner};
 ghost use Rattle.pim_router.specs.State.{setup_of};
 ghost use Rattle.pim_audit.specs.Passing.{HappensTo, IsNextEnd, IsQuiet};
 ghost use Rattle.pim_audit.specs.Seen.{report_seen};
-ghost use Rattle.pim_audit.specs.Steps.{HasPassed, PassesAll};
+ghost use Rattle.pim_audit.specs.Steps.{PassesStep, PassesAll};
 
 use crate::audit::{Audit, Report, has_neighbour};
 use pim_addr::Family;
@@ -82,7 +82,7 @@ fn pass<F: Family>(
     requires moment { moment ≤ 10 ^ 15 }
     requires step { audit.old.asked.moment ≡ router.old.machines.moment }
     requires present { router.old.machines.moment ≤ 10 ^ 15 }
-    ensures passed { IfOk result (λ passed. HasPassed F.family F.bytes_of moment
+    ensures passed { IfOk result (λ passed. PassesStep F.family F.bytes_of moment
         audit.old router.old passed audit.new router.new) }
     ensures quiet { IfOk result (λ _. IsQuiet audit.new router.new) }
     ensures later { router.old.machines.moment ≤ router.new.machines.moment }

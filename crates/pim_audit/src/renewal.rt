@@ -3,8 +3,8 @@
 ghost use Rattle.std.specs.Prelude.{◌≡◌, ◌++◌, ◌∷◌, [], ℕ, length, map, OnOk, IfOk};
 ghost use Rattle.std.specs.List.{filter};
 ghost use Rattle.pim_down.specs.Seen.{event_seen};
-ghost use Rattle.pim_audit.specs.Look.{due_at, is_new, has_ended, entries_of};
-ghost use Rattle.pim_audit.specs.Order.{AreInOrder};
+ghost use Rattle.pim_audit.specs.Look.{due_at, is_newly_due, ends_reported, held_entries};
+ghost use Rattle.pim_audit.specs.Order.{EntriesAscend};
 ghost use Rattle.pim_audit.specs.Seen.{dues_seen};
 
 use crate::due::Due;
@@ -21,7 +21,7 @@ fn push_ended<F: Family>(
 ) -> Result<(), AllocError>
     ensures { OnOk result (dues_seen F.bytes_of ended.new.items
         ≡ dues_seen F.bytes_of ended.old.items
-        ++ filter (has_ended []) (dues_seen F.bytes_of (held ∷ []))) }
+        ++ filter (ends_reported []) (dues_seen F.bytes_of (held ∷ []))) }
 {
     if held.is_reported {
         ended.push(held)?;
@@ -36,7 +36,7 @@ fn push_all_ended<F: Family>(
 ) -> Result<(), AllocError>
     ensures { OnOk result (dues_seen F.bytes_of ended.new.items
         ≡ dues_seen F.bytes_of ended.old.items
-        ++ filter (has_ended []) (dues_seen F.bytes_of old.now)) }
+        ++ filter (ends_reported []) (dues_seen F.bytes_of old.now)) }
 {
     for &held in old {
         push_ended::<F>(ended, held)?;
@@ -78,9 +78,10 @@ pub(crate) fn renew<F: Family>(
     due: &mut Vec<Due<F::Addr>>,
     ended: &mut Vec<Due<F::Addr>>,
 ) -> Result<usize, AllocError>
-    requires old { AreInOrder (entries_of (dues_seen F.bytes_of old.now)) }
-    requires entries { AreInOrder (map (event_seen F.bytes_of) entries.now) }
-    ensures new { IfOk result (λ new. new ≡ length (filter (is_new (dues_seen F.bytes_of old.now))
+    requires old { EntriesAscend (held_entries (dues_seen F.bytes_of old.now)) }
+    requires entries { EntriesAscend (map (event_seen F.bytes_of) entries.now) }
+    ensures new { IfOk result (λ new. new
+        ≡ length (filter (is_newly_due (dues_seen F.bytes_of old.now))
         (map (event_seen F.bytes_of) entries.now))) }
     ensures due { OnOk result (dues_seen F.bytes_of due.new.items
         ≡ dues_seen F.bytes_of due.old.items
@@ -88,7 +89,7 @@ pub(crate) fn renew<F: Family>(
         (map (event_seen F.bytes_of) entries.now)) }
     ensures ended { OnOk result (dues_seen F.bytes_of ended.new.items
         ≡ dues_seen F.bytes_of ended.old.items
-        ++ filter (has_ended (map (event_seen F.bytes_of) entries.now))
+        ++ filter (ends_reported (map (event_seen F.bytes_of) entries.now))
         (dues_seen F.bytes_of old.now)) }
 {
     let (mut left, mut right) = (old, entries);

@@ -5,7 +5,7 @@ ghost use Rattle.pim_addr.specs.Routes.{rp_of};
 ghost use Rattle.pim_router.specs.Reading.{reading_seen};
 ghost use Rattle.pim_router.specs.State.{setup_of};
 ghost use Rattle.pim_audit.specs.Audited.{has_neighbour, with_asked};
-ghost use Rattle.pim_audit.specs.Taking.{lost_by, lost, HearsOrRefuses, Takes};
+ghost use Rattle.pim_audit.specs.Taking.{lost_by, lost, HearsOrRefuses, TakesMessage};
 
 use crate::audit::{Audit, has_neighbour};
 use pim_addr::{Family, Routes};
@@ -92,7 +92,7 @@ pub fn take<F: Family>(
 ) -> Result<Effect, AllocError>
     requires port { port < length router.old.ports }
     requires present { audit.old.asked.moment ≤ 10 ^ 15 }
-    ensures takes { IfOk result (λ effect. Takes F.family port (F.bytes_of src)
+    ensures takes { IfOk result (λ effect. TakesMessage F.family port (F.bytes_of src)
         (reading_seen F.family message.now) audit.old router.old effect audit.new router.new) }
     ensures step { audit.new.asked.moment ≡ audit.old.asked.moment }
     ensures moment { router.new.machines.moment ≡ router.old.machines.moment }

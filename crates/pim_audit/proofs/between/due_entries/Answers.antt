@@ -1,5 +1,5 @@
-use Rattle.pim_audit.proofs.Words.{◌∙◌, ◌++◌, List, map, sym, ap, subst, flat_map, event_seen, units_seen, unit_entries}
-use Rattle.pim_audit.proofs.Words.{AreInOrder}
+use Rattle.pim_audit.proofs.Words.{◌∙◌, ◌++◌, List, map, sym, ap, subst, flat_map, event_seen, units_seen, announced_entries}
+use Rattle.pim_audit.proofs.Words.{EntriesAscend}
 use Rattle.pim_down.specs.declared.machines.event.Event.{Event}
 use Rattle.pim_audit.proofs.between.due_entries.Goals as goal
 
@@ -12,12 +12,12 @@ returns-clause-due g c =
       of_asked = c.in_ok-old.ensures;
       of_wanted = c.in_ok-new.ensures.meaning;
       are = c.in_ok-push_entries.ensures
-          ∙ ap (λ (l : List (Event g.row.F-Addr.Denot)). map (event_seen bytes_of) l ++ flat_map unit_entries (units_seen bytes_of c.deref.result.now)) c.new-entries.ensures.items
-          ∙ ap (flat_map unit_entries) (ap (units_seen bytes_of) c.deref.ensures.value ∙ c.in_ok-units.ensures);
+          ∙ ap (λ (l : List (Event g.row.F-Addr.Denot)). map (event_seen bytes_of) l ++ flat_map announced_entries (units_seen bytes_of c.deref.result.now)) c.new-entries.ensures.items
+          ∙ ap (flat_map announced_entries) (ap (units_seen bytes_of) c.deref.ensures.value ∙ c.in_ok-units.ensures);
     }
 
 pub returns-clause-order : goal.returns-clause-order
 returns-clause-order g c =
     let due = returns-clause-due g c in
-    subst AreInOrder (sym due.are)
+    subst EntriesAscend (sym due.are)
     (c.due_entries_are_in_order.ensures g.F.Family.family due.old due.new due.of_asked.normal due.of_wanted.normal)

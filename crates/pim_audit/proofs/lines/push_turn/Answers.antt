@@ -2,7 +2,7 @@ use Rattle.std.proofs.Common.{◌∙◌, ◌++◌, List, None, ap}
 use Rattle.std.specs.List.{flat_map}
 use Rattle.std.proofs.lemmas.Result.{on_ok_weaker}
 use Rattle.pim_audit.specs.declared.passing.Ended.{Ended}
-use Rattle.pim_audit.specs.Lines.{look_lines, effect_lines, heard_from}
+use Rattle.pim_audit.specs.Lines.{look_lines, effect_lines, origin_if_heard}
 use Rattle.pim_audit.specs.LinesSeen.{origin_seen, lines_seen}
 use Rattle.pim_audit.specs.Seen.{dues_seen}
 use Rattle.pim_audit.specs.TurnLines.{end_lines}
@@ -21,8 +21,8 @@ returns g c =
     (flat_map (end_lines bytes_of) report.ended.items)
     (look_lines c.args.moment None (dues_seen bytes_of report.before.ended.items) (dues_seen bytes_of report.before.late.items))
     (effect_lines c.args.moment origin report.effect)
-    (look_lines c.args.moment (heard_from origin report.effect) (dues_seen bytes_of report.after.ended.items) (dues_seen bytes_of report.after.late.items))
+    (look_lines c.args.moment (origin_if_heard origin report.effect) (dues_seen bytes_of report.after.ended.items) (dues_seen bytes_of report.after.late.items))
     (c.in_ok-push_ends.ensures ∙ ap (λ (ends : List (Ended g.row.F-Addr.Denot)). lines_seen bytes_of c.args.lines.now.items ++ flat_map (end_lines bytes_of) ends) c.deref.ensures.value)
     c.in_ok-push_look.ensures c.in_ok-push_effect.ensures
-    (last ∙ ap (λ o. lines_seen bytes_of c.push_effect.new.lines.items ++ look_lines c.args.moment o (dues_seen bytes_of report.after.ended.items) (dues_seen bytes_of report.after.late.items)) (c.heard_from-heard.ensures bytes_of)))
+    (last ∙ ap (λ o. lines_seen bytes_of c.push_effect.new.lines.items ++ look_lines c.args.moment o (dues_seen bytes_of report.after.ended.items) (dues_seen bytes_of report.after.late.items)) (c.origin_if_heard-heard.ensures bytes_of)))
     c.push_look-2.ensures

@@ -1,5 +1,5 @@
 use Rattle.pim_audit.proofs.Words.{◌≡◌, ◌∙◌, ◌++◌, List, length, map, sym, ap, filter, length-map, take_at, event_seen, Due}
-use Rattle.pim_audit.proofs.Words.{entries_of, marked, due_at, has_ended, becomes_late, due_seen, dues_seen}
+use Rattle.pim_audit.proofs.Words.{held_entries, marked, due_at, ends_reported, becomes_late, due_seen, dues_seen}
 use Rattle.pim_audit.proofs.Marking.{entries_kept}
 use Rattle.pim_audit.proofs.look.look_at.Goals as goal
 
@@ -21,7 +21,7 @@ returns-clause-finds g c =
       due = ap (dues_seen bytes_of) (take_at c.mark_late.new.due _ c.renew.new.due.len long) ∙ c.in_ok-mark_late.ensures.due ∙ ap (map mark) now;
       new = c.in_ok-new.ensures.new;
       ended = c.in_ok-new.ensures.ended
-          ∙ ap (λ (l : List (Due g.row.F-Addr.Denot)). dues_seen bytes_of l ++ filter (has_ended entries) old) c.new-ended.ensures.items;
+          ∙ ap (λ (l : List (Due g.row.F-Addr.Denot)). dues_seen bytes_of l ++ filter (ends_reported entries) old) c.new-ended.ensures.items;
       late = c.in_ok-mark_late.ensures.late
           ∙ ap (λ (l : List (Due g.row.F-Addr.Denot)). dues_seen bytes_of l ++ filter late (dues_seen bytes_of c.deref_mut.result.now)) c.new-late.ensures.items
           ∙ ap (filter late) now;
@@ -32,4 +32,4 @@ returns-clause-entries g c =
     let bytes_of = g.F.Family.bytes_of in
     let old = dues_seen bytes_of c.args.old.now in
     let entries = map (event_seen bytes_of) c.args.entries.now in
-    ap entries_of (returns-clause-finds g c).due ∙ entries_kept old c.args.moment c.args.grace entries
+    ap held_entries (returns-clause-finds g c).due ∙ entries_kept old c.args.moment c.args.grace entries
