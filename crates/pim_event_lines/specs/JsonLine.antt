@@ -259,13 +259,13 @@ module _ (family : AddressFamily) where
 -- ---- whole lines
 
 -- The moment and the time since 1970.
-abbrev pub time_json : Occurrence → List ℕ
-time_json event = codes "{\"ms\":" ++ decimal event.ms ++ codes ",\"epoch\":" ++ epoch_json event.epoch
+abbrev pub time_json : ℕ → Option ℕ → List ℕ
+time_json ms epoch = codes "{\"ms\":" ++ decimal ms ++ codes ",\"epoch\":" ++ epoch_json epoch
 
 -- The port, up to the name of the event.
-abbrev pub place_json : List (List ℕ) → Occurrence → List ℕ
-place_json names event = codes ",\"port\":" ++ port_json names event.port ++ codes ",\"event\":\""
+abbrev pub place_json : List (List ℕ) → Option ℕ → List ℕ
+place_json names port = codes ",\"port\":" ++ port_json names port ++ codes ",\"event\":\""
 
 -- The line of an event as JSON.
 abbrev pub json_line : AddressFamily → List (List ℕ) → Occurrence → List ℕ
-json_line family names event = time_json event ++ (place_json names event ++ what_json family event.what)
+json_line family names event = (time_json event.ms event.epoch ++ place_json names event.port) ++ what_json family event.what

@@ -268,9 +268,10 @@ port_text names None = []
 port_text names (Some port) = name_of names port ++ codes " "
 
 -- `MOMENT NAME `, or `MOMENT ` where there is no port.
-abbrev pub head_text : List (List ℕ) → TimeForm → Occurrence → List ℕ
-head_text names form event = moment_text form event.ms event.epoch ++ codes " " ++ port_text names event.port
+abbrev pub head_text : List (List ℕ) → TimeForm → ℕ → Option ℕ → Option ℕ → List ℕ
+head_text names form ms epoch port = moment_text form ms epoch ++ codes " " ++ port_text names port
 
 -- The line of an event: its moment, its port, and what happened.
 abbrev pub text_line : AddressFamily → List (List ℕ) → TimeForm → Occurrence → List ℕ
-text_line family names form event = head_text names form event ++ what_line family event.ms event.what
+text_line family names form event =
+    head_text names form event.ms event.epoch event.port ++ what_line family event.ms event.what

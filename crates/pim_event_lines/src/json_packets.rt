@@ -183,11 +183,11 @@ pub(crate) fn write_ignored_json<F: Family, W: Drain>(
     write_last_address::<F, W>(writer, entry.rp)
 }
 
-/// Writes the members of a restart of the port's own router.
-pub(crate) fn write_restart_json<W: Drain>(
-    writer: &mut W,
-    restart: OwnRestart,
-) -> Result<(), Failed>
+/// Writes the members of a restart of the port's own router, from the name of the event on.
+///
+/// # Errors
+/// The device failed: a prefix of them was written.
+pub fn write_restart_json<W: Drain>(writer: &mut W, restart: OwnRestart) -> Result<(), Failed>
     ensures bytes { AppendsAll (W.contents writer.old) (W.contents writer.new) result
         (restart_json restart) }
     ensures count { W.failures writer.new ≡ failures_after (W.failures writer.old) result }

@@ -18,15 +18,15 @@ use pim_addr::{Drain, Failed, Family, write_all};
 use pim_events::{EventWriter, Filter, Happening, TraceEvent, is_shown};
 use pim_lines::{Name, write_pieces};
 
-/// Writes the moment of an event and the time since 1970.
-fn write_time<F: Family, W: Drain>(writer: &mut W, event: &TraceEvent<'_, F>) -> Result<(), Failed>
+/// Writes a moment, in milliseconds, and its time in milliseconds since 1970, if it has one.
+fn write_time<W: Drain>(writer: &mut W, ms: u64, epoch: Option<u64>) -> Result<(), Failed>
     ensures bytes { AppendsAll (W.contents writer.old) (W.contents writer.new) result
-        (time_json (event_seen F.bytes_of event.now)) }
+        (time_json ms epoch) }
     ensures count { W.failures writer.new ≡ failures_after (W.failures writer.old) result }
 {
     let mut digits = Buffer::new();
-    let ms = digits.format(event.ms).as_bytes();
-    match event.epoch {
+    let ms = digits.format(ms).as_bytes();
+    match epoch {
         Some(epoch) => {
             let stamp = Stamp::seconds(epoch);
             let pieces = [b"{\"ms\":", ms, b",\"epoch\":\"", stamp.text(), b"\""];
@@ -39,23 +39,39 @@ fn write_time<F: Family, W: Drain>(writer: &mut W, event: &TraceEvent<'_, F>) ->
     }
 }
 
-/// Writes the name of the port of an event, up to the name of the event.
-fn write_place<F: Family, W: Drain>(
-    writer: &mut W,
-    names: &[Name],
-    event: &TraceEvent<'_, F>,
-) -> Result<(), Failed>
+/// Writes the name of a port, if one is given, up to the name of the event.
+fn write_place<W: Drain>(writer: &mut W, names: &[Name], port: Option<usize>) -> Result<(), Failed>
     ensures bytes { AppendsAll (W.contents writer.old) (W.contents writer.new) result
-        (place_json names.now (event_seen F.bytes_of event.now)) }
+        (place_json names.now port) }
     ensures count { W.failures writer.new ≡ failures_after (W.failures writer.old) result }
 {
-    match event.port {
+    match port {
         Some(port) => {
             let pieces = [b",\"port\":\"", name_of(names, port), b"\",\"event\":\""];
             write_pieces(writer, &pieces)
         }
         None => write_all(writer, b",\"port\":null,\"event\":\""),
     }
+}
+
+/// Writes the leading members of an object: a moment and a port, up to the name of the event. `ms`
+/// is the moment in milliseconds, and `epoch` its time in milliseconds since 1970, if it has one.
+///
+/// # Errors
+/// The device failed: a prefix of them was written.
+pub fn write_json_head<W: Drain>(
+    writer: &mut W,
+    names: &[Name],
+    ms: u64,
+    epoch: Option<u64>,
+    port: Option<usize>,
+) -> Result<(), Failed>
+    ensures bytes { AppendsAll (W.contents writer.old) (W.contents writer.new) result
+        (time_json ms epoch ++ place_json names.now port) }
+    ensures count { W.failures writer.new ≡ failures_after (W.failures writer.old) result }
+{
+    write_time(writer, ms, epoch)?;
+    write_place(writer, names, port)
 }
 
 /// Writes the name of an event, and its members after it.
@@ -77,21 +93,6 @@ fn write_what<F: Family, W: Drain>(writer: &mut W, what: &Happening<'_, F>) -> R
     }
 }
 
-/// Writes the port of an event, and what happened.
-fn write_rest<F: Family, W: Drain>(
-    writer: &mut W,
-    names: &[Name],
-    event: &TraceEvent<'_, F>,
-) -> Result<(), Failed>
-    ensures bytes { AppendsAll (W.contents writer.old) (W.contents writer.new) result
-        (place_json names.now (event_seen F.bytes_of event.now)
-        ++ what_json F.family (happening_seen F.bytes_of event.now.what)) }
-    ensures count { W.failures writer.new ≡ failures_after (W.failures writer.old) result }
-{
-    write_place::<F, W>(writer, names, event)?;
-    write_what::<F, W>(writer, &event.what)
-}
-
 /// Writes the line of an event.
 fn write_line<F: Family, W: Drain>(
     writer: &mut W,
@@ -102,8 +103,8 @@ fn write_line<F: Family, W: Drain>(
         (json_line F.family names.now (event_seen F.bytes_of event.now)) }
     ensures count { W.failures writer.new ≡ failures_after (W.failures writer.old) result }
 {
-    write_time::<F, W>(writer, event)?;
-    write_rest::<F, W>(writer, names, event)
+    write_json_head(writer, names, event.ms, event.epoch, event.port)?;
+    write_what::<F, W>(writer, &event.what)
 }
 
 /// Writes the line of each event that is shown, as JSON.

@@ -7,7 +7,8 @@
 //! depends on nothing but the event, the names of the ports and the form of moments. At Ok the
 //! whole line was written. If the device fails, a prefix of it was.
 //!
-//! Lines need no memory, since they are written in pieces. Callers: `pim_commands`.
+//! Lines need no memory, since they are written in pieces. Callers: `pim_commands`. The lines of
+//! an audit (`pim_audit_lines`) have the same heads, moments, machines and restarts.
 #![tactic(auto)]
 
 mod counts;
@@ -20,5 +21,9 @@ mod text_packets;
 mod text_printer;
 mod words;
 
-pub use json_printer::JsonPrinter;
-pub use text_printer::TextPrinter;
+pub use json_packets::write_restart_json;
+pub use json_printer::{JsonPrinter, write_json_head};
+pub use moments::Stamp;
+pub use text_packets::write_restart_line;
+pub use text_printer::{TextPrinter, write_text_head};
+pub use words::{ShortWhat, Word, kind_word, show_what};

@@ -14,7 +14,7 @@ const YEAR_10000: u64 = 253_402_300_800_000;
 
 /// The text of a moment. Contracts see the text.
 #[derive(Drop)]
-pub(crate) struct Stamp {
+pub struct Stamp {
     text: [u8; 24],
     length: usize,
 }
@@ -41,7 +41,7 @@ impl Stamp {
         Stamp { text, length }
     }
 
-    /// Seconds since 1970.
+    /// The seconds since 1970 of a time, in milliseconds since 1970.
     pub fn seconds(millis: u64) -> Stamp
         ensures { result ≡ seconds_text millis }
     {
@@ -82,7 +82,8 @@ impl Stamp {
         }
     }
 
-    /// The moment of an event.
+    /// A moment in this form: `ms` in milliseconds since the first record, and `epoch` in
+    /// milliseconds since 1970, if it has such a time.
     pub fn of(form: TimeForm, ms: u64, epoch: Option<u64>) -> Stamp
         ensures { result ≡ moment_text form ms epoch }
     {

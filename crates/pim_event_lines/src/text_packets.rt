@@ -251,10 +251,10 @@ pub(crate) fn write_ignored_line<F: Family, W: Drain>(
 }
 
 /// Writes the line of a restart of the port's own router.
-pub(crate) fn write_restart_line<W: Drain>(
-    writer: &mut W,
-    restart: OwnRestart,
-) -> Result<(), Failed>
+///
+/// # Errors
+/// The device failed: a prefix of the line was written.
+pub fn write_restart_line<W: Drain>(writer: &mut W, restart: OwnRestart) -> Result<(), Failed>
     ensures bytes { AppendsAll (W.contents writer.old) (W.contents writer.new) result
         (restart_line restart) }
     ensures count { W.failures writer.new ≡ failures_after (W.failures writer.old) result }

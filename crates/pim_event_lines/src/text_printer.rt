@@ -18,19 +18,25 @@ use pim_events::{EventWriter, Filter, Happening, TraceEvent, is_shown};
 use pim_lines::{Name, write_pieces};
 use pim_time::TimeForm;
 
-/// Writes the moment of an event and the name of its port.
-fn write_head<F: Family, W: Drain>(
+/// Writes a moment and the name of a port, if one is given. `ms` is the moment in milliseconds,
+/// and `epoch` its time in milliseconds since 1970, if it has one.
+///
+/// # Errors
+/// The device failed: a prefix of them was written.
+pub fn write_text_head<W: Drain>(
     writer: &mut W,
     names: &[Name],
     form: TimeForm,
-    event: &TraceEvent<'_, F>,
+    ms: u64,
+    epoch: Option<u64>,
+    port: Option<usize>,
 ) -> Result<(), Failed>
     ensures bytes { AppendsAll (W.contents writer.old) (W.contents writer.new) result
-        (head_text names.now form (event_seen F.bytes_of event.now)) }
+        (head_text names.now form ms epoch port) }
     ensures count { W.failures writer.new ≡ failures_after (W.failures writer.old) result }
 {
-    let stamp = Stamp::of(form, event.ms, event.epoch);
-    match event.port {
+    let stamp = Stamp::of(form, ms, epoch);
+    match port {
         Some(port) => {
             let pieces = [stamp.text(), b" ", name_of(names, port), b" "];
             write_pieces(writer, &pieces)
@@ -76,7 +82,7 @@ fn write_line<F: Family, W: Drain>(
         (text_line F.family names.now form (event_seen F.bytes_of event.now)) }
     ensures count { W.failures writer.new ≡ failures_after (W.failures writer.old) result }
 {
-    write_head::<F, W>(writer, names, form, event)?;
+    write_text_head(writer, names, form, event.ms, event.epoch, event.port)?;
     write_what::<F, W>(writer, event.ms, &event.what)
 }
 

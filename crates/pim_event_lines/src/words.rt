@@ -177,7 +177,7 @@ pub(crate) fn bool_json(is: &bool) -> &[u8]
 
 /// A word.
 #[derive(Clone, Copy)]
-pub(crate) struct Word {
+pub struct Word {
     text: &'static [u8],
 }
 
@@ -191,7 +191,7 @@ impl Word {
 }
 
 /// The kind of a machine, in JSON.
-pub(crate) fn kind_word<F: Family>(what: What<F::Addr>) -> Word
+pub fn kind_word<F: Family>(what: What<F::Addr>) -> Word
     ensures { result.text.now ≡ kind_word (what_seen F.bytes_of what) }
 {
     match what {
@@ -203,7 +203,7 @@ pub(crate) fn kind_word<F: Family>(what: What<F::Addr>) -> Word
 
 /// The kind of a machine and its source, in text.
 #[derive(Drop)]
-pub(crate) struct ShortWhat {
+pub struct ShortWhat {
     /// `star`, `source` or `rpt`, and a space.
     kind: &'static [u8],
     /// The source, or nothing.
@@ -236,7 +236,7 @@ impl ShortWhat {
 }
 
 /// The kind of a machine and its source, in text.
-pub(crate) fn show_what<F: Family>(what: What<F::Addr>) -> ShortWhat
+pub fn show_what<F: Family>(what: What<F::Addr>) -> ShortWhat
     ensures kind { result.kind.now ≡ kind_of (what_seen F.bytes_of what) }
     ensures source { result.source ++ result.gap.now
         ≡ source_words F.family (what_seen F.bytes_of what) }

@@ -1,5 +1,6 @@
 -- The events of a trace as contracts see them, with each address as its list of bytes.
-use Rattle.std.specs.Prelude.{ℕ, List, Option, option_map}
+use Rattle.std.specs.Prelude.{ℕ, ◌+◌, min, List, Option, option_map}
+use Rattle.pim_device.specs.Device.{top_count}
 use Rattle.pim_down.specs.Seen.{what_seen}
 use Rattle.pim_jp.specs.Message.{Message}
 use Rattle.pim_router.specs.declared.verdict.Verdict.{Verdict}
@@ -16,6 +17,11 @@ use Rattle.pim_events.specs.declared.event.OwnRestart.{OwnRestart}
 use Rattle.pim_events.specs.declared.event.Skipping.{Skipping}
 use Rattle.pim_events.specs.declared.event.TimeOut.{TimeOut}
 use Rattle.pim_events.specs.declared.event.TransitionEvent.{TransitionEvent}
+
+-- The time of a moment in milliseconds since 1970, where moment 0 has the time `start`. It stops at
+-- 2^64 - 1.
+abbrev pub epoch_at : Option ℕ → ℕ → Option ℕ
+epoch_at start ms = option_map (λ begin. min (begin + ms) top_count) start
 
 -- A packet with the verdict on it. `message` is there if it reads as a Join/Prune (RFC 7761,
 -- 4.9.5).

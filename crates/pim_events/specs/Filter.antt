@@ -147,11 +147,11 @@ abbrev pub is_epoch_before : ℕ → Option ℕ → Bool
 is_epoch_before time None = false
 is_epoch_before time (Some epoch) = nat_lt epoch time
 
--- The event has an earlier moment than the first that is wanted.
-abbrev pub is_early : Option Time → Occurrence → Bool
-is_early None event = false
-is_early (Some (Moment ms)) event = nat_lt event.ms ms
-is_early (Some (Epoch epoch)) event = is_epoch_before epoch event.epoch
+-- A moment and its time since 1970 are earlier than the first time that is shown.
+abbrev pub is_early : Option Time → ℕ → Option ℕ → Bool
+is_early None ms epoch = false
+is_early (Some (Moment first)) ms epoch = nat_lt ms first
+is_early (Some (Epoch first)) ms epoch = is_epoch_before first epoch
 
 -- ---- the filter
 
@@ -163,7 +163,7 @@ is_end other = false
 -- The event is shown. The end of the run always is.
 abbrev pub is_shown : Selection → Occurrence → Bool
 is_shown selection event = is_end event.what
-    || (not (is_early selection.from event)
+    || (not (is_early selection.from event.ms event.epoch)
     && ((selection.all || is_news event.what) && is_chosen selection.groups selection.sources event.what))
 
 -- The text of an event where it is shown, else nothing.

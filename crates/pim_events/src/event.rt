@@ -2,6 +2,9 @@
 //!
 //! `specs/Events.antt` shows each of them with its addresses as lists of bytes.
 
+ghost use Rattle.std.specs.Prelude.{◌≡◌};
+ghost use Rattle.pim_events.specs.Events.{epoch_at};
+
 use pim_addr::Family;
 use pim_capture::Why;
 use pim_down::{Machine, State, Timer, What};
@@ -21,6 +24,15 @@ pub struct TraceEvent<'a, F: Family> {
     pub port: Option<usize>,
     /// What happened.
     pub what: Happening<'a, F>,
+}
+
+/// The time of a moment, in milliseconds since 1970, where moment 0 has the time `start`. It stops
+/// at 2^64 - 1. `None` where moment 0 has no time.
+pub fn epoch_at(start: Option<u64>, ms: u64) -> Option<u64>
+    ensures { result ≡ epoch_at start ms }
+{
+    let start = start?;
+    Some(start.saturating_add(ms))
 }
 
 /// What happened.

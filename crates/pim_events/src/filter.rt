@@ -138,7 +138,7 @@ fn is_among<F: Family>(addresses: &[F::Addr], address: F::Addr) -> bool
 }
 
 /// Whether an address is one of these, or there are none.
-fn is_wanted<F: Family>(addresses: &[F::Addr], address: F::Addr) -> bool
+pub fn is_wanted<F: Family>(addresses: &[F::Addr], address: F::Addr) -> bool
     ensures { result ≡ is_wanted (map F.bytes_of addresses.now) (F.bytes_of address) }
 {
     addresses.len() == 0 || is_among::<F>(addresses, address)
@@ -254,14 +254,15 @@ fn is_epoch_before(time: u64, epoch: Option<u64>) -> bool
     }
 }
 
-/// Whether an event has an earlier moment than the first that is wanted.
-fn is_early<F: Family>(from: Option<Time>, event: &TraceEvent<'_, F>) -> bool
-    ensures { result ≡ is_early from (event_seen F.bytes_of event.now) }
+/// Whether a moment, in milliseconds, is earlier than the first time that is shown. `epoch` is the
+/// moment's time in milliseconds since 1970, if it has one.
+pub fn is_early(from: Option<Time>, ms: u64, epoch: Option<u64>) -> bool
+    ensures { result ≡ is_early from ms epoch }
 {
     match from {
         None => false,
-        Some(Time::Moment(ms)) => event.ms < ms,
-        Some(Time::Epoch(epoch)) => is_epoch_before(epoch, event.epoch),
+        Some(Time::Moment(first)) => ms < first,
+        Some(Time::Epoch(first)) => is_epoch_before(first, epoch),
     }
 }
 
@@ -283,7 +284,7 @@ pub fn is_shown<F: Family>(filter: &Filter<'_, F::Addr>, event: &TraceEvent<'_, 
 {
     let what = &event.what;
     is_end::<F>(what)
-        || !is_early::<F>(filter.from, event)
+        || !is_early(filter.from, event.ms, event.epoch)
             && (filter.all || is_news::<F>(what))
             && is_chosen::<F>(filter.groups, filter.sources, what)
 }

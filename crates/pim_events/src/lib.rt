@@ -2,7 +2,7 @@
 //!
 //! - `TraceEvent` is a value: what happened, when, on which port, and why.
 //! - `Filter` says which events a user wants to see; `is_shown` returns whether an event is one of
-//!   them. `specs/Filter.antt` defines it.
+//!   them. `specs/Filter.antt` defines it. An audit uses its parts `is_early` and `is_wanted`.
 //! - `EventWriter` takes events, and writes a text of each to a device.
 //!
 //! The crate does not compute events. It is separate from their lines, so that what computes them
@@ -16,8 +16,8 @@ mod parts;
 
 pub use event::{
     Cause, EndOfTrace, Fired, Greeting, Happening, Ignored, Judgment, OwnRestart, Skip, SkipCounts,
-    Skipping, TimeOut, TraceEvent, TransitionEvent,
+    Skipping, TimeOut, TraceEvent, TransitionEvent, epoch_at,
 };
 pub use event_writer::EventWriter;
-pub use filter::{Filter, is_shown};
+pub use filter::{Filter, is_early, is_shown, is_wanted};
 pub use parts::{pending_in, state_in};

@@ -17,6 +17,7 @@ use Rattle.pim_events.specs.declared.event.Cause.{Cause}
 use Rattle.pim_events.specs.declared.event.Skip.{Skip}
 use Rattle.pim_events.specs.declared.event.Skip.TheVariants.{NoPacket, OtherFamily}
 use Rattle.pim_events.specs.declared.event.SkipCounts.{SkipCounts}
+use Rattle.pim_events.specs.Events.{epoch_at}
 use Rattle.pim_transitions.specs.declared.transition.Transition.{Transition}
 use Rattle.pim_trace.specs.declared.ledger.Causes.{Causes}
 use Rattle.pim_trace.specs.declared.ledger.Sent.{Sent}
@@ -94,7 +95,7 @@ new_ledger ports = record {
 -- The time of a moment in milliseconds since 1970; none before the first record. It stops at
 -- 2^64 - 1.
 abbrev pub epoch_of : ℕ → Ledger → Option ℕ
-epoch_of ms ledger = option_map (λ begin. min (begin + ms) top_count) ledger.begin
+epoch_of ms ledger = epoch_at ledger.begin ms
 
 -- The packets that set the timers of a machine; no packet where nothing is remembered.
 abbrev pub causes_of : Key (List ℕ) → Ledger → Causes (List ℕ)

@@ -25,7 +25,7 @@ use crate::by_machine::ByMachine;
 use pim_addr::Family;
 use pim_capture::{Event, Why};
 use pim_down::{Key, Machine, Pending, State, Timer};
-use pim_events::{Cause, Skip, SkipCounts};
+use pim_events::{Cause, Skip, SkipCounts, epoch_at};
 use pim_transitions::Transition;
 use sorted_blocks::Place;
 use std::alloc::{AllocError, Global};
@@ -106,7 +106,7 @@ pub(crate) struct Sent {
 
 /// What a trace remembers.
 #[derive(Drop)]
-pub(crate) struct Ledger<F: Family> {
+pub struct Ledger<F: Family> {
     alloc: Global,
     /// How many records of each capture were taken.
     frames: Vec<u64>,
@@ -150,7 +150,7 @@ fn frame_by(why: Why, frame: u64) -> u64
 }
 
 /// The number of the last record of a file, after this one. The beginning of a file is no record.
-pub(crate) fn frame_after(event: &Event, frame: u64) -> u64
+pub fn frame_after(event: &Event, frame: u64) -> u64
     ensures { (bytes : List ℕ) → result ≡ frame_after (event_seen bytes event.now) frame }
 {
     match event {
@@ -190,7 +190,10 @@ fn counted(why: Skip, counts: SkipCounts) -> SkipCounts
 
 impl<F: Family> Ledger<F> {
     /// The ledger of a trace of this number of ports, before any record.
-    pub(crate) fn new(alloc: Global, ports: usize) -> Result<Self, AllocError>
+    ///
+    /// # Errors
+    /// Memory was refused.
+    pub fn new(alloc: Global, ports: usize) -> Result<Self, AllocError>
         ensures { IfOk result (λ ledger. ledger_seen F.bytes_of ledger ≡ new_ledger ports) }
     {
         Ok(Ledger {
@@ -224,7 +227,7 @@ impl<F: Family> Ledger<F> {
     }
 
     /// Takes a record of this capture with this number and time, in milliseconds since 1970.
-    pub(crate) fn open(&mut self, capture: usize, frame: u64, time: Option<u64>)
+    pub fn open(&mut self, capture: usize, frame: u64, time: Option<u64>)
         requires { capture < length self.old.frames.items }
         ensures { ledger_seen F.bytes_of self.new
             ≡ opened capture frame time (ledger_seen F.bytes_of self.old) }
@@ -236,7 +239,7 @@ impl<F: Family> Ledger<F> {
     }
 
     /// The number of the last record that was taken of the file of this capture that is read.
-    pub(crate) fn frame(&self, capture: usize) -> u64
+    pub fn frame(&self, capture: usize) -> u64
         requires { capture < length self.now.frames.items }
         ensures { result ≡ frame_of capture (ledger_seen F.bytes_of self.now) }
     {
@@ -253,7 +256,7 @@ impl<F: Family> Ledger<F> {
 
     /// Remembers a Hello that the port's own address sent. Returns the Generation ID of the one
     /// before it.
-    pub(crate) fn send_own(&mut self, port: usize, generation: Option<u32>) -> Option<Option<u32>>
+    pub fn send_own(&mut self, port: usize, generation: Option<u32>) -> Option<Option<u32>>
         requires { port < length self.old.own.items }
         ensures ledger { ledger_seen F.bytes_of self.new
             ≡ with_own port generation (ledger_seen F.bytes_of self.old) }
@@ -292,13 +295,19 @@ impl<F: Family> Ledger<F> {
             .unwrap_or(Sent { frame: 0, ms: 0 })
     }
 
+    /// The time of moment 0 in milliseconds since 1970: that of the first record that has one.
+    pub fn begin(&self) -> Option<u64>
+        ensures { result ≡ (ledger_seen F.bytes_of self.now).begin }
+    {
+        self.begin
+    }
+
     /// The time of this moment in milliseconds since 1970; `None` before the first record. It
     /// stops at 2^64 - 1.
-    pub(crate) fn epoch(&self, ms: u64) -> Option<u64>
+    pub fn epoch(&self, ms: u64) -> Option<u64>
         ensures { result ≡ epoch_of ms (ledger_seen F.bytes_of self.now) }
     {
-        let begin = self.begin?;
-        Some(begin.saturating_add(ms))
+        epoch_at(self.begin, ms)
     }
 
     /// The packets that set the timers of a machine that was sought; no packet where nothing is

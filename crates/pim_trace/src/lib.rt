@@ -6,12 +6,12 @@
 //! run has, what was written of them at the end, and what was written before a fault. At a fault of
 //! a capture, what is due at the moment of the last record has still happened.
 //!
-//! A ledger remembers what the router doesn't: which packet set each timer, and how far each
+//! A `Ledger` remembers what the router doesn't: which packet set each timer, and how far each
 //! capture was read. `specs/Ledger.antt` has it as functions, so that each of its changes is one
-//! line.
+//! line. An audit counts records by a ledger, too.
 //!
 //! Laws: the events show the state of each machine, from its state at the start to that at the
-//! end, and the cause of each timer that fires. Callers: `pim_commands`.
+//! end, and the cause of each timer that fires. Callers: `pim_commands`, `pim_audit`.
 #![tactic(auto)]
 
 mod by_machine;
@@ -25,4 +25,5 @@ mod trace;
 mod turns;
 mod writing_events;
 
+pub use ledger::{Ledger, frame_after};
 pub use trace::trace_into;

@@ -1,8 +1,8 @@
 use Rattle.pim_event_lines.proofs.Written.{both, stopped_first}
 use Rattle.pim_event_lines.proofs.json_printer.write_line.Goals as goal
 
-pub returns-in_err-write_time-clause-bytes : goal.returns-in_err-write_time-clause-bytes
-returns-in_err-write_time-clause-bytes g c = stopped_first _ _ c.from_residual.result _ _ c.from_residual.ensures.0 c.in_err-write_time.ensures.bytes
+pub returns-in_err-write_json_head-clause-bytes : goal.returns-in_err-write_json_head-clause-bytes
+returns-in_err-write_json_head-clause-bytes g c = stopped_first _ _ c.from_residual.result _ _ c.from_residual.ensures.0 c.in_err-write_json_head.ensures.bytes
 
 pub returns-clause-bytes : goal.returns-clause-bytes
-returns-clause-bytes g c = both _ _ _ c.write_rest.result _ _ c.in_ok-write_time.ensures.bytes c.write_rest.ensures.bytes
+returns-clause-bytes g c = both _ _ _ c.write_what.result _ _ c.in_ok-write_json_head.ensures.bytes c.write_what.ensures.bytes

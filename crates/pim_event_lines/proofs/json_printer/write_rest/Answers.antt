@@ -1,8 +1,0 @@
-use Rattle.pim_event_lines.proofs.Written.{both, stopped_first}
-use Rattle.pim_event_lines.proofs.json_printer.write_rest.Goals as goal
-
-pub returns-in_err-write_place-clause-bytes : goal.returns-in_err-write_place-clause-bytes
-returns-in_err-write_place-clause-bytes g c = stopped_first _ _ c.from_residual.result _ _ c.from_residual.ensures.0 c.in_err-write_place.ensures.bytes
-
-pub returns-clause-bytes : goal.returns-clause-bytes
-returns-clause-bytes g c = both _ _ _ c.write_what.result _ _ c.in_ok-write_place.ensures.bytes c.write_what.ensures.bytes
