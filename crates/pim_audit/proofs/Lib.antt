@@ -11,3 +11,6 @@ pub mod Quiet
 pub mod PassSteps
 pub mod ReadMoment
 pub mod AddedLines
+pub mod RunSteps
+pub mod RunEnds
+pub mod Progress

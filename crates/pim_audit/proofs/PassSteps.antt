@@ -1,10 +1,10 @@
 -- Time that passes from end to end.
-use Rattle.pim_audit.proofs.Words.{◌≡◌, ◌∙◌, ◌<◌, ◌≤◌, ◌*◌, ◌+◌, ◌-◌, ℕ, List, [], ◌∷◌, ◌++◌, Some, sym, ap, arith, append-nil}
+use Rattle.pim_audit.proofs.Words.{◌≡◌, ◌∙◌, ◌<◌, ◌≤◌, ◌*◌, ◌+◌, ◌-◌, ℕ, List, [], ◌∷◌, ◌++◌, Some, max, sym, ap, arith, append-nil}
 use Rattle.pim_audit.proofs.Words.{append_assoc, AddressFamily, TheEndedGoAtFirstTimeout, IsRouter, RouterState, Passed}
 use Rattle.pim_audit.proofs.Words.{AuditState, IsQuiet}
 use Rattle.pim_audit.specs.declared.passing.Ended.{Ended as EndedOf}
 use Rattle.pim_audit.specs.declared.passing.Passed.TheVariants.{Reached, Ended}
-use Rattle.pim_audit.specs.Steps.{PassesStep, PassesThrough, PassesAll}
+use Rattle.pim_audit.specs.Steps.{PassesStep, PassesThrough, PassesAll, ReachesBy}
 use Rattle.pim_audit.proofs.Quiet.{end_later}
 
 -- the time left to a moment, twice, and one more where a step is to come
@@ -49,3 +49,9 @@ module _ {A : Type 0} (family : AddressFamily) (bytes_of : A → List ℕ) (mome
   step_smaller law ended (Ended next) audit router after router' is step quiet later has =
       let ahead : router.machines.moment < next.moment = end_later law audit router is step quiet (Some next.moment) has.is_next in
       omega (arith, ahead, has.within, has.reached)
+
+  -- two steps reach the moment where the second one does
+  pub reaches_more : (passed : Passed A) (start router router' : RouterState) → start.machines.moment ≤ router.machines.moment
+      → router.machines.moment ≤ max start.machines.moment moment → ReachesBy moment router router' passed → ReachesBy moment start router' passed
+  reaches_more Reached start router router' later by reached = omega (arith, later, by, reached)
+  reaches_more (Ended ended) start router router' later by reached = omega (arith, later, by, reached)

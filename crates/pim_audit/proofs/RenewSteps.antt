@@ -1,9 +1,9 @@
 -- One step of a walk over what was due and what is due now.
-use Rattle.pim_audit.proofs.Words.{◌≡◌, ◌∙◌, ℕ, ◌+◌, length, arith, Bool, true, false, ◌&&◌, ◌||◌, not, cond, List, [], ◌∷◌, ◌++◌}
+use Rattle.pim_audit.proofs.Words.{◌≡◌, ◌∙◌, ℕ, Bool, true, false, ◌&&◌, ◌||◌, not, cond, List, [], ◌∷◌, ◌++◌}
 use Rattle.pim_audit.proofs.Words.{Option, None, Some, map, refl, sym, ap, ap₂, AllByRecursion, filter, find, list_any}
 use Rattle.pim_audit.proofs.Words.{IsStrictlySortedBy, is_eq, Less, Equal, Greater, append_assoc, Event, entry_cmp, same_entry}
 use Rattle.pim_audit.proofs.Words.{EntriesAscend, DueEntry, held_entries, or_new, due_at, is_newly_due, ends_reported}
-use Rattle.pim_audit.proofs.EntryOrder.{entry_total, greater_less, less_greater, all_after, all_after_equal}
+use Rattle.pim_audit.proofs.EntryOrder.{turned, all_after, all_after_equal}
 
 -- an entry that is held hides nothing of those after it
 due_past : (x : DueEntry) (xs : List DueEntry) (moment : ℕ) (es : List Event)
@@ -25,7 +25,7 @@ new_past x xs (e ∷ es) after =
 all_apart : (y : Event) (ds : List DueEntry) → AllByRecursion (λ e. entry_cmp y e ≡ Less) (held_entries ds)
     → AllByRecursion (λ (d : DueEntry). same_entry d.entry y ≡ false) ds
 all_apart y [] after = tt
-all_apart y (d ∷ ds) after = (ap is_eq (less_greater y d.entry after.0), all_apart y ds after.1)
+all_apart y (d ∷ ds) after = (ap is_eq (turned y d.entry Less after.0), all_apart y ds after.1)
 
 none_held : (y : Event) (ds : List DueEntry) → AllByRecursion (λ (d : DueEntry). same_entry d.entry y ≡ false) ds
     → find (λ (held : DueEntry). same_entry held.entry y) ds ≡ None
@@ -53,11 +53,11 @@ none_same x [] after = refl
 none_same x (e ∷ es) after = ap (λ b. b || list_any (λ f. same_entry x.entry f) es) (ap is_eq after.0) ∙ none_same x es after.1
 
 -- what is left to do of a look at this moment, where these were added so far
-pub record IsRenewing (moment so_far_new : ℕ) (so_far_due so_far_ended left : List DueEntry) (right : List Event) (all_new : ℕ)
+pub record IsRenewing (moment : ℕ) (so_far_new : List Event) (so_far_due so_far_ended left : List DueEntry) (right all_new : List Event)
     (all_due all_ended : List DueEntry) : Type 0 where
   pub left_up : EntriesAscend (held_entries left)
   pub right_up : EntriesAscend right
-  pub new : so_far_new + length (filter (is_newly_due left) right) ≡ all_new
+  pub new : so_far_new ++ filter (is_newly_due left) right ≡ all_new
   pub due : so_far_due ++ map (due_at left moment) right ≡ all_due
   pub ended : so_far_ended ++ filter (ends_reported right) left ≡ all_ended
 
@@ -65,8 +65,8 @@ pub record IsRenewing (moment so_far_new : ℕ) (so_far_due so_far_ended left : 
 one_more : {A : Type 0} (xs : List A) (x : A) (ys : List A) → (xs ++ x ∷ []) ++ ys ≡ xs ++ x ∷ ys
 one_more xs x ys = append_assoc xs (x ∷ []) ys
 
-module _ (moment new : ℕ) (due ended : List DueEntry) (x : DueEntry) (xs : List DueEntry) (y : Event) (ys : List Event)
-    (all_new : ℕ) (all_due all_ended : List DueEntry)
+module _ (moment : ℕ) (new : List Event) (due ended : List DueEntry) (x : DueEntry) (xs : List DueEntry) (y : Event) (ys all_new : List Event)
+    (all_due all_ended : List DueEntry)
     (is : IsRenewing moment new due ended (x ∷ xs) (y ∷ ys) all_new all_due all_ended) where
   xs_up : EntriesAscend (held_entries xs)
   unfolding IsStrictlySortedBy
@@ -92,7 +92,7 @@ module _ (moment new : ℕ) (due ended : List DueEntry) (x : DueEntry) (xs : Lis
       record {
         left_up = xs_up;
         right_up = is.right_up;
-        new = ap (λ (l : List Event). new + length l) (sym (new_past x xs (y ∷ ys) after)) ∙ is.new;
+        new = ap (λ (l : List Event). new ++ l) (sym (new_past x xs (y ∷ ys) after)) ∙ is.new;
         due = ap (λ (l : List DueEntry). due ++ l) (sym (due_past x xs moment (y ∷ ys) after)) ∙ is.due;
         ended = ap (λ (l : List DueEntry). l ++ filter (ends_reported (y ∷ ys)) xs) more
             ∙ append_assoc ended (filter (ends_reported []) (x ∷ [])) (filter (ends_reported (y ∷ ys)) xs)
@@ -109,15 +109,16 @@ module _ (moment new : ℕ) (due ended : List DueEntry) (x : DueEntry) (xs : Lis
       → IsRenewing moment new due' ended xs ys all_new all_due all_ended
   equal_renews due' equal more =
       let after : AllByRecursion (λ e. entry_cmp y e ≡ Less) (held_entries xs) = all_after_equal x.entry y (held_entries xs) equal after_x in
+      let before_ys : AllByRecursion (λ e. entry_cmp x.entry e ≡ Less) ys = all_after_equal y x.entry ys (turned x.entry y Equal equal) after_y in
       let same : same_entry x.entry y ≡ true = ap is_eq equal in
       record {
         left_up = xs_up;
         right_up = ys_up;
-        new = ap (λ (l : List Event). new + length l) (sym (new_past x xs ys (all_before ys equal after_y)))
-            ∙ ap (λ b. new + length (cond (not (b || list_any (λ held. same_entry held.entry y) xs)) (y ∷ filter (is_newly_due (x ∷ xs)) ys) (filter (is_newly_due (x ∷ xs)) ys))) (sym same)
+        new = ap (λ (l : List Event). new ++ l) (sym (new_past x xs ys before_ys))
+            ∙ ap (λ b. new ++ cond (not (b || list_any (λ held. same_entry held.entry y) xs)) (y ∷ filter (is_newly_due (x ∷ xs)) ys) (filter (is_newly_due (x ∷ xs)) ys)) (sym same)
             ∙ is.new;
         due = ap (λ (l : List DueEntry). l ++ map (due_at xs moment) ys) more ∙ one_more due (or_new moment y (Some x)) (map (due_at xs moment) ys)
-            ∙ ap (λ (l : List DueEntry). due ++ or_new moment y (Some x) ∷ l) (sym (due_past x xs moment ys (all_before ys equal after_y)))
+            ∙ ap (λ (l : List DueEntry). due ++ or_new moment y (Some x) ∷ l) (sym (due_past x xs moment ys before_ys))
             ∙ ap (λ b. due ++ or_new moment y (cond b (Some x) (find (λ (held : DueEntry). same_entry held.entry y) xs)) ∷ map (due_at (x ∷ xs) moment) ys) (sym same)
             ∙ is.due;
         ended = ap (λ (l : List DueEntry). ended ++ l) (sym (ended_past y ys xs (all_apart y xs after)))
@@ -130,23 +131,19 @@ module _ (moment new : ℕ) (due ended : List DueEntry) (x : DueEntry) (xs : Lis
       kept true l = refl
       kept false l = refl
 
-      all_before : (es : List Event) → entry_cmp x.entry y ≡ Equal → AllByRecursion (λ e. entry_cmp y e ≡ Less) es
-          → AllByRecursion (λ e. entry_cmp x.entry e ≡ Less) es
-      all_before [] equal after = tt
-      all_before (e ∷ es) equal after = (entry_total.congr x.entry y e equal ∙ after.0, all_before es equal after.1)
-
-  pub greater_renews : (due' : List DueEntry) → entry_cmp x.entry y ≡ Greater
-      → due' ≡ due ++ record { entry = y; since = moment; is_reported = false } ∷ []
-      → IsRenewing moment (new + 1) due' ended (x ∷ xs) ys all_new all_due all_ended
-  greater_renews due' greater more =
-      let less = greater_less x.entry y greater in
+  pub greater_renews : (due' : List DueEntry) (new' : List Event) → entry_cmp x.entry y ≡ Greater
+      → due' ≡ due ++ record { entry = y; since = moment; is_reported = false } ∷ [] → new' ≡ new ++ y ∷ []
+      → IsRenewing moment new' due' ended (x ∷ xs) ys all_new all_due all_ended
+  greater_renews due' new' greater more more_new =
+      let less = turned x.entry y Greater greater in
       let apart : AllByRecursion (λ (d : DueEntry). same_entry d.entry y ≡ false) (x ∷ xs) =
       all_apart y (x ∷ xs) (less, all_after y x.entry (held_entries xs) less after_x) in
       let begun : DueEntry = record { entry = y; since = moment; is_reported = false } in
       record {
         left_up = is.left_up;
         right_up = ys_up;
-        new = one_new ∙ ap (λ b. new + length (cond (not b) (y ∷ filter (is_newly_due (x ∷ xs)) ys) (filter (is_newly_due (x ∷ xs)) ys))) (sym (none_same_held y (x ∷ xs) apart))
+        new = ap (λ (l : List Event). l ++ filter (is_newly_due (x ∷ xs)) ys) more_new ∙ one_more new y (filter (is_newly_due (x ∷ xs)) ys)
+            ∙ ap (λ b. new ++ cond (not b) (y ∷ filter (is_newly_due (x ∷ xs)) ys) (filter (is_newly_due (x ∷ xs)) ys)) (sym (none_same_held y (x ∷ xs) apart))
             ∙ is.new;
         due = ap (λ (l : List DueEntry). l ++ map (due_at (x ∷ xs) moment) ys) more
             ∙ one_more due begun (map (due_at (x ∷ xs) moment) ys)
@@ -154,6 +151,3 @@ module _ (moment new : ℕ) (due ended : List DueEntry) (x : DueEntry) (xs : Lis
             ∙ is.due;
         ended = ap (λ (l : List DueEntry). ended ++ l) (sym (ended_past y ys (x ∷ xs) apart)) ∙ is.ended;
       }
-    where
-      one_new : new + 1 + length (filter (is_newly_due (x ∷ xs)) ys) ≡ new + length (y ∷ filter (is_newly_due (x ∷ xs)) ys)
-      one_new = omega arith

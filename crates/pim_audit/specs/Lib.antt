@@ -10,6 +10,8 @@ pub mod Steps
 pub mod Taking
 pub mod Turn
 pub mod Lines
-pub mod LinesSeen
 pub mod TurnLines
+pub mod Own
+pub mod Totals
+pub mod Run
 pub mod Seen

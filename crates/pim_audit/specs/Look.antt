@@ -1,5 +1,5 @@
 -- What a look finds: which entries of Join/Prune messages are due, and since when.
-use Rattle.std.specs.Prelude.{◌≡◌, ℕ, ◌+◌, nat_lt, Bool, false, ◌&&◌, ◌||◌, not, List, Option, None, Some, length, map}
+use Rattle.std.specs.Prelude.{◌≡◌, ℕ, ◌+◌, nat_lt, Bool, false, ◌&&◌, ◌||◌, not, List, Option, None, Some, map}
 use Rattle.std.specs.List.{filter, find, list_any}
 use Rattle.pim_down.specs.Hearing.{Event}
 use Rattle.pim_audit.specs.Order.{same_entry}
@@ -40,11 +40,11 @@ abbrev pub marked : ℕ → ℕ → DueEntry → DueEntry
 marked moment grace held =
     record { entry = held.entry; since = held.since; is_reported = held.is_reported || becomes_late moment grace held }
 
--- What a look finds: what is due, how many entries of it are new, which entries ended of those that
+-- What a look finds: what is due, which entries of it are new, which entries ended of those that
 -- were reported, and which become late.
 pub record Found : Type 0 where
   pub due : List DueEntry
-  pub new : ℕ
+  pub new : List Event
   pub ended : List DueEntry
   pub late : List DueEntry
 
@@ -53,6 +53,6 @@ pub record Found : Type 0 where
 pub record LookFinds (old : List DueEntry) (entries : List Event) (moment grace : ℕ) (found : Found)
     : Type 0 where
   pub due : found.due ≡ map (marked moment grace) (map (due_at old moment) entries)
-  pub new : found.new ≡ length (filter (is_newly_due old) entries)
+  pub new : found.new ≡ filter (is_newly_due old) entries
   pub ended : found.ended ≡ filter (ends_reported entries) old
   pub late : found.late ≡ filter (becomes_late moment grace) (map (due_at old moment) entries)

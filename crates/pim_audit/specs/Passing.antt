@@ -37,6 +37,7 @@ pub record PassesQuietly (moment : ℕ) (audit : AuditState) (router : RouterSta
   pub happens : HappensTo moment router router'
   pub passes : PassesTo moment audit.asked after.asked
   pub rest : after ≡ with_asked audit after.asked
+  pub reached : router'.machines.moment ≡ max router.machines.moment moment
 
 -- The upstream neighbour was a neighbour on some port, and is one on no port now.
 abbrev pub is_gone : List ℕ → RouterState → RouterState → Bool

@@ -18,9 +18,9 @@ module _ {A : Type 0} (bytes_of : A → List ℕ) where
   -- What a look found, with addresses as lists of bytes.
   abbrev pub look_seen : Look A → Found
   look_seen look =
-      record { due = dues_seen look.due.items; new = look.new; ended = dues_seen look.ended.items; late = dues_seen look.late.items }
+      record { due = dues_seen look.due.items; new = map (event_seen bytes_of) look.new.items; ended = dues_seen look.ended.items; late = dues_seen look.late.items }
 
   -- What a look found by its report, with what is due afterwards.
   abbrev pub report_seen : List DueEntry → Report A → Found
   report_seen due report =
-      record { due = due; new = report.new; ended = dues_seen report.ended.items; late = dues_seen report.late.items }
+      record { due = due; new = map (event_seen bytes_of) report.new.items; ended = dues_seen report.ended.items; late = dues_seen report.late.items }

@@ -1,5 +1,5 @@
 -- What one step of time did, by what it returns.
-use Rattle.std.specs.Prelude.{◌≡◌, ℕ, List, [], ◌∷◌, ◌++◌}
+use Rattle.std.specs.Prelude.{◌≡◌, ◌≤◌, ℕ, max, List, [], ◌∷◌, ◌++◌}
 use Rattle.pim_addr.specs.declared.family.AddressFamily.{AddressFamily}
 use Rattle.pim_router.specs.State.{RouterState}
 use Rattle.pim_audit.specs.declared.passing.Ended.{Ended as EndedOf}
@@ -16,6 +16,11 @@ PassesStep family bytes_of moment audit router Reached after router' =
     PassesQuietly moment audit router after router'
 PassesStep family bytes_of moment audit router (Ended ended) after router' =
     PassesToEnd family moment ended.moment audit router ended.is_gone (report_seen bytes_of after.due ended.report) after router'
+
+-- The moment to which a step of time leads a router: this moment, or an end that comes by it.
+abbrev pub ReachesBy : {A : Type 0} → ℕ → RouterState → RouterState → Passed A → Type 0
+ReachesBy moment router router' Reached = router'.machines.moment ≡ max router.machines.moment moment
+ReachesBy moment router router' (Ended ended) = router'.machines.moment ≤ max router.machines.moment moment
 
 -- Time passes from end to end, one step after the other, and then up to the moment.
 unfoldable pub PassesThrough : {A : Type 0} → AddressFamily → (A → List ℕ) → ℕ → List (EndedOf A) → AuditState → RouterState →

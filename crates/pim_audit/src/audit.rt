@@ -25,21 +25,21 @@ use pim_router::Router;
 use std::alloc::{AllocError, Global};
 use std::marker::Model;
 
-/// What a look reports. Both lists are in order.
+/// What a look reports. All lists are in order.
 #[derive(Drop)]
-pub struct Report<A> {
-    /// How many entries weren't due at the last look.
-    pub new: usize,
+pub(crate) struct Report<A> {
+    /// The entries that are due and weren't due at the last look.
+    pub(crate) new: Vec<Event<A>>,
     /// What is no longer due of the entries that were reported as late.
-    pub ended: Vec<Due<A>>,
+    pub(crate) ended: Vec<Due<A>>,
     /// The entries that become late.
-    pub late: Vec<Due<A>>,
+    pub(crate) late: Vec<Due<A>>,
 }
 
 /// What an upstream neighbour was asked for, and what is due toward it. It has a router of its own
 /// beside it, whose machines say what has to be asked.
 #[derive(Drop)]
-pub struct Audit<F: Family> {
+pub(crate) struct Audit<F: Family> {
     upstream: F::Addr,
     grace: u64,
     asked: Ports<F>,
@@ -91,7 +91,7 @@ impl<F: Family> Audit<F> {
     /// Begins the audit of what a router asks of this neighbour. An entry is late if it is due for
     /// more than `grace` milliseconds. At most `limit` records are kept of what is asked, 1 to
     /// 100,000.
-    pub fn new(alloc: Global, upstream: F::Addr, grace: u64, limit: usize) -> Self
+    pub(crate) fn new(alloc: Global, upstream: F::Addr, grace: u64, limit: usize) -> Self
         requires room { 1 ≤ limit }
         requires limit { limit ≤ 100000 }
         ensures { result ≡ record {
@@ -110,14 +110,21 @@ impl<F: Family> Audit<F> {
     }
 
     /// The upstream neighbour.
-    pub fn upstream(&self) -> F::Addr
+    pub(crate) fn upstream(&self) -> F::Addr
         ensures { F.bytes_of result ≡ self.now.upstream }
     {
         self.upstream
     }
 
+    /// The entries that were due at the last look, in order.
+    pub(crate) fn due(&self) -> &[Due<F::Addr>]
+        ensures { dues_seen F.bytes_of result.now ≡ self.now.due }
+    {
+        &self.due
+    }
+
     /// The present moment of what was asked, in milliseconds.
-    pub fn now(&self) -> u64
+    pub(crate) fn now(&self) -> u64
         ensures { result ≡ self.now.asked.moment }
     {
         self.asked.now()
@@ -153,7 +160,7 @@ impl<F: Family> Audit<F> {
     ///
     /// # Errors
     /// Memory was refused. Then nothing has changed.
-    pub fn look(
+    pub(crate) fn look(
         &mut self,
         alloc: Global,
         router: &Router<'_, F>,
@@ -176,7 +183,7 @@ impl<F: Family> Audit<F> {
 
     /// Whether the upstream neighbour hears this message of this source on the port: the message
     /// names it and is not its own, and the source is the router itself or a neighbour of it.
-    pub fn hears(
+    pub(crate) fn hears(
         &self,
         router: &Router<'_, F>,
         port: usize,
@@ -195,7 +202,11 @@ impl<F: Family> Audit<F> {
     ///
     /// # Errors
     /// As those of `Ports::hear`. Then nothing has changed.
-    pub fn hear(&mut self, message: &JpView<'_, F>, routes: &Routes<F>) -> Result<(), HearFault>
+    pub(crate) fn hear(
+        &mut self,
+        message: &JpView<'_, F>,
+        routes: &Routes<F>,
+    ) -> Result<(), HearFault>
         requires { self.old.asked.moment ≤ 10 ^ 15 }
         ensures ok { OnOk result (AskedBy message.now (rp_of F.family routes.now)
             self.old.asked self.new.asked) }
@@ -211,7 +222,7 @@ impl<F: Family> Audit<F> {
     }
 
     /// Lets time pass for what was asked, up to this moment, at most 10^15 milliseconds.
-    pub fn pass_to(&mut self, moment: u64)
+    pub(crate) fn pass_to(&mut self, moment: u64)
         requires { moment ≤ 10 ^ 15 }
         ensures passes { PassesTo moment self.old.asked self.new.asked }
         ensures rest { self.new ≡ with_asked self.old self.new.asked }
@@ -221,7 +232,7 @@ impl<F: Family> Audit<F> {
     }
 
     /// Forgets what the upstream neighbour was asked for: it restarted, or it is gone.
-    pub fn forget(&mut self, alloc: Global)
+    pub(crate) fn forget(&mut self, alloc: Global)
         requires { self.old.asked.moment ≤ 10 ^ 15 }
         ensures { self.new ≡ with_asked self.old (without_records self.old.asked) }
     {

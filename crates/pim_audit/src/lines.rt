@@ -3,11 +3,12 @@
 ghost use Rattle.std.specs.Prelude.{◌≡◌, ◌++◌, ℕ, List, map, OnOk};
 ghost use Rattle.std.specs.List.{flat_map};
 ghost use Rattle.std.specs.Option.{option_map};
-ghost use Rattle.pim_audit.specs.Lines.{ended_line, late_line, look_lines, effect_lines};
-ghost use Rattle.pim_audit.specs.Lines.{origin_if_heard};
-ghost use Rattle.pim_audit.specs.LinesSeen.{origin_seen, line_seen, lines_seen};
+ghost use Rattle.pim_down.specs.Seen.{event_seen};
+ghost use Rattle.pim_audit_events.specs.Seen.{origin_seen, line_seen, lines_seen};
+ghost use Rattle.pim_audit.specs.Lines.{ended_line, due_line, late_line, effect_lines};
+ghost use Rattle.pim_audit.specs.Lines.{restart_lines, message_lines, origin_if_heard};
 ghost use Rattle.pim_audit.specs.Seen.{due_seen, dues_seen};
-ghost use Rattle.pim_audit.specs.TurnLines.{end_lines, turn_lines};
+ghost use Rattle.pim_audit.specs.TurnLines.{report_lines, end_lines, turn_lines};
 
 use crate::audit::Report;
 use crate::due::Due;
@@ -15,74 +16,10 @@ use crate::passing::Ended;
 use crate::taking::Effect;
 use crate::turn::TurnReport;
 use pim_addr::Family;
+use pim_audit_events::{AuditEvent, AuditLine, Loss, MessageOrigin};
 use pim_down::Event;
+use pim_events::OwnRestart;
 use std::alloc::AllocError;
-
-/// Why the upstream neighbour lost what it was asked.
-#[derive(Clone, Copy, Debug, PartialEq, Eq)]
-pub enum Loss {
-    /// It restarted: its Generation ID is another one.
-    Restarted,
-    /// It said goodbye.
-    Gone,
-    /// Its time is over.
-    TimedOut,
-}
-
-/// The record of a message.
-#[derive(Clone, Copy, Debug, PartialEq, Eq)]
-pub struct MessageOrigin<A> {
-    /// The port, counted from 0.
-    pub port: usize,
-    /// The number of the record in its capture, from 1.
-    pub frame: u64,
-    /// The IP source.
-    pub from: A,
-}
-
-/// What a line says. Times are in milliseconds.
-#[derive(Clone, Copy, Debug, PartialEq, Eq)]
-pub enum AuditEvent<A> {
-    /// An entry is late: it has been due since this moment.
-    Late {
-        /// The entry.
-        entry: Event<A>,
-        /// Since when it is due.
-        since: u64,
-    },
-    /// A late entry was sent.
-    Sent {
-        /// The entry.
-        entry: Event<A>,
-        /// For how long it was due.
-        after: u64,
-    },
-    /// A late entry is no longer due.
-    Dropped {
-        /// The entry.
-        entry: Event<A>,
-        /// For how long it was due.
-        after: u64,
-    },
-    /// The upstream neighbour lost what it was asked.
-    Lost(Loss),
-    /// The upstream neighbour has no room for a message, which needs this many records.
-    Full {
-        /// The number of records.
-        needed: usize,
-    },
-}
-
-/// A line of an audit.
-#[derive(Clone, Copy, Debug, PartialEq, Eq)]
-pub struct AuditLine<A> {
-    /// The moment, in milliseconds.
-    pub moment: u64,
-    /// The record that it is about; `None` if it is about none.
-    pub origin: Option<MessageOrigin<A>>,
-    /// What it says.
-    pub said: AuditEvent<A>,
-}
 
 /// The line of an entry that ended: a message of this origin sent it, or else it is no longer due.
 fn ended_line<F: Family>(
@@ -124,6 +61,26 @@ fn push_ended<F: Family>(
     Ok(())
 }
 
+/// Adds the line of each entry that became due.
+fn push_due<F: Family>(
+    lines: &mut Vec<AuditLine<F::Addr>>,
+    moment: u64,
+    entries: &[Event<F::Addr>],
+) -> Result<(), AllocError>
+    ensures { OnOk result (lines_seen F.bytes_of lines.new.items
+        ≡ lines_seen F.bytes_of lines.old.items
+        ++ map (due_line moment) (map (event_seen F.bytes_of) entries.now)) }
+{
+    for &entry in entries {
+        lines.push(AuditLine {
+            moment,
+            origin: None,
+            said: AuditEvent::Due(entry),
+        })?;
+    }
+    Ok(())
+}
+
 /// Adds the line of each entry that became late.
 fn push_late<F: Family>(
     lines: &mut Vec<AuditLine<F::Addr>>,
@@ -146,8 +103,8 @@ fn push_late<F: Family>(
     Ok(())
 }
 
-/// Adds the lines of a look: what ended, and then what became late.
-fn push_look<F: Family>(
+/// Adds the lines of a look: what ended, what became due, and what became late.
+pub(crate) fn push_look<F: Family>(
     lines: &mut Vec<AuditLine<F::Addr>>,
     moment: u64,
     origin: Option<MessageOrigin<F::Addr>>,
@@ -155,11 +112,11 @@ fn push_look<F: Family>(
 ) -> Result<(), AllocError>
     ensures { OnOk result (lines_seen F.bytes_of lines.new.items
         ≡ lines_seen F.bytes_of lines.old.items
-        ++ look_lines moment (option_map (origin_seen F.bytes_of) origin)
-        (dues_seen F.bytes_of report.now.ended.items)
-        (dues_seen F.bytes_of report.now.late.items)) }
+        ++ report_lines F.bytes_of moment (option_map (origin_seen F.bytes_of) origin)
+        report.now) }
 {
     push_ended::<F>(lines, moment, origin, &report.ended)?;
+    push_due::<F>(lines, moment, &report.new)?;
     push_late::<F>(lines, moment, &report.late)
 }
 
@@ -182,7 +139,10 @@ fn push_end<F: Family>(
 }
 
 /// Adds the lines of the ends on the way to a moment.
-pub fn push_ends<F: Family>(
+///
+/// # Errors
+/// Memory was refused: some first lines were added.
+pub(crate) fn push_ends<F: Family>(
     lines: &mut Vec<AuditLine<F::Addr>>,
     ends: &[Ended<F::Addr>],
 ) -> Result<(), AllocError>
@@ -199,12 +159,12 @@ pub fn push_ends<F: Family>(
 fn push_effect<F: Family>(
     lines: &mut Vec<AuditLine<F::Addr>>,
     moment: u64,
-    origin: MessageOrigin<F::Addr>,
+    origin: Option<MessageOrigin<F::Addr>>,
     effect: Effect,
 ) -> Result<(), AllocError>
     ensures { OnOk result (lines_seen F.bytes_of lines.new.items
         ≡ lines_seen F.bytes_of lines.old.items
-        ++ effect_lines moment (origin_seen F.bytes_of origin) effect) }
+        ++ effect_lines moment (option_map (origin_seen F.bytes_of) origin) effect) }
 {
     let said = match effect {
         Effect::Unchanged | Effect::Heard => return Ok(()),
@@ -214,40 +174,69 @@ fn push_effect<F: Family>(
     };
     lines.push(AuditLine {
         moment,
-        origin: Some(origin),
+        origin,
         said,
     })?;
     Ok(())
 }
 
+/// Adds the line of what a message did, and that of a restart of the router itself.
+fn push_message<F: Family>(
+    lines: &mut Vec<AuditLine<F::Addr>>,
+    moment: u64,
+    origin: Option<MessageOrigin<F::Addr>>,
+    effect: Effect,
+    restart: Option<OwnRestart>,
+) -> Result<(), AllocError>
+    ensures { OnOk result (lines_seen F.bytes_of lines.new.items
+        ≡ lines_seen F.bytes_of lines.old.items
+        ++ message_lines moment (option_map (origin_seen F.bytes_of) origin) effect restart) }
+{
+    push_effect::<F>(lines, moment, origin, effect)?;
+    if let Some(restart) = restart {
+        lines.push(AuditLine {
+            moment,
+            origin,
+            said: AuditEvent::Restarted(restart),
+        })?;
+    }
+    Ok(())
+}
+
 /// The origin of a message, if it was heard.
-fn origin_if_heard<A: Copy>(origin: MessageOrigin<A>, effect: Effect) -> Option<MessageOrigin<A>>
+fn origin_if_heard<A: Copy>(
+    origin: Option<MessageOrigin<A>>,
+    effect: Effect,
+) -> Option<MessageOrigin<A>>
     ensures { (bytes_of : A → List ℕ) → option_map (origin_seen bytes_of) result
-        ≡ origin_if_heard (origin_seen bytes_of origin) effect }
+        ≡ origin_if_heard (option_map (origin_seen bytes_of) origin) effect }
 {
     match effect {
-        Effect::Heard => Some(origin),
+        Effect::Heard => origin,
         _ => None,
     }
 }
 
-/// Adds the lines of a turn at this moment, in the order of what happens.
+/// Adds the lines of a turn at this moment, in the order of what happens. `restart` is a restart of
+/// the router itself, of which the message says.
 ///
 /// # Errors
 /// Memory was refused: some first lines were added.
-pub fn push_turn<F: Family>(
+pub(crate) fn push_turn<F: Family>(
     lines: &mut Vec<AuditLine<F::Addr>>,
     moment: u64,
-    origin: MessageOrigin<F::Addr>,
+    origin: Option<MessageOrigin<F::Addr>>,
+    restart: Option<OwnRestart>,
     report: &TurnReport<F::Addr>,
 ) -> Result<(), AllocError>
     ensures { OnOk result (lines_seen F.bytes_of lines.new.items
         ≡ lines_seen F.bytes_of lines.old.items
-        ++ turn_lines F.bytes_of moment (origin_seen F.bytes_of origin) report.now) }
+        ++ turn_lines F.bytes_of moment (option_map (origin_seen F.bytes_of) origin) restart
+        report.now) }
 {
     push_ends::<F>(lines, &report.ended)?;
     push_look::<F>(lines, moment, None, &report.before)?;
-    push_effect::<F>(lines, moment, origin, report.effect)?;
+    push_message::<F>(lines, moment, origin, report.effect, restart)?;
     let heard = origin_if_heard(origin, report.effect);
     push_look::<F>(lines, moment, heard, &report.after)
 }

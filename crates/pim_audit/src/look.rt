@@ -18,8 +18,8 @@ use std::alloc::{AllocError, Global};
 pub(crate) struct Look<A> {
     /// What is due now.
     pub(crate) due: Vec<Due<A>>,
-    /// How many entries of it weren't due at the last look.
-    pub(crate) new: usize,
+    /// The entries of it that weren't due at the last look.
+    pub(crate) new: Vec<Event<A>>,
     /// What is no longer due of the entries that were reported as late.
     pub(crate) ended: Vec<Due<A>>,
     /// The entries that become late: they are now due for more than the grace.
@@ -46,9 +46,10 @@ pub(crate) fn look_at<F: Family>(
         ≡ map (event_seen F.bytes_of) entries.now) }
 {
     let mut due = Vec::new(alloc);
+    let mut new = Vec::new(alloc);
     let mut ended = Vec::new(alloc);
     let mut late = Vec::new(alloc);
-    let new = renew::<F>(old, entries, moment, &mut due, &mut ended)?;
+    renew::<F>(old, entries, moment, &mut due, &mut new, &mut ended)?;
     mark_late::<F>(&mut due, moment, grace, &mut late)?;
     Ok(Look {
         due,

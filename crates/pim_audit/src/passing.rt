@@ -5,7 +5,7 @@ ghost use Rattle.pim_hello.specs.Neighbours.{sooner};
 ghost use Rattle.pim_router.specs.State.{setup_of};
 ghost use Rattle.pim_audit.specs.Passing.{HappensTo, IsNextEnd, IsQuiet};
 ghost use Rattle.pim_audit.specs.Seen.{report_seen};
-ghost use Rattle.pim_audit.specs.Steps.{PassesStep, PassesAll};
+ghost use Rattle.pim_audit.specs.Steps.{PassesStep, PassesAll, ReachesBy};
 
 use crate::audit::{Audit, Report, has_neighbour};
 use pim_addr::Family;
@@ -24,13 +24,13 @@ enum Passed<A> {
 
 /// An end of a time, and the look that followed.
 #[derive(Drop)]
-pub struct Ended<A> {
+pub(crate) struct Ended<A> {
     /// Its moment, in milliseconds.
-    pub moment: u64,
+    pub(crate) moment: u64,
     /// Whether the upstream neighbour is gone, and so forgot what it was asked.
-    pub is_gone: bool,
+    pub(crate) is_gone: bool,
     /// What the look reports.
-    pub report: Report<A>,
+    pub(crate) report: Report<A>,
 }
 
 /// The sooner of two moments; `None` is never.
@@ -85,6 +85,7 @@ fn pass<F: Family>(
     ensures passed { IfOk result (λ passed. PassesStep F.family F.bytes_of moment
         audit.old router.old passed audit.new router.new) }
     ensures quiet { IfOk result (λ _. IsQuiet audit.new router.new) }
+    ensures reached { IfOk result (λ passed. ReachesBy moment router.old router.new passed) }
     ensures later { router.old.machines.moment ≤ router.new.machines.moment }
     ensures present { router.new.machines.moment ≤ 10 ^ 15 }
     ensures step { audit.new.asked.moment ≡ router.new.machines.moment }
@@ -119,7 +120,7 @@ fn pass<F: Family>(
 ///
 /// # Errors
 /// Memory was refused: time has passed up to some moment, and `ended` has some first ends.
-pub fn pass_time<F: Family>(
+pub(crate) fn pass_time<F: Family>(
     alloc: Global,
     audit: &mut Audit<F>,
     router: &mut Router<'_, F>,
@@ -132,7 +133,8 @@ pub fn pass_time<F: Family>(
     ensures passed { OnOk result (PassesAll F.family F.bytes_of moment ended.old.items
         audit.old router.old ended.new.items audit.new router.new) }
     ensures step { audit.new.asked.moment ≡ router.new.machines.moment }
-    ensures present { OnOk result (router.new.machines.moment ≤ 10 ^ 15) }
+    ensures reached { OnOk result
+        (router.new.machines.moment ≡ max router.old.machines.moment moment) }
     ensures setup { setup_of router.new ≡ setup_of router.old }
 {
     the_ended_go_at_first_timeout();

@@ -1,6 +1,6 @@
 //! What is due at a look, and what is no longer.
 
-ghost use Rattle.std.specs.Prelude.{◌≡◌, ◌++◌, ◌∷◌, [], ℕ, length, map, OnOk, IfOk};
+ghost use Rattle.std.specs.Prelude.{◌≡◌, ◌++◌, ◌∷◌, [], map, OnOk};
 ghost use Rattle.std.specs.List.{filter};
 ghost use Rattle.pim_down.specs.Seen.{event_seen};
 ghost use Rattle.pim_audit.specs.Look.{due_at, is_newly_due, ends_reported, held_entries};
@@ -44,30 +44,52 @@ fn push_all_ended<F: Family>(
     Ok(())
 }
 
-/// Adds these entries as due since this moment.
+/// Adds an entry as due since this moment, and as new.
+fn push_new<F: Family>(
+    due: &mut Vec<Due<F::Addr>>,
+    new: &mut Vec<Event<F::Addr>>,
+    entry: Event<F::Addr>,
+    moment: u64,
+) -> Result<(), AllocError>
+    ensures due { OnOk result (dues_seen F.bytes_of due.new.items
+        ≡ dues_seen F.bytes_of due.old.items
+        ++ due_at [] moment (event_seen F.bytes_of entry) ∷ []) }
+    ensures new { OnOk result (map (event_seen F.bytes_of) new.new.items
+        ≡ map (event_seen F.bytes_of) new.old.items ++ event_seen F.bytes_of entry ∷ []) }
+{
+    due.push(Due {
+        entry,
+        since: moment,
+        is_reported: false,
+    })?;
+    new.push(entry)?;
+    Ok(())
+}
+
+/// Adds these entries as due since this moment, and as new.
 fn push_all_new<F: Family>(
     due: &mut Vec<Due<F::Addr>>,
+    new: &mut Vec<Event<F::Addr>>,
     entries: &[Event<F::Addr>],
     moment: u64,
 ) -> Result<(), AllocError>
-    ensures { OnOk result (dues_seen F.bytes_of due.new.items
+    ensures due { OnOk result (dues_seen F.bytes_of due.new.items
         ≡ dues_seen F.bytes_of due.old.items
         ++ map (due_at [] moment) (map (event_seen F.bytes_of) entries.now)) }
+    ensures new { OnOk result (map (event_seen F.bytes_of) new.new.items
+        ≡ map (event_seen F.bytes_of) new.old.items
+        ++ map (event_seen F.bytes_of) entries.now) }
 {
     for &entry in entries {
-        due.push(Due {
-            entry,
-            since: moment,
-            is_reported: false,
-        })?;
+        push_new::<F>(due, new, entry, moment)?;
     }
     Ok(())
 }
 
 /// Renews what is due at this moment, in milliseconds: `entries` are due now, and `old` were due at
 /// the last look. Adds to `due` each entry of now, in order: one that was due before is as it was,
-/// another one is due since this moment. Adds to `ended` what is no longer due of those that were
-/// reported as late, in order. Returns how many entries are new.
+/// another one is due since this moment. Adds the latter to `new`, and to `ended` what is no longer
+/// due of those that were reported as late, both in order.
 ///
 /// # Errors
 /// Memory was refused.
@@ -76,13 +98,15 @@ pub(crate) fn renew<F: Family>(
     entries: &[Event<F::Addr>],
     moment: u64,
     due: &mut Vec<Due<F::Addr>>,
+    new: &mut Vec<Event<F::Addr>>,
     ended: &mut Vec<Due<F::Addr>>,
-) -> Result<usize, AllocError>
+) -> Result<(), AllocError>
     requires old { EntriesAscend (held_entries (dues_seen F.bytes_of old.now)) }
     requires entries { EntriesAscend (map (event_seen F.bytes_of) entries.now) }
-    ensures new { IfOk result (λ new. new
-        ≡ length (filter (is_newly_due (dues_seen F.bytes_of old.now))
-        (map (event_seen F.bytes_of) entries.now))) }
+    ensures new { OnOk result (map (event_seen F.bytes_of) new.new.items
+        ≡ map (event_seen F.bytes_of) new.old.items
+        ++ filter (is_newly_due (dues_seen F.bytes_of old.now))
+        (map (event_seen F.bytes_of) entries.now)) }
     ensures due { OnOk result (dues_seen F.bytes_of due.new.items
         ≡ dues_seen F.bytes_of due.old.items
         ++ map (due_at (dues_seen F.bytes_of old.now) moment)
@@ -93,7 +117,6 @@ pub(crate) fn renew<F: Family>(
         (dues_seen F.bytes_of old.now)) }
 {
     let (mut left, mut right) = (old, entries);
-    let mut new = 0;
     while let Some((held, left_behind)) = left.split_first() {
         let Some((entry, right_behind)) = right.split_first() else {
             break;
@@ -113,17 +136,11 @@ pub(crate) fn renew<F: Family>(
                 right = right_behind;
             }
             Ordering::Greater => {
-                due.push(Due {
-                    entry: *entry,
-                    since: moment,
-                    is_reported: false,
-                })?;
+                push_new::<F>(due, new, *entry, moment)?;
                 right = right_behind;
-                new += 1;
             }
         }
     }
     push_all_ended::<F>(ended, left)?;
-    push_all_new::<F>(due, right, moment)?;
-    Ok(new + right.len())
+    push_all_new::<F>(due, new, right, moment)
 }

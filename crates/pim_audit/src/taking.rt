@@ -17,7 +17,7 @@ use std::alloc::{AllocError, Global};
 
 /// What a message does to what the upstream neighbour was asked for.
 #[derive(Clone, Copy, Debug, PartialEq, Eq)]
-pub enum Effect {
+pub(crate) enum Effect {
     /// Nothing.
     Unchanged,
     /// The neighbour heard a Join/Prune message.
@@ -82,7 +82,7 @@ fn hear_or_refuse<F: Family>(
 ///
 /// # Errors
 /// Memory was refused.
-pub fn take<F: Family>(
+pub(crate) fn take<F: Family>(
     alloc: Global,
     audit: &mut Audit<F>,
     router: &mut Router<'_, F>,

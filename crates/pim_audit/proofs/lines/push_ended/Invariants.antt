@@ -1,7 +1,7 @@
 use Rattle.std.proofs.Common.{◌≡◌, ◌++◌, map, drop}
 use Rattle.std.specs.Option.{option_map}
 use Rattle.pim_audit.specs.Lines.{ended_line}
-use Rattle.pim_audit.specs.LinesSeen.{origin_seen, lines_seen}
+use Rattle.pim_audit_events.specs.Seen.{origin_seen, lines_seen}
 use Rattle.pim_audit.specs.Seen.{dues_seen}
 use Rattle.pim_audit.proofs.lines.push_ended.Given as goal
 

@@ -1,6 +1,6 @@
 use Rattle.std.proofs.Common.{◌≡◌, ◌++◌, drop}
 use Rattle.std.specs.List.{flat_map}
-use Rattle.pim_audit.specs.LinesSeen.{lines_seen}
+use Rattle.pim_audit_events.specs.Seen.{lines_seen}
 use Rattle.pim_audit.specs.TurnLines.{end_lines}
 use Rattle.pim_audit.proofs.lines.push_ends.Given as goal
 

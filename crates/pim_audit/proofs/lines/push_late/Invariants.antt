@@ -1,6 +1,6 @@
 use Rattle.std.proofs.Common.{◌≡◌, ◌++◌, map, drop}
 use Rattle.pim_audit.specs.Lines.{late_line}
-use Rattle.pim_audit.specs.LinesSeen.{lines_seen}
+use Rattle.pim_audit_events.specs.Seen.{lines_seen}
 use Rattle.pim_audit.specs.Seen.{dues_seen}
 use Rattle.pim_audit.proofs.lines.push_late.Given as goal
 

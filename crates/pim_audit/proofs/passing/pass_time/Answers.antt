@@ -1,5 +1,6 @@
-use Rattle.pim_audit.proofs.Words.{◌∙◌, ◌<◌, sym, subst, Passed}
-use Rattle.pim_audit.proofs.PassSteps.{Leads, time_left, first_leads, next_leads, step_smaller}
+use Rattle.pim_audit.proofs.Words.{◌∙◌, ◌<◌, sym, subst, arith, Passed}
+use Rattle.pim_audit.specs.Steps.{ReachesBy}
+use Rattle.pim_audit.proofs.PassSteps.{Leads, time_left, first_leads, next_leads, step_smaller, reaches_more}
 use Rattle.pim_audit.proofs.passing.pass_time.Goals as goal
 
 pub loop-passed-init : goal.loop-passed-init
@@ -8,6 +9,8 @@ loop-passed-init g c = record {
       c.in_ok-passed.passed c.pass.new.audit c.pass.new.router c.in_ok-passed.ensures.passed;
   quiet = c.in_ok-passed.ensures.quiet;
   step = c.in_ok-passed.ensures.step;
+  by = c.in_ok-passed.ensures.reached;
+  later = c.in_ok-passed.ensures.later;
   present = c.in_ok-passed.ensures.present;
   setup = c.in_ok-passed.ensures.setup;
 }
@@ -24,12 +27,16 @@ pub loop-passed-preserved : goal.loop-passed-preserved
 loop-passed-preserved g c =
     let leads = subst (λ (p : Passed g.row.F-Addr.Denot). Leads g.F.Family.family g.F.Family.bytes_of c.args.moment c.args.ended.now.items c.args.audit.now
     c.args.router.now c.loop-passed.ended.items p c.loop-passed.audit c.loop-passed.router) c.in-Ended.is c.loop-passed.invariant.leads in
+    let by_end = subst (λ (p : Passed g.row.F-Addr.Denot). ReachesBy c.args.moment c.args.router.now c.loop-passed.router p) c.in-Ended.is c.loop-passed.invariant.by in
     record {
       leads = next_leads g.F.Family.family g.F.Family.bytes_of c.args.moment c.args.ended.now.items c.args.audit.now c.args.router.now
           c.loop-passed.ended.items c.push.new.self.items c.in-Ended.this c.in_ok-passed-2.passed c.loop-passed.audit c.loop-passed.router
           c.pass-in-Ended.new.audit c.pass-in-Ended.new.router leads c.in_ok-push.ensures.items c.in_ok-passed-2.ensures.passed;
       quiet = c.in_ok-passed-2.ensures.quiet;
       step = c.in_ok-passed-2.ensures.step;
+      by = reaches_more g.F.Family.family g.F.Family.bytes_of c.args.moment c.in_ok-passed-2.passed c.args.router.now c.loop-passed.router c.pass-in-Ended.new.router
+          c.loop-passed.invariant.later by_end c.in_ok-passed-2.ensures.reached;
+      later = omega (arith, c.loop-passed.invariant.later, c.in_ok-passed-2.ensures.later);
       present = c.in_ok-passed-2.ensures.present;
       setup = c.in_ok-passed-2.ensures.setup ∙ c.loop-passed.invariant.setup;
     }

@@ -1,4 +1,5 @@
 use Rattle.pim_audit.proofs.Words.{◌≡◌, ◌≤◌, setup_of, IsQuiet}
+use Rattle.pim_audit.specs.Steps.{ReachesBy}
 use Rattle.pim_audit.proofs.PassSteps.{Leads, time_left}
 use Rattle.pim_audit.proofs.passing.pass_time.Given as goal
 
@@ -8,6 +9,8 @@ invariant-loop-passed g l = record {
   leads : Leads g.F.Family.family g.F.Family.bytes_of l.moment l.fn.ended.items l.fn.audit l.fn.router l.ended.items l.passed l.audit l.router;
   quiet : IsQuiet l.audit l.router;
   step : l.audit.asked.moment ≡ l.router.machines.moment;
+  by : ReachesBy l.moment l.fn.router l.router l.passed;
+  later : l.fn.router.machines.moment ≤ l.router.machines.moment;
   present : l.router.machines.moment ≤ 1000000000000000;
   setup : setup_of l.router ≡ setup_of l.fn.router;
 }

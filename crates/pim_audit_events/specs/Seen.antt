@@ -2,11 +2,11 @@
 use Rattle.std.specs.Prelude.{ℕ, List, map}
 use Rattle.std.specs.Option.{option_map}
 use Rattle.pim_down.specs.Seen.{event_seen}
-use Rattle.pim_audit.specs.declared.lines.AuditEvent.{AuditEvent}
-use Rattle.pim_audit.specs.declared.lines.AuditEvent.TheVariants.{Late, Sent, Dropped, Lost, Full}
-use Rattle.pim_audit.specs.declared.lines.AuditLine.{AuditLine}
-use Rattle.pim_audit.specs.declared.lines.MessageOrigin.{MessageOrigin}
-use Rattle.pim_audit.specs.Lines.{Origin, Saying, late, sent, dropped, lost, full, Statement}
+use Rattle.pim_audit_events.specs.declared.line.AuditEvent.{AuditEvent}
+use Rattle.pim_audit_events.specs.declared.line.AuditEvent.TheVariants.{Due, Late, Sent, Dropped, Lost, Full, Restarted, End}
+use Rattle.pim_audit_events.specs.declared.line.AuditLine.{AuditLine}
+use Rattle.pim_audit_events.specs.declared.line.MessageOrigin.{MessageOrigin}
+use Rattle.pim_audit_events.specs.Lines.{Origin, Saying, due, late, sent, dropped, lost, full, restarted, ended, Statement}
 
 module _ {A : Type 0} (bytes_of : A → List ℕ) where
   -- The record of a message.
@@ -15,11 +15,14 @@ module _ {A : Type 0} (bytes_of : A → List ℕ) where
 
   -- What a line says.
   abbrev pub said_seen : AuditEvent A → Saying
+  said_seen (Due entry) = due (event_seen bytes_of entry)
   said_seen (Late entry since) = late (event_seen bytes_of entry) since
   said_seen (Sent entry after) = sent (event_seen bytes_of entry) after
   said_seen (Dropped entry after) = dropped (event_seen bytes_of entry) after
   said_seen (Lost loss) = lost loss
   said_seen (Full needed) = full needed
+  said_seen (Restarted restart) = restarted restart
+  said_seen (End totals) = ended totals
 
   -- A line.
   abbrev pub line_seen : AuditLine A → Statement

@@ -1,0 +1,4 @@
+pub mod Words
+pub mod Groups
+pub mod Nothing
+pub mod Demands

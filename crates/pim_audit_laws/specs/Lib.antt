@@ -1,0 +1,3 @@
+-- The definitions of `pim_audit_laws`.
+pub mod Asked
+pub mod Laws

@@ -1,0 +1,4 @@
+pub mod Written
+pub mod Nested
+pub mod TextPieces
+pub mod JsonPieces

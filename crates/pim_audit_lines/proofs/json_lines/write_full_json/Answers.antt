@@ -1,0 +1,8 @@
+use Rattle.pim_audit_lines.proofs.Written.{both, stopped_first}
+use Rattle.pim_audit_lines.proofs.json_lines.write_full_json.Goals as goal
+
+pub returns-in_err-write_named-clause-bytes : goal.returns-in_err-write_named-clause-bytes
+returns-in_err-write_named-clause-bytes g c = stopped_first _ _ c.from_residual.result _ _ c.from_residual.ensures.0 c.in_err-write_named.ensures.bytes
+
+pub returns-clause-bytes : goal.returns-clause-bytes
+returns-clause-bytes g c = both _ _ _ c.write_needed.result _ _ c.in_ok-write_named.ensures.bytes c.write_needed.ensures.bytes

@@ -1,0 +1,3 @@
+-- The definitions of `pim_audit_lines`.
+pub mod AuditText
+pub mod AuditJson
