@@ -61,6 +61,7 @@ module _ (a : App) (offered : IsOffered a) (words : List Text) (met : Text × Li
   has_numbers = record {
     limit = number 1 100000 (codes "limit") (codes "100000") offered.limit refl;
     after = number 0 1000000000 (codes "after") (codes "0") offered.after refl;
+    grace = number 0 1000000000 (codes "grace") (codes "3000") offered.grace refl;
     holdtime = number 99 65535 (codes "holdtime") (codes "210") offered.holdtime refl;
     budget = number 70 65000 (codes "budget") (codes "1460") offered.budget refl;
   }

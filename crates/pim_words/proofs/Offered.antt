@@ -4,13 +4,14 @@ use Rattle.pim_words.proofs.Words.{length, Option, None, Some, refl, sym, ap, su
 use Rattle.pim_words.proofs.Words.{IfOk, find, IfSome, IsSomeAnd, Bor, AllByRecursion, App, Row, Text, built, fault_of}
 use Rattle.pim_words.proofs.Words.{subcommand_of, answers_to, stop_after, Shape, argument_words, entered, label_of, names_of}
 use Rattle.pim_words.proofs.Words.{rows_at, length-map, both, AddressFamily, AnyAddress, CommandFault, Captures, More}
-use Rattle.pim_words.proofs.Words.{CommandKind, Check, Build, Replay, Trace, Same, Mirror, Emit, Change, Port, CommandPlan, V4}
-use Rattle.pim_words.proofs.Words.{V6, Session, Task, IsEarly, AreLabelledAfter, has_name, is_fresh, AreFurther, AreNames}
+use Rattle.pim_words.proofs.Words.{CommandKind, Check, Build, Replay, Trace, Audit, Same, Mirror, Emit, Change, Port, CommandPlan, V4}
+use Rattle.pim_words.proofs.Words.{V6, Session, Task, IsEarly, AreLabelledAfter, has_name, is_fresh, AreFurther, AreNames, HasGrace}
 use Rattle.pim_words.proofs.Words.{HasCause, IsBounded, IsLimited, IsWritable, IsInRange, IsPlanInRange, IsTaskOf, IsPlanOfTask}
 use Rattle.pim_words.proofs.Words.{IsPlanOf, Plans, port_words, AreCaptures, ArePorts, IsTask, IsWriting, IsGiven, IsOffered}
-use Rattle.pim_words.proofs.Words.{IsPlanFor, SameCaptures, SameTask, SameTracing, SameWriting, port_seen}
+use Rattle.pim_words.proofs.Words.{IsPlanFor, SameAuditing, SameCaptures, SameTask, SameTracing, SameWriting, port_seen}
 use Rattle.clap.proofs.OnLiterals.{clap_on_literals}
 use Rattle.pim_addr.specs.declared.family.AddressFamily.TheVariants.{Ipv4, Ipv6}
+use Rattle.pim_words.specs.declared.task.Auditing.{Auditing}
 use Rattle.pim_words.specs.declared.task.Tracing.{Tracing}
 use Rattle.pim_words.specs.declared.task.Task.TheVariants as task
 use Rattle.pim_words.specs.declared.task.Writing.{Writing}
@@ -30,10 +31,11 @@ whole = record {
   free = refl;
   known = (
     inr (Check, refl),
-    (inr (Build, refl), (inr (Replay, refl), (inr (Trace, refl), (inr (Same, refl), (inr (Mirror, refl), (inr (Emit, refl), (inr (Change, refl), (inl refl, tt)))))))),
+    (inr (Build, refl), (inr (Replay, refl), (inr (Trace, refl), (inr (Audit, refl), (inr (Same, refl), (inr (Mirror, refl), (inr (Emit, refl), (inr (Change, refl), (inl refl, tt))))))))),
   );
   limit = refl;
   after = refl;
+  grace = refl;
   holdtime = refl;
   budget = refl;
 }
@@ -97,6 +99,14 @@ task_in_range Trace rows (task.Trace captures tracing) is =
       (names.1, names.2),
       further_of Trace rows captures tracing.names.items is.1.ports,
     )
+task_in_range Audit rows (task.Audit captures auditing tracing) is =
+    let names = names_after Audit [] (port_words is.1.ports.links.is_any (words_of rows)) captures.ports.items tracing.names.items is.1.ports.labelled in (
+      (is.1.run.after.most, is.1.run.early),
+      (is.1.run.limit.least, is.1.run.limit.most),
+      is.2.grace.most,
+      (names.1, names.2),
+      further_of Audit rows captures tracing.names.items is.1.ports,
+    )
 task_in_range Same rows (task.Same captures writing) is = written_in_range Same rows captures writing (is.0.1, is.1)
 task_in_range Mirror rows (task.Mirror captures writing) is = written_in_range Mirror rows captures writing (is.0.1, is.1)
 task_in_range Emit rows (task.Emit captures writing) is = written_in_range Emit rows captures writing (is.0.1, is.1)
@@ -116,6 +126,9 @@ module _ {A : Type 0} (family : AddressFamily) (bytes_of : A → List ℕ) where
     subst (λ (n : ℕ). 70 ≤ n) (sym same.budget) is.1,
     subst (λ (n : ℕ). n ≤ 65000) (sym same.budget) is.2,
   )
+
+  same_grace : (typed : Auditing A) (asked : Auditing AnyAddress) → HasGrace asked → SameAuditing family bytes_of typed asked → HasGrace typed
+  same_grace typed asked is same = subst (λ (n : ℕ). n ≤ 1000000000) (sym same.grace) is
 
   same_names : (typed : Captures A) (asked : Captures AnyAddress) (how : Tracing A) (tracing : Tracing AnyAddress) → AreNames asked tracing → SameCaptures family bytes_of typed asked → SameTracing family bytes_of how tracing → AreNames typed how
   same_names typed asked how tracing are same shown = (
@@ -137,6 +150,13 @@ module _ {A : Type 0} (family : AddressFamily) (bytes_of : A → List ℕ) where
   same_in_range (task.Replay typed) (task.Replay captures) is same = (same_bounded typed captures is.0 same, same_limited typed captures is.1 same, same_further typed captures is.2 same)
   same_in_range (task.Trace typed how) (task.Trace captures tracing) is same =
       (same_bounded typed captures is.0 same.0, same_limited typed captures is.1 same.0, same_names typed captures how tracing is.2 same.0 same.1, same_further typed captures is.3 same.0)
+  same_in_range (task.Audit typed whom how) (task.Audit captures auditing tracing) is same = (
+    same_bounded typed captures is.0 same.0,
+    same_limited typed captures is.1 same.0,
+    same_grace whom auditing is.2 same.1,
+    same_names typed captures how tracing is.3 same.0 same.2,
+    same_further typed captures is.4 same.0,
+  )
   same_in_range (task.Same typed how) (task.Same captures writing) is same =
       (same_bounded typed captures is.0 same.0, same_limited typed captures is.1 same.0, same_writable how writing is.2 same.1, same_further typed captures is.3 same.0)
   same_in_range (task.Mirror typed how) (task.Mirror captures writing) is same =

@@ -1,6 +1,6 @@
 -- A fault behind what was read well, or memory.
 use Rattle.pim_words.proofs.Words.{◌≡◌, inl, inr, false, Option, None, Some, List, [], Result, Ok, Err, is_ok, is_err}
-use Rattle.pim_words.proofs.Words.{if◌then◌else◌, Row, Text, CommandFault, Memory, CommandKind, Trace, time_text}
+use Rattle.pim_words.proofs.Words.{if◌then◌else◌, Row, Text, CommandFault, Memory, CommandKind, time_text}
 use Rattle.pim_words.proofs.Words.{IsTimed, IsTimely, Links, IsFirstWrong, AreChosenLinks, AreWrongPorts, IsWrongRun}
 use Rattle.pim_words.proofs.Words.{IsWrongTrace, OrMemory, IsShown, IsWrongShown}
 use Rattle.pim_time.specs.declared.reading.Time.{Time}
@@ -35,12 +35,12 @@ module _ (command : CommandKind) (rows : List Row) where
   pub wrong_ports : (at : Option Time) (fault : CommandFault) → IsTimed (time_text rows) at → OrMemory (AreWrongPorts command rows) fault → OrMemory (IsWrongRun command rows) fault
   wrong_ports at fault timed is = or_more (AreWrongPorts command rows) (IsWrongRun command rows) (λ f e. inr (timely (time_text rows) at timed, e)) fault is
 
--- ---- the words of a trace
+-- ---- the words of a trace or an audit
 
-module _ (rows : List Row) (at : Option Time) (timed : IsTimed (time_text rows) at) where
-  pub wrong_shown : (fault : CommandFault) → OrMemory (IsWrongShown rows) fault → OrMemory (IsWrongTrace rows) fault
-  wrong_shown fault is = or_more (IsWrongShown rows) (IsWrongTrace rows) (λ f e. inr (timely (time_text rows) at timed, inl e)) fault is
+module _ (command : CommandKind) (rows : List Row) (at : Option Time) (timed : IsTimed (time_text rows) at) where
+  pub wrong_shown : (fault : CommandFault) → OrMemory (IsWrongShown rows) fault → OrMemory (IsWrongTrace command rows) fault
+  wrong_shown fault is = or_more (IsWrongShown rows) (IsWrongTrace command rows) (λ f e. inr (timely (time_text rows) at timed, inl e)) fault is
 
-  pub wrong_words : (shown : ShownEvents) (fault : CommandFault) → IsShown rows shown → OrMemory (AreWrongPorts Trace rows) fault → OrMemory (IsWrongTrace rows) fault
+  pub wrong_words : (shown : ShownEvents) (fault : CommandFault) → IsShown rows shown → OrMemory (AreWrongPorts command rows) fault → OrMemory (IsWrongTrace command rows) fault
   wrong_words shown fault are is =
-      or_more (AreWrongPorts Trace rows) (IsWrongTrace rows) (λ f e. inr (timely (time_text rows) at timed, inr ((shown, are), e))) fault is
+      or_more (AreWrongPorts command rows) (IsWrongTrace command rows) (λ f e. inr (timely (time_text rows) at timed, inr ((shown, are), e))) fault is

@@ -1,9 +1,10 @@
 -- Words that aren't read, behind options that are.
 use Rattle.pim_words.proofs.Words.{◌≡◌, inr, true, false, List, codes, Option, None, Some, IfSome, Row, Text, first_of}
-use Rattle.pim_words.proofs.Words.{AnyAddress, CommandFault, Memory, CommandKind, Replay, Trace, Same, Mirror, Emit}
+use Rattle.pim_words.proofs.Words.{AnyAddress, CommandFault, Memory, CommandKind, Replay, Trace, Audit, Same, Mirror, Emit}
 use Rattle.pim_words.proofs.Words.{Change, IsRead, are_both_given, has_two_ends, AreRead, ReadsAddressOption}
-use Rattle.pim_words.proofs.Words.{IsUnreadable, IsWrongRun, IsWrongRunOf, IsWrongTrace, AreWritten, OrMemory}
+use Rattle.pim_words.proofs.Words.{IsUnreadable, IsWrongRun, IsWrongRunOf, IsWrongTrace, AreAudited, AreWritten, OrMemory}
 use Rattle.pim_words.specs.declared.reading.AddressList.{AddressList}
+use Rattle.pim_words.specs.declared.reading.AuditAddresses.{AuditAddresses}
 use Rattle.pim_words.specs.Given.{address_texts, has_writer}
 
 wrong_run : (kind : CommandKind) (rows : List Row) (fault : CommandFault) → has_two_ends kind rows ≡ false → AreRead (address_texts kind rows) → OrMemory (IsWrongRunOf kind rows) fault
@@ -33,5 +34,11 @@ module _ (rows : List Row) (rp : Option AnyAddress) (one : are_both_given rows �
   pub of_replay : (fault : CommandFault) → OrMemory (IsWrongRun Replay rows) fault → IsUnreadable Replay rows fault
   of_replay fault is = wrong_run Replay rows fault one (named_read (first_of (codes "rp") rows) rp named, tt) is
 
-  pub of_trace : (fault : CommandFault) → OrMemory (IsWrongTrace rows) fault → IsUnreadable Trace rows fault
+  pub of_trace : (fault : CommandFault) → OrMemory (IsWrongTrace Trace rows) fault → IsUnreadable Trace rows fault
   of_trace fault is = wrong_run Trace rows fault one (named_read (first_of (codes "rp") rows) rp named, tt) is
+
+-- ---- an audit
+
+pub of_audit : (rows : List Row) (addresses : AuditAddresses) → are_both_given rows ≡ false → AreAudited rows addresses → (fault : CommandFault) → OrMemory (IsWrongTrace Audit rows) fault → IsUnreadable Audit rows fault
+of_audit rows addresses one audited fault is =
+    wrong_run Audit rows fault one ((addresses.upstream, audited.upstream), (named_read (first_of (codes "rp") rows) addresses.rp audited.rp, tt)) is

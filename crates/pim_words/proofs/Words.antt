@@ -36,24 +36,25 @@ pub use Rattle.pim_words.specs.Links.{AreChosenLinks, AreLinkedFrom, ArePicks, A
 pub use Rattle.pim_words.specs.Links.{IsLinkText, IsNoLink, IsNoPick, IsNoPortNumber, IsNoTarget, IsNoVlan, IsPick}
 pub use Rattle.pim_words.specs.Links.{IsPortNumber, IsTarget, LacksPoint, is_same_port, word_count}
 unfoldable pub use Rattle.pim_words.specs.Links.{pick_for}
-pub use Rattle.pim_words.specs.Plan.{AreFurther, AreNames, HasCause, HasWrong, IsBounded, IsFaultless, IsFirstFault}
-pub use Rattle.pim_words.specs.Plan.{IsInRange, IsLimited, IsPlanInRange, IsPlanOf, IsPlanOfTask, IsTaskOf}
+pub use Rattle.pim_words.specs.Plan.{AreFurther, AreNames, HasCause, HasGrace, HasWrong, IsBounded, IsFaultless}
+pub use Rattle.pim_words.specs.Plan.{IsFirstFault, IsInRange, IsLimited, IsPlanInRange, IsPlanOf, IsPlanOfTask, IsTaskOf}
 pub use Rattle.pim_words.specs.Plan.{IsWritable, IsWrongOf, IsWrongTask, Plans, refusal_fault}
 pub use Rattle.pim_words.specs.Ports.{AreMore, ByKind, IsMore, IsRightMore, IsWrongMore, LacksAtSign, is_more}
 pub use Rattle.pim_words.specs.Ports.{more_words, port_words}
 pub use Rattle.pim_words.specs.Reading.{AreCaptures, ArePorts, AreRead, AreWrongPorts, IsTask, IsUnreadable}
 pub use Rattle.pim_words.specs.Reading.{IsWriting, IsWrongRun, IsWrongRunOf, IsWrongTrace, ReadsAddressOption}
 pub use Rattle.pim_words.specs.Rows.{program, rule_by, shape_by, with_rows}
-pub use Rattle.pim_words.specs.Seen.{AreWritten, HasNumbers, IsForeign, IsGiven, IsOffered, OrMemory, are_tested}
+pub use Rattle.pim_words.specs.Seen.{AreAudited, AreWritten, HasNumbers, IsForeign, IsGiven, IsOffered, OrMemory, are_tested}
 pub use Rattle.pim_words.specs.Seen.{has_range, is_tested, with_links}
 pub use Rattle.pim_words.specs.Shown.{AreShownAddresses, IsShown, IsUnreadText, IsWrongChoice, IsWrongShown}
-pub use Rattle.pim_words.specs.Typed.{IsPlanFor, SameCaptures, SameTask, SameTracing, SameWriting, port_seen}
+pub use Rattle.pim_words.specs.Typed.{IsPlanFor, SameAuditing, SameCaptures, SameTask, SameTracing, SameWriting}
+pub use Rattle.pim_words.specs.Typed.{port_seen}
 pub use Rattle.pim_words.specs.declared.fault.CommandFault.{CommandFault}
 pub use Rattle.pim_words.specs.declared.fault.CommandFault.TheVariants.{Family, Memory}
 pub use Rattle.pim_words.specs.declared.links.Links.{Links}
 pub use Rattle.pim_words.specs.declared.task.Captures.{Captures}
 pub use Rattle.pim_words.specs.declared.task.CommandKind.{CommandKind}
-pub use Rattle.pim_words.specs.declared.task.CommandKind.TheVariants.{Build, Change, Check, Emit, Mirror, Replay}
+pub use Rattle.pim_words.specs.declared.task.CommandKind.TheVariants.{Audit, Build, Change, Check, Emit, Mirror, Replay}
 pub use Rattle.pim_words.specs.declared.task.CommandKind.TheVariants.{Same, Trace}
 pub use Rattle.pim_words.specs.declared.task.CommandPlan.{CommandPlan}
 pub use Rattle.pim_words.specs.declared.task.CommandPlan.TheVariants.{Session, V4, V6}

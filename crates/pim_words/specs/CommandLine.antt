@@ -75,6 +75,12 @@ with_shown command =
     with_rule (with_rule (with_rule (with_choices command) (text_option (codes "time"))) (flag (codes "all")))
     (flag (codes "json"))
 
+-- What an audit shows: `[--from TIME] [--group G].. [--time FORM] [--json]`.
+abbrev pub with_audit_shown : App → App
+with_audit_shown command =
+    with_rule (with_rule (with_rule (with_rule command (text_option (codes "from"))) (repeated_option (codes "group")))
+    (text_option (codes "time"))) (flag (codes "json"))
+
 -- ---- commands
 
 -- A command on one message, `check` or `build`: `[--src A] [--dst A]`.
@@ -92,6 +98,13 @@ replay = (with_run_options (with_rule (with_rule (new_app (codes "replay")) (tex
 abbrev pub trace : Shape
 trace = (with_shown (with_trace_options (with_rule (with_rule (new_app (codes "trace")) (text_option (codes "rp")))
     (text_option (codes "routes"))))).top
+
+-- `audit --upstream A [--rp A] [--routes FILE] [--grace MS]`, a run's options, and what is shown.
+abbrev pub audit : Shape
+audit =
+    (with_audit_shown (with_trace_options (with_rule (with_rule (with_rule (with_rule (new_app (codes "audit"))
+    (required_option (codes "upstream"))) (text_option (codes "rp"))) (text_option (codes "routes")))
+    (number_option (codes "grace") 0 1000000000)))).top
 
 -- A command that writes messages: `same`, `mirror`, `emit` or `change`.
 abbrev pub writing : Text → Shape
@@ -117,7 +130,7 @@ message_commands =
 
 -- The program with the commands that need no writer of messages.
 abbrev pub reading_commands : App
-reading_commands = with_subcommand (with_subcommand message_commands replay) trace
+reading_commands = with_subcommand (with_subcommand (with_subcommand message_commands replay) trace) audit
 
 -- The program with all its commands but `session`.
 abbrev pub writing_commands : App

@@ -19,7 +19,7 @@ use Rattle.pim_words.specs.declared.task.Port.{Port}
 use Rattle.pim_words.specs.declared.task.Tracing.{Tracing}
 use Rattle.pim_words.specs.declared.task.Writing.{Writing}
 use Rattle.pim_words.specs.declared.task.Task.{Task}
-use Rattle.pim_words.specs.declared.task.Task.TheVariants.{Check, Build, Replay, Trace, Same, Mirror, Emit, Change}
+use Rattle.pim_words.specs.declared.task.Task.TheVariants.{Check, Build, Replay, Trace, Audit, Same, Mirror, Emit, Change}
 
 -- ---- addresses
 
@@ -41,7 +41,7 @@ abbrev pub are_captures_in : AddressFamily → Captures AnyAddress → Bool
 are_captures_in family captures =
     option_map_or (is_in family) captures.rp true && list_all (λ port. is_in family port.address) captures.ports.items
 
--- Whether the groups and the sources that a trace shows are of this family.
+-- Whether the groups and the sources that a trace or an audit shows are of this family.
 abbrev pub is_tracing_in : AddressFamily → Tracing AnyAddress → Bool
 is_tracing_in family tracing =
     list_all (is_in family) tracing.groups.items && list_all (is_in family) tracing.sources.items
@@ -56,6 +56,8 @@ are_in family (Check source destination) = is_in family source && is_in family d
 are_in family (Build source destination) = is_in family source && is_in family destination
 are_in family (Replay captures) = are_captures_in family captures
 are_in family (Trace captures tracing) = are_captures_in family captures && is_tracing_in family tracing
+are_in family (Audit captures auditing tracing) =
+    are_captures_in family captures && (is_in family auditing.upstream && is_tracing_in family tracing)
 are_in family (Same captures writing) = are_captures_in family captures && is_writing_in family writing
 are_in family (Mirror captures writing) = are_captures_in family captures && is_writing_in family writing
 are_in family (Emit captures writing) = are_captures_in family captures && is_writing_in family writing
@@ -92,6 +94,14 @@ writer_faults writing =
     fault_if (not (is_valid writing.upstream) || not (is_valid writing.own) || is_same writing.own writing.upstream)
     WriterAddress
 
+-- Whether the address is that of a port.
+abbrev pub is_of_port : AnyAddress → Captures AnyAddress → Bool
+is_of_port address captures = list_any (λ port. is_same port.address address) captures.ports.items
+
+-- The fault of an upstream neighbour that isn't a valid source, or has the address of a port.
+abbrev pub upstream_faults : AnyAddress → Captures AnyAddress → List CommandFault
+upstream_faults upstream captures = fault_if (not (is_valid upstream) || is_of_port upstream captures) WriterAddress
+
 -- The faults of a router: it has no port or more than 64, a port's address isn't a valid source, or
 -- the RP isn't.
 abbrev pub router_faults : RouterSide → Captures AnyAddress → List CommandFault
@@ -106,17 +116,19 @@ abbrev pub faults_of_two : Captures AnyAddress → Writing AnyAddress → List C
 faults_of_two captures writing =
     no_port_faults captures ++ (writer_faults writing ++ (router_faults A captures ++ router_faults B captures))
 
--- The faults of a task's routers and writer.
+-- The faults of a task's routers, and of its writer or upstream neighbour.
 abbrev pub setting_faults : Task AnyAddress → List CommandFault
 setting_faults (Check source destination) = []
 setting_faults (Build source destination) = []
 setting_faults (Replay captures) = router_faults A captures
 setting_faults (Trace captures tracing) = router_faults A captures
+setting_faults (Audit captures auditing tracing) =
+    upstream_faults auditing.upstream captures ++ router_faults A captures
 setting_faults (Same captures writing) = faults_of_two captures writing
 setting_faults (Mirror captures writing) = writer_faults writing ++ router_faults A captures
 setting_faults (Emit captures writing) = writer_faults writing ++ router_faults A captures
 setting_faults (Change captures writing) = faults_of_two captures writing
 
--- The faults of a task: of its family, then of its routers and its writer.
+-- The faults of a task: of its family, then the others.
 abbrev pub task_faults : Task AnyAddress → List CommandFault
 task_faults task = family_faults task ++ setting_faults task

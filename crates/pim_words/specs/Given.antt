@@ -4,7 +4,7 @@ use Rattle.std.specs.Str.{bytes_eq}
 use Rattle.std.specs.Str.Parse.{IsNumeral, digits_value, without_leading_plus}
 use Rattle.clap.specs.Words.{Row, Text, first_of, all_of}
 use Rattle.pim_words.specs.declared.task.CommandKind.{CommandKind}
-use Rattle.pim_words.specs.declared.task.CommandKind.TheVariants.{Check, Build, Replay, Trace, Same, Mirror, Emit, Change}
+use Rattle.pim_words.specs.declared.task.CommandKind.TheVariants.{Check, Build, Replay, Trace, Audit, Same, Mirror, Emit, Change}
 
 -- The value of an option, or its default if the words have none.
 abbrev pub option_or : Text → Text → List Row → Text
@@ -48,6 +48,7 @@ kind_name Check = codes "check"
 kind_name Build = codes "build"
 kind_name Replay = codes "replay"
 kind_name Trace = codes "trace"
+kind_name Audit = codes "audit"
 kind_name Same = codes "same"
 kind_name Mirror = codes "mirror"
 kind_name Emit = codes "emit"
@@ -77,6 +78,7 @@ has_writer Check = false
 has_writer Build = false
 has_writer Replay = false
 has_writer Trace = false
+has_writer Audit = false
 has_writer other = true
 
 -- The text of the RP, if one is given.
@@ -85,6 +87,7 @@ rp_text Check rows = None
 rp_text Build rows = None
 rp_text Replay rows = first_of (codes "rp") rows
 rp_text Trace rows = first_of (codes "rp") rows
+rp_text Audit rows = first_of (codes "rp") rows
 rp_text kind rows = Some (required (codes "rp") rows)
 
 -- The text of the source address of a message.
@@ -101,5 +104,6 @@ address_texts Check rows = Some (source_text rows) ∷ Some (destination_text ro
 address_texts Build rows = Some (source_text rows) ∷ Some (destination_text rows) ∷ []
 address_texts Replay rows = rp_text Replay rows ∷ []
 address_texts Trace rows = rp_text Trace rows ∷ []
+address_texts Audit rows = Some (required (codes "upstream") rows) ∷ rp_text Audit rows ∷ []
 address_texts kind rows =
     rp_text kind rows ∷ Some (required (codes "upstream") rows) ∷ Some (required (codes "own") rows) ∷ []

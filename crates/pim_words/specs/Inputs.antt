@@ -7,7 +7,7 @@ use Rattle.clap.specs.Words.{Text}
 use Rattle.pim_lines.specs.declared.either.AnyAddress.{AnyAddress}
 use Rattle.pim_words.specs.declared.task.Captures.{Captures}
 use Rattle.pim_words.specs.declared.task.Task.{Task}
-use Rattle.pim_words.specs.declared.task.Task.TheVariants.{Check, Build, Replay, Trace, Same, Mirror, Emit, Change}
+use Rattle.pim_words.specs.declared.task.Task.TheVariants.{Check, Build, Replay, Trace, Audit, Same, Mirror, Emit, Change}
 
 -- The name of standard input among those of files, where any container is read.
 abbrev pub input_name : Text
@@ -38,6 +38,7 @@ names_input_twice (Check source destination) = false
 names_input_twice (Build source destination) = false
 names_input_twice (Replay captures) = reads_input_twice captures
 names_input_twice (Trace captures tracing) = reads_input_twice captures
+names_input_twice (Audit captures auditing tracing) = reads_input_twice captures
 names_input_twice (Same captures writing) = reads_input_twice captures
 names_input_twice (Mirror captures writing) = reads_input_twice captures
 names_input_twice (Emit captures writing) = reads_input_twice captures

@@ -1,4 +1,4 @@
--- The words that name ports. In a trace, ports have names.
+-- The words that name ports. In a trace or an audit, ports have names.
 use Rattle.std.specs.Prelude.{◌≡◌, ◌≢◌, ◌<◌, ◌⊎◌, ◌+◌, ⊤, ℕ, Bool, true, false, not, ◌&&◌}
 use Rattle.std.specs.Prelude.{List, [], ◌∷◌, ◌++◌, length, get_or, Option, None, Some}
 use Rattle.std.specs.Borrow.{Bor}
@@ -10,7 +10,7 @@ use Rattle.pim_words.specs.declared.fault.CommandFault.{CommandFault}
 use Rattle.pim_words.specs.declared.fault.CommandFault.TheVariants as cause
 use Rattle.pim_words.specs.declared.fault.RouterSide.{RouterSide}
 use Rattle.pim_words.specs.declared.task.CommandKind.{CommandKind}
-use Rattle.pim_words.specs.declared.task.CommandKind.TheVariants.{Trace}
+use Rattle.pim_words.specs.declared.task.CommandKind.TheVariants.{Trace, Audit}
 use Rattle.pim_words.specs.declared.task.Port.{Port}
 use Rattle.pim_lines.specs.AnyAddress.{Names, IsUnread}
 use Rattle.pim_lines.specs.PortNames.{is_port_name}
@@ -44,10 +44,16 @@ LacksEqualSign text = (place : ℕ) → place < length text → get_or text plac
 abbrev pub HasLabel : Text → Text → Text → Type 0
 HasLabel word name rest = (word ≡ name ++ (61 ∷ rest)) × LacksEqualSign name × LacksAtSign name
 
--- The word has this name, if any, and this rest. Only the words of a trace have names.
+-- The word has this name, if any, and this rest, where ports may have names.
+abbrev pub IsNamed : Text → Option (Bor Text) → Text → Type 0
+IsNamed word None rest = (rest ≡ word) × ((name more : Text) → HasLabel word name more → ⊥)
+IsNamed word (Some name) rest = HasLabel word name.now rest
+
+-- The word has this name, if any, and this rest. Only the words of a trace and of an audit have
+-- names.
 abbrev pub IsLabelOf : CommandKind → Text → Option (Bor Text) → Text → Type 0
-IsLabelOf Trace word None rest = (rest ≡ word) × ((name more : Text) → HasLabel word name more → ⊥)
-IsLabelOf Trace word (Some name) rest = HasLabel word name.now rest
+IsLabelOf Trace word name rest = IsNamed word name rest
+IsLabelOf Audit word name rest = IsNamed word name rest
 IsLabelOf command word name rest = (name ≡ None) × (rest ≡ word)
 
 -- ---- a word, after ports with these names

@@ -16,7 +16,7 @@ use Rattle.pim_words.specs.declared.picks.Part.TheVariants as part
 use Rattle.pim_words.specs.declared.picks.Pick.{Pick}
 use Rattle.pim_words.specs.declared.picks.Target.{Target}
 use Rattle.pim_words.specs.declared.task.CommandKind.{CommandKind}
-use Rattle.pim_words.specs.declared.task.CommandKind.TheVariants.{Trace}
+use Rattle.pim_words.specs.declared.task.CommandKind.TheVariants.{Trace, Audit}
 use Rattle.pim_words.specs.declared.task.LinkWord.{LinkWord}
 use Rattle.pim_words.specs.declared.task.Port.{Port}
 use Rattle.pim_words.specs.Given.{IsNumber, option_or, values_of, words_of}
@@ -226,15 +226,17 @@ abbrev pub IsWrongInput : Text → CommandFault → Type 0
 IsWrongInput text (cause.Word reported) = (reported.now ≡ text) × IsNoInput text
 IsWrongInput text fault = ⊥
 
--- The options give these links. A trace reads any container.
+-- The options give these links. A trace and an audit read any container.
 abbrev pub AreChosenLinks : CommandKind → List Row → Links → Type 0
 AreChosenLinks Trace rows links = AreLinks true rows links
+AreChosenLinks Audit rows links = AreLinks true rows links
 AreChosenLinks command rows links = (input_text rows ≡ input_name links.is_any) × AreLinks links.is_any rows links
 
 -- The fault of the first wrong value: of `--input`, otherwise of `--vlan`, otherwise of
 -- `--interface`.
 abbrev pub AreWrongChoices : CommandKind → List Row → CommandFault → Type 0
 AreWrongChoices Trace rows fault = IsWrongLinks true rows fault
+AreWrongChoices Audit rows fault = IsWrongLinks true rows fault
 AreWrongChoices command rows fault =
     IsWrongInput (input_text rows) fault
     ⊎ ((is_any : Bool) × (input_text rows ≡ input_name is_any) × IsWrongLinks is_any rows fault)

@@ -14,7 +14,8 @@ use Rattle.pim_words.specs.declared.task.CommandKind.{CommandKind}
 use Rattle.pim_words.specs.declared.task.CommandPlan.{CommandPlan}
 use Rattle.pim_words.specs.declared.task.CommandPlan.TheVariants.{V4, V6, Session}
 use Rattle.pim_words.specs.declared.task.Task.{Task}
-use Rattle.pim_words.specs.declared.task.Task.TheVariants.{Check, Build, Replay, Trace, Same, Mirror, Emit, Change}
+use Rattle.pim_words.specs.declared.task.Task.TheVariants.{Check, Build, Replay, Trace, Audit, Same, Mirror, Emit, Change}
+use Rattle.pim_words.specs.declared.task.Auditing.{Auditing}
 use Rattle.pim_words.specs.declared.task.Captures.{Captures}
 use Rattle.pim_words.specs.declared.task.More.{More}
 use Rattle.pim_words.specs.declared.task.Tracing.{Tracing}
@@ -126,6 +127,10 @@ AreFurther captures = (length captures.more.items ≤ 4096)
 abbrev pub IsWritable : {A : Type 0} → Writing A → Type 0
 IsWritable writing = (99 ≤ writing.holdtime) × (70 ≤ writing.budget) × (writing.budget ≤ 65000)
 
+-- An entry may be due for at most 10^9 milliseconds before it is late.
+abbrev pub HasGrace : {A : Type 0} → Auditing A → Type 0
+HasGrace auditing = auditing.grace_ms ≤ 1000000000
+
 -- Each port has a name or none, and the names are ones that a port may have.
 abbrev pub AreNames : {A : Type 0} → Captures A → Tracing A → Type 0
 AreNames captures tracing = (length tracing.names.items ≡ length captures.ports.items)
@@ -138,6 +143,8 @@ IsInRange (Build source destination) = ⊤
 IsInRange (Replay captures) = IsBounded captures × IsLimited captures × AreFurther captures
 IsInRange (Trace captures tracing) =
     IsBounded captures × IsLimited captures × AreNames captures tracing × AreFurther captures
+IsInRange (Audit captures auditing tracing) =
+    IsBounded captures × IsLimited captures × HasGrace auditing × AreNames captures tracing × AreFurther captures
 IsInRange (Same captures writing) =
     IsBounded captures × IsLimited captures × IsWritable writing × AreFurther captures
 IsInRange (Mirror captures writing) =

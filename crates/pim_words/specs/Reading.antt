@@ -8,6 +8,7 @@ use Rattle.pim_lines.specs.declared.either.AnyAddress.{AnyAddress}
 use Rattle.pim_words.specs.declared.fault.CommandFault.{CommandFault}
 use Rattle.pim_words.specs.declared.fault.CommandFault.TheVariants as cause
 use Rattle.pim_words.specs.declared.links.Links.{Links}
+use Rattle.pim_words.specs.declared.task.Auditing.{Auditing}
 use Rattle.pim_words.specs.declared.task.Captures.{Captures}
 use Rattle.pim_words.specs.declared.task.More.{More}
 use Rattle.pim_words.specs.declared.task.Port.{Port}
@@ -16,7 +17,7 @@ use Rattle.pim_words.specs.declared.task.Writing.{Writing}
 use Rattle.pim_words.specs.declared.task.CommandKind.{CommandKind}
 use Rattle.pim_words.specs.declared.task.CommandKind.TheVariants as kind
 use Rattle.pim_words.specs.declared.task.Task.{Task}
-use Rattle.pim_words.specs.declared.task.Task.TheVariants.{Check, Build, Replay, Trace, Same, Mirror, Emit, Change}
+use Rattle.pim_words.specs.declared.task.Task.TheVariants.{Check, Build, Replay, Trace, Audit, Same, Mirror, Emit, Change}
 use Rattle.pim_lines.specs.AnyAddress.{Names, IsRead}
 use Rattle.pim_words.specs.Ends.{are_both_given, has_two_ends, time_text, IsTimed, IsEarly, IsUntimed, IsTimely}
 use Rattle.pim_words.specs.Given.{IsNumber, address_texts, is_flag, option_or, required, rp_text, words_of}
@@ -59,13 +60,19 @@ pub record AreCaptures (command : CommandKind) (rows : List Row) (captures : Cap
   pub names : List (Option (Bor Text))
   pub ports : ArePorts command rows captures.ports.items captures.more.items names
 
--- The options of a trace, and the ports with their names and further files.
-pub record AreTraced (rows : List Row) (captures : Captures AnyAddress) (tracing : Tracing AnyAddress) : Type 0 where
+-- The options of a trace or an audit, and the ports with their names and further files.
+pub record AreTraced (command : CommandKind) (rows : List Row) (captures : Captures AnyAddress)
+    (tracing : Tracing AnyAddress) : Type 0 where
   pub run : IsRun rows captures
   pub shown : IsShown rows (shown_of tracing)
   pub all : tracing.all ≡ is_flag (codes "all") rows
   pub json : tracing.json ≡ is_flag (codes "json") rows
-  pub ports : ArePorts kind.Trace rows captures.ports.items captures.more.items tracing.names.items
+  pub ports : ArePorts command rows captures.ports.items captures.more.items tracing.names.items
+
+-- The upstream neighbour of an audit, and the time for which an entry may be due.
+pub record IsAuditing (rows : List Row) (auditing : Auditing AnyAddress) : Type 0 where
+  pub upstream : Names (required (codes "upstream") rows) auditing.upstream
+  pub grace : IsNumber 0 1000000000 (option_or (codes "3000") (codes "grace") rows) auditing.grace_ms
 
 -- The options of the writer.
 pub record IsWriting (rows : List Row) (writing : Writing AnyAddress) : Type 0 where
@@ -87,7 +94,10 @@ IsTask kind.Build rows (Build source destination) =
     Names (source_text rows) source × Names (destination_text rows) destination
 IsTask kind.Replay rows (Replay captures) = AreCapturesOf kind.Replay rows captures
 IsTask kind.Trace rows (Trace captures tracing) =
-    ReadsAddressOption (rp_text kind.Trace rows) captures.rp × AreTraced rows captures tracing
+    ReadsAddressOption (rp_text kind.Trace rows) captures.rp × AreTraced kind.Trace rows captures tracing
+IsTask kind.Audit rows (Audit captures auditing tracing) =
+    ReadsAddressOption (rp_text kind.Audit rows) captures.rp × AreTraced kind.Audit rows captures tracing
+    × IsAuditing rows auditing
 IsTask kind.Same rows (Same captures writing) = AreCapturesOf kind.Same rows captures × IsWriting rows writing
 IsTask kind.Mirror rows (Mirror captures writing) = AreCapturesOf kind.Mirror rows captures × IsWriting rows writing
 IsTask kind.Emit rows (Emit captures writing) = AreCapturesOf kind.Emit rows captures × IsWriting rows writing
@@ -122,21 +132,22 @@ abbrev pub IsWrongRun : CommandKind → List Row → CommandFault → Type 0
 IsWrongRun command rows fault =
     IsUntimed (time_text rows) fault ⊎ (IsTimely (time_text rows) × AreWrongPorts command rows fault)
 
--- The fault of a trace's words: the time of its end can't be read, or else a value of what it
--- shows, or else it is a fault of the ports.
-abbrev pub IsWrongTrace : List Row → CommandFault → Type 0
-IsWrongTrace rows fault =
+-- The fault of the words of a trace or an audit: the time of its end can't be read, or else a value
+-- of what it shows, or else it is a fault of the ports.
+abbrev pub IsWrongTrace : CommandKind → List Row → CommandFault → Type 0
+IsWrongTrace command rows fault =
     IsUntimed (time_text rows) fault
     ⊎ (IsTimely (time_text rows) × (IsWrongShown rows fault
-    ⊎ (IsShowable rows × AreWrongPorts kind.Trace rows fault)))
+    ⊎ (IsShowable rows × AreWrongPorts command rows fault)))
 
 -- The same, of the run of a command.
 abbrev pub IsWrongRunOf : CommandKind → List Row → CommandFault → Type 0
-IsWrongRunOf kind.Trace rows fault = IsWrongTrace rows fault
+IsWrongRunOf kind.Trace rows fault = IsWrongTrace kind.Trace rows fault
+IsWrongRunOf kind.Audit rows fault = IsWrongTrace kind.Audit rows fault
 IsWrongRunOf command rows fault = IsWrongRun command rows fault
 
 -- The fault of texts that can't be read: of the first such address of an option, otherwise of the
--- time, of what a trace shows, of the links, or of the first such word.
+-- time, of what a trace or an audit shows, of the links, or of the first such word.
 abbrev pub IsUnreadOf : CommandKind → List Row → CommandFault → Type 0
 IsUnreadOf command rows fault =
     IsFirstUnread (address_texts command rows) fault

@@ -15,10 +15,13 @@ use Rattle.pim_words.specs.declared.port.PortCut.{PortCut}
 use Rattle.pim_words.specs.declared.task.Port.{Port}
 use Rattle.pim_words.specs.declared.reading.AddressList.{AddressList}
 use Rattle.pim_words.specs.declared.reading.AddressEnds.{AddressEnds}
+use Rattle.pim_words.specs.declared.reading.AuditAddresses.{AuditAddresses}
+use Rattle.pim_words.specs.declared.task.CommandKind.TheVariants.{Audit}
 use Rattle.pim_lines.specs.AnyAddress.{Names}
-use Rattle.pim_words.specs.Given.{IsKnown, destination_text, option_or, required, source_text}
+use Rattle.pim_words.specs.Given.{IsKnown, destination_text, option_or, required, rp_text, source_text}
 use Rattle.pim_words.specs.Links.{link_at}
 use Rattle.pim_words.specs.Ports.{IsCut, IsCutWord}
+use Rattle.pim_words.specs.Reading.{ReadsAddressOption}
 
 -- A fault of this kind, or memory is refused.
 abbrev pub OrMemory : (CommandFault → Type 0) → CommandFault → Type 0
@@ -43,6 +46,11 @@ pub record AreWritten (rows : List Row) (addresses : AddressList) : Type 0 where
   pub rp : Names (required (codes "rp") rows) addresses.rp
   pub upstream : Names (required (codes "upstream") rows) addresses.upstream
   pub own : Names (required (codes "own") rows) addresses.own
+
+-- These are the upstream neighbour of an audit, and its RP, if one is given.
+pub record AreAudited (rows : List Row) (addresses : AuditAddresses) : Type 0 where
+  pub upstream : Names (required (codes "upstream") rows) addresses.upstream
+  pub rp : ReadsAddressOption (rp_text Audit rows) addresses.rp
 
 -- The port with the link of this number.
 abbrev pub with_link : Links → ℕ → Port AnyAddress → Port AnyAddress
@@ -83,6 +91,7 @@ pub record IsOffered (app : App) : Type 0 where
   pub known : AllByRecursion (λ (s : Shape). IsKnown s.name) (built app).subs
   pub limit : are_tested 1 100000 (codes "limit") (built app).subs ≡ true
   pub after : are_tested 0 1000000000 (codes "after") (built app).subs ≡ true
+  pub grace : are_tested 0 1000000000 (codes "grace") (built app).subs ≡ true
   pub holdtime : are_tested 99 65535 (codes "holdtime") (built app).subs ≡ true
   pub budget : are_tested 70 65000 (codes "budget") (built app).subs ≡ true
 
@@ -90,6 +99,7 @@ pub record IsOffered (app : App) : Type 0 where
 pub record HasNumbers (rows : List Row) : Type 0 where
   pub limit : IsUnsignedIn 1 100000 (option_or (codes "100000") (codes "limit") rows)
   pub after : IsUnsignedIn 0 1000000000 (option_or (codes "0") (codes "after") rows)
+  pub grace : IsUnsignedIn 0 1000000000 (option_or (codes "3000") (codes "grace") rows)
   pub holdtime : IsUnsignedIn 99 65535 (option_or (codes "210") (codes "holdtime") rows)
   pub budget : IsUnsignedIn 70 65000 (option_or (codes "1460") (codes "budget") rows)
 

@@ -1,4 +1,5 @@
--- What a trace shows, by its options `--from`, `--group`, `--source` and `--time`.
+-- What a trace or an audit shows, by `--from`, `--group`, `--source` and `--time`. An audit has no
+-- `--source`.
 use Rattle.std.specs.Prelude.{◌≡◌, ◌≤◌, ◌⊎◌, ℕ, zero, suc, List, [], ◌∷◌, length, Option, codes}
 use Rattle.std.specs.List.{AllZip}
 use Rattle.clap.specs.Words.{Row, Text, first_of}

@@ -5,6 +5,7 @@ use Rattle.pim_addr.specs.declared.family.AddressFamily.{AddressFamily}
 use Rattle.pim_addr.specs.declared.family.AddressFamily.TheVariants.{Ipv4, Ipv6}
 use Rattle.pim_lines.specs.declared.either.AnyAddress.{AnyAddress}
 use Rattle.pim_lines.specs.AnyAddress.{address_in}
+use Rattle.pim_words.specs.declared.task.Auditing.{Auditing}
 use Rattle.pim_words.specs.declared.task.Captures.{Captures}
 use Rattle.pim_words.specs.declared.task.Port.{Port}
 use Rattle.pim_words.specs.declared.task.Tracing.{Tracing}
@@ -12,7 +13,7 @@ use Rattle.pim_words.specs.declared.task.Writing.{Writing}
 use Rattle.pim_words.specs.declared.task.CommandPlan.{CommandPlan}
 use Rattle.pim_words.specs.declared.task.CommandPlan.TheVariants.{V4, V6, Session}
 use Rattle.pim_words.specs.declared.task.Task.{Task}
-use Rattle.pim_words.specs.declared.task.Task.TheVariants.{Check, Build, Replay, Trace, Same, Mirror, Emit, Change}
+use Rattle.pim_words.specs.declared.task.Task.TheVariants.{Check, Build, Replay, Trace, Audit, Same, Mirror, Emit, Change}
 
 module _ {A : Type 0} (family : AddressFamily) (bytes_of : A → List ℕ) where
   -- An address of the family, as one of either family.
@@ -50,6 +51,11 @@ module _ {A : Type 0} (family : AddressFamily) (bytes_of : A → List ℕ) where
     pub json : typed.json ≡ tracing.json
     pub names : typed.names.items ≡ tracing.names.items
 
+  -- The two have the same upstream neighbour and grace.
+  pub record SameAuditing (typed : Auditing A) (auditing : Auditing AnyAddress) : Type 0 where
+    pub upstream : address_seen typed.upstream ≡ auditing.upstream
+    pub grace : typed.grace_ms ≡ auditing.grace_ms
+
   -- The two have the same addresses, holdtime and budget.
   pub record SameWriting (typed : Writing A) (writing : Writing AnyAddress) : Type 0 where
     pub upstream : address_seen typed.upstream ≡ writing.upstream
@@ -65,6 +71,8 @@ module _ {A : Type 0} (family : AddressFamily) (bytes_of : A → List ℕ) where
       (address_seen source ≡ from) × (address_seen destination ≡ to)
   SameTask (Replay typed) (Replay captures) = SameCaptures typed captures
   SameTask (Trace typed how) (Trace captures tracing) = SameCaptures typed captures × SameTracing how tracing
+  SameTask (Audit typed whom how) (Audit captures auditing tracing) =
+      SameCaptures typed captures × SameAuditing whom auditing × SameTracing how tracing
   SameTask (Same typed how) (Same captures writing) = SameCaptures typed captures × SameWriting how writing
   SameTask (Mirror typed how) (Mirror captures writing) = SameCaptures typed captures × SameWriting how writing
   SameTask (Emit typed how) (Emit captures writing) = SameCaptures typed captures × SameWriting how writing

@@ -76,7 +76,8 @@ Faults that are often met first, on standard error:
                      what `tcpdump -i any` makes, too
   config ports       no word ADDRESS@FILE was given, or more than 64 were
 
-Exit status: 0 for success, 1 where `same` prints `different`, 2 for a fault.";
+Exit status: 0 for success, 1 where `same` prints `different` or `audit` finds
+something late, 2 for a fault.";
 
 /// `--src`.
 const SRC: OptionRow<'static> = OptionRow {
@@ -113,7 +114,7 @@ const REPLAY_RP: OptionRow<'static> = OptionRow {
 without --rp and{n}--routes none does",
 };
 
-/// `--rp` of `trace`.
+/// `--rp` of `trace` and `audit`.
 const TRACE_RP: OptionRow<'static> = OptionRow {
     name: "rp",
     form: Form::Text,
@@ -128,6 +129,14 @@ const UPSTREAM: OptionRow<'static> = OptionRow {
     form: Form::Required,
     value: "ADDRESS",
     help: "Upstream neighbour the messages go to [required]",
+};
+
+/// `--upstream` of `audit`.
+const AUDIT_UPSTREAM: OptionRow<'static> = OptionRow {
+    name: "upstream",
+    form: Form::Required,
+    value: "ADDRESS",
+    help: "Upstream neighbour that the router asks [required]",
 };
 
 /// `--own`.
@@ -163,6 +172,15 @@ const BUDGET: OptionRow<'static> = OptionRow {
     form: Form::Number(70, 65_000),
     value: "N",
     help: "Most bytes of a message, 70 to 65000 [default: 1460]",
+};
+
+/// `--grace`.
+const GRACE: OptionRow<'static> = OptionRow {
+    name: "grace",
+    form: Form::Number(0, 1_000_000_000),
+    value: "MS",
+    help: "How long an entry may be due before it is late, in{n}milliseconds, 0 to 1000000000 \
+[default: 3000]",
 };
 
 /// `--limit`.
@@ -217,7 +235,7 @@ const INTERFACE: OptionRow<'static> = OptionRow {
 ports, or at P",
 };
 
-/// `--vlan` of `trace`.
+/// `--vlan` of `trace` and `audit`.
 const TRACE_VLAN: OptionRow<'static> = OptionRow {
     name: "vlan",
     form: Form::Repeated,
@@ -226,7 +244,7 @@ const TRACE_VLAN: OptionRow<'static> = OptionRow {
 at the port P",
 };
 
-/// `--interface` of `trace`.
+/// `--interface` of `trace` and `audit`.
 const TRACE_INTERFACE: OptionRow<'static> = OptionRow {
     name: "interface",
     form: Form::Repeated,
@@ -284,7 +302,7 @@ const JSON: OptionRow<'static> = OptionRow {
     help: "Write a JSON object a line in place of text",
 };
 
-/// The words of `trace`.
+/// The words of `trace` and `audit`.
 const LABELLED_PORTS: OptionRow<'static> = OptionRow {
     name: "words",
     form: Form::Words,
@@ -333,6 +351,24 @@ const OF_TRACE: [OptionRow<'static>; 14] = [
     SOURCE,
     TIME,
     ALL,
+    JSON,
+];
+
+/// The options and words of `audit`.
+const OF_AUDIT: [OptionRow<'static>; 14] = [
+    AUDIT_UPSTREAM,
+    TRACE_RP,
+    ROUTES,
+    GRACE,
+    LIMIT,
+    AFTER,
+    AT,
+    TRACE_VLAN,
+    TRACE_INTERFACE,
+    LABELLED_PORTS,
+    FROM,
+    GROUP,
+    TIME,
     JSON,
 ];
 
@@ -507,6 +543,62 @@ Example, at the top of the repository:
     rows: &OF_TRACE,
 };
 
+/// The command `audit`.
+const AUDIT: Offer<'static> = Offer {
+    name: "audit",
+    about: "Does this router ask its upstream neighbour for what it has to?",
+    usage: Some("pimtree audit [OPTIONS] [NAME=]ADDRESS@FILE..."),
+    after_help: "The words name all ports of the router, the one toward U among them; U is the
+address of --upstream. `pimtree trace --help` explains times, NAME, #N and FILE.
+
+From what the neighbours of the ports want follows what the router has to ask U
+for (RFC 7761, 4.5). U was asked for what it heard from the router, and from the
+others on its links. Each ENTRY of a Join/Prune message is
+  join star G, or prune star G          the group's shared tree
+  join source S G, or prune source S G  the tree of one source
+  join rpt S G, or prune rpt S G        one source on the shared tree
+It is due while U has to be asked for it and wasn't, and late once it is due for
+longer than --grace. While U is a neighbour on no port, nothing is due. Without
+--routes U is the neighbour toward all addresses.
+
+Each line begins with a time, and with the name of a port if it has a #N:
+  late: ENTRY, due since TIME
+                 the entry becomes late
+  #N A sends ENTRY: N ms after it was due
+                 a Join/Prune message to U has the late entry
+  no longer due: ENTRY, after N ms
+                 what is wanted or asked changed; the late entry isn't needed
+  #N A: hello restarted; it lost what it was asked
+                 U has another Generation ID: all is due again
+  #N A: hello gone; it lost what it was asked
+                 U leaves
+  neighbour A timed out; it lost what it was asked
+                 no Hello of U came again
+  #N A: full N at the upstream neighbour
+                 a message to U is left out: N records, more than --limit
+  #N own Hello, ..: this router restarted
+                 a capture can't show that it lost what it held
+  end: due N late N worst MS open N
+                 how many entries were due, and how many were late; how long
+                 the worst of these was due; how many of them still are
+
+Receivers on the router's own links (IGMP, MLD, static joins) make it ask for
+more than its PIM neighbours want, which shows as late prunes. An RP or a
+first-hop router joins sources for other reasons.
+
+--group leaves out entries of other groups; they count in no number of `end`.
+
+--json writes these events: late, sent, dropped, upstream, full, restarted, end.
+Members without a value are null.
+
+Example, at the top of the repository:
+  pimtree audit --upstream 10.1.0.1 --rp 10.9.9.9 \\
+    lan=10.0.0.2@examples/transit-lan.pcap up=10.1.0.2@examples/transit-up.pcap
+
+Exit status: 0 where nothing was late, 1 where something was, 2 for a fault.",
+    rows: &OF_AUDIT,
+};
+
 /// The command `same`.
 const SAME: Offer<'static> = Offer {
     name: "same",
@@ -629,8 +721,8 @@ Example, at the top of the repository:
 };
 
 /// All commands, in the order of help.
-const OFFERS: [Offer<'static>; 9] = [
-    CHECK, BUILD, REPLAY, TRACE, SAME, MIRROR, EMIT, CHANGE, SESSION,
+const OFFERS: [Offer<'static>; 10] = [
+    CHECK, BUILD, REPLAY, TRACE, AUDIT, SAME, MIRROR, EMIT, CHANGE, SESSION,
 ];
 
 /// An option that takes one text.

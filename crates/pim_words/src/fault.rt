@@ -62,7 +62,8 @@ pub enum CommandFault<'a> {
     Family,
     /// No word is a port of this router of two.
     NoPort(RouterSide),
-    /// The upstream neighbour and the own address aren't two different valid sources.
+    /// The upstream neighbour and the own address aren't two different valid sources. Or the
+    /// upstream neighbour of an audit isn't a valid source, or has the address of a port.
     WriterAddress,
     /// The words give no configuration of a router.
     Config(ConfigCause),

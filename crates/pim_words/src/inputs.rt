@@ -73,7 +73,9 @@ pub(crate) fn names_input_twice(task: &Task<'_, AnyAddress>) -> bool
 {
     match task {
         Task::Check { .. } | Task::Build { .. } => false,
-        Task::Replay(captures) | Task::Trace(captures, _) => reads_input_twice(captures),
+        Task::Replay(captures) | Task::Trace(captures, _) | Task::Audit(captures, _, _) => {
+            reads_input_twice(captures)
+        }
         Task::Same(captures, _)
         | Task::Mirror(captures, _)
         | Task::Emit(captures, _)

@@ -1,12 +1,12 @@
-//! The faults of a task whose texts were all read: of its routers and its writer. Each function
-//! returns the first one.
+//! The faults of a task whose texts were all read: of its routers, and of its writer or upstream
+//! neighbour. Each function returns the first one.
 
 ghost use Rattle.std.specs.Prelude.{◌≡◌, ◌++◌, ◌&&◌, ◌||◌, not, false};
 ghost use Rattle.std.specs.List.{list_any};
 ghost use Rattle.std.specs.Option.{option_map_or};
 ghost use Rattle.pim_addr.specs.Faults.{judged};
 ghost use Rattle.pim_words.specs.Faults.{is_valid, is_same, is_of, port_count, no_port_faults};
-ghost use Rattle.pim_words.specs.Faults.{writer_faults};
+ghost use Rattle.pim_words.specs.Faults.{writer_faults, is_of_port, upstream_faults};
 ghost use Rattle.pim_words.specs.Faults.{router_faults, faults_of_two, setting_faults};
 
 use crate::fault::{CommandFault, ConfigCause, RouterSide};
@@ -97,6 +97,20 @@ fn is_bad_writing(writing: Writing<AnyAddress>) -> bool
     !is_valid(writing.upstream) || !is_valid(writing.own) || is_same(writing.own, writing.upstream)
 }
 
+/// Whether the port has this address.
+fn has_address(address: AnyAddress, port: &Port<'_, AnyAddress>) -> bool
+    ensures { result ≡ is_same port.now.address address }
+{
+    is_same(port.address, address)
+}
+
+/// Whether the address is that of a port.
+fn is_of_port(address: AnyAddress, captures: &Captures<'_, AnyAddress>) -> bool
+    ensures { result ≡ is_of_port address captures.now }
+{
+    captures.ports.iter().any(|port| has_address(address, port))
+}
+
 /// Checks that each of two routers has a port.
 fn judge_ports(captures: &Captures<'_, AnyAddress>) -> Result<(), CommandFault<'static>>
     ensures { result ≡ judged (no_port_faults captures.now) tt }
@@ -115,6 +129,19 @@ fn judge_writer(writing: Writing<AnyAddress>) -> Result<(), CommandFault<'static
     ensures { result ≡ judged (writer_faults writing) tt }
 {
     if is_bad_writing(writing) {
+        return Err(CommandFault::WriterAddress);
+    }
+    Ok(())
+}
+
+/// Checks that an upstream neighbour is a valid source, and has the address of no port.
+fn judge_upstream(
+    upstream: AnyAddress,
+    captures: &Captures<'_, AnyAddress>,
+) -> Result<(), CommandFault<'static>>
+    ensures { result ≡ judged (upstream_faults upstream captures.now) tt }
+{
+    if !is_valid(upstream) || is_of_port(upstream, captures) {
         return Err(CommandFault::WriterAddress);
     }
     Ok(())
@@ -174,13 +201,27 @@ fn judge_one(
     judge_router(RouterSide::A, captures)
 }
 
-/// Checks the routers and the writer of a task.
+/// Checks the upstream neighbour of an audit, and the router.
+fn judge_audit(
+    captures: &Captures<'_, AnyAddress>,
+    upstream: AnyAddress,
+) -> Result<(), CommandFault<'static>>
+    ensures { result
+        ≡ judged (upstream_faults upstream captures.now
+        ++ router_faults RouterSide.A captures.now) tt }
+{
+    judge_upstream(upstream, captures)?;
+    judge_router(RouterSide::A, captures)
+}
+
+/// Checks the routers of a task, and its writer or upstream neighbour.
 pub(crate) fn judge(task: &Task<'_, AnyAddress>) -> Result<(), CommandFault<'static>>
     ensures { result ≡ judged (setting_faults task.now) tt }
 {
     match task {
         Task::Check { .. } | Task::Build { .. } => Ok(()),
         Task::Replay(captures) | Task::Trace(captures, _) => judge_router(RouterSide::A, captures),
+        Task::Audit(captures, auditing, _) => judge_audit(captures, auditing.upstream),
         Task::Same(captures, writing) | Task::Change(captures, writing) => {
             judge_two(captures, *writing)
         }

@@ -1,9 +1,9 @@
-//! The name that a word of a trace gives to its port.
+//! The name that a word of a trace or an audit gives to its port.
 
 ghost use Rattle.std.specs.Prelude.{◌≡◌, true, map};
 ghost use Rattle.std.specs.List.{list_any};
 ghost use Rattle.pim_words.specs.Labels.{is_name_of, has_name, is_fresh};
-ghost use Rattle.pim_words.specs.Labels.{IsLabelOf};
+ghost use Rattle.pim_words.specs.Labels.{IsNamed, IsLabelOf};
 
 use crate::task::CommandKind;
 use pim_lines::is_port_name;
@@ -17,17 +17,13 @@ pub(crate) struct Label<'a> {
     pub text: &'a str,
 }
 
-/// Cuts a word of a trace at its first `=`, if that comes before its first `@`. Other words have no
-/// names.
-pub(crate) fn label_of<'a>(kind: CommandKind, word: &'a str) -> Label<'a>
-    ensures { IsLabelOf kind word.now result.name result.text.now }
+/// Cuts a word at its first `=`, if that comes before its first `@`.
+fn cut_name<'a>(word: &'a str) -> Label<'a>
+    ensures { IsNamed word.now result.name result.text.now }
 {
     let whole = Label {
         name: None,
         text: word,
-    };
-    let CommandKind::Trace = kind else {
-        return whole;
     };
     let Some((name, text)) = word.split_once('=') else {
         return whole;
@@ -38,6 +34,20 @@ pub(crate) fn label_of<'a>(kind: CommandKind, word: &'a str) -> Label<'a>
     Label {
         name: Some(name),
         text,
+    }
+}
+
+/// Cuts a word of a trace or an audit into its name, if it has one, and the rest. Other words have
+/// no names.
+pub(crate) fn label_of<'a>(kind: CommandKind, word: &'a str) -> Label<'a>
+    ensures { IsLabelOf kind word.now result.name result.text.now }
+{
+    match kind {
+        CommandKind::Trace | CommandKind::Audit => cut_name(word),
+        _ => Label {
+            name: None,
+            text: word,
+        },
     }
 }
 

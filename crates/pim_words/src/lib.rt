@@ -1,8 +1,9 @@
 //! What the words of a command line ask for.
 //!
-//! - `plan` reads the words of `check`, `build`, `replay`, `trace`, `same`, `mirror`, `emit` and
-//!   `change`, and opens nothing. It returns the task with all defaults, or the first fault in the
-//!   order that `plan` lists, or `Memory`. Faults and plans borrow from the command line.
+//! - `plan` reads the words of `check`, `build`, `replay`, `trace`, `audit`, `same`, `mirror`,
+//!   `emit` and `change`, and opens nothing. It returns the task with all defaults, or the first
+//!   fault in the order that `plan` lists, or `Memory`. Faults and plans borrow from the command
+//!   line.
 //! - `given_table` makes the route table of an RP and an upstream neighbour.
 //!
 //! All addresses of a task are of one family, and its numbers are in their ranges. A port has a
@@ -38,4 +39,6 @@ pub use judging::is_of;
 pub use pim_capture::Vlan;
 pub use planning::plan;
 pub use table::given_table;
-pub use task::{Captures, CommandKind, CommandPlan, LinkWord, More, Port, Task, Tracing, Writing};
+pub use task::{
+    Auditing, Captures, CommandKind, CommandPlan, LinkWord, More, Port, Task, Tracing, Writing,
+};

@@ -77,8 +77,8 @@ fn read_input(text: &str) -> Option<bool>
     }
 }
 
-/// The links that the words pick. A trace reads any container; otherwise `--input` says whether a
-/// command does.
+/// The links that the words pick. A trace and an audit read any container; otherwise `--input` says
+/// whether a command does.
 pub(crate) fn read_chosen_links<'a>(
     alloc: Global,
     kind: CommandKind,
@@ -87,7 +87,7 @@ pub(crate) fn read_chosen_links<'a>(
     ensures { MatchResult result (AreChosenLinks kind (rows_of (found_of options.now)))
         (OrMemory (AreWrongChoices kind (rows_of (found_of options.now)))) }
 {
-    if let CommandKind::Trace = kind {
+    if let CommandKind::Trace | CommandKind::Audit = kind {
         return read_links(alloc, true, options);
     }
     let text = option_or(options, "input", "classic");

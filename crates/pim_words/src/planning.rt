@@ -60,6 +60,7 @@ fn read_kind(name: &str) -> Option<CommandKind>
         "build" => Some(CommandKind::Build),
         "replay" => Some(CommandKind::Replay),
         "trace" => Some(CommandKind::Trace),
+        "audit" => Some(CommandKind::Audit),
         "same" => Some(CommandKind::Same),
         "mirror" => Some(CommandKind::Mirror),
         "emit" => Some(CommandKind::Emit),
@@ -177,8 +178,8 @@ fn plan_by<'a, S: AsStr>(
 /// - `TwoEnds`: both `--after` and `--at` are given.
 /// - `Address` of an option, in the order of the options in help.
 /// - `Word` of the value of `--at`.
-/// - Of a trace: `Word` of the value of `--from`. `Address` and `Word` of the values of `--group`,
-///   in their order. The same of those of `--source`. `Word` of the value of `--time`.
+/// - Of a trace or an audit: `Word` of the value of `--from`. `Address` and `Word` of the values of
+///   `--group`, in their order. The same of those of `--source`. `Word` of the value of `--time`.
 /// - `Word` of the value of `--input`, then of the values of `--vlan` and of `--interface`, in
 ///   their order.
 /// - `Word` and `Address` of the words, in their order.

@@ -1,6 +1,6 @@
 //! The ports that the words of a command name, with their names and their further files.
 //!
-//! A word is `ADDRESS@FILE`, in a trace also `NAME=ADDRESS@FILE`, and with two routers
+//! A word is `ADDRESS@FILE`, in a trace or an audit also `NAME=ADDRESS@FILE`, and with two routers
 //! `a=ADDRESS@FILE` or `b=ADDRESS@FILE`. Where any container is read, it may be `+FILE`.
 
 ghost use Rattle.std.specs.Prelude.{◌≡◌, MatchResult, [], map};

@@ -4,7 +4,7 @@
 //! `clap` refuses words without it.
 
 ghost use Rattle.std.specs.Prelude.{◌≡◌, MatchResult, IfOk, IfErr, true, false, Some};
-ghost use Rattle.std.specs.Prelude.{option_map};
+ghost use Rattle.std.specs.Prelude.{codes, option_map};
 ghost use Rattle.clap.specs.Words.{rows_of, found_of};
 ghost use Rattle.pim_lines.specs.AnyAddress.{Names};
 ghost use Rattle.pim_words.specs.Ends.{are_both_given, time_text, IsTimed, IsEarly, IsUntimed};
@@ -13,7 +13,8 @@ ghost use Rattle.pim_words.specs.Given.{address_texts, has_writer, required};
 ghost use Rattle.pim_words.specs.Reading.{ReadsAddressOption, IsUnreadValue, IsFirstUnread};
 ghost use Rattle.pim_words.specs.Reading.{ArePorts, AreWrongPorts, IsRun, AreCaptures};
 ghost use Rattle.pim_words.specs.Reading.{IsWriting, IsTask, IsUnreadable, IsWrongRun};
-ghost use Rattle.pim_words.specs.Seen.{OrMemory, AreEnds, AreWritten, HasNumbers};
+ghost use Rattle.pim_words.specs.Reading.{AreTraced, IsAuditing, IsWrongTrace};
+ghost use Rattle.pim_words.specs.Seen.{OrMemory, AreEnds, AreAudited, AreWritten, HasNumbers};
 ghost use Rattle.pim_words.specs.Shown.{IsUnreadText};
 
 use crate::fault::CommandFault;
@@ -21,7 +22,7 @@ use crate::given::{is_flag, number_of, option_of, option_or, values_of};
 use crate::links::{linked, read_chosen_links};
 use crate::port_word::{Labelled, read_labelled};
 use crate::shown::read_shown;
-use crate::task::{Captures, CommandKind, More, Port, Task, Tracing, Writing};
+use crate::task::{Auditing, Captures, CommandKind, More, Port, Task, Tracing, Writing};
 use clap::ArgMatches;
 use pim_lines::{AnyAddress, read_any_address};
 use pim_time::{Time, read_time};
@@ -185,6 +186,47 @@ fn read_replay<'a>(
     Ok(Task::Replay(captures))
 }
 
+/// The router of a trace or an audit, and what is shown.
+#[derive(Drop)]
+struct Traced<'a> {
+    /// The router, and how it runs.
+    captures: Captures<'a, AnyAddress>,
+    /// What is shown.
+    tracing: Tracing<'a, AnyAddress>,
+}
+
+/// The router of a trace or an audit with this RP, and what is shown.
+fn read_traced<'a>(
+    alloc: Global,
+    command: CommandKind,
+    rp: Option<AnyAddress>,
+    options: &ArgMatches<'a>,
+) -> Result<Traced<'a>, CommandFault<'a>>
+    requires numbers { HasNumbers (rows_of (found_of options.now)) }
+    requires one_end { are_both_given (rows_of (found_of options.now)) ≡ false }
+    ensures rp { IfOk result (λ traced. traced.captures.rp ≡ rp) }
+    ensures traced { IfOk result
+        (λ traced. AreTraced command (rows_of (found_of options.now))
+        traced.captures traced.tracing) }
+    ensures reported { IfErr result
+        (OrMemory (IsWrongTrace command (rows_of (found_of options.now)))) }
+{
+    let end = read_at(option_of(options, "at"))?;
+    let shown = read_shown(alloc, options)?;
+    let labelled = read_linked(alloc, command, options)?;
+    let captures = captures_of(rp, end, labelled.ports, labelled.more, options);
+    let tracing = Tracing {
+        from: shown.from,
+        groups: shown.groups,
+        sources: shown.sources,
+        form: shown.form,
+        all: is_flag(options, "all"),
+        json: is_flag(options, "json"),
+        names: labelled.names,
+    };
+    Ok(Traced { captures, tracing })
+}
+
 /// The task of `trace`.
 fn read_trace<'a>(
     alloc: Global,
@@ -196,20 +238,57 @@ fn read_trace<'a>(
 {
     judge_end(options)?;
     let rp = read_given(option_of(options, "rp"))?;
-    let end = read_at(option_of(options, "at"))?;
-    let shown = read_shown(alloc, options)?;
-    let labelled = read_linked(alloc, CommandKind::Trace, options)?;
-    let captures = captures_of(rp, end, labelled.ports, labelled.more, options);
-    let tracing = Tracing {
-        from: shown.from,
-        groups: shown.groups,
-        sources: shown.sources,
-        form: shown.form,
-        all: is_flag(options, "all"),
-        json: is_flag(options, "json"),
-        names: labelled.names,
-    };
-    Ok(Task::Trace(captures, tracing))
+    let traced = read_traced(alloc, CommandKind::Trace, rp, options)?;
+    Ok(Task::Trace(traced.captures, traced.tracing))
+}
+
+/// The addresses among the options of an audit.
+#[derive(Clone, Copy)]
+struct AuditAddresses {
+    /// The upstream neighbour.
+    upstream: AnyAddress,
+    /// The RP, if one is given.
+    rp: Option<AnyAddress>,
+}
+
+/// The addresses among the options of an audit, or the fault of the first that can't be read.
+fn read_audited<'a>(options: &ArgMatches<'a>) -> Result<AuditAddresses, CommandFault<'a>>
+    ensures { MatchResult result (AreAudited (rows_of (found_of options.now)))
+        (IsFirstUnread (address_texts CommandKind.Audit (rows_of (found_of options.now)))) }
+{
+    let asked = read_option(option_or(options, "upstream", ""))?;
+    let given = read_given(option_of(options, "rp"))?;
+    Ok(AuditAddresses {
+        upstream: asked,
+        rp: given,
+    })
+}
+
+/// What an audit with this upstream neighbour asks, and how long an entry may be due.
+fn auditing_of(upstream: AnyAddress, options: &ArgMatches<'_>) -> Auditing<AnyAddress>
+    requires upstream { Names (required (codes "upstream") (rows_of (found_of options.now)))
+        upstream }
+    requires numbers { HasNumbers (rows_of (found_of options.now)) }
+    ensures { IsAuditing (rows_of (found_of options.now)) result }
+{
+    let grace_ms = number_of(options, "grace", "3000", 0, 1_000_000_000);
+    Auditing { upstream, grace_ms }
+}
+
+/// The task of `audit`.
+fn read_audit<'a>(
+    alloc: Global,
+    options: &ArgMatches<'a>,
+) -> Result<Task<'a, AnyAddress>, CommandFault<'a>>
+    requires { HasNumbers (rows_of (found_of options.now)) }
+    ensures { MatchResult result (IsTask CommandKind.Audit (rows_of (found_of options.now)))
+        (IsUnreadable CommandKind.Audit (rows_of (found_of options.now))) }
+{
+    judge_end(options)?;
+    let addresses = read_audited(options)?;
+    let traced = read_traced(alloc, CommandKind::Audit, addresses.rp, options)?;
+    let auditing = auditing_of(addresses.upstream, options);
+    Ok(Task::Audit(traced.captures, auditing, traced.tracing))
 }
 
 /// The addresses of a command that writes messages.
@@ -295,6 +374,7 @@ pub(crate) fn read_task<'a>(
         }
         CommandKind::Replay => read_replay(alloc, options),
         CommandKind::Trace => read_trace(alloc, options),
+        CommandKind::Audit => read_audit(alloc, options),
         CommandKind::Same | CommandKind::Mirror | CommandKind::Emit | CommandKind::Change =>
             read_written(alloc, kind, options),
     }

@@ -1,4 +1,4 @@
-//! What a trace shows: its options `--from`, `--group`, `--source` and `--time`.
+//! What a trace or an audit shows: the options `--from`, `--group`, `--source` and `--time`.
 
 ghost use Rattle.std.specs.Prelude.{◌≡◌, MatchOption, MatchResult, map};
 ghost use Rattle.std.specs.List.{AllZip};
@@ -17,10 +17,10 @@ use pim_lines::AnyAddress;
 use pim_time::{Time, TimeForm};
 use std::alloc::Global;
 
-/// The most groups and the most sources that a trace may show by name.
+/// The most groups and the most sources that may be shown by name.
 const MOST_SHOWN: usize = 64;
 
-/// What a trace shows.
+/// What a trace or an audit shows.
 #[derive(Drop)]
 pub(crate) struct ShownEvents {
     /// The time before which nothing is shown, if one is given.
@@ -71,7 +71,7 @@ fn read_choice<'a>(
     Ok(addresses)
 }
 
-/// What a trace shows, or the fault of the first value that is wrong.
+/// What a trace or an audit shows, or the fault of the first value that is wrong.
 pub(crate) fn read_shown<'a>(
     alloc: Global,
     options: &ArgMatches<'a>,

@@ -74,18 +74,28 @@ pub struct Writing<A> {
     pub budget: usize,
 }
 
-/// What a trace shows of its events, and how.
+/// The audit of a router: whom the router asks, and when it is late.
+#[derive(Clone, Copy, Debug, PartialEq, Eq)]
+pub struct Auditing<A> {
+    /// The upstream neighbour that the router asks.
+    pub upstream: A,
+    /// How long an entry may be due before it is late, in milliseconds: 0 to 1,000,000,000.
+    pub grace_ms: u64,
+}
+
+/// What a trace or an audit shows of its events, and how.
 #[derive(Debug, Drop)]
 pub struct Tracing<'a, A> {
     /// The time before which nothing is shown, if one is given.
     pub from: Option<Time>,
     /// The groups that are shown, at most 64. All are if there are none.
     pub groups: Vec<A>,
-    /// The sources that are shown, at most 64. All are if there are none.
+    /// The sources that are shown, at most 64. All are if there are none. An audit has no option
+    /// for them.
     pub sources: Vec<A>,
     /// How moments are written as text.
     pub form: TimeForm,
-    /// Whether what changes nothing is shown, too.
+    /// Whether what changes nothing is shown, too. An audit has no option for it.
     pub all: bool,
     /// Whether JSON is written in place of text.
     pub json: bool,
@@ -114,6 +124,8 @@ pub enum Task<'a, A> {
     Replay(Captures<'a, A>),
     /// To print each change of a router's machines, in time, with its cause.
     Trace(Captures<'a, A>, Tracing<'a, A>),
+    /// To report whether a router asks its upstream neighbour for what it has to.
+    Audit(Captures<'a, A>, Auditing<A>, Tracing<'a, A>),
     /// To report whether two routers want the same traffic.
     Same(Captures<'a, A>, Writing<A>),
     /// To print the messages that make a fresh router want what this router wants.
@@ -147,6 +159,8 @@ pub enum CommandKind {
     Replay,
     /// `trace`
     Trace,
+    /// `audit`
+    Audit,
     /// `same`
     Same,
     /// `mirror`

@@ -9,11 +9,11 @@ ghost use Rattle.pim_words.specs.Faults.{are_captures_in, is_tracing_in, is_writ
 ghost use Rattle.pim_lines.specs.AnyAddress.{is_in, address_in};
 ghost use Rattle.pim_words.specs.Faults.{are_in};
 ghost use Rattle.pim_words.specs.Typed.{port_seen, SameCaptures, SameTracing};
-ghost use Rattle.pim_words.specs.Typed.{SameWriting, SameTask};
+ghost use Rattle.pim_words.specs.Typed.{SameAuditing, SameWriting, SameTask};
 ghost use Rattle.pim_words.specs.Seen.{IsForeign};
 
 use crate::fault::CommandFault;
-use crate::task::{Captures, Port, Task, Tracing, Writing};
+use crate::task::{Auditing, Captures, Port, Task, Tracing, Writing};
 use pim_addr::Family;
 use pim_lines::{AnyAddress, of_family};
 use std::alloc::Global;
@@ -137,7 +137,7 @@ fn all_in_family<F: Family>(
     Ok(typed)
 }
 
-/// What a trace shows, if all its groups and sources are of this family.
+/// What a trace or an audit shows, if all its groups and sources are of this family.
 fn tracing_in_family<'a, F: Family>(
     alloc: Global,
     tracing: &Tracing<'a, AnyAddress>,
@@ -158,6 +158,22 @@ fn tracing_in_family<'a, F: Family>(
         all: tracing.all,
         json: tracing.json,
         names,
+    })
+}
+
+/// The upstream neighbour of an audit, if it is of this family, and the grace.
+fn auditing_in_family<F: Family>(
+    auditing: Auditing<AnyAddress>,
+) -> Result<Auditing<F::Addr>, CommandFault<'static>>
+    ensures { MatchResult result
+        (λ typed. (is_in F.family auditing.upstream ≡ true)
+        × SameAuditing F.family F.bytes_of typed auditing)
+        (IsForeign (is_in F.family auditing.upstream)) }
+{
+    let upstream = in_family::<F>(auditing.upstream)?;
+    Ok(Auditing {
+        upstream,
+        grace_ms: auditing.grace_ms,
     })
 }
 
@@ -205,6 +221,12 @@ pub(crate) fn task_in_family<'a, F: Family>(
             let captures = captures_in_family::<F>(alloc, captures)?;
             let tracing = tracing_in_family::<F>(alloc, tracing)?;
             Ok(Task::Trace(captures, tracing))
+        }
+        Task::Audit(captures, auditing, tracing) => {
+            let captures = captures_in_family::<F>(alloc, captures)?;
+            let auditing = auditing_in_family::<F>(*auditing)?;
+            let tracing = tracing_in_family::<F>(alloc, tracing)?;
+            Ok(Task::Audit(captures, auditing, tracing))
         }
         Task::Same(captures, writing)
         | Task::Mirror(captures, writing)
