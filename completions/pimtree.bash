@@ -8,6 +8,7 @@ _pimtree_options() {
         check | build) echo --src --dst --help ;;
         replay) echo "$run" --input --help ;;
         trace) echo "$run" --from --group --source --time --all --json --help ;;
+        audit) echo "$run" --upstream --grace --from --group --time --json --help ;;
         same | mirror | emit | change) echo "$run" "$messages" --input --help ;;
         session) echo --help ;;
     esac
@@ -41,7 +42,7 @@ _pimtree_argument() {
 }
 
 _pimtree() {
-    local commands='check build replay trace same mirror emit change session'
+    local commands='check build replay trace audit same mirror emit change session'
     local command=${COMP_WORDS[1]} before=$3
     COMPREPLY=()
     # Bash makes a word of =, too: those of `--time=utc` are `--time`, `=` and `utc`.

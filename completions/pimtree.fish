@@ -18,10 +18,13 @@ function __pimtree_files
 end
 
 set -l of_message '__pimtree_is check build'
-set -l of_run '__pimtree_is replay trace same mirror emit change'
+set -l of_run '__pimtree_is replay trace audit same mirror emit change'
 set -l of_input '__pimtree_is replay same mirror emit change'
 set -l of_demand '__pimtree_is same mirror emit change'
+set -l of_upstream '__pimtree_is audit same mirror emit change'
+set -l of_shown '__pimtree_is trace audit'
 set -l of_trace '__pimtree_is trace'
+set -l of_audit '__pimtree_is audit'
 
 complete -c pimtree -f
 complete -c pimtree -s h -l help -d 'Print help'
@@ -31,6 +34,7 @@ complete -c pimtree -n __fish_use_subcommand -a check -d 'What does this message
 complete -c pimtree -n __fish_use_subcommand -a build -d 'Which bytes has this message?'
 complete -c pimtree -n __fish_use_subcommand -a replay -d 'What did this router hold, and why?'
 complete -c pimtree -n __fish_use_subcommand -a trace -d 'What changed in this router, and why?'
+complete -c pimtree -n __fish_use_subcommand -a audit -d 'Does this router ask for what it has to?'
 complete -c pimtree -n __fish_use_subcommand -a same -d 'Do two routers want the same traffic?'
 complete -c pimtree -n __fish_use_subcommand -a mirror -d 'Which messages ask for this demand?'
 complete -c pimtree -n __fish_use_subcommand -a emit -d 'The same messages as bytes'
@@ -50,14 +54,16 @@ complete -c pimtree -n $of_run -l vlan -x -d 'Only packets of this VLAN'
 complete -c pimtree -n $of_run -l interface -x -d 'Only packets of this interface'
 complete -c pimtree -n $of_input -l input -x -a 'classic any' -d 'Kind of each file'
 
-complete -c pimtree -n $of_demand -l upstream -x -d 'Neighbour the messages go to'
+complete -c pimtree -n $of_upstream -l upstream -x -d 'Upstream neighbour'
 complete -c pimtree -n $of_demand -l own -x -d 'Address the messages come from'
 complete -c pimtree -n $of_demand -l holdtime -x -d 'Holdtime of the messages in seconds'
 complete -c pimtree -n $of_demand -l budget -x -d 'Most bytes of a message'
 
-complete -c pimtree -n $of_trace -l from -x -d 'Leave out what is before this time'
-complete -c pimtree -n $of_trace -l group -x -d 'Show only this group'
+complete -c pimtree -n $of_audit -l grace -x -d 'Milliseconds that an entry may be due'
+
+complete -c pimtree -n $of_shown -l from -x -d 'Leave out what is before this time'
+complete -c pimtree -n $of_shown -l group -x -d 'Show only this group'
 complete -c pimtree -n $of_trace -l source -x -d 'Show only this source, and (*,G)'
-complete -c pimtree -n $of_trace -l time -x -a 'ms epoch utc' -d 'Form of times'
+complete -c pimtree -n $of_shown -l time -x -a 'ms epoch utc' -d 'Form of times'
 complete -c pimtree -n $of_trace -l all -d 'Show what changes no state, too'
-complete -c pimtree -n $of_trace -l json -d 'Write a JSON object a line'
+complete -c pimtree -n $of_shown -l json -d 'Write a JSON object a line'

@@ -169,8 +169,61 @@ def fault():
         file.write(bytes(7))
 
 
+def transit_lan():
+    """Three neighbours of a transit router, on its LAN: two trees that all is well with, a prune that
+    another neighbour overrides, and two prunes that take effect. The router repeats these to itself
+    (PruneEcho)."""
+    seven, eight, nine, here = "10.0.0.7", "10.0.0.8", "10.0.0.9", "10.0.0.2"
+    star, five, six = [(STAR, "10.9.9.9")], [(SOURCE, "192.0.2.5")], [(SOURCE, "192.0.2.6")]
+    both = [("239.1.1.1", star, []), ("239.3.3.3", star, [])]
+    write("transit-lan.pcap", [
+        (0, hello(seven)),
+        (10, hello(eight)),
+        (20, hello(nine)),
+        (30, hello(here)),
+        (10000, join_prune(seven, here, 210, [("239.1.1.1", star, [])])),
+        (12000, join_prune(nine, here, 210, [("239.2.2.2", five, [])])),
+        (15000, join_prune(seven, here, 210, [("239.1.1.1", [], star)])),
+        (16500, join_prune(eight, here, 210, [("239.1.1.1", star, [])])),
+        (20000, join_prune(nine, here, 210, [("239.2.2.2", [], five)])),
+        (23001, join_prune(here, here, 210, [("239.2.2.2", [], five)])),
+        (30000, join_prune(eight, here, 210, [("239.3.3.3", star, [])])),
+        (40000, join_prune(nine, here, 210, [("239.4.4.4", six, [])])),
+        (50000, join_prune(nine, here, 210, [("239.4.4.4", [], six)])),
+        (53001, join_prune(here, here, 210, [("239.4.4.4", [], six)])),
+        (70000, join_prune(eight, here, 210, both)),
+        (130000, join_prune(eight, here, 210, both)),
+    ])
+
+
+def transit_up():
+    """The link of the transit router to its upstream neighbour, which restarts. The router asks late
+    for a star, never prunes the source 192.0.2.6, and asks 18.9 s late for all after the restart."""
+    upstream, here = "10.1.0.1", "10.1.0.2"
+    star, five, six = [(STAR, "10.9.9.9")], [(SOURCE, "192.0.2.5")], [(SOURCE, "192.0.2.6")]
+    held = [("239.1.1.1", star, []), ("239.3.3.3", star, []), ("239.4.4.4", six, [])]
+    write("transit-up.pcap", [
+        (40, hello(here)),
+        (5000, hello(upstream, 105)),
+        (10200, join_prune(here, upstream, 210, [("239.1.1.1", star, [])])),
+        (12100, join_prune(here, upstream, 210, [("239.2.2.2", five, [])])),
+        (23100, join_prune(here, upstream, 210, [("239.2.2.2", [], five)])),
+        (35000, hello(upstream, 105)),
+        (38500, join_prune(here, upstream, 210, [("239.3.3.3", star, [])])),
+        (40100, join_prune(here, upstream, 210, [("239.4.4.4", six, [])])),
+        (65000, hello(upstream, 105)),
+        (70200, join_prune(here, upstream, 210, held)),
+        (95000, hello(upstream, 105)),
+        (100000, hello(upstream, 105, 2)),
+        (118900, join_prune(here, upstream, 210, held)),
+        (130000, hello(upstream, 105, 2)),
+    ])
+
+
 if __name__ == "__main__":
     lan()
     lost()
     ipv6()
     fault()
+    transit_lan()
+    transit_up()

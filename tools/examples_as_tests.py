@@ -1,5 +1,5 @@
 #!/usr/bin/env python3
-"""Writes the captures of examples/, with their words, reports and traces, as cases of crates/pimtree_cases.
+"""Writes the captures of examples/, with their words, reports, traces and audits, as cases of crates/pimtree_cases.
 
     python3 tools/examples_as_tests.py
 """
@@ -7,6 +7,7 @@ import os
 
 TOP = os.path.join(os.path.dirname(os.path.abspath(__file__)), "..")
 NAMES = ["lan", "lost", "ipv6", "fault"]
+LINKS = ["transit-lan", "transit-up"]
 PLACE = os.path.join(TOP, "crates", "pimtree_cases", "data", "cases", "examples.case")
 
 
@@ -46,10 +47,16 @@ def cases(name):
     return replay + case(name, ["trace"], "trace") + case(name, ["trace", "--json"], "json")
 
 
+def audits(name):
+    """The cases of an audit. Something is late in it, so its status is 1."""
+    of_each = case(name, ["audit"], "audit"), case(name, ["audit", "--json"], "json")
+    return "".join(f"{it}status 1\n" for it in of_each)
+
+
 def text():
     head = "# The captures of examples/, written here by tools/examples_as_tests.py.\n"
-    files = "".join(f"\nfile {name}.pcap\n" + hexadecimal(content(name, "pcap")) for name in NAMES)
-    return head + files + "".join(cases(name) for name in NAMES)
+    files = "".join(f"\nfile {name}.pcap\n" + hexadecimal(content(name, "pcap")) for name in NAMES + LINKS)
+    return head + files + "".join(cases(name) for name in NAMES) + audits("transit")
 
 
 with open(PLACE, "w") as file:

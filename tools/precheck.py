@@ -10,7 +10,7 @@ It checks
 - that each bench compiles,
 - if a reader of captures differs from BASE, that random captures are read as a slow reader reads them,
 - that documents keep their length, and that the files which they name exist,
-- that each JSON line of a trace that a case expects is an object with the members of docs/TRACE.md,
+- that each JSON line that a case expects is an object with the members of docs/TRACE.md or docs/AUDIT.md,
 - the tests of each crate that differs from the commit BASE (HEAD unless given), and of the test crates that name it.
 
 What is wrong is printed as it is found. The last line says how it ended; the status is 0 or 1.
@@ -38,6 +38,7 @@ WORDS = {
     "README.md": 1000,
     "CONTRIBUTING.md": 600,
     "docs/ARCHITECTURE.md": 1500,
+    "docs/AUDIT.md": 700,
     "docs/CAPTURES.md": 750,
     "docs/CONTRACTS.md": 3000,
     "docs/DEFINITIONS.md": 1500,
@@ -51,9 +52,10 @@ WORDS = {
     "docs/TRACE.md": 1000,
     "docs/WALKTHROUGH.md": 900,
 }
-# The members of the JSON lines of a trace, by their event (docs/TRACE.md): first those of all events, then those of each, and last those within a member.
+# The members of the JSON lines of a trace and of an audit, by their event (docs/TRACE.md, docs/AUDIT.md): first those of all
+# events, then those of each, and last those within a member.
 OF_ALL = ["ms", "epoch", "port", "event"]
-MEMBERS = {
+OF_TRACE = {
     "hello": ["frame", "from", "verdict", "was", "generation"],
     "packet": ["frame", "from", "verdict", "for", "joined", "pruned"],
     "transition": ["frame", "from", "by", "what", "group", "source", "was", "now", "et", "ppt", "neighbours", "overrides"],
@@ -64,6 +66,16 @@ MEMBERS = {
     "fired": ["timer", "what", "group", "source", "was", "now", "echo", "cause"],
     "end": ["records", "neighbours", "skipped"],
 }
+OF_AUDIT = {
+    "late": ["since", "by", "what", "group", "source"],
+    "sent": ["frame", "from", "after", "by", "what", "group", "source"],
+    "dropped": ["after", "by", "what", "group", "source"],
+    "upstream": ["frame", "from", "verdict"],
+    "restarted": ["frame", "was", "generation"],
+    "full": ["frame", "from", "needed"],
+    "end": ["due", "late", "worst", "open"],
+}
+MEMBERS = {"trace": OF_TRACE, "audit": OF_AUDIT}
 WITHIN = {
     "timed-out": ("cause", ["frame", "ms"]),
     "fired": ("cause", ["frame", "from", "ms"]),
@@ -124,7 +136,7 @@ def document(name):
     return wrong + [f"{name}: no {it}" for it in sorted(set(paths)) if not is_there(it.rstrip("."))]
 
 
-def has_members(line):
+def has_members(line, command):
     """Whether a line is a JSON object with the members of its event, each once and in this order."""
     try:
         pairs = json.loads(line, object_pairs_hook=list)
@@ -132,19 +144,22 @@ def has_members(line):
         return False
     values = dict(pairs)
     event = values.get("event")
-    name, names = WITHIN.get(event, ("event", None))
+    name, names = WITHIN.get(event, ("event", None)) if command == "trace" else ("event", None)
     within = names is None or [it for it, _ in values.get(name) or []] == names
-    return within and [it for it, _ in pairs] == OF_ALL + MEMBERS.get(event, [])
+    return within and [it for it, _ in pairs] == OF_ALL + MEMBERS.get(command, {}).get(event, [])
 
 
 def json_lines():
-    """The lines of traces in cases that begin as objects, and aren't ones as they should be."""
+    """The lines of cases that begin as objects, and aren't ones as the document of their command has them."""
     wrong = []
     for path in sorted(glob.glob(f"{TOP}/crates/pimtree_cases/data/cases/*.case")):
+        command = None
         with open(path) as file:
             for number, line in enumerate(file, 1):
-                if line.startswith("= {") and not has_members(line[2:]):
-                    wrong.append(f"{os.path.relpath(path, TOP)} line {number}: no object as docs/TRACE.md has it")
+                if line.startswith("words "):
+                    command = line.split()[1]
+                if line.startswith("= {") and not has_members(line[2:], command):
+                    wrong.append(f"{os.path.relpath(path, TOP)} line {number}: no object of {command} as documents have it")
     return wrong
 
 

@@ -20,7 +20,7 @@ def run(*words: str, data: bytes = b"") -> Tuple[str, str, int]:
 
 
 def words_of(name: str) -> List[str]:
-    """The words of an example's `replay`, without the command."""
+    """The words of an example, without the command."""
     return support.read(support.example(f"{name}.words")).split()[1:]
 
 
@@ -44,6 +44,12 @@ class Examples(unittest.TestCase):
                     with self.subTest(name, kind=kind):
                         expected = support.read(path)
                         self.assertEqual(run("trace", *option, *words_of(name)), (expected, "", 0))
+
+    def test_audit(self) -> None:
+        for option, kind in ((), "audit"), (("--json",), "json"):
+            with self.subTest(kind=kind):
+                expected = support.read(support.example(f"transit.{kind}"))
+                self.assertEqual(run("audit", *option, *words_of("transit")), (expected, "", 1))
 
     def test_a_session(self) -> None:
         text = support.read(support.example("override.session"))

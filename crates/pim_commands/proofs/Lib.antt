@@ -7,4 +7,5 @@ pub mod Named
 pub mod Warned
 pub mod Opened
 pub mod Traced
+pub mod Audited
 pub mod TraceAndReplay

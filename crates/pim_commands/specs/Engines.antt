@@ -2,6 +2,8 @@
 use Rattle.std.specs.Prelude.{◌≡◌, ◌⊎◌, ℕ, List, [], ◌++◌, is_some, Option, None, Some, Result, Ok, Err}
 use Rattle.pim_addr.specs.declared.family.AddressFamily.{AddressFamily}
 use Rattle.pim_addr.specs.Routes.{RouteTable}
+use Rattle.pim_audit.specs.Run.{Audits, run_at_start}
+use Rattle.pim_audit_events.specs.Lines.{Statement}
 use Rattle.pim_events.specs.Events.{Occurrence}
 use Rattle.pim_exchange.specs.declared.fault.ExchangeFault.{ExchangeFault}
 use Rattle.pim_exchange.specs.declared.fault.ExchangeFault.TheVariants.{Replay}
@@ -24,16 +26,18 @@ use Rattle.pim_faults.specs.declared.fault.Fault.{Fault}
 use Rattle.pim_commands.specs.declared.two_routers.TwoRouters.{TwoRouters}
 use Rattle.pim_commands.specs.declared.two_routers.TwoRouters.TheVariants.{Same, Change}
 use Rattle.pim_commands.specs.Answers.{answer_of}
+use Rattle.pim_commands.specs.Auditing.{AuditAsked}
 use Rattle.pim_commands.specs.Census.{begun}
 use Rattle.pim_commands.specs.Routers.{end_of, setup_in, writer_causes, config_causes, IsFirstCause}
 
 -- ---- the engines
 
--- The engine of a command for one router: it writes the report, this line of each event, or the
--- messages of this writer, as text or as bytes.
+-- The engine of a command for one router. It writes the report, this line of each event of a trace,
+-- this text of each line of an audit, or the messages of this writer as text or as bytes.
 pub data Engine : Type 0 where
   a_report : Engine
   a_trace : (Occurrence → List ℕ) → Engine
+  an_audit : (Option ℕ → Statement → List ℕ) → AuditAsked → Engine
   a_mirror : Writing → Engine
   an_emission : Writing → Engine
 
@@ -61,6 +65,9 @@ module _ {A : Type 0} (family : AddressFamily) (bytes_of : A → List ℕ) (capt
       (Replays family (is_some captures.routes) (end_of captures) merge merge' state after old new) of_replayed reported
   Does (a_trace line) merge merge' state old new after reported = IsAsOf
       (Traces line family (end_of captures) merge merge' state after old new) of_traced reported
+  Does (an_audit line asked) merge merge' state old new after reported = IsAsOf
+      (Audits family bytes_of asked.groups line (end_of captures) merge
+      (run_at_start asked.upstream asked.grace captures.limit state) state old merge' after new) of_replayed reported
   Does (a_mirror writing) merge merge' state old new after reported =
       WritesMirror family (end_of captures) writing captures.limit merge merge' state after bytes_of old new reported
   Does (an_emission writing) merge merge' state old new after reported =
@@ -77,9 +84,10 @@ module _ {A : Type 0} (family : AddressFamily) (bytes_of : A → List ℕ) (capt
       after.1 bytes_of old new reported
 
   -- The captures before the run. A census of each has begun, if ports of the words have links, but
-  -- for a trace.
+  -- for a trace and an audit.
   abbrev pub begun_for : Engine → MergeState → MergeState
   begun_for (a_trace line) merge = merge
+  begun_for (an_audit line asked) merge = merge
   begun_for engine merge = begun family captures merge
 
 -- The fault of the engine's writer, if it has one.

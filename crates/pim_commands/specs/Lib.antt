@@ -7,6 +7,7 @@ pub mod Warnings
 pub mod Census
 pub mod Routers
 pub mod Tracing
+pub mod Auditing
 pub mod Answers
 pub mod Engines
 pub mod Opening

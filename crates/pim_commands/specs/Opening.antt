@@ -13,14 +13,17 @@ use Rattle.pim_files.specs.Opening.{file_names, port_files, IsUnopened}
 use Rattle.pim_files.specs.Table.{IsTable}
 use Rattle.pim_merge.specs.Next.{MergeState, IsUntaken}
 use Rattle.pim_words.specs.declared.fault.RouterSide.TheVariants as side
+use Rattle.pim_words.specs.declared.task.Auditing.{Auditing}
 use Rattle.pim_words.specs.declared.task.Captures.{Captures}
 use Rattle.pim_words.specs.declared.task.Tracing.{Tracing}
 use Rattle.pim_words.specs.declared.task.Writing.{Writing}
 use Rattle.pim_faults.specs.declared.fault.Fault.{Fault}
+use Rattle.pim_commands.specs.Auditing.{audit_line_of, audit_of}
 use Rattle.pim_commands.specs.Census.{begun}
 use Rattle.pim_commands.specs.declared.two_routers.TwoRouters.{TwoRouters}
 use Rattle.pim_commands.specs.declared.two_routers.TwoRouters.TheVariants.{Same, Change}
-use Rattle.pim_commands.specs.Engines.{Engine, a_report, a_trace, a_mirror, an_emission, begun_for, RunsOne, RunsBoth}
+use Rattle.pim_commands.specs.Engines.{Engine, a_report, a_trace, an_audit, a_mirror, an_emission, begun_for}
+use Rattle.pim_commands.specs.Engines.{RunsOne, RunsBoth}
 use Rattle.pim_commands.specs.Routers.{writing_of}
 use Rattle.pim_commands.specs.Tracing.{line_of, names_of}
 use Rattle.pim_commands.specs.Warnings.{warnings_text}
@@ -118,6 +121,12 @@ module _ {A R : Type 0} (family : AddressFamily) (bytes_of : A → List ℕ) (re
   abbrev pub TracesFiles : Tracing A → (List ℕ → Type 0) → Option (List ℕ) → Option (List ℕ) → Result ℕ Fault → Type 0
   TracesFiles tracing Warns old new result = OneRuns None
       (a_trace (line_of family bytes_of (names_of 0 tracing.names.items) tracing)) Warns old new result
+
+  -- What `audit` returns and writes.
+  abbrev pub AuditsFiles : Auditing A → Tracing A → (List ℕ → Type 0) → Option (List ℕ) → Option (List ℕ) → Result ℕ Fault → Type 0
+  AuditsFiles auditing tracing Warns old new result = OneRuns (Some auditing.upstream)
+      (an_audit (audit_line_of family bytes_of (names_of 0 tracing.names.items) auditing.upstream tracing)
+      (audit_of bytes_of auditing tracing)) Warns old new result
 
   -- What `mirror` returns and writes.
   abbrev pub MirrorsFiles : Writing A → (List ℕ → Type 0) → Option (List ℕ) → Option (List ℕ) → Result ℕ Fault → Type 0

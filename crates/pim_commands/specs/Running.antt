@@ -3,10 +3,10 @@ use Rattle.std.specs.Prelude.{ℕ, List, [], Option, Result, IfSome}
 use Rattle.pim_addr.specs.declared.family.AddressFamily.{AddressFamily}
 use Rattle.pim_files.specs.Files.{Known}
 use Rattle.pim_words.specs.declared.task.Task.{Task}
-use Rattle.pim_words.specs.declared.task.Task.TheVariants.{Check, Build, Replay, Trace, Same, Mirror, Emit, Change}
+use Rattle.pim_words.specs.declared.task.Task.TheVariants.{Check, Build, Replay, Trace, Audit, Same, Mirror, Emit, Change}
 use Rattle.pim_faults.specs.declared.fault.Fault.{Fault}
 use Rattle.pim_commands.specs.Building.{Builds}
-use Rattle.pim_commands.specs.Opening.{ReplaysFiles, TracesFiles, ComparesFiles, MirrorsFiles, EmitsFiles, ChangesFiles}
+use Rattle.pim_commands.specs.Opening.{ReplaysFiles, TracesFiles, AuditsFiles, ComparesFiles, MirrorsFiles, EmitsFiles, ChangesFiles}
 use Rattle.pim_commands.specs.Report.{Reports, input_report}
 
 -- The result and the output of a task, by the bytes of standard input, if they are known, and by
@@ -22,6 +22,8 @@ module _ {A R : Type 0} (family : AddressFamily) (bytes_of : A → List ℕ) (re
   DoesTask (Replay captures) = ReplaysFiles family bytes_of remaining failures known known' captures Warns old new result
   DoesTask (Trace captures tracing) =
       TracesFiles family bytes_of remaining failures known known' captures tracing Warns old new result
+  DoesTask (Audit captures auditing tracing) =
+      AuditsFiles family bytes_of remaining failures known known' captures auditing tracing Warns old new result
   DoesTask (Same captures writing) =
       ComparesFiles family bytes_of remaining failures known known' captures writing Warns old new result
   DoesTask (Mirror captures writing) =

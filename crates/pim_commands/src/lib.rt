@@ -3,9 +3,9 @@
 //! - `run_task` does what a task of a plan of `pim_words` asks for. It returns the status or a
 //!   fault of `pim_faults`, and writes nothing where a file, the writer or a router can't be made.
 //! - `check_into` prints one message, and `build_into` writes the bytes of the message of a text.
-//! - `replay`, `trace`, `same`, `mirror`, `emit` and `change` open the files by an opener that the
-//!   caller gives (`pim_files`), and call the engine of that name (`pim_replay`, `pim_trace`,
-//!   `pim_exchange`). Warnings on the captures follow on a device for errors.
+//! - `replay`, `trace`, `audit`, `same`, `mirror`, `emit` and `change` open the files by an opener
+//!   that the caller gives (`pim_files`). Each calls the engine of that name in `pim_replay`,
+//!   `pim_trace`, `pim_audit` or `pim_exchange`. Warnings follow on a device for errors.
 //!
 //! The file of routes is opened first, then the files of the ports in the order of the words. A
 //! device's count of failures rises exactly where its failure is the result. By a law, `trace` ends
@@ -13,6 +13,7 @@
 #![tactic(auto)]
 
 mod answers;
+mod auditing;
 mod build;
 mod census;
 mod check;
@@ -28,7 +29,7 @@ mod warnings;
 
 pub use build::{build_into, build_task};
 pub use check::{check_into, check_task};
-pub use one_router::{emit, mirror, replay, trace};
+pub use one_router::{audit, emit, mirror, replay, trace};
 pub use pim_faults::{FAULTY, Fault, Warning, fault_line, report_fault, warning_line};
 pub use running::run_task;
 pub use two_routers::{change, same};

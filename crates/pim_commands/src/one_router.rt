@@ -11,11 +11,12 @@ ghost use Rattle.pim_words.specs.Plan.{AreNames, IsBounded, IsLimited, IsWritabl
 ghost use Rattle.pim_commands.specs.Commands.{engine_of, engine_seen, upstream_of, Fits};
 ghost use Rattle.pim_commands.specs.Engines.{of_replayed, of_traced, begun_for, Does};
 ghost use Rattle.pim_commands.specs.Engines.{RunsBy, RunsOne};
-ghost use Rattle.pim_commands.specs.Opening.{EmitsFiles, MirrorsFiles, ReplaysFiles, TracesFiles};
-ghost use Rattle.pim_commands.specs.Opening.{OneRuns};
+ghost use Rattle.pim_commands.specs.Opening.{AuditsFiles, EmitsFiles, MirrorsFiles, ReplaysFiles};
+ghost use Rattle.pim_commands.specs.Opening.{OneRuns, TracesFiles};
 ghost use Rattle.pim_commands.specs.declared.one_router.OneRouter.TheVariants.{Report};
 
 use crate::answers::answer_of;
+use crate::auditing::{AuditWords, audit_by};
 use crate::census::begin_census;
 use crate::opening::open_one;
 use crate::routers::{configs, end_of, router_of, writer_of};
@@ -31,7 +32,7 @@ use pim_merge::Merge;
 use pim_replay::replay_into;
 use pim_router::Router;
 use pim_run::RunFault;
-use pim_words::{Captures, Tracing, Writing};
+use pim_words::{Auditing, Captures, Tracing, Writing};
 use std::alloc::Global;
 
 /// What a command does with the captures of one router, and the words for it.
@@ -41,6 +42,8 @@ pub(crate) enum OneRouter<'t, A> {
     Report,
     /// It prints the events that these words ask for.
     Trace(&'t Tracing<'t, A>),
+    /// It prints the audit that these words ask for.
+    Audit(AuditWords<'t, A>),
     /// It writes the canonical messages of this writer as text.
     Mirror(&'t Writing<A>),
     /// It writes them as bytes.
@@ -54,6 +57,8 @@ enum Made<'t, F: Family> {
     Report,
     /// The trace, with the names of the ports.
     Trace(&'t [Name], &'t Tracing<'t, F::Addr>),
+    /// The audit, with the names of the ports.
+    Audit(&'t [Name], AuditWords<'t, F::Addr>),
     /// The messages as text.
     Mirror(&'t Writer<F>),
     /// The messages as bytes.
@@ -73,12 +78,14 @@ fn upstream_of<A: Copy>(command: OneRouter<'_, A>) -> Option<A>
 {
     match command {
         OneRouter::Report | OneRouter::Trace(_) => None,
+        OneRouter::Audit(words) => Some(words.auditing.upstream),
         OneRouter::Mirror(writing) => Some(writing.upstream),
         OneRouter::Emit(writing) => Some(writing.upstream),
     }
 }
 
-/// Begins the census of the captures, if ports of the words have links. A trace has none.
+/// Begins the census of the captures, if ports of the words have links. A trace and an audit have
+/// none.
 fn begin_for<F: Family, R: Feed + Drop>(
     captures: &Captures<'_, F::Addr>,
     command: OneRouter<'_, F::Addr>,
@@ -89,14 +96,14 @@ fn begin_for<F: Family, R: Feed + Drop>(
     ensures length { length merge.new.lanes ≡ length merge.old.lanes }
 {
     match command {
-        OneRouter::Trace(_) => {}
+        OneRouter::Trace(_) | OneRouter::Audit(_) => {}
         OneRouter::Report | OneRouter::Mirror(_) | OneRouter::Emit(_) => {
             begin_census::<F, R>(captures, merge);
         }
     }
 }
 
-/// The result of a replay, as one of any engine.
+/// The result of a replay or an audit, as one of any engine.
 fn of_replayed<A>(reported: Result<u8, RunFault>) -> Result<u8, ExchangeFault<A>>
     ensures { result ≡ of_replayed reported }
 {
@@ -129,6 +136,7 @@ fn lead<F: Family, R: Feed + Drop, W: Drain>(
     requires limit { IsLimited captures.now }
     requires ports { length merge.old.lanes ≡ length router.old.ports }
     requires moment { router.old.machines.moment ≤ latest_moment }
+    requires new { router.old.machines.moment ≡ 0 }
     ensures does { Does F.family F.bytes_of captures.now
         (engine_seen F.family F.bytes_of made.entry)
         merge.old merge.new router.old (W.contents writer.old) (W.contents writer.new)
@@ -144,6 +152,10 @@ fn lead<F: Family, R: Feed + Drop, W: Drain>(
         Made::Trace(names, tracing) => {
             let requested = (captures, tracing);
             of_traced(trace_by::<F, R, W>(alloc, requested, names, merge, router, writer))
+        }
+        Made::Audit(names, words) => {
+            let requested = (captures, words);
+            of_replayed(audit_by::<F, R, W>(alloc, requested, names, merge, router, writer))
         }
         Made::Mirror(by) => {
             let options = ExchangeOptions {
@@ -221,6 +233,13 @@ fn run_command<'a, 't, F: Family, R: Feed + Drop, W: Drain>(
         OneRouter::Trace(tracing) => match names_of(alloc, &tracing.names) {
             Ok(names) => {
                 let made = Made::Trace(&names, tracing);
+                run_made::<F, R, W>(alloc, captures, made, routes, merge, writer)
+            }
+            Err(_) => Err(Fault::Memory),
+        },
+        OneRouter::Audit(words) => match names_of(alloc, &words.tracing.names) {
+            Ok(names) => {
+                let made = Made::Audit(&names, words);
                 run_made::<F, R, W>(alloc, captures, made, routes, merge, writer)
             }
             Err(_) => Err(Fault::Memory),
@@ -325,6 +344,38 @@ pub fn trace<'a, F: Family, O: Opener, W: Drain, E: Drain>(
     ensures count { W.failures writer.new ≡ write_failures_after (W.failures writer.old) result }
 {
     let command = OneRouter::Trace(tracing);
+    run_one::<F, O, W, E>(alloc, opener, captures, command, writer, errors)
+}
+
+/// Audits what a router asks of its upstream neighbour, by the captures that the words name, and
+/// prints the lines that are shown. It opens files as `replay` does. Without a file of routes, the
+/// table leads all addresses to the upstream neighbour. Returns the status: 1 if something was
+/// late, otherwise 0.
+///
+/// # Errors
+/// `File` of a file that can't be opened, or a fault of the file of routes: nothing was written.
+/// Otherwise those of `pim_audit::audit_into` and of making the router.
+pub fn audit<'a, F: Family, O: Opener, W: Drain, E: Drain>(
+    alloc: Global,
+    opener: &mut O,
+    captures: &Captures<'a, F::Addr>,
+    words: (&Auditing<F::Addr>, &Tracing<'a, F::Addr>),
+    writer: &mut W,
+    errors: &mut E,
+) -> Result<u8, Fault<'a>>
+    requires after { IsBounded captures.now }
+    requires limit { IsLimited captures.now }
+    requires names { AreNames captures.now words.1.now }
+    ensures lines { AuditsFiles F.family F.bytes_of O.Reader.remaining O.Reader.failures
+        (O.known opener.old) (O.known opener.new) captures.now words.entry.0.now
+        words.entry.1.now
+        (λ text. IsReported text (E.contents errors.old) (E.contents errors.new)
+        (E.failures errors.old) (E.failures errors.new))
+        (W.contents writer.old) (W.contents writer.new) result }
+    ensures count { W.failures writer.new ≡ write_failures_after (W.failures writer.old) result }
+{
+    let (auditing, tracing) = words;
+    let command = OneRouter::Audit(AuditWords { auditing, tracing });
     run_one::<F, O, W, E>(alloc, opener, captures, command, writer, errors)
 }
 

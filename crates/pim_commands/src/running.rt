@@ -8,7 +8,7 @@ ghost use Rattle.pim_commands.specs.Running.{DoesTask};
 
 use crate::build::build_task;
 use crate::check::check_task;
-use crate::one_router::{emit, mirror, replay, trace};
+use crate::one_router::{audit, emit, mirror, replay, trace};
 use crate::two_routers::{change, same};
 use pim_addr::{Drain, Family, Feed};
 use pim_faults::Fault;
@@ -43,6 +43,10 @@ pub fn run_task<'a, F: Family, O: Opener, R: Feed, W: Drain, E: Drain>(
         Task::Replay(captures) => replay::<F, O, W, E>(alloc, opener, captures, output, errors),
         Task::Trace(captures, tracing) => {
             trace::<F, O, W, E>(alloc, opener, captures, tracing, output, errors)
+        }
+        Task::Audit(captures, auditing, tracing) => {
+            let words = (auditing, tracing);
+            audit::<F, O, W, E>(alloc, opener, captures, words, output, errors)
         }
         Task::Same(captures, writing) => {
             same::<F, O, W, E>(alloc, opener, captures, writing, output, errors)

@@ -80,7 +80,9 @@ impl<W: Write + Drop> Answers for Output<W> {
 fn captures_of<'t, 'a, A>(task: &'t Task<'a, A>) -> Option<&'t Captures<'a, A>> {
     match task {
         Task::Check { .. } | Task::Build { .. } => None,
-        Task::Replay(captures) | Task::Trace(captures, _) => Some(captures),
+        Task::Replay(captures) | Task::Trace(captures, _) | Task::Audit(captures, _, _) => {
+            Some(captures)
+        }
         Task::Same(captures, _)
         | Task::Mirror(captures, _)
         | Task::Emit(captures, _)
@@ -138,7 +140,7 @@ fn writes_into_pipe(rt: &HostRuntime) -> bool {
 }
 
 /// Whether each line is written out as soon as it is complete: to a terminal, from what may still
-/// grow, or in a trace into a pipe.
+/// grow, or in a trace or an audit into a pipe.
 fn goes_out_by_lines(to_terminal: bool, from_growing: bool, traces_into_pipe: bool) -> bool
     ensures { IsTrue result
         ↔ (IsTrue to_terminal ⊎ (IsTrue from_growing ⊎ IsTrue traces_into_pipe)) }
@@ -148,7 +150,8 @@ fn goes_out_by_lines(to_terminal: bool, from_growing: bool, traces_into_pipe: bo
 
 /// The same of a task that this process does.
 pub fn is_live<A>(rt: &HostRuntime, task: &Task<'_, A>) -> bool {
-    let traces_into_pipe = matches!(task, Task::Trace(..)) && writes_into_pipe(rt);
+    let traces = matches!(task, Task::Trace(..) | Task::Audit(..));
+    let traces_into_pipe = traces && writes_into_pipe(rt);
     goes_out_by_lines(
         rt.stdout().is_terminal(),
         reads_live(rt, task),

@@ -3,8 +3,8 @@
 ghost use Rattle.pim_words.specs.Plan.{IsPlanInRange};
 
 use super::running::{
-    CAPTURE, CAPTURE_V6, CHANGE, EMIT, MIRROR, NEVER, REPLAY, Row, SAME, TRACE, TRACE_JSON,
-    all_files, answer, file_of, run,
+    AUDIT, AUDIT_JSON, CAPTURE, CAPTURE_V6, CHANGE, EMIT, MIRROR, NEVER, REPLAY, Row, SAME, TRACE,
+    TRACE_JSON, all_files, answer, file_of, run,
 };
 use pim_addr::ScriptedDrain;
 use pim_capture::CaptureFault;
@@ -59,7 +59,9 @@ fn is_written(alloc: Global, row: &Row) -> bool {
 
 #[test]
 fn writes_that_fail_leave_a_front(rt: HostRuntime) {
-    for row in [REPLAY, TRACE, TRACE_JSON, SAME, MIRROR, EMIT, CHANGE] {
+    for row in [
+        REPLAY, TRACE, TRACE_JSON, AUDIT, AUDIT_JSON, SAME, MIRROR, EMIT, CHANGE,
+    ] {
         assert!(rt; is_written(rt.alloc(), &row));
     }
 }

@@ -93,9 +93,10 @@ fn are_wanted(more: &[More<'_>], wanted: &[Wanted]) -> bool {
 /// Whether the further files of a task are those that are wanted.
 fn task_has<A>(task: &Task<'_, A>, wanted: &[Wanted]) -> bool {
     match task {
-        Task::Replay(captures) | Task::Trace(captures, _) | Task::Change(captures, _) => {
-            are_wanted(&captures.more, wanted)
-        }
+        Task::Replay(captures)
+        | Task::Trace(captures, _)
+        | Task::Audit(captures, _, _)
+        | Task::Change(captures, _) => { are_wanted(&captures.more, wanted) }
         _ => false,
     }
 }

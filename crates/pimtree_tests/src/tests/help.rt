@@ -8,12 +8,13 @@ use std::alloc::Global;
 const WIDTH: usize = 80;
 
 /// The words that ask for each help text.
-const PAGES: [&[&str]; 10] = [
+const PAGES: [&[&str]; 11] = [
     &["p", "--help"],
     &["p", "check", "--help"],
     &["p", "build", "--help"],
     &["p", "replay", "--help"],
     &["p", "trace", "--help"],
+    &["p", "audit", "--help"],
     &["p", "same", "--help"],
     &["p", "mirror", "--help"],
     &["p", "emit", "--help"],

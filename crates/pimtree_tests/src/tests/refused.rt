@@ -2,7 +2,8 @@
 //! each allocation refused in turn.
 
 use super::running::{
-    CHANGE, EMIT, MIRROR, NEVER, REPLAY, Row, SAME, TRACE, TRACE_JSON, all_files, answer,
+    AUDIT, AUDIT_JSON, CHANGE, EMIT, MIRROR, NEVER, REPLAY, Row, SAME, TRACE, TRACE_JSON,
+    all_files, answer,
 };
 use pim_addr::ScriptedDrain;
 use pim_commands::Fault;
@@ -81,6 +82,16 @@ fn trace_leaves_a_front(rt: HostRuntime) -> Result<(), Fail> {
 #[test]
 fn trace_as_json_leaves_a_front(rt: HostRuntime) -> Result<(), Fail> {
     Ok(expect(&rt, rt.alloc(), &TRACE_JSON, Left::Front)?)
+}
+
+#[test]
+fn audit_leaves_a_front(rt: HostRuntime) -> Result<(), Fail> {
+    Ok(expect(&rt, rt.alloc(), &AUDIT, Left::Front)?)
+}
+
+#[test]
+fn audit_as_json_leaves_a_front(rt: HostRuntime) -> Result<(), Fail> {
+    Ok(expect(&rt, rt.alloc(), &AUDIT_JSON, Left::Front)?)
 }
 
 #[test]

@@ -166,6 +166,42 @@ pub const TRACE_JSON: Row = Row {
     status: 0,
 };
 
+/// The audit of a router that never asks its upstream neighbour for a star, as text.
+pub const AUDIT: Row = Row {
+    words: &[
+        "pimtree",
+        "audit",
+        "--upstream=10.0.0.9",
+        "--rp=10.9.9.9",
+        "--grace=0",
+        "--after=10",
+        "--time=epoch",
+        "link=10.0.0.2@joined",
+    ],
+    text: b"100.015 late: join star 239.1.1.1, due since 100.005
+100.015 end: due 1 late 1 worst 10 open 1
+",
+    status: 1,
+};
+
+/// The same as JSON.
+pub const AUDIT_JSON: Row = Row {
+    words: &[
+        "pimtree",
+        "audit",
+        "--upstream=10.0.0.9",
+        "--rp=10.9.9.9",
+        "--grace=0",
+        "--after=10",
+        "--json",
+        "10.0.0.2@joined",
+    ],
+    text: br#"{"ms":15,"epoch":"100.015","port":null,"event":"late","since":5,"by":"join","what":"star","group":"239.1.1.1","source":null}
+{"ms":15,"epoch":"100.015","port":null,"event":"end","due":1,"late":1,"worst":10,"open":1}
+"#,
+    status: 1,
+};
+
 /// Two routers, one of which wants nothing.
 pub const SAME: Row = Row {
     words: &[

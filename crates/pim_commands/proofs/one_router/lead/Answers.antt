@@ -13,3 +13,9 @@ returns-in-Trace-clause-does g c = rw (c.in-Trace.is) (record { reported = c.tra
 
 pub returns-in-Trace-clause-count : goal.returns-in-Trace-clause-count
 returns-in-Trace-clause-count g c = c.trace_by.ensures.count ∙ failures_traced g.row.F-Addr.Denot (g.W.Drain.failures c.args.writer.now) c.trace_by.result ∙ sym (ap (failures_of_exchange (g.W.Drain.failures c.args.writer.now)) c.of_traced.ensures)
+
+pub returns-in-Audit-clause-does : goal.returns-in-Audit-clause-does
+returns-in-Audit-clause-does g c = rw (c.in-Audit.is) (record { reported = c.audit_by.result; is_told = c.audit_by.ensures.audits; is = c.of_replayed-in-Audit.ensures })
+
+pub returns-in-Audit-clause-count : goal.returns-in-Audit-clause-count
+returns-in-Audit-clause-count g c = c.audit_by.ensures.count ∙ failures_replayed g.row.F-Addr.Denot (g.W.Drain.failures c.args.writer.now) c.audit_by.result ∙ sym (ap (failures_of_exchange (g.W.Drain.failures c.args.writer.now)) c.of_replayed-in-Audit.ensures)

@@ -3,6 +3,9 @@ use Rattle.pim_commands.proofs.running.run_task.Goals as goal
 pub returns-in-Trace-clause-done : goal.returns-in-Trace-clause-done
 returns-in-Trace-clause-done g c = rw c.in-Trace.is c.trace.ensures.events
 
+pub returns-in-Audit-clause-done : goal.returns-in-Audit-clause-done
+returns-in-Audit-clause-done g c = rw c.in-Audit.is c.audit.ensures.lines
+
 pub returns-in-Same-clause-done : goal.returns-in-Same-clause-done
 returns-in-Same-clause-done g c = rw c.in-Same.is c.same.ensures.report
 
