@@ -122,10 +122,10 @@ not_named group s (held ∷ records) none =
     other (Rpt t) e = e
 
 -- a source that is wanted on the shared tree
-record WantedBelow (family : AddressFamily) (state : Downstream) (group : List ℕ) (count : ℕ) : Type 0 where
-  source : List ℕ
-  valid : IsSourceAddress family source
-  wanted : some_below count (wants_on state.records source group Shared) ≡ true
+pub record WantedBelow (family : AddressFamily) (state : Downstream) (group : List ℕ) (count : ℕ) : Type 0 where
+  pub source : List ℕ
+  pub valid : IsSourceAddress family source
+  pub wanted : some_below count (wants_on state.records source group Shared) ≡ true
 
 module _ (apart : KeysAreDistinct) (family : AddressFamily) (state : Downstream) (sound : IsSound family state) where
   abbrev joined : List ℕ → ℕ → Bool
@@ -134,7 +134,7 @@ module _ (apart : KeysAreDistinct) (family : AddressFamily) (state : Downstream)
   not_pruned : (port : ℕ) (group s : List ℕ) → is_listed s (named (of_port port state)) ≡ false → is_pruned (state_on state.records port group (Rpt s)) ≡ false
   not_pruned port group s none = state_tells apart is_pruned refl port group (Rpt s) state.records sound.ascending ∙ not_named group s (of_port port state) none
 
-  wanted_below : (group : List ℕ) (count : ℕ) → some_below count (joined group) ≡ true → WantedBelow family state group count
+  pub wanted_below : (group : List ℕ) (count : ℕ) → some_below count (joined group) ≡ true → WantedBelow family state group count
   unfolding some_below named
   wanted_below group zero some = absurd (false≢true some)
   wanted_below group (suc count) some =
@@ -163,7 +163,7 @@ module _ (apart : KeysAreDistinct) (family : AddressFamily) (state : Downstream)
 
   -- ---- the form
 
-  below_form : (count : ℕ) → IsFormOf family (λ s group tree. some_below count (wants_on state.records s group tree)) (form_below count state)
+  pub below_form : (count : ℕ) → IsFormOf family (λ s group tree. some_below count (wants_on state.records s group tree)) (form_below count state)
   unfolding form_below some_below IsStrictlySortedBy
   below_form zero = record { normal = record { ascending = tt; groups = tt }; wants = λ s group tree valid is_group. refl }
   below_form (suc count) =

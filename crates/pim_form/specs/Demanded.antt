@@ -1,6 +1,6 @@
 -- The normal form of what a router requests from one upstream neighbour, built from the records of
 -- its ports (RFC 7761, 4.1 and 4.5.4 to 4.5.6).
-use Rattle.std.specs.Prelude.{◌≡◌, ◌≤◌, ℕ, zero, suc, true, false, ◌&&◌, not, List, [], length}
+use Rattle.std.specs.Prelude.{◌≡◌, ◌≤◌, ℕ, zero, suc, true, false, ◌&&◌, ◌||◌, not, List, [], length}
 use Rattle.std.specs.Option.{is_some}
 use Rattle.std.specs.List.{AllByRecursion}
 use Rattle.pim_addr.specs.declared.family.AddressFamily.{AddressFamily}
@@ -13,7 +13,7 @@ use Rattle.pim_form.specs.declared.tree.Tree.TheVariants.{Shared, Source}
 use Rattle.pim_form.specs.Collect.{of_port, collected}
 use Rattle.pim_form.specs.KeptToward.{form_toward}
 use Rattle.pim_form.specs.Merge.{merged}
-use Rattle.pim_form.specs.NormalForm.{GroupForm, AreAscending, IsFormOf, groups_of, is_empty, is_listed}
+use Rattle.pim_form.specs.NormalForm.{GroupForm, Demand, AreAscending, IsFormOf, groups_of, is_empty, is_listed}
 use Rattle.pim_form.specs.Rows.{exceptions_of}
 use Rattle.pim_form.specs.Settled.{group_in}
 use Rattle.pim_form.specs.Toward.{via_of, star_rpf_neighbour, is_neighbour}
@@ -57,6 +57,35 @@ module _ (family : AddressFamily) (table : RouteTable) (neighbour : List ℕ) (s
 abbrev pub DemandedFormIsDemanded : Type 0
 DemandedFormIsDemanded = (family : AddressFamily) (table : RouteTable) (neighbour : List ℕ) (state : Downstream) →
     IsSound family state → IsDemandedForm family table neighbour state (demanded_form family table neighbour state)
+
+-- The form that the records of a sound state give, merged port by port, is the normal form of what
+-- the machines of all ports want.
+abbrev pub FormOfAllPortsIsTheirForm : Type 0
+FormOfAllPortsIsTheirForm = (family : AddressFamily) (state : Downstream) →
+    IsSound family state → IsFormOf family (wants state) (form_below state.ports state)
+
+-- A valid source that the machines of some port want on the shared tree of the group.
+pub record SomeSourceWanted (family : AddressFamily) (state : Downstream) (group : List ℕ) : Type 0 where
+  pub source : List ℕ
+  pub valid : IsSourceAddress family source
+  pub wanted : wants state source group Shared ≡ true
+
+-- If joins(*,G) isn't empty, some source is wanted on the shared tree of the group: a port has too
+-- few (S,G,rpt) machines to prune all of them.
+abbrev pub JoinedStarWantsSomeSource : Type 0
+JoinedStarWantsSomeSource = (family : AddressFamily) (state : Downstream) (group : List ℕ) → IsSound family state →
+    some_below state.ports (λ port. is_joined (state_on state.records port group Star)) ≡ true →
+    SomeSourceWanted family state group
+
+-- What either of two demands has.
+abbrev pub either_demand : Demand → Demand → Demand
+either_demand one other source group tree = one source group tree || other source group tree
+
+-- The merge of the normal forms of two demands is the normal form of what either has.
+abbrev pub MergeIsTheFormOfEither : Type 0
+MergeIsTheFormOfEither = (family : AddressFamily) (one other : Demand) (first second : List GroupForm) →
+    IsFormOf family one first → IsFormOf family other second →
+    IsFormOf family (either_demand one other) (merged first second)
 
 -- A part of a form, ascending and without empty groups, has as many groups as its units belong to.
 abbrev pub GroupsAreCounted : Type 0

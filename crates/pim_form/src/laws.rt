@@ -9,7 +9,8 @@ ghost use Rattle.pim_form.specs.Laws.{UnitsPackIfEachFits, MessagesAreThereUnles
 ghost use Rattle.pim_form.specs.Demanded.{GroupsAreCounted};
 
 pub use crate::toward_laws::{
-    form_of_demand_toward, one_row_has_one_neighbour, same_messages_same_demand_toward,
+    form_of_all_ports, form_of_demand_toward, joined_star_wants_some_source,
+    merge_is_the_form_of_either, one_row_has_one_neighbour, same_messages_same_demand_toward,
     test_finds_the_neighbour,
 };
 

@@ -4,6 +4,8 @@
 ghost use Rattle.pim_form.specs.TowardLaws.{TestFindsTheNeighbour, OneRowHasOneNeighbour};
 ghost use Rattle.pim_form.specs.TowardLaws.{SameMessagesSameDemandToward};
 ghost use Rattle.pim_form.specs.Demanded.{DemandedFormIsDemanded};
+ghost use Rattle.pim_form.specs.Demanded.{FormOfAllPortsIsTheirForm, MergeIsTheFormOfEither};
+ghost use Rattle.pim_form.specs.Demanded.{JoinedStarWantsSomeSource};
 
 use crate::laws::same_messages_same_demand;
 
@@ -37,3 +39,23 @@ pub fn form_of_demand_toward()
 {
     pim_down::laws::keys_are_distinct();
 }
+
+/// The merge of what the ports' records give is the normal form of what their machines want
+/// (RFC 7761, 4.1).
+pub fn form_of_all_ports()
+    ensures { FormOfAllPortsIsTheirForm }
+{
+    pim_down::laws::keys_are_distinct();
+}
+
+/// If joins(*,G) isn't empty, some source is wanted on the shared tree of the group.
+pub fn joined_star_wants_some_source()
+    ensures { JoinedStarWantsSomeSource }
+{
+    pim_down::laws::keys_are_distinct();
+}
+
+/// The merge of the normal forms of two demands is the normal form of what either has.
+pub fn merge_is_the_form_of_either()
+    ensures { MergeIsTheFormOfEither }
+{}

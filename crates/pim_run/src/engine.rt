@@ -36,7 +36,7 @@ fn step<F: Family, R: Feed + Drop, W, K, H: Hooks<F, W, K>>(
     ensures count { H.failures device.new ≡ failures_of_device (H.failures device.old) result }
     ensures ports { OnOk result (length merge.new.lanes ≡ length router.new.ports) }
     ensures moment { OnWhole result (router.new.machines.moment ≤ latest_moment) }
-    ensures ready { OnOk result (H.is_ready kept.new router.new) }
+    ensures ready { OnWhole result (H.is_ready kept.new router.new) }
     ensures setup { setup_of router.new ≡ setup_of router.old }
     ensures nearer { IfMore result (turns_left merge.new < turns_left merge.old) }
     ensures tallied { (start : MergeState) (taken : List Taken) →
@@ -81,6 +81,7 @@ pub fn run<F: Family, R: Feed + Drop, W, K, H: Hooks<F, W, K>>(
         kept.new router.new (H.contents device.new) result }
     ensures count { H.failures device.new ≡ failures_of_device (H.failures device.old) result }
     ensures moment { OnWhole result (router.new.machines.moment ≤ latest_moment) }
+    ensures ready { OnWhole result (H.is_ready kept.new router.new) }
     ensures setup { setup_of router.new ≡ setup_of router.old }
     // The tallies of the captures are those of the turns that were taken.
     ensures tallied { IsTallied end merge.old merge.new }
