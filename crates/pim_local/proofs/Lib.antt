@@ -1,0 +1,5 @@
+pub mod Words
+pub mod Orders
+pub mod Found
+pub mod Added
+pub mod Parts

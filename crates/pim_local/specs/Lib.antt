@@ -1,0 +1,3 @@
+-- The definitions of `pim_local`.
+pub mod Joins
+pub mod Seen
