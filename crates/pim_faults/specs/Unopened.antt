@@ -6,7 +6,7 @@ use Rattle.pim_words.specs.declared.fault.ConfigCause.TheVariants as cause
 use Rattle.pim_words.specs.declared.fault.CommandFault.TheVariants as of_words
 use Rattle.pim_faults.specs.declared.fault.Fault.{Fault}
 use Rattle.pim_faults.specs.declared.fault.Fault.TheVariants.{Words, File, Unopened, Memory}
-use Rattle.pim_faults.specs.Words.{routes_fault}
+use Rattle.pim_faults.specs.Words.{routes_fault, local_fault}
 
 -- The program's fault for this fault of the words.
 abbrev pub config_refused : ConfigCause → Fault
@@ -23,4 +23,5 @@ open_fault opening.Rp = config_refused cause.Rp
 open_fault (opening.File word) = File word
 open_fault (opening.Port file cause) = Unopened file cause
 open_fault (opening.Routes fault) = routes_fault fault
+open_fault (opening.Local fault) = local_fault fault
 open_fault opening.Memory = Memory

@@ -13,6 +13,8 @@ use Rattle.pim_capture.specs.declared.fault.CaptureFault.TheVariants as capture
 use Rattle.pim_capture.specs.declared.vlan.Vlan.{Vlan}
 use Rattle.pim_files.specs.declared.opener.FileCause.{FileCause}
 use Rattle.pim_files.specs.declared.opener.FileCause.TheVariants as opening
+use Rattle.pim_files.specs.declared.local.fault.LocalFileFault.{LocalFileFault}
+use Rattle.pim_files.specs.declared.local.fault.LocalFileFault.TheVariants as local
 use Rattle.pim_files.specs.declared.routes.fault.RoutesFault.{RoutesFault}
 use Rattle.pim_files.specs.declared.routes.fault.RoutesFault.TheVariants as routes
 use Rattle.pim_lines.specs.declared.either.AnyAddress.{AnyAddress}
@@ -25,6 +27,7 @@ use Rattle.pim_words.specs.declared.fault.CommandFault.{CommandFault as WordsFau
 use Rattle.pim_words.specs.declared.fault.CommandFault.TheVariants as words
 use Rattle.pim_faults.specs.declared.fault.Fault.{Fault}
 use Rattle.pim_faults.specs.declared.fault.Fault.TheVariants.{Words, File, Unopened, RoutesTooLong, RoutesRead, RoutesLine, Capture, InFile}
+use Rattle.pim_faults.specs.declared.fault.Fault.TheVariants.{LocalTooLong, LocalRead, LocalLine}
 use Rattle.pim_faults.specs.declared.fault.Fault.TheVariants.{Frame, Hello, JoinPrune, TooBig, Full, InputTooLong}
 use Rattle.pim_faults.specs.declared.fault.Fault.TheVariants.{TextTooLong, TextLine, TextFamily, InputRead, Output, Memory}
 use Rattle.pim_faults.specs.declared.warning.Warning.{Warning}
@@ -103,6 +106,13 @@ routes_fault routes.Read = RoutesRead
 routes_fault (routes.Line number) = RoutesLine number
 routes_fault routes.Memory = Memory
 
+-- The program's fault for a fault of the file of local receivers.
+abbrev pub local_fault : LocalFileFault → Fault
+local_fault local.TooLong = LocalTooLong
+local_fault local.Read = LocalRead
+local_fault (local.Line number) = LocalLine number
+local_fault local.Memory = Memory
+
 -- The program's fault for a fault of building.
 abbrev pub build_fault : BuildFault → Fault
 build_fault of_build.Read = InputRead
@@ -134,6 +144,9 @@ fault_words (Unopened file cause) = codes "file " ++ file.now ++ file_words caus
 fault_words RoutesTooLong = codes "routes too-long"
 fault_words RoutesRead = codes "routes read"
 fault_words (RoutesLine number) = codes "routes line " ++ decimal number
+fault_words LocalTooLong = codes "local too-long"
+fault_words LocalRead = codes "local read"
+fault_words (LocalLine number) = codes "local line " ++ decimal number
 fault_words (Capture cause) = capture_words cause
 fault_words (InFile cause file number) = capture_words cause ++ place_words (is_of_record cause) file.now number
 fault_words (Frame fault) = frame_words fault

@@ -7,15 +7,16 @@ ghost use Rattle.pim_lines.specs.Pieces.{line};
 ghost use Rattle.pim_report.specs.Malformed.{malformed_words};
 ghost use Rattle.pim_faults.specs.declared.fault.Fault.TheVariants.{Words};
 ghost use Rattle.pim_faults.specs.Words.{refusal_words, address_words, plan_words, fault_words};
-ghost use Rattle.pim_faults.specs.Words.{fault_text, routes_fault, capture_words, place_words};
+ghost use Rattle.pim_faults.specs.Words.{fault_text, routes_fault, local_fault, capture_words};
 ghost use Rattle.pim_faults.specs.Words.{file_words, is_of_record, build_fault, vlans_words};
+ghost use Rattle.pim_faults.specs.Words.{place_words};
 
 use crate::causes::{config_words, file_words, is_of_record, no_port_words, tag_of};
 use clap::error::ErrorKind;
 use itoa::Buffer;
 use pim_addr::{Drain, Failed, V4, V6, write_all, write_text};
 use pim_capture::{CaptureFault, InterfaceName, Vlan};
-use pim_files::{FileCause, RoutesFault};
+use pim_files::{FileCause, LocalFileFault, RoutesFault};
 use pim_frame::FrameFault;
 use pim_hello::HelloFault;
 use pim_jp::JpFault;
@@ -29,8 +30,8 @@ use pim_text::BuildFault;
 pub enum Fault<'a> {
     /// The words give no plan.
     Words(pim_words::CommandFault<'a>),
-    /// The file of a port without a link, or of the routes, can't be opened. This is the word of
-    /// the port, or the name of the file of routes.
+    /// The file of a port without a link, of the routes or of local receivers can't be opened. This
+    /// is the word of the port, or the name of the other file.
     File(&'a str),
     /// The file of a port with a link can't be opened.
     Unopened {
@@ -45,6 +46,13 @@ pub enum Fault<'a> {
     RoutesRead,
     /// This line of the file of routes, counted from 1, has another form, or its row is refused.
     RoutesLine(usize),
+    /// The file of local receivers has more than 1,048,576 bytes.
+    LocalTooLong,
+    /// The file of local receivers can't be read.
+    LocalRead,
+    /// This line of the file of local receivers, counted from 1, has another form, or its join is
+    /// refused.
+    LocalLine(usize),
     /// The capture of a port without a link has a fault. It isn't `CaptureFault::Memory`.
     Capture(CaptureFault),
     /// The capture of a port with a link has a fault. It isn't `CaptureFault::Memory`.
@@ -100,6 +108,19 @@ impl From<RoutesFault> for Fault<'static> {
             RoutesFault::Read => Fault::RoutesRead,
             RoutesFault::Line(number) => Fault::RoutesLine(number),
             RoutesFault::Memory => Fault::Memory,
+        }
+    }
+}
+
+impl From<LocalFileFault> for Fault<'static> {
+    ghost from_gives = { λ fault reported. reported ≡ local_fault fault };
+
+    fn from(fault: LocalFileFault) -> Fault<'static> {
+        match fault {
+            LocalFileFault::TooLong => Fault::LocalTooLong,
+            LocalFileFault::Read => Fault::LocalRead,
+            LocalFileFault::Line(number) => Fault::LocalLine(number),
+            LocalFileFault::Memory => Fault::Memory,
         }
     }
 }
@@ -410,6 +431,9 @@ fn write_words<W: Drain>(fault: &Fault<'_>, writer: &mut W) -> Result<(), Failed
         Fault::RoutesTooLong => write_plain(writer, b"routes too-long"),
         Fault::RoutesRead => write_plain(writer, b"routes read"),
         Fault::RoutesLine(number) => write_numbered(writer, b"routes line ", *number),
+        Fault::LocalTooLong => write_plain(writer, b"local too-long"),
+        Fault::LocalRead => write_plain(writer, b"local read"),
+        Fault::LocalLine(number) => write_numbered(writer, b"local line ", *number),
         Fault::Capture(cause) => write_capture(writer, *cause),
         Fault::InFile {
             cause,

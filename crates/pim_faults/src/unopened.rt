@@ -17,6 +17,7 @@ impl<'a> From<OpenFault<'a>> for Fault<'a> {
             OpenFault::File(word) => Fault::File(word),
             OpenFault::Port { file, cause } => Fault::Unopened { file, cause },
             OpenFault::Routes(fault) => Fault::from(fault),
+            OpenFault::Local(fault) => Fault::from(fault),
             OpenFault::Memory => Fault::Memory,
         }
     }

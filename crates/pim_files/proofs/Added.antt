@@ -1,8 +1,8 @@
 -- Lines whose rows are added one after another.
-use Rattle.std.proofs.Common.{◌≡◌, ◌∙◌, sym, ap, refl, subst, inl, inr, ℕ, ◌+◌, ◌<◌, ◌≤◌, true, false, List, [], ◌∷◌, ◌++◌, length, take, arith, append_assoc, length-append, ◌==◌}
-use Rattle.pim_files.proofs.Words.{length-slice_split, count_by-le-length, take-append_seam, Row, RouteTable}
-use Rattle.pim_files.proofs.Words.{AddressFamily, FileRow, is_passed_over, IsRow, AreRows, row_faults, with_file_row}
-use Rattle.pim_files.proofs.Words.{AreAdded, Adds, lines_of, file_limit}
+use Rattle.std.proofs.Common.{◌≡◌, ◌∙◌, sym, ap, refl, subst, inl, inr, ℕ, ◌+◌, true, false, List, [], ◌∷◌, ◌++◌, length}
+use Rattle.pim_files.proofs.LineByLine.{Went, first_added}
+use Rattle.pim_files.proofs.Words.{Row, RouteTable, AddressFamily, FileRow, is_passed_over, IsRow, AreRows, row_faults, with_file_row}
+use Rattle.pim_files.proofs.Words.{AreAdded, Adds}
 use Rattle.pim_files.specs.RoutesSeen.{AddsLine, IsLineFault, StopsIn}
 use Rattle.pim_files.specs.declared.routes.fault.RoutesFault.{RoutesFault}
 use Rattle.pim_files.specs.declared.routes.fault.RoutesFault.TheVariants.{TooLong, Read, Line}
@@ -34,22 +34,7 @@ module _ (family : AddressFamily) where
 
   -- ---- line after line
 
-  -- The rows of the lines in front were added, and so many those are.
-  pub record Went (all left : List (List ℕ)) (old now : RouteTable) (number : ℕ) : Type 0 where
-    pub front : List (List ℕ)
-    pub cut : all ≡ front ++ left
-    pub numbered : number ≡ length front
-    pub added : Adds family front old now
-
-  pub one_further : (all : List (List ℕ)) (line : List ℕ) (left : List (List ℕ)) (old mid new : RouteTable) (number : ℕ) → Went all (line ∷ left) old mid number → AddsLine family line mid new → Went all left old new (number + 1)
-  one_further all line left old mid new number went adds = record {
-    front = went.front ++ line ∷ [];
-    cut = went.cut ∙ sym (append_assoc went.front (line ∷ []) left);
-    numbered = ap (λ n. n + 1) went.numbered ∙ sym (length-append went.front (line ∷ []));
-    added = adds_one_more went.front line old mid new went.added adds;
-  }
-
-  pub stopped : (all : List (List ℕ)) (line : List ℕ) (left : List (List ℕ)) (old now : RouteTable) (number : ℕ) (fault : RoutesFault) → Went all (line ∷ left) old now number → IsLineFault family line (number + 1) now fault → StopsIn family all old now fault
+  pub stopped : (all : List (List ℕ)) (line : List ℕ) (left : List (List ℕ)) (old now : RouteTable) (number : ℕ) (fault : RoutesFault) → Went (Adds family) all (line ∷ left) old now number → IsLineFault family line (number + 1) now fault → StopsIn family all old now fault
   stopped all line left old now number TooLong went never = absurd never
   stopped all line left old now number Read went never = absurd never
   stopped all line left old now number (Line reported) went (is, wrong) = record {
@@ -61,13 +46,4 @@ module _ (family : AddressFamily) where
     added = went.added;
     wrong = wrong;
   }
-  stopped all line left old now number Wanting went wants =
-      (length went.front, subst (λ (lines : List (List ℕ)). Adds family lines old now) (sym (ap (take (length went.front)) went.cut ∙ take-append_seam went.front (line ∷ left))) went.added)
-
-  -- a file has no more lines than bytes, and one
-  lines_within : (file : List ℕ) → length (lines_of file) ≤ length file + 1
-  lines_within file = omega (arith, length-slice_split (λ byte. byte == 10) file, count_by-le-length (λ byte. byte == 10) file)
-
-  pub number_is_small : (file : List ℕ) (line : List ℕ) (left : List (List ℕ)) (old now : RouteTable) (number : ℕ) → length file ≤ file_limit → Went (lines_of file) (line ∷ left) old now number → number < 1048577
-  number_is_small file line left old now number small went =
-      omega (arith, small, lines_within file, went.numbered, ap length went.cut, length-append went.front (line ∷ left))
+  stopped all line left old now number Wanting went wants = (length went.front, first_added (Adds family) all line left old now number went)

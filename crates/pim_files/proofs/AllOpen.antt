@@ -2,7 +2,7 @@
 use Rattle.pim_files.proofs.Words.{◌≡◌, ◌∙◌, inr, sym, ap, subst, ℕ, List, ◌++◌, length, Option, append_assoc, filter}
 use Rattle.pim_files.proofs.Words.{AddressFamily, RouteTable, MergeState, IsUntaken, More, Port, OpenFault, PortFiles, all_files}
 use Rattle.pim_files.proofs.Words.{files_from, names_of, of_router, HoldFiles, StopsAt, is_of, Files, Known, RequestsFor}
-use Rattle.pim_files.proofs.Words.{RequestsFront, IsTable, table_names, port_files, file_names, IsUnopened, IsOpen, AreOpen}
+use Rattle.pim_files.proofs.Words.{RequestsFront, IsTable, table_names, port_files, file_names, IsUnopened, AreOpen}
 use Rattle.pim_words.specs.declared.fault.RouterSide.TheVariants.{A as of_a, B as of_b}
 use Rattle.pim_words.specs.declared.task.Captures.{Captures}
 use Rattle.pim_files.proofs.Asked.{asks_more}
@@ -54,19 +54,6 @@ module _ {A R : Type 0} (family : AddressFamily) (bytes_of : A → List ℕ) (re
       → RequestsFor known last (file_names captures)
   names_asked all same named requested = asks_more known middle last (table_names captures) (names_of (all_files (port_files captures))) named
       (subst (λ (l : List (PortFiles A)). RequestsFor middle last (names_of (all_files l))) same requested)
-
-  -- the captures of one router are open
-  pub is_open : (table : RouteTable) (merge : MergeState) (ports : List (Port A)) (all : List (PortFiles A)) → ports ≡ captures.ports.items → all ≡ port_files captures
-      → IsTable family bytes_of remaining failures known.files captures upstream table → RequestsFor known middle (table_names captures)
-      → length merge.lanes ≡ length ports → IsUntaken merge → HoldFiles middle.files all merge.lanes → RequestsFor middle last (names_of (all_files all))
-      → IsOpen family bytes_of remaining failures known last captures upstream table merge
-  is_open table merge ports all same_ports same is_table named each untaken held requested = record {
-    is_table = is_table;
-    each = each ∙ ap length same_ports;
-    untaken = untaken;
-    held = subst (λ (l : List (PortFiles A)). HoldFiles known.files l merge.lanes) same (subst (λ (f : Option Files). HoldFiles f all merge.lanes) named.files held);
-    requested = names_asked all same named requested;
-  }
 
   -- the captures of two routers are open
   pub are_open : (table : RouteTable) (merge other : MergeState) (ports : List (Port A)) (all : List (PortFiles A)) → ports ≡ captures.ports.items → all ≡ port_files captures

@@ -3,10 +3,14 @@ pub mod Cut
 pub mod RowText
 pub mod Led
 pub mod Spelled
+pub mod LineByLine
 pub mod Added
+pub mod Stated
+pub mod Joined
 pub mod Asked
 pub mod Several
 pub mod Further
 pub mod Opened
 pub mod InMemory
 pub mod AllOpen
+pub mod LocalOpen

@@ -103,29 +103,32 @@ lacks_space text solid i h = (all_at IsSolid text i solid h).no_space
 
 -- ---- a line that spells a row is text
 
-abbrev AreAscii : List ℕ → Type 0
+abbrev pub AreAscii : List ℕ → Type 0
 AreAscii text = AllByRecursion (λ byte. byte < 128) text
 
-ascii : (text : List ℕ) → AreSolid text → AreAscii text
-ascii text solid = all_weaker IsSolid (λ byte. byte < 128) (λ byte is. is.ascii) text solid
+pub solid_is_ascii : (text : List ℕ) → AreSolid text → AreAscii text
+solid_is_ascii text solid = all_weaker IsSolid (λ byte. byte < 128) (λ byte is. is.ascii) text solid
 
 is_ascii : (text : List ℕ) → AreAscii text → IsAscii text
 is_ascii [] all i = lit< tt
 is_ascii (x ∷ xs) all zero = all.0
 is_ascii (x ∷ xs) all (suc i) = is_ascii xs all.1 i
 
-also : (xs ys : List ℕ) → AreAscii xs → AreAscii ys → AreAscii (xs ++ ys)
-also = all_append (λ byte. byte < 128)
+pub ascii_append : (xs ys : List ℕ) → AreAscii xs → AreAscii ys → AreAscii (xs ++ ys)
+ascii_append = all_append (λ byte. byte < 128)
+
+pub ascii_is_text : (text : List ℕ) → AreAscii text → IsUtf8 text
+ascii_is_text text all = IsUtf8-from_ascii text (is_ascii text all)
 
 led_is_ascii : (family : AddressFamily) (text : List ℕ) (row : Row) → Leads family text row → AreAscii text
 led_is_ascii family text row leads =
-    let P = ascii leads.prefix_text (text_is_solid family leads.prefix_text row.0.address leads.prefix) in
-    let L = ascii leads.length_text (decimal_text_is_solid leads.length_text row.0.bits leads.bits) in
-    let T = ascii leads.to_text (text_is_solid family leads.to_text row.1 leads.to) in
-    subst AreAscii (sym leads.spelled) (also _ _ (also _ _ (also _ _ (also _ _ P (lit< tt, tt)) L) (lit< tt, tt)) T)
+    let P = solid_is_ascii leads.prefix_text (text_is_solid family leads.prefix_text row.0.address leads.prefix) in
+    let L = solid_is_ascii leads.length_text (decimal_text_is_solid leads.length_text row.0.bits leads.bits) in
+    let T = solid_is_ascii leads.to_text (text_is_solid family leads.to_text row.1 leads.to) in
+    subst AreAscii (sym leads.spelled) (ascii_append _ _ (ascii_append _ _ (ascii_append _ _ (ascii_append _ _ P (lit< tt, tt)) L) (lit< tt, tt)) T)
 
 pub row_is_text : (family : AddressFamily) (line : List ℕ) (row : FileRow Row) → IsRow family line row → IsUtf8 line
 row_is_text family line (Rp row) (text, spelled, leads) =
-    IsUtf8-from_ascii line (is_ascii line (subst AreAscii (sym spelled) (also (codes "rp ") text (lit< tt, (lit< tt, (lit< tt, tt))) (led_is_ascii family text row leads))))
+    ascii_is_text line (subst AreAscii (sym spelled) (ascii_append (codes "rp ") text (lit< tt, (lit< tt, (lit< tt, tt))) (led_is_ascii family text row leads)))
 row_is_text family line (Via row) (text, spelled, leads) =
-    IsUtf8-from_ascii line (is_ascii line (subst AreAscii (sym spelled) (also (codes "via ") text (lit< tt, (lit< tt, (lit< tt, (lit< tt, tt)))) (led_is_ascii family text row leads))))
+    ascii_is_text line (subst AreAscii (sym spelled) (ascii_append (codes "via ") text (lit< tt, (lit< tt, (lit< tt, (lit< tt, tt)))) (led_is_ascii family text row leads)))

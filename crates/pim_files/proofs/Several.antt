@@ -1,5 +1,5 @@
 -- Files that are opened one after another, and their readers.
-use Rattle.pim_files.proofs.Words.{◌≡◌, ◌∙◌, sym, ap, subst, refl, ℕ, true, false, List, [], ◌∷◌, ◌++◌, map, Option}
+use Rattle.pim_files.proofs.Words.{◌≡◌, ◌∙◌, sym, ap, subst, refl, ℕ, List, [], ◌∷◌, ◌++◌, map, Option}
 use Rattle.pim_files.proofs.Words.{None, Some, append_assoc, IsSome, map-append, false≢true, OpenFault, Files, Known}
 use Rattle.pim_files.proofs.Words.{RequestsFor, RequestsFront, FileOfName, names_of, IsReaderOf, IsPortFault, CanOpen}
 use Rattle.pim_files.proofs.Words.{StopsAt, AreReaders, HaveFiles}

@@ -32,9 +32,10 @@ pub use Rattle.pim_files.specs.Captures.{further_file, is_further, names_of, of_
 pub use Rattle.pim_files.specs.Captures.{results_of, with_more}
 pub use Rattle.pim_files.specs.Files.{Files, Known, RequestsFor, RequestsFront}
 pub use Rattle.pim_files.specs.Held.{held_content}
-pub use Rattle.pim_files.specs.Opening.{AreOpen, IsOpen, IsUnopened, file_names, port_files}
-pub use Rattle.pim_files.specs.RoutesFile.{Adds, AreAdded, AreRows, IsDecimal, IsRow, Leads, bits_of, file_limit}
-pub use Rattle.pim_files.specs.RoutesFile.{is_passed_over, lines_of, row_faults, with_file_row}
+pub use Rattle.pim_files.specs.Opening.{AreOpen, IsUnopened, file_names, port_files}
+pub use Rattle.pim_files.specs.LineFile.{file_limit, is_passed_over, lines_of}
+pub use Rattle.pim_files.specs.RoutesFile.{Adds, AreAdded, AreRows, IsDecimal, IsRow, Leads, bits_of, row_faults}
+pub use Rattle.pim_files.specs.RoutesFile.{with_file_row}
 pub use Rattle.pim_files.specs.Table.{IsFileFault, IsTable, name_of, table_names}
 pub use Rattle.pim_files.specs.declared.fault.OpenFault.{OpenFault}
 pub use Rattle.pim_files.specs.declared.routes.row.FileRow.{FileRow}

@@ -1,34 +1,20 @@
 -- A file of routes: its lines, the rows of a route table that they state, and what reading the file
 -- does to a table.
-use Rattle.std.specs.Prelude.{◌≡◌, ◌⊎◌, ℕ, ◌+◌, ◌<◌, ◌≤◌, Bool, true, false, List, [], ◌∷◌, ◌++◌, length, take, min, ⊤}
-use Rattle.std.specs.Prelude.{slice_index, codes, ◌==◌, Result, Ok, Err}
-use Rattle.std.specs.List.{slice_split}
+use Rattle.std.specs.Prelude.{◌≡◌, ◌⊎◌, ℕ, ◌+◌, ◌<◌, ◌≤◌, true, false, List, [], ◌∷◌, ◌++◌, length, take, min, ⊤}
+use Rattle.std.specs.Prelude.{slice_index, codes, Result, Ok, Err}
 use Rattle.std.specs.Str.Parse.{IsNumeral, digits_value}
 use Rattle.pim_device.specs.Device.{top_count}
 use Rattle.pim_addr.specs.declared.family.AddressFamily.{AddressFamily}
 use Rattle.pim_addr.specs.declared.route_fault.RouteFault.{RouteFault}
 use Rattle.pim_addr.specs.TextForms.{IsText}
 use Rattle.pim_addr.specs.Routes.{Row, RouteTable, rp_faults, via_faults, with_rp, with_via}
+use Rattle.pim_files.specs.declared.line_file.FileFault.{FileFault}
+use Rattle.pim_files.specs.declared.line_file.FileFault.TheVariants as reading
 use Rattle.pim_files.specs.declared.routes.fault.RoutesFault.{RoutesFault}
 use Rattle.pim_files.specs.declared.routes.fault.RoutesFault.TheVariants.{TooLong, Read, Line, Memory}
 use Rattle.pim_files.specs.declared.routes.row.FileRow.{FileRow}
 use Rattle.pim_files.specs.declared.routes.row.FileRow.TheVariants.{Rp, Via}
-
--- ---- lines
-
--- The greatest length of a file, in bytes.
-abbrev pub file_limit : ℕ
-file_limit = 1048576
-
--- The lines of a file: the pieces between its line feeds, so that an empty line follows a final
--- line feed.
-abbrev pub lines_of : List ℕ → List (List ℕ)
-lines_of file = slice_split (λ byte. byte == 10) file
-
--- A line without a row: it is empty or begins with `#`.
-abbrev pub is_passed_over : List ℕ → Bool
-is_passed_over [] = true
-is_passed_over (first ∷ others) = first == 35
+use Rattle.pim_files.specs.LineFile.{file_limit, lines_of, is_passed_over}
 
 -- ---- rows
 
@@ -111,6 +97,12 @@ pub record StopsAt (family : AddressFamily) (lines : List (List ℕ)) (old new :
   pub wrong : IsWrong family line new
 
 -- ---- reading
+
+-- The error of a file of routes that isn't read to its end.
+abbrev pub routes_unread : FileFault → RoutesFault
+routes_unread reading.TooLong = TooLong
+routes_unread reading.Read = Read
+routes_unread reading.Memory = Memory
 
 -- What the result of reading a file means for the file and the table. At Ok, all rows were added.
 -- `TooLong` and `Read` leave the table unchanged. At `Line` the rows before that line were added,

@@ -1,22 +1,16 @@
 -- What the clauses of private functions say of the steps of reading.
-use Rattle.std.specs.Prelude.{◌≡◌, ◌⊎◌, ℕ, true, false, ◌<◌, ◌≤◌, ⊤, List, [], length, take}
-use Rattle.std.specs.Prelude.{Option, None, Some, Result, Ok, Err}
-use Rattle.std.specs.Borrow.{Bor}
+use Rattle.std.specs.Prelude.{◌≡◌, ◌⊎◌, ℕ, true, false, ⊤, List, [], take}
 use Rattle.pim_addr.specs.declared.family.AddressFamily.{AddressFamily}
 use Rattle.pim_addr.specs.declared.route.Route.{Route}
 use Rattle.pim_addr.specs.Routes.{Row, RouteTable}
 use Rattle.pim_addr.specs.RouteRows.{row_seen}
 use Rattle.pim_files.specs.declared.routes.fault.RoutesFault.{RoutesFault}
-use Rattle.pim_files.specs.declared.routes.fault.RoutesFault.TheVariants.{TooLong, Line, Memory}
+use Rattle.pim_files.specs.declared.routes.fault.RoutesFault.TheVariants.{Line, Memory}
 use Rattle.pim_files.specs.declared.routes.row.FileRow.{FileRow}
 use Rattle.pim_files.specs.declared.routes.row.FileRow.TheVariants.{Rp, Via}
-use Rattle.pim_files.specs.RoutesFile.{file_limit, lines_of, is_passed_over, IsRow, row_faults}
+use Rattle.pim_files.specs.LineFile.{is_passed_over}
+use Rattle.pim_files.specs.RoutesFile.{IsRow, row_faults}
 use Rattle.pim_files.specs.RoutesFile.{with_file_row, Adds, IsWrong, StopsAt}
-
--- The lines of the text that is left, none where no text is left.
-abbrev pub lines_left : Option (Bor (List ℕ)) → List (List ℕ)
-lines_left None = []
-lines_left (Some text) = lines_of text.now
 
 -- A `FileRow` of a `Route` as the row that contracts see.
 abbrev pub file_row_seen : {A : Type 0} → (A → List ℕ) → FileRow (Route A) → FileRow Row
@@ -41,18 +35,3 @@ abbrev pub StopsIn : AddressFamily → List (List ℕ) → RouteTable → RouteT
 StopsIn family lines old new Memory = (count : ℕ) × Adds family (take count lines) old new
 StopsIn family lines old new (Line number) = StopsAt family lines old new number
 StopsIn family lines old new fault = ⊥
-
--- The error is one of reading the file, not of a line.
-abbrev pub IsFileFault : RoutesFault → Type 0
-IsFileFault (Line number) = ⊥
-IsFileFault fault = ⊤
-
--- The error is one of reading a file with these bytes; `TooLong` comes only above the limit.
-abbrev pub IsFileFaultOf : List ℕ → RoutesFault → Type 0
-IsFileFaultOf file TooLong = file_limit < length file
-IsFileFaultOf file fault = IsFileFault fault
-
--- The result of reading a file with these bytes: all of them, within the limit, or why not.
-abbrev pub GivesFile : {A : Type 0} → (A → List ℕ) → List ℕ → Result A RoutesFault → Type 0
-GivesFile bytes_of file (Ok read) = (file ≡ bytes_of read) × (length file ≤ file_limit)
-GivesFile bytes_of file (Err fault) = IsFileFaultOf file fault

@@ -1,5 +1,6 @@
 //! Why the files of a command aren't open.
 
+use crate::local::LocalFileFault;
 use crate::opener::FileCause;
 use crate::routes::RoutesFault;
 
@@ -10,8 +11,8 @@ pub enum OpenFault<'a> {
     Upstream,
     /// The RP isn't a valid source.
     Rp,
-    /// The file of a port without a link, or of the routes, can't be opened. This is the word of
-    /// the port, or the name of the file of routes.
+    /// The file of a port without a link, of the routes or of local receivers can't be opened. This
+    /// is the word of the port, or the name of the other file.
     File(&'a str),
     /// The file of a port with a link can't be opened.
     Port {
@@ -22,6 +23,8 @@ pub enum OpenFault<'a> {
     },
     /// The file of routes has a fault.
     Routes(RoutesFault),
+    /// The file of local receivers has a fault.
+    Local(LocalFileFault),
     /// An allocation was refused.
     Memory,
 }

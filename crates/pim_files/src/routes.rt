@@ -13,7 +13,6 @@
 //! and the feed has failed once more exactly at `Read`.
 
 pub(crate) mod fault;
-mod lines;
 mod reading;
 mod row;
 

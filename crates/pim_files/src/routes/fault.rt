@@ -1,5 +1,9 @@
 //! The errors of reading a file of routes.
 
+ghost use Rattle.std.specs.Prelude.{◌≡◌};
+ghost use Rattle.pim_files.specs.RoutesFile.{routes_unread};
+
+use crate::line_file::FileFault;
 use thiserror::Error;
 
 /// Why a file of routes is not read to its end.
@@ -17,4 +21,16 @@ pub enum RoutesFault {
     /// Memory ran out.
     #[error("memory")]
     Memory,
+}
+
+impl From<FileFault> for RoutesFault {
+    ghost from_gives = { λ fault reported. reported ≡ routes_unread fault };
+
+    fn from(fault: FileFault) -> RoutesFault {
+        match fault {
+            FileFault::TooLong => RoutesFault::TooLong,
+            FileFault::Read => RoutesFault::Read,
+            FileFault::Memory => RoutesFault::Memory,
+        }
+    }
 }

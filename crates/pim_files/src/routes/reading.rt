@@ -1,60 +1,20 @@
 //! Reading a file of routes into a table.
 
-ghost use Rattle.std.specs.Prelude.{◌≡◌, ◌≤◌, length, OnOk, OnErr, IfOk, IfErr, IfSome, vec_len};
+ghost use Rattle.std.specs.Prelude.{◌≡◌, ◌≤◌, length, OnOk, OnErr, IfErr, IfSome};
 ghost use Rattle.pim_device.specs.Device.{ConsumesAtMost};
 ghost use Rattle.pim_addr.specs.Routes.{IsRefusedBy};
-ghost use Rattle.pim_files.specs.RoutesFile.{lines_of, is_passed_over, file_limit};
+ghost use Rattle.pim_files.specs.LineFile.{lines_of, file_limit};
 ghost use Rattle.pim_files.specs.RoutesFile.{row_faults, with_file_row};
 ghost use Rattle.pim_files.specs.RoutesFile.{Adds, Reads, IsBeforeRows};
 ghost use Rattle.pim_files.specs.RoutesFile.{failures_after_reading};
 ghost use Rattle.pim_files.specs.RoutesSeen.{file_row_seen, AddsLine, IsLineFault, StopsIn};
-ghost use Rattle.pim_files.specs.RoutesSeen.{GivesFile, IsFileFault};
 
+use crate::line_file::{is_passed_over, read_file};
+use crate::lines::Lines;
 use crate::routes::fault::RoutesFault;
-use crate::routes::lines::Lines;
 use crate::routes::row::{FileRow, read_row};
-use pim_addr::{Family, Feed, Route, RouteFault, Routes, read_up_to};
+use pim_addr::{Family, Feed, Route, RouteFault, Routes};
 use std::alloc::Global;
-
-/// The greatest length of a file, in bytes.
-const FILE_LIMIT: usize = 1_048_576;
-
-/// Returns a buffer of `length` zero bytes.
-fn blank(alloc: Global, length: usize) -> Result<Vec<u8>, RoutesFault>
-    ensures length { IfOk result (λ buffer. vec_len buffer ≡ length) }
-    ensures memory { IfErr result (λ fault. fault ≡ RoutesFault.Memory) }
-{
-    vec![in alloc; 0u8; length].map_err(|_| RoutesFault::Memory)
-}
-
-/// Reads the file to its end.
-fn read_file<R: Feed>(alloc: Global, reader: &mut R) -> Result<Vec<u8>, RoutesFault>
-    ensures file { IfSome (R.remaining reader.old) (λ file. GivesFile (λ v. v.items) file result) }
-    ensures causes { IfErr result IsFileFault }
-    ensures failed { R.failures reader.new ≡ failures_after_reading (R.failures reader.old) result }
-    ensures taken { ConsumesAtMost 1048577 (R.remaining reader.old) (R.remaining reader.new) }
-    ensures small { IfOk result (λ file. length file.items ≤ file_limit) }
-{
-    let mut file = blank(alloc, FILE_LIMIT + 1)?;
-    let Ok(length) = read_up_to(reader, &mut file) else {
-        return Err(RoutesFault::Read);
-    };
-    if length > FILE_LIMIT {
-        return Err(RoutesFault::TooLong);
-    }
-    file.truncate(length);
-    Ok(file)
-}
-
-/// Returns whether a line has no row: it is empty or begins with `#`.
-fn is_passed_over(line: &[u8]) -> bool
-    ensures { result ≡ is_passed_over line.now }
-{
-    match line.first() {
-        Some(first) => *first == b'#',
-        None => true,
-    }
-}
 
 /// Adds a row to its map of the table.
 fn add_row<F: Family>(

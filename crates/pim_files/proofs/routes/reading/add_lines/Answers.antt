@@ -1,20 +1,22 @@
-use Rattle.pim_files.proofs.Words.{List, ℕ, subst, arith, err_from_is_err_and, lines_of}
-use Rattle.pim_files.proofs.Added.{Went, number_is_small, one_further, stopped}
+use Rattle.pim_files.proofs.Words.{List, ℕ, subst, arith, err_from_is_err_and, lines_of, Adds}
+use Rattle.pim_files.proofs.LineByLine.{Went, number_is_small, one_further}
+use Rattle.pim_files.proofs.Added.{adds_one_more, stopped}
 use Rattle.pim_files.proofs.routes.reading.add_lines.Goals as goal
 
 pub overflow_add-number : goal.overflow_add-number
 overflow_add-number g c =
-    let went = subst (λ (left : List (List ℕ)). Went g.F.Family.family (lines_of c.args.file.now) left c.args.routes.now c.loop-line.routes c.loop-line.number) c.in-Some.ensures.steps c.loop-line.invariant in
-    omega (arith, number_is_small g.F.Family.family c.args.file.now c.in-Some.line.now c.next.new.self c.args.routes.now c.loop-line.routes c.loop-line.number c.requires went)
+    let went = subst (λ (left : List (List ℕ)). Went (Adds g.F.Family.family) (lines_of c.args.file.now) left c.args.routes.now c.loop-line.routes c.loop-line.number) c.in-Some.ensures.steps c.loop-line.invariant in
+    omega (arith, number_is_small (Adds g.F.Family.family) c.args.file.now c.in-Some.line.now c.next.new.self c.args.routes.now c.loop-line.routes c.loop-line.number c.requires went)
 
 pub loop-line-preserved : goal.loop-line-preserved
 loop-line-preserved g c =
-    let went = subst (λ (left : List (List ℕ)). Went g.F.Family.family (lines_of c.args.file.now) left c.args.routes.now c.loop-line.routes c.loop-line.number) c.in-Some.ensures.steps c.loop-line.invariant in
-    one_further g.F.Family.family (lines_of c.args.file.now) c.in-Some.line.now c.next.new.self c.args.routes.now c.loop-line.routes c.add_line.new.routes c.loop-line.number went c.in_ok-add_line.ensures.ok
+    let went = subst (λ (left : List (List ℕ)). Went (Adds g.F.Family.family) (lines_of c.args.file.now) left c.args.routes.now c.loop-line.routes c.loop-line.number) c.in-Some.ensures.steps c.loop-line.invariant in
+    one_further (Adds g.F.Family.family) (lines_of c.args.file.now) c.in-Some.line.now c.next.new.self c.args.routes.now c.loop-line.routes c.add_line.new.routes c.loop-line.number went
+    (adds_one_more g.F.Family.family went.front c.in-Some.line.now c.args.routes.now c.loop-line.routes c.add_line.new.routes went.added c.in_ok-add_line.ensures.ok)
 
 pub returns-in_err-add_line-clause-reported : goal.returns-in_err-add_line-clause-reported
 returns-in_err-add_line-clause-reported g c =
-    let went = subst (λ (left : List (List ℕ)). Went g.F.Family.family (lines_of c.args.file.now) left c.args.routes.now c.loop-line.routes c.loop-line.number) c.in-Some.ensures.steps c.loop-line.invariant in
+    let went = subst (λ (left : List (List ℕ)). Went (Adds g.F.Family.family) (lines_of c.args.file.now) left c.args.routes.now c.loop-line.routes c.loop-line.number) c.in-Some.ensures.steps c.loop-line.invariant in
     let p = err_from_is_err_and c.from_residual.result c.from_residual.ensures.1 in
     rw (p.1, p.2, c.in_err-add_line.ensures.err)
     (stopped g.F.Family.family (lines_of c.args.file.now) c.in-Some.line.now c.next.new.self c.args.routes.now c.loop-line.routes c.loop-line.number c.in_err-add_line.field-0.0 went c.in_err-add_line.ensures.reported)

@@ -1,6 +1,6 @@
 use Rattle.std.proofs.Common.{sym, ◌∙◌, ◌==◌}
 use Rattle.pim_files.proofs.Cut.{no_place, at_place}
-use Rattle.pim_files.proofs.routes.lines.cut_line.Goals as goal
+use Rattle.pim_files.proofs.lines.cut_line.Goals as goal
 
 pub returns-in_default : goal.returns-in_default
 returns-in_default c = no_place (λ byte. byte == 10) c.args.text.now (sym c.first_line_feed.ensures ∙ c.in_default.is)

@@ -3,8 +3,7 @@
 ghost use Rattle.std.specs.Prelude.{◌≡◌, ◌∷◌, ◌==◌};
 ghost use Rattle.std.specs.List.{position};
 ghost use Rattle.std.specs.Iterator.{YieldsFirstBy, item_count};
-ghost use Rattle.pim_files.specs.RoutesFile.{lines_of};
-ghost use Rattle.pim_files.specs.RoutesSeen.{lines_left};
+ghost use Rattle.pim_files.specs.LineFile.{lines_of, lines_left};
 
 use std::marker::Model;
 
@@ -17,7 +16,7 @@ pub(crate) struct Lines<'a> {
 
 impl<'a> Model for Lines<'a> {
     ghost use Rattle.std.specs.Prelude.{List, ℕ};
-    ghost use Rattle.pim_files.specs.RoutesSeen.{lines_left};
+    ghost use Rattle.pim_files.specs.LineFile.{lines_left};
 
     ghost Value = { List (List ℕ) };
 
