@@ -1,17 +1,22 @@
 -- The words of other modules that the lemmas and answers of this crate cite.
 pub use Rattle.pim_addr.specs.declared.family.AddressFamily.{AddressFamily}
 pub use Rattle.pim_device.specs.Device.{AppendsAll}
-pub use Rattle.pim_events.specs.Events.{fired_seen, greeting_seen, ignored_seen, time_out_seen, transition_seen}
+pub use Rattle.pim_events.specs.Events.{cause_seen, fired_seen, greeting_seen, held_seen, ignored_seen, time_out_seen}
+pub use Rattle.pim_events.specs.Events.{transition_seen, wanted_seen}
 pub use Rattle.pim_events.specs.Parts.{state_in}
+pub use Rattle.pim_events.specs.declared.event.Cause.{Cause}
 pub use Rattle.pim_events.specs.declared.event.Fired.{Fired}
 pub use Rattle.pim_events.specs.declared.event.Greeting.{Greeting}
+pub use Rattle.pim_events.specs.declared.event.HeldMachine.{HeldMachine}
 pub use Rattle.pim_events.specs.declared.event.Ignored.{Ignored}
 pub use Rattle.pim_events.specs.declared.event.OwnRestart.{OwnRestart}
 pub use Rattle.pim_events.specs.declared.event.SkipCounts.{SkipCounts}
 pub use Rattle.pim_events.specs.declared.event.TimeOut.{TimeOut}
 pub use Rattle.pim_events.specs.declared.event.TransitionEvent.{TransitionEvent}
+pub use Rattle.pim_events.specs.declared.event.WantedEntry.{WantedEntry}
 pub use Rattle.pim_lines.specs.Pieces.{line}
 pub use Rattle.pim_lines.specs.ShortText.{short_text}
+pub use Rattle.pim_report.specs.RecordLine.{state_name}
 pub use Rattle.std.proofs.Common.{List, Option, Some, [], codes, decimal, length, refl, rules, subst, ℕ, ◌*◌, ◌++◌}
 pub use Rattle.std.proofs.Common.{◌+◌, ◌-◌, ◌∙◌, ◌∷◌, ◌≡◌, ◌≤◌}
 pub use Rattle.pim_event_lines.specs.Counts.{joined_in, pruned_in}

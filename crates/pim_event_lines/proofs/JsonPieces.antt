@@ -2,6 +2,8 @@
 use Rattle.pim_event_lines.proofs.Cited.{◌≡◌, ℕ, List, [], ◌∷◌, ◌++◌, Some, codes, decimal, refl, ◌∙◌, AddressFamily}
 use Rattle.pim_event_lines.proofs.Cited.{line, state_in, short_text, Fired, Greeting, Ignored, OwnRestart, SkipCounts}
 use Rattle.pim_event_lines.proofs.Cited.{TimeOut, TransitionEvent, joined_in, pruned_in, state_text}
+use Rattle.pim_event_lines.proofs.Cited.{HeldMachine, WantedEntry, state_name}
+use Rattle.pim_event_lines.specs.JsonLine.{address_json, source_in, held_machine_json, held_state_json, wanted_source, want_word, want_json}
 use Rattle.pim_jp.specs.Message.{Message}
 use Rattle.pim_events.specs.declared.event.Skipping.{Skipping}
 use Rattle.pim_event_lines.specs.JsonLine.{quoted, number_json, by_word, kind_word, timer_word, skip_word, meaning_word, bool_json, expiry_json, pending_json, sender_json, message_json, hello_json, entry_json, restart_json, skipped_json, change_json, outcome_json, timer_json, effect_json, time_out_json, held_json, counts_json}
@@ -151,6 +153,45 @@ pub counts_members : (counts : SkipCounts) (a b c d e f : List ℕ) → a ≡ de
     → spread (counts_of a b c d e f) [] ≡ line (counts_json counts ++ codes "}")
 counts_members counts a b c d e f p0 p1 p2 p3 p4 p5 =
     in_parts (counts_of a b c d e f) ∙ rw (p0, p1, p2, p3, p4, p5) (refl {a = line (counts_json counts ++ codes "}")})
+
+-- ---- what is held and wanted
+
+-- An address, or `null`.
+abbrev address_of : List ℕ → List ℕ → List ℕ → Text
+address_of front address back = part front ⊕ (part address ⋄ back)
+
+abbrev held_machine_of : List ℕ → List ℕ → Text → Text
+held_machine_of kind of source = part (codes "record\"") ⊕ machine_of kind of ⊕ source
+
+pub held_machine_members : (family : AddressFamily) (held : HeldMachine (List ℕ)) (kind of front source back : List ℕ) → kind ≡ kind_word held.what → of ≡ short_text family held.group → front ++ (source ++ back) ≡ address_json family (source_in held.what)
+    → spread (held_machine_of kind of (address_of front source back)) [] ≡ held_machine_json family held
+held_machine_members family held kind of front source back p0 p1 p2 =
+    in_parts (held_machine_of kind of (address_of front source back))
+    ∙ rw (p2, p0, p1) (refl {a = held_machine_json family held})
+
+abbrev held_state_of : List ℕ → List ℕ → List ℕ → List ℕ → Text → Text
+held_state_of state since et ppt cause =
+    part (codes ",\"state\":") ⊕ string_of state ⋄ codes ",\"for\":" ⋄ since ⋄ codes ",\"et\":" ⋄ et ⋄ codes ",\"ppt\":" ⋄ ppt ⊕ cause
+    ⋄ codes "}" ⋄ (10 ∷ [])
+
+pub held_state_members : (family : AddressFamily) (held : HeldMachine (List ℕ)) (state since et ppt frame from moment : List ℕ) → state ≡ state_name held.machine.state → since ≡ decimal held.held_for → et ≡ expiry_json (Some held.machine) → ppt ≡ pending_json (Some held.machine)
+    → frame ≡ decimal held.cause.frame → from ≡ short_text family held.cause.from → moment ≡ decimal held.cause.ms
+    → spread (held_state_of state since et ppt (cause_of frame from moment)) [] ≡ held_state_json family held
+held_state_members family held state since et ppt frame from moment p0 p1 p2 p3 p4 p5 p6 =
+    in_parts (held_state_of state since et ppt (cause_of frame from moment))
+    ∙ rw (p0, p1, p2, p3, p4, p5, p6) (refl {a = held_state_json family held})
+
+abbrev want_of : List ℕ → List ℕ → Text → Text → Text
+want_of word of source via =
+    part (codes "want\",\"what\":") ⊕ string_of word ⋄ codes ",\"group\":" ⊕ string_of of ⋄ codes ",\"source\":" ⊕ source
+    ⋄ codes ",\"via\":" ⊕ via ⋄ codes "}" ⋄ (10 ∷ [])
+
+pub want_members : (family : AddressFamily) (entry : WantedEntry (List ℕ)) (word of front source back before via behind : List ℕ) → word ≡ want_word entry.what → of ≡ short_text family entry.group
+    → front ++ (source ++ back) ≡ address_json family (wanted_source entry.what) → before ++ (via ++ behind) ≡ address_json family entry.via
+    → spread (want_of word of (address_of front source back) (address_of before via behind)) [] ≡ want_json family entry
+want_members family entry word of front source back before via behind p0 p1 p2 p3 =
+    in_parts (want_of word of (address_of front source back) (address_of before via behind))
+    ∙ rw (p2, p3, p0, p1) (refl {a = want_json family entry})
 
 -- ---- the port
 

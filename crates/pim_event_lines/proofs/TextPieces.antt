@@ -5,6 +5,10 @@ use Rattle.pim_event_lines.proofs.Cited.{TransitionEvent, generation_text, gener
 use Rattle.pim_event_lines.proofs.Cited.{counts_text, held_text, overrides_part, by_words, timer_words, cause_words, echo_text}
 use Rattle.pim_event_lines.proofs.Cited.{source_words, state_text, sender_text, greeting_text, entry_text, time_out_line}
 use Rattle.pim_event_lines.proofs.Cited.{change_text, effect_text, cause_line}
+use Rattle.pim_event_lines.proofs.Cited.{Cause, HeldMachine, WantedEntry, state_name}
+use Rattle.pim_down.specs.declared.machines.step.Timer.{Timer}
+use Rattle.pim_lines.specs.Pieces.{number_or}
+use Rattle.pim_event_lines.specs.TextLine.{record_text, address_part, tree_of, exception_in, want_line}
 use Rattle.pim_report.specs.EchoLine.{kind_of}
 use Rattle.pim_report.specs.PacketLine.{heard_words}
 use Rattle.pim_event_lines.proofs.Nested.{Text, part, ◌⋄◌, ◌⊕◌, spread, in_parts}
@@ -106,10 +110,10 @@ abbrev cause_of : List ℕ → List ℕ → List ℕ → List ℕ → Text
 cause_of word from frame before =
     part word ⋄ from ⋄ codes " in #" ⋄ frame ⋄ codes ", " ⋄ before ⋄ codes " ms before" ⋄ (10 ∷ [])
 
-pub cause_pieces : (family : AddressFamily) (ms : ℕ) (firing : Fired (List ℕ)) (word from frame before : List ℕ) → word ≡ cause_words firing.timer → from ≡ short_text family firing.cause.from → frame ≡ decimal firing.cause.frame → before ≡ decimal (ms - firing.cause.ms)
-    → spread (cause_of word from frame before) [] ≡ cause_line family ms firing
-cause_pieces family ms firing word from frame before p0 p1 p2 p3 =
-    in_parts (cause_of word from frame before) ∙ rw (p0, p1, p2, p3) (refl {a = cause_line family ms firing})
+pub cause_pieces : (family : AddressFamily) (ms : ℕ) (timer : Timer) (cause : Cause (List ℕ)) (word from frame before : List ℕ) → word ≡ cause_words timer → from ≡ short_text family cause.from → frame ≡ decimal cause.frame → before ≡ decimal (ms - cause.ms)
+    → spread (cause_of word from frame before) [] ≡ cause_line family ms timer cause
+cause_pieces family ms timer cause word from frame before p0 p1 p2 p3 =
+    in_parts (cause_of word from frame before) ∙ rw (p0, p1, p2, p3) (refl {a = cause_line family ms timer cause})
 
 abbrev time_out_of : List ℕ → List ℕ → List ℕ → Text
 time_out_of neighbour frame before =
@@ -137,3 +141,30 @@ pub counts_pieces : (counts : SkipCounts) (a b c d e f : List ℕ) → a ≡ dec
     → spread (counts_of a b c d e f) [] ≡ line (counts_text counts)
 counts_pieces counts a b c d e f p0 p1 p2 p3 p4 p5 =
     in_parts (counts_of a b c d e f) ∙ rw (p0, p1, p2, p3, p4, p5) (refl {a = line (counts_text counts)})
+
+-- ---- what is held and wanted
+
+abbrev record_of : Text → List ℕ → List ℕ → List ℕ → Text
+record_of machine state since et =
+    part (codes "holds ") ⊕ machine ⋄ codes ": " ⋄ state ⋄ codes " for " ⋄ since ⋄ codes " ms" ⊕ (part (codes ", et ") ⋄ et)
+
+pub record_pieces : (family : AddressFamily) (held : HeldMachine (List ℕ)) (kind source gap of state since et : List ℕ) → kind ≡ kind_of held.what → source ++ gap ≡ source_words family held.what → of ≡ short_text family held.group
+    → state ≡ state_name held.machine.state → since ≡ decimal held.held_for → et ≡ number_or (codes "never") held.machine.expires_in
+    → spread (record_of (machine_of kind source gap of) state since et) [] ≡ record_text family held
+record_pieces family held kind source gap of state since et p0 p1 p2 p3 p4 p5 =
+    in_parts (record_of (machine_of kind source gap of) state since et)
+    ∙ rw (p1, p0, p2, p3, p4, p5) (refl {a = record_text family held})
+
+-- Words and an address.
+abbrev address_of : List ℕ → List ℕ → Text
+address_of words address = part words ⋄ address
+
+abbrev want_of : Text → Text → Text → Text
+want_of machine via except = part (codes "wants ") ⊕ machine ⊕ via ⊕ except ⋄ (10 ∷ [])
+
+pub want_pieces : (family : AddressFamily) (entry : WantedEntry (List ℕ)) (kind source gap of toward via but except : List ℕ) → kind ≡ kind_of (tree_of entry.what) → source ++ gap ≡ source_words family (tree_of entry.what) → of ≡ short_text family entry.group
+    → toward ++ via ≡ address_part family (codes " via ") entry.via → but ++ except ≡ address_part family (codes " except ") (exception_in entry.what)
+    → spread (want_of (machine_of kind source gap of) (address_of toward via) (address_of but except)) [] ≡ want_line family entry
+want_pieces family entry kind source gap of toward via but except p0 p1 p2 p3 p4 =
+    in_parts (want_of (machine_of kind source gap of) (address_of toward via) (address_of but except))
+    ∙ rw (p1, p0, p2, p3, p4) (refl {a = want_line family entry})

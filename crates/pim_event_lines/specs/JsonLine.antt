@@ -13,11 +13,12 @@ use Rattle.pim_hello.specs.declared.heard.Heard.TheVariants.{New, Same, Restarte
 use Rattle.pim_jp.specs.Message.{Message}
 use Rattle.pim_report.specs.PacketLine.{verdict_words}
 use Rattle.pim_lines.specs.Pieces.{line, number_or}
-use Rattle.pim_report.specs.RecordLine.{time_left}
+use Rattle.pim_report.specs.RecordLine.{state_name, time_left}
 use Rattle.pim_time.specs.Text.{seconds_text}
 use Rattle.pim_event_lines.specs.Counts.{joined_in, pruned_in}
 use Rattle.pim_events.specs.Events.{Happened, Judged, Occurrence, hello_heard, packet_judged, machine_changed}
-use Rattle.pim_events.specs.Events.{join_ignored, own_restart, record_skipped, neighbour_gone, timer_fired, run_ended}
+use Rattle.pim_events.specs.Events.{join_ignored, own_restart, record_skipped, neighbour_gone, timer_fired}
+use Rattle.pim_events.specs.Events.{machine_held, entry_wanted, run_ended}
 use Rattle.pim_events.specs.Parts.{state_in, pending_in}
 use Rattle.pim_lines.specs.ShortText.{short_text}
 use Rattle.pim_event_lines.specs.TextLine.{state_text, name_of}
@@ -27,6 +28,7 @@ use Rattle.pim_events.specs.declared.event.Cause.{Cause}
 use Rattle.pim_events.specs.declared.event.EndOfTrace.{EndOfTrace}
 use Rattle.pim_events.specs.declared.event.Fired.{Fired}
 use Rattle.pim_events.specs.declared.event.Greeting.{Greeting}
+use Rattle.pim_events.specs.declared.event.HeldMachine.{HeldMachine}
 use Rattle.pim_events.specs.declared.event.Ignored.{Ignored}
 use Rattle.pim_events.specs.declared.event.OwnRestart.{OwnRestart}
 use Rattle.pim_events.specs.declared.event.Skip.{Skip}
@@ -37,6 +39,9 @@ use Rattle.pim_events.specs.declared.event.TimeOut.{TimeOut}
 use Rattle.pim_down.specs.declared.machines.step.Timer.{Timer}
 use Rattle.pim_down.specs.declared.machines.step.Timer.TheVariants.{PrunePending, Expiry}
 use Rattle.pim_events.specs.declared.event.TransitionEvent.{TransitionEvent}
+use Rattle.pim_events.specs.declared.event.WantedEntry.{WantedEntry}
+use Rattle.pim_events.specs.declared.event.WantedWhat.{WantedWhat}
+use Rattle.pim_events.specs.declared.event.WantedWhat.TheVariants as wanted
 
 -- ---- values
 
@@ -87,6 +92,18 @@ abbrev pub source_in : What (List ℕ) → Option (List ℕ)
 source_in Star = None
 source_in (Source source) = Some source
 source_in (Rpt source) = Some source
+
+-- What a router wants.
+abbrev pub want_word : WantedWhat (List ℕ) → List ℕ
+want_word wanted.Star = codes "star"
+want_word (wanted.Source source) = codes "source"
+want_word (wanted.Except source) = codes "except"
+
+-- The source that it wants, or does not want.
+abbrev pub wanted_source : WantedWhat (List ℕ) → Option (List ℕ)
+wanted_source wanted.Star = None
+wanted_source (wanted.Source source) = Some source
+wanted_source (wanted.Except source) = Some source
 
 -- The time left on an Expiry Timer that runs.
 abbrev pub never_json : Option ℕ → List ℕ
@@ -244,6 +261,28 @@ module _ (family : AddressFamily) where
   abbrev pub fired_json : Fired (List ℕ) → List ℕ
   fired_json firing = timer_json firing ++ (source_json firing.what ++ effect_json firing)
 
+  -- A machine that is held, up to its state.
+  abbrev pub held_machine_json : HeldMachine (List ℕ) → List ℕ
+  held_machine_json held = codes "record\"" ++ machine_json held.group held.what ++ source_json held.what
+
+  -- Its state, the time since it was last in NoInfo, its timers, and the packet that set its Expiry
+  -- Timer. An Expiry Timer that never ends has no value.
+  abbrev pub held_state_json : HeldMachine (List ℕ) → List ℕ
+  held_state_json held = line (codes ",\"state\":" ++ quoted (state_name held.machine.state) ++ codes ",\"for\":"
+      ++ decimal held.held_for ++ codes ",\"et\":" ++ expiry_json (Some held.machine) ++ codes ",\"ppt\":"
+      ++ pending_json (Some held.machine) ++ cause_json held.cause ++ codes "}")
+
+  -- `record`.
+  abbrev pub record_json : HeldMachine (List ℕ) → List ℕ
+  record_json held = held_machine_json held ++ held_state_json held
+
+  -- `want`.
+  abbrev pub want_json : WantedEntry (List ℕ) → List ℕ
+  want_json entry = line (codes "want\",\"what\":" ++ quoted (want_word entry.what) ++ codes ",\"group\":"
+      ++ quoted (short_text family entry.group) ++ codes ",\"source\":"
+      ++ address_json family (wanted_source entry.what) ++ codes ",\"via\":" ++ address_json family entry.via
+      ++ codes "}")
+
   -- What happened: the name of the event without its first quote, and the members after it.
   abbrev pub what_json : Happened → List ℕ
   what_json (hello_heard hello) = hello_json hello
@@ -254,6 +293,8 @@ module _ (family : AddressFamily) where
   what_json (record_skipped skipped) = skipped_json skipped
   what_json (neighbour_gone over) = time_out_json over
   what_json (timer_fired firing) = fired_json firing
+  what_json (machine_held held) = record_json held
+  what_json (entry_wanted entry) = want_json entry
   what_json (run_ended ending) = ending_json ending
 
 -- ---- whole lines

@@ -18,15 +18,18 @@ use Rattle.pim_lines.specs.Pieces.{line, number_or}
 use Rattle.pim_report.specs.RecordLine.{state_name}
 use Rattle.pim_event_lines.specs.Counts.{joined_in, pruned_in}
 use Rattle.pim_events.specs.Events.{Happened, Judged, Occurrence, hello_heard, packet_judged, machine_changed}
-use Rattle.pim_events.specs.Events.{join_ignored, own_restart, record_skipped, neighbour_gone, timer_fired, run_ended}
+use Rattle.pim_events.specs.Events.{join_ignored, own_restart, record_skipped, neighbour_gone, timer_fired}
+use Rattle.pim_events.specs.Events.{machine_held, entry_wanted, run_ended}
 use Rattle.pim_event_lines.specs.Moments.{moment_text}
 use Rattle.pim_events.specs.Parts.{state_in, pending_in}
 use Rattle.pim_lines.specs.ShortText.{short_text}
 use Rattle.pim_transitions.specs.declared.transition.By.{By}
 use Rattle.pim_transitions.specs.declared.transition.By.TheVariants as by
+use Rattle.pim_events.specs.declared.event.Cause.{Cause}
 use Rattle.pim_events.specs.declared.event.EndOfTrace.{EndOfTrace}
 use Rattle.pim_events.specs.declared.event.Fired.{Fired}
 use Rattle.pim_events.specs.declared.event.Greeting.{Greeting}
+use Rattle.pim_events.specs.declared.event.HeldMachine.{HeldMachine}
 use Rattle.pim_events.specs.declared.event.Ignored.{Ignored}
 use Rattle.pim_events.specs.declared.event.OwnRestart.{OwnRestart}
 use Rattle.pim_events.specs.declared.event.Skip.{Skip}
@@ -37,6 +40,9 @@ use Rattle.pim_events.specs.declared.event.TimeOut.{TimeOut}
 use Rattle.pim_down.specs.declared.machines.step.Timer.{Timer}
 use Rattle.pim_down.specs.declared.machines.step.Timer.TheVariants.{PrunePending, Expiry}
 use Rattle.pim_events.specs.declared.event.TransitionEvent.{TransitionEvent}
+use Rattle.pim_events.specs.declared.event.WantedEntry.{WantedEntry}
+use Rattle.pim_events.specs.declared.event.WantedWhat.{WantedWhat}
+use Rattle.pim_events.specs.declared.event.WantedWhat.TheVariants as wanted
 use Rattle.pim_time.specs.declared.form.TimeForm.{TimeForm}
 
 -- ---- words
@@ -90,6 +96,11 @@ abbrev pub waiting_part : ℕ → Option Pending → List ℕ
 waiting_part neighbours None = []
 waiting_part neighbours (Some timer) = codes ", ppt " ++ decimal timer.ends_in ++ codes ", "
     ++ neighbours_text neighbours
+
+-- The time left on the Prune-Pending Timer, if it runs.
+abbrev pub pending_part : Option Pending → List ℕ
+pending_part None = []
+pending_part (Some timer) = codes ", ppt " ++ decimal timer.ends_in
 
 -- The packet that is overridden, if one is.
 abbrev pub overrides_part : Option ℕ → List ℕ
@@ -146,6 +157,18 @@ held_text records neighbours = codes "end: records " ++ decimal records ++ codes
 -- The end of the run.
 abbrev pub ending_line : EndOfTrace → List ℕ
 ending_line ending = held_text ending.records ending.neighbours ++ line (counts_text ending.skipped)
+
+-- The tree that a router wants: that of the RP, with or without an exception, or that of a source.
+abbrev pub tree_of : WantedWhat (List ℕ) → What (List ℕ)
+tree_of wanted.Star = Star
+tree_of (wanted.Source source) = Source source
+tree_of (wanted.Except source) = Star
+
+-- The source that a router does not want from the RP.
+abbrev pub exception_in : WantedWhat (List ℕ) → Option (List ℕ)
+exception_in wanted.Star = None
+exception_in (wanted.Source source) = None
+exception_in (wanted.Except source) = Some source
 
 -- The Generation ID of a Hello.
 abbrev pub generation_part : Option ℕ → List ℕ
@@ -236,13 +259,39 @@ module _ (family : AddressFamily) where
       ++ states_text (Some firing.before) firing.after ++ echo_text firing.timer firing.echo
 
   -- The packet that set the timer, and how long before this moment it came.
-  abbrev pub cause_line : ℕ → Fired (List ℕ) → List ℕ
-  cause_line ms firing = line (cause_words firing.timer ++ short_text family firing.cause.from ++ codes " in #"
-      ++ decimal firing.cause.frame ++ codes ", " ++ decimal (ms - firing.cause.ms) ++ codes " ms before")
+  abbrev pub cause_line : ℕ → Timer → Cause (List ℕ) → List ℕ
+  cause_line ms timer cause = line (cause_words timer ++ short_text family cause.from ++ codes " in #"
+      ++ decimal cause.frame ++ codes ", " ++ decimal (ms - cause.ms) ++ codes " ms before")
 
   -- A timer that fired, at this moment.
   abbrev pub fired_line : ℕ → Fired (List ℕ) → List ℕ
-  fired_line ms firing = effect_text firing ++ cause_line ms firing
+  fired_line ms firing = effect_text firing ++ cause_line ms firing.timer firing.cause
+
+  -- A machine that is held, its state, the time since it was last in NoInfo, and the time left on
+  -- its Expiry Timer.
+  abbrev pub record_text : HeldMachine (List ℕ) → List ℕ
+  record_text held = codes "holds " ++ machine_text held.group held.what ++ codes ": "
+      ++ state_name held.machine.state ++ codes " for " ++ decimal held.held_for ++ codes " ms"
+      ++ expiry_part (Some held.machine)
+
+  -- The time left on the Prune-Pending Timer of a machine, and the packet that set its Expiry Timer.
+  abbrev pub timer_line : ℕ → HeldMachine (List ℕ) → List ℕ
+  timer_line ms held = pending_part held.machine.pending ++ cause_line ms Expiry held.cause
+
+  -- A machine that is held at this moment.
+  abbrev pub record_line : ℕ → HeldMachine (List ℕ) → List ℕ
+  record_line ms held = record_text held ++ timer_line ms held
+
+  -- Words and an address, or nothing where there is no address.
+  abbrev pub address_part : List ℕ → Option (List ℕ) → List ℕ
+  address_part words None = []
+  address_part words (Some address) = words ++ short_text family address
+
+  -- The tree that the router wants, its upstream neighbour, and the source that it does not want
+  -- from there.
+  abbrev pub want_line : WantedEntry (List ℕ) → List ℕ
+  want_line entry = line (codes "wants " ++ machine_text entry.group (tree_of entry.what)
+      ++ address_part (codes " via ") entry.via ++ address_part (codes " except ") (exception_in entry.what))
 
   -- What happened, at this moment.
   abbrev pub what_line : ℕ → Happened → List ℕ
@@ -254,6 +303,8 @@ module _ (family : AddressFamily) where
   what_line ms (record_skipped skipped) = skipped_line skipped
   what_line ms (neighbour_gone over) = time_out_line ms over
   what_line ms (timer_fired firing) = fired_line ms firing
+  what_line ms (machine_held held) = record_line ms held
+  what_line ms (entry_wanted entry) = want_line entry
   what_line ms (run_ended ending) = ending_line ending
 
 -- ---- whole lines

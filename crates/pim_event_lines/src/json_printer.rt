@@ -11,6 +11,7 @@ use crate::json_machines::{
 use crate::json_packets::{
     write_hello_json, write_ignored_json, write_judged_json, write_restart_json, write_skipped_json,
 };
+use crate::json_state::{write_record_json, write_want_json};
 use crate::moments::Stamp;
 use crate::words::name_of;
 use itoa::Buffer;
@@ -89,6 +90,8 @@ fn write_what<F: Family, W: Drain>(writer: &mut W, what: &Happening<'_, F>) -> R
         Happening::Skipped(skipped) => write_skipped_json(writer, *skipped),
         Happening::TimedOut(over) => write_time_out_json::<F, W>(writer, over),
         Happening::Fired(firing) => write_fired_json::<F, W>(writer, firing),
+        Happening::Held(held) => write_record_json::<F, W>(writer, held),
+        Happening::Wanted(entry) => write_want_json::<F, W>(writer, entry),
         Happening::Ended(ending) => write_ending_json(writer, *ending),
     }
 }

@@ -15,10 +15,12 @@ mod counts;
 mod json_machines;
 mod json_packets;
 mod json_printer;
+mod json_state;
 mod moments;
 mod text_machines;
 mod text_packets;
 mod text_printer;
+mod text_state;
 mod words;
 
 pub use json_packets::write_restart_json;

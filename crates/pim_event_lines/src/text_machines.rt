@@ -2,7 +2,7 @@
 
 ghost use Rattle.std.specs.Prelude.{◌≡◌, ◌++◌};
 ghost use Rattle.pim_device.specs.Device.{AppendsAll, failures_after};
-ghost use Rattle.pim_events.specs.Events.{transition_seen, time_out_seen, fired_seen};
+ghost use Rattle.pim_events.specs.Events.{transition_seen, time_out_seen, cause_seen, fired_seen};
 ghost use Rattle.pim_event_lines.specs.TextLine.{neighbours_text, expiry_part, waiting_part};
 ghost use Rattle.pim_event_lines.specs.TextLine.{overrides_part, change_text, timers_line};
 ghost use Rattle.pim_event_lines.specs.TextLine.{transition_line, time_out_line, effect_text};
@@ -14,8 +14,10 @@ ghost use Rattle.std.specs.Prelude.{if◌then◌else◌, ◌==◌, codes};
 use crate::words::{by_words, cause_words, echo_text, show_what, state_text, timer_words};
 use itoa::Buffer;
 use pim_addr::{Drain, Failed, Family, write_all};
-use pim_down::{Machine, Pending};
-use pim_events::{EndOfTrace, Fired, SkipCounts, TimeOut, TransitionEvent, pending_in, state_in};
+use pim_down::{Machine, Pending, Timer};
+use pim_events::{
+    Cause, EndOfTrace, Fired, SkipCounts, TimeOut, TransitionEvent, pending_in, state_in,
+};
 use pim_lines::{ShortText, number_or, write_pieces};
 
 /// Writes the time left on the Expiry Timer of a machine that is held.
@@ -213,18 +215,17 @@ fn write_effect<F: Family, W: Drain>(writer: &mut W, firing: &Fired<F::Addr>) ->
     write_pieces(writer, &pieces)
 }
 
-/// Writes the packet that set a timer which fires at this moment, in milliseconds.
-fn write_cause<F: Family, W: Drain>(
+/// Writes the packet that set a timer, and how long before this moment, in milliseconds, it came.
+pub(crate) fn write_cause<F: Family, W: Drain>(
     writer: &mut W,
     ms: u64,
-    firing: &Fired<F::Addr>,
+    timer: Timer,
+    cause: Cause<F::Addr>,
 ) -> Result<(), Failed>
     ensures bytes { AppendsAll (W.contents writer.old) (W.contents writer.new) result
-        (cause_line F.family ms (fired_seen F.bytes_of firing.now)) }
+        (cause_line F.family ms timer (cause_seen F.bytes_of cause)) }
     ensures count { W.failures writer.new ≡ failures_after (W.failures writer.old) result }
 {
-    let timer = firing.timer;
-    let cause = firing.cause;
     let from = ShortText::of::<F>(cause.from);
     let mut frame = Buffer::new();
     let mut before = Buffer::new();
@@ -251,7 +252,7 @@ pub(crate) fn write_fired_line<F: Family, W: Drain>(
     ensures count { W.failures writer.new ≡ failures_after (W.failures writer.old) result }
 {
     write_effect::<F, W>(writer, firing)?;
-    write_cause::<F, W>(writer, ms, firing)
+    write_cause::<F, W>(writer, ms, firing.timer, firing.cause)
 }
 
 /// Writes the number of machines and of neighbours.

@@ -12,6 +12,7 @@ use crate::text_machines::{
 use crate::text_packets::{
     write_hello_line, write_ignored_line, write_judged_line, write_restart_line, write_skipped_line,
 };
+use crate::text_state::{write_record_line, write_want_line};
 use crate::words::name_of;
 use pim_addr::{Drain, Failed, Family};
 use pim_events::{EventWriter, Filter, Happening, TraceEvent, is_shown};
@@ -67,6 +68,8 @@ fn write_what<F: Family, W: Drain>(
         Happening::Skipped(skipped) => write_skipped_line(writer, *skipped),
         Happening::TimedOut(over) => write_time_out_line::<F, W>(writer, ms, over),
         Happening::Fired(firing) => write_fired_line::<F, W>(writer, ms, firing),
+        Happening::Held(held) => write_record_line::<F, W>(writer, ms, held),
+        Happening::Wanted(entry) => write_want_line::<F, W>(writer, entry),
         Happening::Ended(ending) => write_ending_line(writer, *ending),
     }
 }

@@ -3,10 +3,12 @@
 ghost use Rattle.std.specs.Prelude.{◌≡◌, ◌++◌};
 ghost use Rattle.pim_down.specs.Seen.{what_seen};
 ghost use Rattle.pim_event_lines.specs.JsonLine.{meaning_word, by_word, kind_word, skip_word};
+ghost use Rattle.pim_event_lines.specs.JsonLine.{want_word};
 ghost use Rattle.pim_event_lines.specs.JsonLine.{timer_word, bool_json, expiry_json, pending_json};
 ghost use Rattle.pim_event_lines.specs.TextLine.{state_text, by_words, skip_words, timer_words};
 ghost use Rattle.pim_event_lines.specs.TextLine.{cause_words, echo_part, echo_text, source_words};
 ghost use Rattle.pim_event_lines.specs.TextLine.{name_of};
+ghost use Rattle.pim_events.specs.Events.{wanted_what_seen};
 ghost use Rattle.pim_events.specs.Parts.{pending_in};
 ghost use Rattle.pim_report.specs.EchoLine.{kind_of};
 ghost use Rattle.pim_report.specs.RecordLine.{time_left};
@@ -15,7 +17,7 @@ use itoa::Buffer;
 use pim_addr::Family;
 use pim_capture::Why;
 use pim_down::{Machine, State, Timer, What};
-use pim_events::{Skip, pending_in};
+use pim_events::{Skip, WantedWhat, pending_in};
 use pim_hello::Heard;
 use pim_lines::{Name, ShortText, number_or};
 use pim_report::state_name;
@@ -198,6 +200,17 @@ pub fn kind_word<F: Family>(what: What<F::Addr>) -> Word
         What::Star => Word { text: b"star" },
         What::Source(_) => Word { text: b"source" },
         What::Rpt(_) => Word { text: b"rpt" },
+    }
+}
+
+/// What a router wants, in JSON.
+pub(crate) fn want_word<F: Family>(what: WantedWhat<F::Addr>) -> Word
+    ensures { result.text.now ≡ want_word (wanted_what_seen F.bytes_of what) }
+{
+    match what {
+        WantedWhat::Star => Word { text: b"star" },
+        WantedWhat::Source(_) => Word { text: b"source" },
+        WantedWhat::Except(_) => Word { text: b"except" },
     }
 }
 

@@ -11,12 +11,16 @@ use Rattle.pim_events.specs.declared.event.Fired.{Fired}
 use Rattle.pim_events.specs.declared.event.Greeting.{Greeting}
 use Rattle.pim_events.specs.declared.event.Happening.{Happening}
 use Rattle.pim_events.specs.declared.event.Happening.TheVariants as happening
+use Rattle.pim_events.specs.declared.event.HeldMachine.{HeldMachine}
 use Rattle.pim_events.specs.declared.event.Ignored.{Ignored}
 use Rattle.pim_events.specs.declared.event.Judgment.{Judgment}
 use Rattle.pim_events.specs.declared.event.OwnRestart.{OwnRestart}
 use Rattle.pim_events.specs.declared.event.Skipping.{Skipping}
 use Rattle.pim_events.specs.declared.event.TimeOut.{TimeOut}
 use Rattle.pim_events.specs.declared.event.TransitionEvent.{TransitionEvent}
+use Rattle.pim_events.specs.declared.event.WantedEntry.{WantedEntry}
+use Rattle.pim_events.specs.declared.event.WantedWhat.{WantedWhat}
+use Rattle.pim_events.specs.declared.event.WantedWhat.TheVariants as wanted
 
 -- The time of a moment in milliseconds since 1970, where moment 0 has the time `start`. It stops at
 -- 2^64 - 1.
@@ -41,11 +45,13 @@ pub data Happened : Type 0 where
   record_skipped : Skipping → Happened
   neighbour_gone : TimeOut (List ℕ) → Happened
   timer_fired : Fired (List ℕ) → Happened
+  machine_held : HeldMachine (List ℕ) → Happened
+  entry_wanted : WantedEntry (List ℕ) → Happened
   run_ended : EndOfTrace → Happened
 
 -- An event: its moment in milliseconds since the first record, the same time in milliseconds since
--- 1970, its port, and what happened. Without any record there is no time since 1970. Only the end
--- of the run has no port.
+-- 1970, its port, and what happened. Without any record there is no time since 1970. Only what the
+-- router wants and the end of the run have no port.
 pub record Occurrence : Type 0 where
   pub ms : ℕ
   pub epoch : Option ℕ
@@ -111,6 +117,27 @@ module _ {A : Type 0} (bytes_of : A → List ℕ) where
     cause = cause_seen firing.cause;
   }
 
+  abbrev pub held_seen : HeldMachine A → HeldMachine (List ℕ)
+  held_seen held = record {
+    group = bytes_of held.group;
+    what = what_seen bytes_of held.what;
+    machine = held.machine;
+    held_for = held.held_for;
+    cause = cause_seen held.cause;
+  }
+
+  abbrev pub wanted_what_seen : WantedWhat A → WantedWhat (List ℕ)
+  wanted_what_seen wanted.Star = wanted.Star
+  wanted_what_seen (wanted.Source source) = wanted.Source (bytes_of source)
+  wanted_what_seen (wanted.Except source) = wanted.Except (bytes_of source)
+
+  abbrev pub wanted_seen : WantedEntry A → WantedEntry (List ℕ)
+  wanted_seen entry = record {
+    group = bytes_of entry.group;
+    what = wanted_what_seen entry.what;
+    via = option_map bytes_of entry.via;
+  }
+
   abbrev pub happening_seen : {F N : Type 0} → Happening F A N → Happened
   happening_seen (happening.Hello hello) = hello_heard (greeting_seen hello)
   happening_seen (happening.Packet packet) = packet_judged (judgment_seen packet)
@@ -120,6 +147,8 @@ module _ {A : Type 0} (bytes_of : A → List ℕ) where
   happening_seen (happening.Skipped skipped) = record_skipped skipped
   happening_seen (happening.TimedOut over) = neighbour_gone (time_out_seen over)
   happening_seen (happening.Fired firing) = timer_fired (fired_seen firing)
+  happening_seen (happening.Held held) = machine_held (held_seen held)
+  happening_seen (happening.Wanted entry) = entry_wanted (wanted_seen entry)
   happening_seen (happening.Ended ending) = run_ended ending
 
   abbrev pub event_seen : {F N : Type 0} → TraceEvent F A N → Occurrence

@@ -18,11 +18,13 @@ use Rattle.pim_router.specs.declared.verdict.Verdict.TheVariants.{Mine, OtherTyp
 use Rattle.pim_time.specs.declared.reading.Time.{Time}
 use Rattle.pim_time.specs.declared.reading.Time.TheVariants.{Moment, Epoch}
 use Rattle.pim_events.specs.Events.{Happened, Occurrence, hello_heard, packet_judged, machine_changed}
-use Rattle.pim_events.specs.Events.{join_ignored, record_skipped, timer_fired, run_ended}
+use Rattle.pim_events.specs.Events.{join_ignored, record_skipped, timer_fired, machine_held, entry_wanted, run_ended}
 use Rattle.pim_events.specs.Parts.{state_in, pending_in}
 use Rattle.pim_events.specs.declared.event.Skip.{Skip}
 use Rattle.pim_events.specs.declared.event.Skip.TheVariants.{NoPacket}
 use Rattle.pim_events.specs.declared.event.TransitionEvent.{TransitionEvent}
+use Rattle.pim_events.specs.declared.event.WantedWhat.{WantedWhat}
+use Rattle.pim_events.specs.declared.event.WantedWhat.TheVariants as wanted
 use Rattle.pim_events.specs.declared.filter.Filter.{Filter}
 
 -- What a user wants to see: everything, or what changes something (`--all`); groups and sources,
@@ -105,6 +107,12 @@ is_wanted_machine sources Star = true
 is_wanted_machine sources (Source source) = is_wanted sources source
 is_wanted_machine sources (Rpt source) = is_wanted sources source
 
+-- What the router wants is a star, or its source is among those that are shown.
+abbrev pub is_chosen_part : List (List ℕ) → WantedWhat (List ℕ) → Bool
+is_chosen_part sources wanted.Star = true
+is_chosen_part sources (wanted.Source source) = is_wanted sources source
+is_chosen_part sources (wanted.Except source) = is_wanted sources source
+
 -- The entry is a star, or its source is wanted.
 abbrev pub is_wanted_entry : List (List ℕ) → Entry (List ℕ) → Bool
 is_wanted_entry sources (entry.Star rp) = true
@@ -138,6 +146,8 @@ is_chosen groups sources (machine_changed change) =
 is_chosen groups sources (join_ignored entry) = is_wanted groups entry.group
 is_chosen groups sources (timer_fired firing) =
     is_wanted groups firing.group && is_wanted_machine sources firing.what
+is_chosen groups sources (machine_held held) = is_wanted groups held.group && is_wanted_machine sources held.what
+is_chosen groups sources (entry_wanted entry) = is_wanted groups entry.group && is_chosen_part sources entry.what
 is_chosen groups sources other = true
 
 -- ---- time

@@ -54,6 +54,10 @@ pub enum Happening<'a, F: Family> {
     TimedOut(TimeOut<F::Addr>),
     /// A timer of a machine fired.
     Fired(Fired<F::Addr>),
+    /// A machine that the router holds at the end of the run.
+    Held(HeldMachine<F::Addr>),
+    /// What the router wants at the end of the run.
+    Wanted(WantedEntry<F::Addr>),
     /// The run ended.
     Ended(EndOfTrace),
 }
@@ -192,6 +196,43 @@ pub struct Fired<A> {
     pub echo: bool,
     /// The packet that set the timer.
     pub cause: Cause<A>,
+}
+
+/// A machine that the router holds at the end of the run (RFC 7761, 4.5.1 to 4.5.3).
+#[derive(Clone, Copy, Debug, PartialEq, Eq)]
+pub struct HeldMachine<A> {
+    /// The group of the machine.
+    pub group: A,
+    /// Which machine of the group.
+    pub what: What<A>,
+    /// Its state and its timers.
+    pub machine: Machine,
+    /// The time since it was last in NoInfo, in milliseconds.
+    pub held_for: u64,
+    /// The packet that set its Expiry Timer.
+    pub cause: Cause<A>,
+}
+
+/// What the router wants of a group.
+#[derive(Clone, Copy, Debug, PartialEq, Eq)]
+pub enum WantedWhat<A> {
+    /// (*,G): the group from its RP.
+    Star,
+    /// (S,G): this source.
+    Source(A),
+    /// (S,G,rpt): the group from its RP without this source.
+    Except(A),
+}
+
+/// What the router wants at the end of the run (RFC 7761, 4.5.4, 4.5.5 and 4.5.7).
+#[derive(Clone, Copy, Debug, PartialEq, Eq)]
+pub struct WantedEntry<A> {
+    /// The group.
+    pub group: A,
+    /// What it wants of the group.
+    pub what: WantedWhat<A>,
+    /// The upstream neighbour, if the route table has one.
+    pub via: Option<A>,
 }
 
 /// The number of skipped records, by reason. Those without a time and those of other links are not

@@ -6,16 +6,17 @@ ghost use Rattle.std.specs.List.{list_any};
 ghost use Rattle.pim_down.specs.Seen.{what_seen};
 ghost use Rattle.pim_jp.specs.Seen.{entry_seen};
 ghost use Rattle.pim_events.specs.Events.{event_seen, happening_seen, transition_seen};
+ghost use Rattle.pim_events.specs.Events.{wanted_what_seen};
 ghost use Rattle.pim_events.specs.Parts.{pending_in};
 ghost use Rattle.pim_events.specs.Filter.{filter_seen, is_same_again, is_usual, state_number};
 ghost use Rattle.pim_events.specs.Filter.{keeps_state, is_over};
 ghost use Rattle.pim_events.specs.Filter.{may_hold_pim, is_news, is_wanted, is_wanted_machine};
-ghost use Rattle.pim_events.specs.Filter.{is_wanted_entry};
+ghost use Rattle.pim_events.specs.Filter.{is_wanted_entry, is_chosen_part};
 ghost use Rattle.pim_events.specs.Filter.{has_wanted_entry, is_wanted_set, is_wanted_message};
 ghost use Rattle.pim_events.specs.Filter.{is_wanted_packet};
 ghost use Rattle.pim_events.specs.Filter.{is_chosen, is_early, is_epoch_before, is_end, is_shown};
 
-use crate::event::{Happening, Skip, TraceEvent, TransitionEvent};
+use crate::event::{Happening, Skip, TraceEvent, TransitionEvent, WantedWhat};
 use crate::parts::{pending_in, state_in};
 use pim_addr::Family;
 use pim_capture::Why;
@@ -154,6 +155,19 @@ fn is_wanted_machine<F: Family>(sources: &[F::Addr], what: What<F::Addr>) -> boo
     }
 }
 
+/// Whether what the router wants is a star, or its source is among those that are shown.
+fn is_chosen_part<F: Family>(sources: &[F::Addr], what: WantedWhat<F::Addr>) -> bool
+    ensures { result ≡ is_chosen_part (map F.bytes_of sources.now)
+        (wanted_what_seen F.bytes_of what) }
+{
+    match what {
+        WantedWhat::Star => true,
+        WantedWhat::Source(source) | WantedWhat::Except(source) => {
+            is_wanted::<F>(sources, source)
+        }
+    }
+}
+
 /// Whether an entry is a star, or its source is wanted.
 fn is_wanted_entry<F: Family>(sources: &[F::Addr], entry: Entry<F::Addr>) -> bool
     ensures { result ≡ is_wanted_entry (map F.bytes_of sources.now) (entry_seen F.bytes_of entry) }
@@ -239,6 +253,12 @@ fn is_chosen<F: Family>(groups: &[F::Addr], sources: &[F::Addr], what: &Happenin
         Happening::Ignored(entry) => is_wanted::<F>(groups, entry.group),
         Happening::Fired(firing) => {
             is_wanted::<F>(groups, firing.group) && is_wanted_machine::<F>(sources, firing.what)
+        }
+        Happening::Held(held) => {
+            is_wanted::<F>(groups, held.group) && is_wanted_machine::<F>(sources, held.what)
+        }
+        Happening::Wanted(entry) => {
+            is_wanted::<F>(groups, entry.group) && is_chosen_part::<F>(sources, entry.what)
         }
         _ => true,
     }

@@ -15,8 +15,9 @@ mod filter;
 mod parts;
 
 pub use event::{
-    Cause, EndOfTrace, Fired, Greeting, Happening, Ignored, Judgment, OwnRestart, Skip, SkipCounts,
-    Skipping, TimeOut, TraceEvent, TransitionEvent, epoch_at,
+    Cause, EndOfTrace, Fired, Greeting, Happening, HeldMachine, Ignored, Judgment, OwnRestart,
+    Skip, SkipCounts, Skipping, TimeOut, TraceEvent, TransitionEvent, WantedEntry, WantedWhat,
+    epoch_at,
 };
 pub use event_writer::EventWriter;
 pub use filter::{Filter, is_early, is_shown, is_wanted};

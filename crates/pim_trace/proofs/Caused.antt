@@ -7,7 +7,8 @@ use Rattle.pim_trace.proofs.Words.{machine_changed, join_ignored, Causes, end_of
 use Rattle.pim_trace.proofs.Words.{set_by, last_of, last_set, key_on, last_setting, ends_pending, EventsNameTheirPackets}
 use Rattle.pim_trace.proofs.Words.{is_pending, names, states_by, states_shown, state_then, BeginsIn, last_shown, IsUnbroken}
 use Rattle.pim_trace.proofs.Words.{LeadOn, Ledger, no_cause, both_by, cause_of, ledger_for}
-use Rattle.pim_events.specs.Events.{own_restart, record_skipped, neighbour_gone, timer_fired, run_ended}
+use Rattle.pim_events.specs.Events.{own_restart, record_skipped, neighbour_gone, timer_fired, machine_held, entry_wanted}
+use Rattle.pim_events.specs.Events.{run_ended}
 use Rattle.pim_trace.proofs.Folding.{Known, known_of, state_in, end_in, by_or, pending_frame, changed_known, fired_known}
 use Rattle.pim_trace.proofs.Folding.{LeadsBy, tells_nothing, tells_change, tells_firing, Leads, place, known_at}
 use Rattle.pim_trace.proofs.Folding.{LeadsAll}
@@ -179,6 +180,8 @@ module _ (Is : Option (Cause (List ℕ)) → Cause (List ℕ) → Type 0)
   nothing_by held ms port (own_restart restart) none = (refl, refl)
   nothing_by held ms port (record_skipped skipped) none = (refl, refl)
   nothing_by held ms port (neighbour_gone over) none = (refl, refl)
+  nothing_by held ms port (machine_held machine) none = (refl, refl)
+  nothing_by held ms port (entry_wanted entry) none = (refl, refl)
   nothing_by held ms port (run_ended ending) none = (refl, refl)
 
   sets_on : (from to : Option Known) (event : Occurrence) (since : Option (Cause (List ℕ))) →
@@ -278,6 +281,19 @@ module _ (Is : Option (Cause (List ℕ)) → Cause (List ℕ) → Type 0)
       (subst
       (λ (end : Option ℕ). Goal (last_of (last_of since by) (last_set timer key end xs))) (sym s.ends) then'))
 
+  -- what holds after all events
+  pub at_end : (events : List Occurrence) (from to : Option Known) (since : Option (Cause (List ℕ))) → Set from since →
+      Leads key from events to → Set to (last_of since (last_set timer key (end_in timer from) events))
+  unfolding Leads last_set
+  at_end [] from to since set leads = subst (λ (k : Option Known). Set k since) leads set
+  at_end (first ∷ more) from to since set (between, one, rest) =
+      let s = sets_on from between first since one set in let held = end_in timer from in
+      let by = set_by timer key held first.ms first.port first.what in
+      let then' = at_end more between to (last_of since by) s.by rest in
+      subst (λ (o : Option (Cause (List ℕ))). Set to o)
+      (sym (all_last since by (last_set timer key (end_then timer key held first) more)))
+      (subst (λ (end : Option ℕ). Set to (last_of (last_of since by) (last_set timer key end more))) (sym s.ends) then')
+
 -- ---- what a transition overrides
 
 module _ (none : Cause (List ℕ)) (since : Option (Cause (List ℕ))) where
@@ -323,16 +339,16 @@ module _ (none : Cause (List ℕ)) (since : Option (Cause (List ℕ))) where
 
 -- ---- from the start of a run
 
-last_only : (o : Option (Cause (List ℕ))) → last_of None o ≡ o
+pub last_only : (o : Option (Cause (List ℕ))) → last_of None o ≡ o
 last_only None = refl
 last_only (Some packet) = refl
 
-known_end : (timer : Timer) (ms : ℕ) (causes : Causes (List ℕ)) (machine : Option Machine) →
+pub known_end : (timer : Timer) (ms : ℕ) (causes : Causes (List ℕ)) (machine : Option Machine) →
     end_in timer (known_of ms causes machine) ≡ end_of timer ms machine
 known_end timer ms causes None = refl
 known_end timer ms causes (Some machine) = refl
 
-no_packet : (timer : Timer) (group : List ℕ) (ms : ℕ) (machine : Option Machine) (held : Known) →
+pub no_packet : (timer : Timer) (group : List ℕ) (ms : ℕ) (machine : Option Machine) (held : Known) →
     known_of ms (both_by (no_cause group)) machine ≡ Some held → held.by timer ≡ no_cause group
 no_packet timer group ms None held e = absurd cc
 no_packet timer group ms (Some machine) held e =

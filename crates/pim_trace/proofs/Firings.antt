@@ -39,6 +39,7 @@ known_then ms causes machine no_et no_ppt = λ i. Some (record {
   state = machine.state;
   ends = λ timer. ends timer i;
   by = λ timer. cause_of timer causes;
+  since = causes.since;
 })
   where
     expiry : (e : Option ℕ) → expiry_due e ≡ false →
@@ -324,7 +325,7 @@ module _ (ms : ℕ) (causes : Causes (List ℕ)) (reported : Fired (List ℕ)) (
 
   pruned : reported.timer ≡ PrunePending → reported.after ≡ Some Prune →
       known_of ms causes (machine_in Prune machine.expires_in None) ≡ fired_known reported known reported.after
-  pruned timer after = (λ i. Some (record { state = Prune; ends = λ t. ends t i; by = λ t. cause_of t causes }))
+  pruned timer after = (λ i. Some (record { state = Prune; ends = λ t. ends t i; by = λ t. cause_of t causes; since = causes.since }))
       ∙ sym (ap (fired_known reported known) after)
     where
       ends : (t : Timer) → end_of t ms (machine_in Prune machine.expires_in None)

@@ -153,6 +153,7 @@ module _ (ms : ℕ) (change : TransitionEvent (List ℕ)) where
     state = now.state;
     ends = λ timer. end_of timer ms (Some now);
     by = λ timer. (both timer ∙ same_if (sets timer ms None change) packet) i;
+    since = ms;
   })
   changed_is none causes (Some held) (Some now) was is = λ i. Some (record {
     state = now.state;
@@ -160,6 +161,7 @@ module _ (ms : ℕ) (change : TransitionEvent (List ℕ)) where
     by = λ timer.
         (moved causes held now timer
         ∙ sym (ap (λ b. if b then packet else cause_of timer causes) (sets_by timer))) i;
+    since = causes.since;
   })
     where
       sets_by : (timer : Timer) → sets timer ms (end_of timer ms (Some held)) change

@@ -8,17 +8,20 @@ use Rattle.pim_events.specs.Events.{Happened, Occurrence, machine_changed, timer
 
 -- ---- what is known of a machine
 
--- The state of a machine that is held, when its timers end, and the packets that set them.
+-- The state of a machine that is held, when its timers end, the packets that set them, and when it
+-- left NoInfo.
 pub record Known : Type 0 where
   pub state : State
   pub ends : Timer → Option ℕ
   pub by : Timer → Cause (List ℕ)
+  pub since : ℕ
 
 abbrev pub knowing : ℕ → Causes (List ℕ) → Machine → Known
 knowing ms causes machine = record {
   state = machine.state;
   ends = λ timer. end_of timer ms (Some machine);
   by = λ timer. cause_of timer causes;
+  since = causes.since;
 }
 
 abbrev pub known_of : ℕ → Causes (List ℕ) → Option Machine → Option Known
@@ -35,6 +38,11 @@ abbrev pub by_or : Timer → Cause (List ℕ) → Option Known → Cause (List �
 by_or timer packet None = packet
 by_or timer packet (Some known) = known.by timer
 
+-- When a machine left NoInfo that is held after this moment.
+abbrev pub since_or : ℕ → Option Known → ℕ
+since_or ms None = ms
+since_or ms (Some known) = known.since
+
 -- The frame of the packet that set the Prune-Pending Timer.
 abbrev pub pending_frame : Option Known → Option ℕ
 pending_frame known = option_map (λ (k : Known). (k.by PrunePending).frame) known
@@ -47,6 +55,7 @@ changed_known ms change known (Some machine) = Some (record {
   ends = λ timer. end_of timer ms (Some machine);
   by = λ timer.
       if sets timer ms (end_in timer known) change then packet_of ms change else by_or timer (packet_of ms change) known;
+  since = since_or ms known;
 })
 
 -- What is known after a timer fired.
@@ -56,6 +65,7 @@ fired_known firing known (Some state) = Some (record {
   state = state;
   ends = λ timer. end_after timer firing (known.ends timer);
   by = known.by;
+  since = known.since;
 })
 
 -- ---- one event

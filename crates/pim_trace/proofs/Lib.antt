@@ -17,6 +17,8 @@ mod TakenTurn
 mod Underway
 mod Ending
 mod Counts
+pub mod StateTexts
+mod StateListed
 pub mod Folding
 mod Caused
 mod Firings
@@ -24,3 +26,4 @@ mod FoldedTime
 mod FoldedHearing
 mod FoldedPacket
 mod FoldedTrace
+mod StateCaused

@@ -102,8 +102,8 @@ pub use Rattle.std.specs.declared.cmp.Ordering.{Ordering}
 pub use Rattle.std.specs.declared.cmp.Ordering.TheVariants.{Equal, Greater, Less}
 pub use Rattle.pim_trace.specs.Causing.{EventsNameTheirPackets, RunsNameCauses, TraceNamesCauses, TurnsNameCauses}
 pub use Rattle.pim_trace.specs.Causing.{end_after, end_by, end_of, end_then, ends_pending, key_on, last_of}
-pub use Rattle.pim_trace.specs.Causing.{last_setting, packet_of, set_by, sets}
-unfoldable pub use Rattle.pim_trace.specs.Causing.{last_set}
+pub use Rattle.pim_trace.specs.Causing.{last_setting, packet_of, set_by, sets, since_by}
+unfoldable pub use Rattle.pim_trace.specs.Causing.{last_begun, last_set}
 pub use Rattle.pim_trace.specs.Folding.{BeginsIn, EventsShowTheState, LeadOn, RunsLeadOn, TurnsShowTheState, names}
 pub use Rattle.pim_trace.specs.Folding.{state_then, states_by, states_shown}
 unfoldable pub use Rattle.pim_trace.specs.Folding.{IsUnbroken, last_shown}

@@ -88,6 +88,20 @@ last_set timer key held (event ∷ events) =
     last_of (set_by timer key held event.ms event.port event.what)
     (last_set timer key (end_then timer key held event) events)
 
+-- ---- since when a machine is held
+
+-- The moment at which a machine left NoInfo last, after what happened on a port, where it was
+-- `since`.
+abbrev pub since_by : Key (List ℕ) → ℕ → ℕ → Option ℕ → Happened → ℕ
+since_by key since ms port (machine_changed change) =
+    if names key port change.group change.what && not (is_some change.before) then ms else since
+since_by key since ms port other = since
+
+-- The moment of the last event with which a machine left NoInfo; `since` if none has it leave.
+unfoldable pub last_begun : Key (List ℕ) → ℕ → List Occurrence → ℕ
+last_begun key since [] = since
+last_begun key since (event ∷ events) = last_begun key (since_by key since event.ms event.port event.what) events
+
 -- ---- the laws
 
 -- The machine on a port.

@@ -13,8 +13,11 @@ use Rattle.pim_trace.specs.Machines.{held_for}
 module _ {A : Type 0} (bytes_of : A → List ℕ) where
   -- The packets that set the timers of a machine, with addresses as lists of bytes.
   abbrev pub causes_seen : Causes A → Causes (List ℕ)
-  causes_seen causes =
-      record { expiry = cause_seen bytes_of causes.expiry; pending = cause_seen bytes_of causes.pending }
+  causes_seen causes = record {
+    expiry = cause_seen bytes_of causes.expiry;
+    pending = cause_seen bytes_of causes.pending;
+    since = causes.since;
+  }
 
   -- What these entries of a map hold for the neighbour of a port with this address.
   unfoldable pub hellos_in : List ((ℕ × A) × Sent) → ℕ → List ℕ → Option Sent

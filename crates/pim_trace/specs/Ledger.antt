@@ -1,7 +1,7 @@
 -- What a trace remembers beside the router: how far each capture was read, and to which packets the
 -- timers trace back.
 use Rattle.std.specs.Prelude.{ℕ, ◌+◌, ◌==◌, ◌&&◌, nat_eq, min, Bool, if◌then◌else◌, List, [], ◌∷◌, replicate, slice_set}
-use Rattle.std.specs.Prelude.{slice_index_or, Option, None, Some, unwrap_or, option_map}
+use Rattle.std.specs.Prelude.{slice_index_or, Option, None, Some, unwrap_or}
 use Rattle.std.specs.Option.{option_eq}
 use Rattle.std.specs.Cmp.Lexicographic.{pointwise}
 use Rattle.pim_device.specs.Device.{top_count}
@@ -28,9 +28,10 @@ use Rattle.pim_trace.specs.declared.ledger.Sent.{Sent}
 abbrev pub no_cause : List ℕ → Cause (List ℕ)
 no_cause group = record { frame = 0; from = group; ms = 0 }
 
--- The same packet for both timers.
+-- What is remembered of a machine that begins: this packet set both timers, and led the machine out
+-- of NoInfo.
 abbrev pub both_by : Cause (List ℕ) → Causes (List ℕ)
-both_by packet = record { expiry = packet; pending = packet }
+both_by packet = record { expiry = packet; pending = packet; since = packet.ms }
 
 -- The Expiry Timers end at one moment. While a message is heard no time passes, so they do exactly
 -- if the same time is left.
@@ -51,6 +52,7 @@ abbrev pub moved_by : Cause (List ℕ) → Causes (List ℕ) → Machine → Mac
 moved_by packet known was now = record {
   expiry = if same_expiry was now then known.expiry else packet;
   pending = if same_pending was now then known.pending else packet;
+  since = known.since;
 }
 
 -- What is remembered of a machine that a packet changed. A machine that begins has both timers by
@@ -97,7 +99,8 @@ new_ledger ports = record {
 abbrev pub epoch_of : ℕ → Ledger → Option ℕ
 epoch_of ms ledger = epoch_at ledger.begin ms
 
--- The packets that set the timers of a machine; no packet where nothing is remembered.
+-- The packets that set the timers of a machine; no packet at the moment 0 where nothing is
+-- remembered.
 abbrev pub causes_of : Key (List ℕ) → Ledger → Causes (List ℕ)
 causes_of key ledger = unwrap_or (ledger.causes key) (both_by (no_cause key.group))
 

@@ -6,13 +6,16 @@ use Rattle.pim_merge.specs.Ends.{clock_of, AreAll}
 use Rattle.pim_merge.specs.Lane.{tallies_of}
 use Rattle.pim_merge.specs.Merge.{Taken}
 use Rattle.pim_merge.specs.Next.{MergeState}
+use Rattle.pim_merge.specs.Run.{CountsAll}
 use Rattle.pim_merge.specs.Tally.{tallies_after}
 use Rattle.pim_router.specs.State.{RouterState}
 use Rattle.pim_run.specs.declared.fault.RunFault.{RunFault}
 use Rattle.pim_run.specs.declared.fault.RunFault.TheVariants.{Capture, Output, Memory}
 use Rattle.pim_events.specs.Events.{Occurrence}
 use Rattle.pim_trace.specs.Ledger.{Ledger}
-use Rattle.pim_trace.specs.Trace.{WritesTurns, ledger_for, Wrote, HasSome, StopsAt}
+use Rattle.pim_trace.specs.StateTrace.{BeginsRun}
+use Rattle.pim_trace.specs.Trace.{WritesTurns, WritesAll, ledger_for, Wrote, HasSome, StopsAt}
+use Rattle.pim_trace.specs.WrittenEvents.{HasWritten}
 
 module _ (line : Occurrence → List ℕ) (family : AddressFamily) (end : End) (merge : MergeState) (state : RouterState)
     (old : Option (List ℕ)) where
@@ -35,3 +38,12 @@ module _ (line : Occurrence → List ℕ) (family : AddressFamily) (end : End) (
   RunsTurns merge' ledger now new (Err (Capture reported)) = StopsAt line family end merge state merge' reported old new
   RunsTurns merge' ledger now new (Err Output) = HasSome line family end merge state old new
   RunsTurns merge' ledger now new (Err Memory) = HasSome line family end merge state old new
+
+  -- What the run over all turns and the time up to its end returns and leaves.
+  abbrev pub RunsToEnd : {A : Type 0} → MergeState → Ledger → RouterState → Option (List ℕ) → Result A RunFault →
+      Type 0
+  RunsToEnd merge' ledger after new (Ok done) =
+      HasWritten line (WritesAll family end merge state) ledger after old new × CountsAll end merge merge'
+  RunsToEnd merge' ledger after new (Err (Capture reported)) = StopsAt line family end merge state merge' reported old new
+  RunsToEnd merge' ledger after new (Err Output) = BeginsRun line family end merge state old new
+  RunsToEnd merge' ledger after new (Err Memory) = BeginsRun line family end merge state old new

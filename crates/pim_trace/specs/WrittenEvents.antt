@@ -4,9 +4,11 @@ use Rattle.std.specs.Io.KnownBytes.{Appends}
 use Rattle.std.specs.List.{flat_map}
 use Rattle.pim_device.specs.Device.{AppendsFront}
 use Rattle.pim_router.specs.State.{RouterState}
+use Rattle.pim_events.specs.declared.event.WantedEntry.{WantedEntry}
 use Rattle.pim_events.specs.Events.{Happened, Occurrence}
 use Rattle.pim_trace.specs.Ledger.{Ledger}
 use Rattle.pim_trace.specs.Heard.{event_on}
+use Rattle.pim_trace.specs.StateEvents.{wanted_event}
 
 -- `line` is what is written of an event. `Are` says of events which ledger and which router they
 -- lead to.
@@ -34,3 +36,7 @@ module _ (line : Occurrence → List ℕ) (Are : List Occurrence → Ledger → 
 -- What is written of what happens on a port at one moment. `line` is what is written of an event.
 abbrev pub text_on : (Occurrence → List ℕ) → Ledger → ℕ → ℕ → List Happened → List ℕ
 text_on line ledger ms port happened = flat_map line (map (event_on ledger ms port) happened)
+
+-- What is written of what is wanted at one moment with this time.
+abbrev pub wanted_text : (Occurrence → List ℕ) → ℕ → Option ℕ → List (WantedEntry (List ℕ)) → List ℕ
+wanted_text line ms epoch entries = flat_map line (map (wanted_event ms epoch) entries)

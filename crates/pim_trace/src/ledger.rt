@@ -36,6 +36,8 @@ use std::collections::BTreeMap;
 pub(crate) struct Causes<A> {
     pub(crate) expiry: Cause<A>,
     pub(crate) pending: Cause<A>,
+    /// The moment at which the machine left NoInfo, in milliseconds.
+    pub(crate) since: u64,
 }
 
 impl<A: Copy> Causes<A> {
@@ -55,6 +57,7 @@ impl<A: Copy> Causes<A> {
             } else {
                 packet
             },
+            since: self.since,
         }
     }
 
@@ -71,6 +74,7 @@ impl<A: Copy> Causes<A> {
         Causes {
             expiry: no_packet,
             pending: no_packet,
+            since: 0,
         }
     }
 }
@@ -324,7 +328,7 @@ impl<F: Family> Ledger<F> {
     }
 
     /// The packets that set the timers of a machine; no packet where nothing is remembered.
-    fn causes_of(&self, key: &Key<F::Addr>) -> Causes<F::Addr>
+    pub(crate) fn causes_of(&self, key: &Key<F::Addr>) -> Causes<F::Addr>
         ensures { causes_seen F.bytes_of result
             ≡ causes_of (key_seen F.bytes_of key.now) (ledger_seen F.bytes_of self.now) }
     {
@@ -372,6 +376,7 @@ impl<F: Family> Ledger<F> {
             None => Causes {
                 expiry: packet,
                 pending: packet,
+                since: packet.ms,
             },
             Some(before) => self
                 .causes_at(found, &change.key)

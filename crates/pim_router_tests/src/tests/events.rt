@@ -1,18 +1,21 @@
 //! Each kind of event as a JSON line, which the kit's `serde_json` reads as the object that
-//! `docs/TRACE.md` asks for. The texts of lines are in `trace-lines.case` of `pimtree_cases`.
+//! `docs/TRACE.md` asks for. The lines of what a router holds and wants are here as text, too. The
+//! other texts of lines are in `trace-lines.case` of `pimtree_cases`.
 
 use pim_addr::{ScriptedDrain, V4};
 use pim_capture::Why;
-use pim_down::{Machine, State, Timer, What};
-use pim_event_lines::JsonPrinter;
+use pim_down::{Machine, Pending, State, Timer, What};
+use pim_event_lines::{JsonPrinter, TextPrinter};
 use pim_events::{
-    Cause, EndOfTrace, EventWriter, Filter, Fired, Greeting, Happening, Ignored, Judgment,
-    OwnRestart, Skip, SkipCounts, Skipping, TimeOut, TraceEvent, TransitionEvent,
+    Cause, EndOfTrace, EventWriter, Filter, Fired, Greeting, Happening, HeldMachine, Ignored,
+    Judgment, OwnRestart, Skip, SkipCounts, Skipping, TimeOut, TraceEvent, TransitionEvent,
+    WantedEntry, WantedWhat,
 };
 use pim_hello::Heard;
 use pim_jp::JpView;
 use pim_lines::Name;
 use pim_router::Verdict;
+use pim_time::TimeForm;
 use pim_transitions::By;
 use serde_json::Value;
 use std::alloc::Global;
@@ -231,6 +234,159 @@ fn writes_ending(alloc: Global) -> bool {
         }),
     };
     is_written(alloc, &event, ENDING)
+}
+
+/// Whether the line of an event is this text.
+fn is_text(alloc: Global, event: &TraceEvent<'_, V4>, line: &str) -> bool {
+    let names = [Name::number(0), Name::number(1)];
+    let filter = Filter {
+        all: false,
+        groups: &[],
+        sources: &[],
+        from: None,
+    };
+    let printer = TextPrinter {
+        names: &names,
+        form: TimeForm::Ms,
+        filter,
+    };
+    let mut device = ScriptedDrain::new(alloc, 5, usize::MAX);
+    let Ok(()) = printer.write_event(&mut device, event) else {
+        return false;
+    };
+    device.written() == line.as_bytes()
+}
+
+/// A machine that is held, and its lines.
+struct HeldRow {
+    held: HeldMachine<[u8; 4]>,
+    text: &'static str,
+    object: &'static str,
+}
+
+const HELD: [HeldRow; 2] = [
+    HeldRow {
+        held: HeldMachine {
+            group: [239, 1, 1, 1],
+            what: What::Rpt([192, 0, 2, 1]),
+            machine: Machine {
+                state: State::PrunePending,
+                expires_in: None,
+                pending: Some(Pending {
+                    ends_in: 2600,
+                    several: true,
+                }),
+            },
+            held_for: 400,
+            cause: Cause {
+                frame: 21,
+                from: ANNE,
+                ms: 1100,
+            },
+        },
+        text: "1500 1 holds rpt 192.0.2.1 239.1.1.1: prune-pending for 400 ms, et never, \
+            ppt 2600; time set by 10.0.0.9 in #21, 400 ms before\n",
+        object: r#"{ "ms": 1500, "epoch": "1000001.500", "port": "1", "event": "record",
+            "what": "rpt", "group": "239.1.1.1", "source": "192.0.2.1", "state": "prune-pending",
+            "for": 400, "et": "never", "ppt": 2600,
+            "cause": { "frame": 21, "from": "10.0.0.9", "ms": 1100 } }"#,
+    },
+    HeldRow {
+        held: HeldMachine {
+            group: [239, 2, 2, 2],
+            what: What::Star,
+            machine: Machine {
+                state: State::Join,
+                expires_in: Some(209_500),
+                pending: None,
+            },
+            held_for: 1400,
+            cause: Cause {
+                frame: 20,
+                from: ANNE,
+                ms: 1000,
+            },
+        },
+        text: "1500 1 holds star 239.2.2.2: join for 1400 ms, et 209500; \
+            time set by 10.0.0.9 in #20, 500 ms before\n",
+        object: r#"{ "ms": 1500, "epoch": "1000001.500", "port": "1", "event": "record",
+            "what": "star", "group": "239.2.2.2", "source": null, "state": "join", "for": 1400,
+            "et": 209500, "ppt": null,
+            "cause": { "frame": 20, "from": "10.0.0.9", "ms": 1000 } }"#,
+    },
+];
+
+/// Whether a machine that is held has these lines.
+fn has_lines(alloc: Global, row: &HeldRow) -> bool {
+    let event = TraceEvent {
+        ms: 1500,
+        epoch: Some(1_000_001_500),
+        port: Some(1),
+        what: Happening::Held(row.held),
+    };
+    is_text(alloc, &event, row.text) && is_written(alloc, &event, row.object)
+}
+
+/// What a router wants, and its lines.
+struct WantRow {
+    entry: WantedEntry<[u8; 4]>,
+    text: &'static str,
+    object: &'static str,
+}
+
+const WANTS: [WantRow; 3] = [
+    WantRow {
+        entry: WantedEntry {
+            group: [239, 1, 1, 1],
+            what: WantedWhat::Star,
+            via: None,
+        },
+        text: "1500 wants star 239.1.1.1\n",
+        object: r#"{ "ms": 1500, "epoch": "1000001.500", "port": null, "event": "want",
+            "what": "star", "group": "239.1.1.1", "source": null, "via": null }"#,
+    },
+    WantRow {
+        entry: WantedEntry {
+            group: [239, 1, 1, 1],
+            what: WantedWhat::Except([192, 0, 2, 1]),
+            via: Some([10, 0, 0, 1]),
+        },
+        text: "1500 wants star 239.1.1.1 via 10.0.0.1 except 192.0.2.1\n",
+        object: r#"{ "ms": 1500, "epoch": "1000001.500", "port": null, "event": "want",
+            "what": "except", "group": "239.1.1.1", "source": "192.0.2.1", "via": "10.0.0.1" }"#,
+    },
+    WantRow {
+        entry: WantedEntry {
+            group: [239, 3, 3, 3],
+            what: WantedWhat::Source([192, 0, 2, 5]),
+            via: Some([10, 0, 0, 7]),
+        },
+        text: "1500 wants source 192.0.2.5 239.3.3.3 via 10.0.0.7\n",
+        object: r#"{ "ms": 1500, "epoch": "1000001.500", "port": null, "event": "want",
+            "what": "source", "group": "239.3.3.3", "source": "192.0.2.5", "via": "10.0.0.7" }"#,
+    },
+];
+
+/// Whether what a router wants has these lines.
+fn has_want_lines(alloc: Global, row: &WantRow) -> bool {
+    let event = TraceEvent {
+        ms: 1500,
+        epoch: Some(1_000_001_500),
+        port: None,
+        what: Happening::Wanted(row.entry),
+    };
+    is_text(alloc, &event, row.text) && is_written(alloc, &event, row.object)
+}
+
+#[test]
+fn writes_what_is_held_and_wanted(rt: HostRuntime) {
+    let alloc = rt.alloc();
+    for row in &HELD {
+        assert!(rt; has_lines(alloc, row));
+    }
+    for row in &WANTS {
+        assert!(rt; has_want_lines(alloc, row));
+    }
 }
 
 #[test]

@@ -1,0 +1,8 @@
+use Rattle.pim_event_lines.proofs.Written.{both, stopped_first}
+use Rattle.pim_event_lines.proofs.text_state.write_timer.Goals as goal
+
+pub returns-in_err-write_pending-clause-bytes : goal.returns-in_err-write_pending-clause-bytes
+returns-in_err-write_pending-clause-bytes g c = stopped_first _ _ c.from_residual.result _ _ c.from_residual.ensures.0 c.in_err-write_pending.ensures.bytes
+
+pub returns-clause-bytes : goal.returns-clause-bytes
+returns-clause-bytes g c = both _ _ _ c.write_cause.result _ _ c.in_ok-write_pending.ensures.bytes c.write_cause.ensures.bytes
