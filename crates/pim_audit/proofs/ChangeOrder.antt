@@ -15,11 +15,11 @@ use Rattle.pim_change.specs.Change.{Action, of_source, lacking, star_change, sou
 
 -- ---- lists in order
 
-all_append : {A : Type 0} (P : A → Type 0) (xs ys : List A) → AllByRecursion P xs → AllByRecursion P ys → AllByRecursion P (xs ++ ys)
+pub all_append : {A : Type 0} (P : A → Type 0) (xs ys : List A) → AllByRecursion P xs → AllByRecursion P ys → AllByRecursion P (xs ++ ys)
 all_append P [] ys all others = others
 all_append P (x ∷ xs) ys all others = (all.0, all_append P xs ys all.1 others)
 
-all_by : {A : Type 0} (P Q : A → Type 0) → ((x : A) → P x → Q x) → (xs : List A) → AllByRecursion P xs → AllByRecursion Q xs
+pub all_by : {A : Type 0} (P Q : A → Type 0) → ((x : A) → P x → Q x) → (xs : List A) → AllByRecursion P xs → AllByRecursion Q xs
 all_by P Q more [] all = tt
 all_by P Q more (x ∷ xs) all = (more x all.0, all_by P Q more xs all.1)
 
@@ -82,7 +82,7 @@ no_part group low high = record { up = tt; within = tt }
 
 -- ---- entries of sources
 
-abbrev rank_of : ActionKind → ℕ
+abbrev pub rank_of : ActionKind → ℕ
 rank_of JoinRpt = 2
 rank_of PruneRpt = 3
 rank_of JoinSource = 4
@@ -125,14 +125,14 @@ sources_part group kind (s ∷ sources) up =
 -- ---- the entries of one group
 
 -- the entries of what is said of a group
-abbrev group_entries : List ℕ → List Action → List Event
+abbrev pub group_entries : List ℕ → List Action → List Event
 group_entries group actions = flat_map announced_entries (about group actions)
 
-entries_both : (group : List ℕ) (xs ys : List Action) → group_entries group (xs ++ ys) ≡ group_entries group xs ++ group_entries group ys
+pub entries_both : (group : List ℕ) (xs ys : List Action) → group_entries group (xs ++ ys) ≡ group_entries group xs ++ group_entries group ys
 entries_both group xs ys =
     ap (flat_map announced_entries) (map-append (unit_of group) xs ys) ∙ flat_map-append announced_entries (about group xs) (about group ys)
 
-entries_of_sources : (group : List ℕ) (kind : ActionKind) (sources : List (List ℕ))
+pub entries_of_sources : (group : List ℕ) (kind : ActionKind) (sources : List (List ℕ))
     → group_entries group (map (of_source kind) sources) ≡ map (source_entry group kind) sources
 entries_of_sources group kind [] = refl
 entries_of_sources group kind (s ∷ sources) =
@@ -251,7 +251,7 @@ module _ (E : List ℕ → List Event) (part : (group : List ℕ) → Part group
       (λ y after. first_before group x y of_x after) (flat_map E groups) (all_after group groups up.0))
       (E group) (part group).within)
 
-flat_twice : (units : List ℕ → List ChangeUnit) (groups : List (List ℕ))
+pub flat_twice : (units : List ℕ → List ChangeUnit) (groups : List (List ℕ))
     → flat_map announced_entries (flat_map units groups) ≡ flat_map (λ group. flat_map announced_entries (units group)) groups
 flat_twice units [] = refl
 flat_twice units (group ∷ groups) =

@@ -10,15 +10,19 @@ use Rattle.pim_down.specs.Time.{Downstream}
 use Rattle.pim_form.specs.Wants.{some_below}
 use Rattle.pim_router.specs.Packets.{own_address}
 use Rattle.pim_router.specs.State.{RouterState, table_at}
+use Rattle.pim_local.specs.Joins.{Join}
 use Rattle.pim_audit.specs.Between.{AreDue}
 use Rattle.pim_audit.specs.Look.{DueEntry, Found, LookFinds, held_entries}
 use Rattle.pim_audit.specs.Order.{EntriesAscend}
+use Rattle.pim_audit.specs.Sides.{SidesState}
 
 -- What an audit keeps: the machines that heard what the upstream neighbour heard, and what was due
 -- at the last look. Lateness is more than `grace` milliseconds.
 pub record AuditState : Type 0 where
   pub upstream : List ℕ
   pub grace : ℕ
+  -- what the router's local receivers have joined
+  pub local : List Join
   pub asked : Downstream
   pub due : List DueEntry
 
@@ -31,7 +35,13 @@ pub record IsAudit (audit : AuditState) : Type 0 where
 
 -- The audit with other machines, and all else equal.
 abbrev pub with_asked : AuditState → Downstream → AuditState
-with_asked audit asked = record { upstream = audit.upstream; grace = audit.grace; asked = asked; due = audit.due }
+with_asked audit asked = record {
+  upstream = audit.upstream;
+  grace = audit.grace;
+  local = audit.local;
+  asked = asked;
+  due = audit.due;
+}
 
 -- The same port at the same moment, without a record.
 abbrev pub without_records : Downstream → Downstream
@@ -49,19 +59,34 @@ abbrev pub has_neighbour : List ℕ → RouterState → Bool
 has_neighbour address state =
     some_below (length state.ports) (λ port. is_some (neighbour_at address (table_at port state)))
 
+-- What was asked of the upstream neighbour, and what the router wants of it now.
+abbrev pub sides_of : AuditState → RouterState → SidesState
+sides_of audit router = record {
+  asked = audit.asked;
+  wanted = router.machines;
+  local = audit.local;
+  routes = router.routes;
+  upstream = audit.upstream;
+}
+
 -- These entries are due now, if the upstream neighbour is one of the router on some port. Otherwise
 -- none is due.
-abbrev pub AreDueIf : Bool → AddressFamily → AuditState → RouterState → List Event → Type 0
-AreDueIf true family audit router entries =
-    AreDue family router.routes audit.upstream audit.asked router.machines entries
-AreDueIf false family audit router entries = entries ≡ []
+abbrev pub AreDueIf : Bool → AddressFamily → SidesState → List Event → Type 0
+AreDueIf true family sides entries = AreDue family sides entries
+AreDueIf false family sides entries = entries ≡ []
 
 -- What is due after a look, and all else equal.
 abbrev pub with_due : AuditState → List DueEntry → AuditState
-with_due audit due = record { upstream = audit.upstream; grace = audit.grace; asked = audit.asked; due = due }
+with_due audit due = record {
+  upstream = audit.upstream;
+  grace = audit.grace;
+  local = audit.local;
+  asked = audit.asked;
+  due = due;
+}
 
 -- A look at the router, at its present moment, finds this.
 pub record LooksAt (family : AddressFamily) (audit : AuditState) (router : RouterState) (found : Found) : Type 0 where
   pub entries : List Event
-  pub are : AreDueIf (has_neighbour audit.upstream router) family audit router entries
+  pub are : AreDueIf (has_neighbour audit.upstream router) family (sides_of audit router) entries
   pub finds : LookFinds audit.due entries router.machines.moment audit.grace found

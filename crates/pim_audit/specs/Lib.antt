@@ -15,3 +15,11 @@ pub mod Own
 pub mod Totals
 pub mod Run
 pub mod Seen
+pub mod Dues
+pub mod Local
+pub mod Sides
+pub mod Touched
+pub mod Stars
+pub mod Gathering
+pub mod Holding
+pub mod Ready

@@ -1,5 +1,5 @@
 -- The run of an audit over the turns of a merge, and what it writes.
-use Rattle.std.specs.Prelude.{◌≡◌, ◌⊎◌, ◌≤◌, ◌^◌, ℕ, List, [], ◌∷◌, ◌++◌, length, Option, None, Some, option_map, slice_index_or}
+use Rattle.std.specs.Prelude.{◌≡◌, ◌⊎◌, ℕ, List, [], ◌∷◌, ◌++◌, Option, None, Some, option_map, slice_index_or}
 use Rattle.std.specs.Prelude.{Result, Ok, Err}
 use Rattle.std.specs.Io.KnownBytes.{Appends}
 use Rattle.std.specs.List.{flat_map}
@@ -10,6 +10,7 @@ use Rattle.pim_merge.specs.Content.{Content, holds, content_in}
 use Rattle.pim_merge.specs.Ends.{end_moment}
 use Rattle.pim_merge.specs.Merge.{Taken}
 use Rattle.pim_merge.specs.Next.{MergeState}
+use Rattle.pim_local.specs.Joins.{Join}
 use Rattle.pim_router.specs.Reading.{read_as}
 use Rattle.pim_router.specs.State.{RouterState}
 use Rattle.pim_run.specs.declared.fault.RunFault.{RunFault}
@@ -68,25 +69,18 @@ pub record RunState : Type 0 where
   pub totals : AuditTotals
 
 -- What an audit keeps of a new router, before any record.
-abbrev pub run_at_start : List ℕ → ℕ → ℕ → RouterState → RunState
-run_at_start upstream grace limit router = record {
+abbrev pub run_at_start : List ℕ → ℕ → List Join → ℕ → RouterState → RunState
+run_at_start upstream grace local limit router = record {
   audit = record {
     upstream = upstream;
     grace = grace;
+    local = local;
     asked = record { ports = 1; limit = limit; moment = 0; records = [] };
     due = [];
   };
   progress = progress_of (ledger_for router);
   totals = nothing_counted;
 }
-
--- What holds before each turn: each port is counted, and no time has passed for the router that
--- hasn't passed for the audit.
-pub record IsReady (run : RunState) (router : RouterState) : Type 0 where
-  pub frames : length run.progress.frames ≡ length router.ports
-  pub own : length run.progress.own ≡ length router.ports
-  pub step : run.audit.asked.moment ≡ router.machines.moment
-  pub present : router.machines.moment ≤ 10 ^ 15
 
 -- ---- the message of a record
 

@@ -1,6 +1,7 @@
 //! An audit of a router.
 
-ghost use Rattle.std.specs.Prelude.{◌≡◌, ◌≤◌, ◌<◌, ◌^◌, [], length, map, max, IfOk, OnOk, OnErr};
+ghost use Rattle.std.specs.Prelude.{◌≡◌, ◌≤◌, ◌<◌, ◌^◌, ℕ, List, [], true, length, map, max};
+ghost use Rattle.std.specs.Prelude.{IfOk, OnOk, OnErr};
 ghost use Rattle.std.specs.Option.{is_some};
 ghost use Rattle.pim_hello.specs.Neighbours.{neighbour_at};
 ghost use Rattle.pim_addr.specs.Routes.{rp_of};
@@ -9,18 +10,23 @@ ghost use Rattle.pim_down.specs.Seen.{event_seen};
 ghost use Rattle.pim_down.specs.Time.{IsNextDue};
 ghost use Rattle.pim_router.specs.State.{table_at};
 ghost use Rattle.pim_audit.specs.Asked.{PassesTo, AskedBy};
-ghost use Rattle.pim_audit.specs.Audited.{AreDueIf, LooksAt, has_neighbour, is_heard};
+ghost use Rattle.pim_audit.specs.Audited.{AreDueIf, LooksAt, has_neighbour, is_heard, sides_of};
 ghost use Rattle.pim_audit.specs.Audited.{with_due, with_asked, without_records};
+ghost use Rattle.pim_audit.specs.Holding.{HoldsOutside, AreExactlyNow};
 ghost use Rattle.pim_audit.specs.Order.{EntriesAscend};
 ghost use Rattle.pim_audit.specs.Seen.{dues_seen, report_seen};
+ghost use Rattle.pim_audit.specs.Touched.{Grows, OthersStay, is_touched};
 
 use crate::asked::{hear_at_once, pass_to};
 use crate::between::due_entries;
 use crate::due::Due;
 use crate::look::{Look, look_at};
+use crate::sides::Sides;
+use crate::touched::Touched;
 use pim_addr::{Family, Routes};
 use pim_down::{Event, HearFault, Ports};
 use pim_jp::JpView;
+use pim_local::LocalJoins;
 use pim_router::Router;
 use std::alloc::{AllocError, Global};
 use std::marker::Model;
@@ -39,14 +45,15 @@ pub(crate) struct Report<A> {
 /// What an upstream neighbour was asked for, and what is due toward it. It has a router of its own
 /// beside it, whose machines say what has to be asked.
 #[derive(Drop)]
-pub(crate) struct Audit<F: Family> {
+pub(crate) struct Audit<'t, F: Family> {
     upstream: F::Addr,
     grace: u64,
+    local: &'t LocalJoins<F>,
     asked: Ports<F>,
     due: Vec<Due<F::Addr>>,
 }
 
-impl<F: Family> Model for Audit<F> {
+impl<'t, F: Family> Model for Audit<'t, F> {
     ghost use Rattle.pim_audit.specs.Audited.{AuditState, IsAudit};
     ghost use Rattle.pim_audit.specs.Seen.{dues_seen};
 
@@ -55,6 +62,7 @@ impl<F: Family> Model for Audit<F> {
     ghost view = { λ audit. record {
       upstream = F.bytes_of audit.upstream;
       grace = audit.grace;
+      local = audit.local.now;
       asked = audit.asked;
       due = dues_seen F.bytes_of audit.due.items;
     } };
@@ -62,6 +70,7 @@ impl<F: Family> Model for Audit<F> {
     ghost invariant = { λ audit. IsAudit (record {
       upstream = F.bytes_of audit.upstream;
       grace = audit.grace;
+      local = audit.local.now;
       asked = audit.asked;
       due = dues_seen F.bytes_of audit.due.items;
     }) };
@@ -87,16 +96,23 @@ pub(crate) fn has_neighbour<F: Family>(router: &Router<'_, F>, address: F::Addr)
     false
 }
 
-impl<F: Family> Audit<F> {
+impl<'t, F: Family> Audit<'t, F> {
     /// Begins the audit of what a router asks of this neighbour. An entry is late if it is due for
-    /// more than `grace` milliseconds. At most `limit` records are kept of what is asked, 1 to
-    /// 100,000.
-    pub(crate) fn new(alloc: Global, upstream: F::Addr, grace: u64, limit: usize) -> Self
+    /// more than `grace` milliseconds. `local` is what the router's local receivers have joined. At
+    /// most `limit` records are kept of what is asked, 1 to 100,000.
+    pub(crate) fn new(
+        alloc: Global,
+        upstream: F::Addr,
+        grace: u64,
+        local: &'t LocalJoins<F>,
+        limit: usize,
+    ) -> Self
         requires room { 1 ≤ limit }
         requires limit { limit ≤ 100000 }
         ensures { result ≡ record {
           upstream = F.bytes_of upstream;
           grace = grace;
+          local = local.now;
           asked = record { ports = 1; limit = limit; moment = 0; records = [] };
           due = [];
         } }
@@ -104,6 +120,7 @@ impl<F: Family> Audit<F> {
         Audit {
             upstream,
             grace,
+            local,
             asked: Ports::new(alloc, 1, limit),
             due: Vec::new(alloc),
         }
@@ -138,25 +155,43 @@ impl<F: Family> Audit<F> {
         self.asked.next_due()
     }
 
-    /// The entries that are due now: none while the upstream neighbour is no neighbour.
+    /// What the neighbour was asked for, and what the router wants of it.
+    fn sides<'s>(&'s self, router: &'s Router<'_, F>) -> Sides<'s, F>
+        ensures { result ≡ sides_of self.now router.now }
+    {
+        Sides {
+            asked: &self.asked,
+            wanted: router.ports(),
+            local: self.local,
+            routes: router.routes(),
+            upstream: self.upstream,
+        }
+    }
+
+    /// The entries that are due now: none while the upstream neighbour is no neighbour. Only of
+    /// touched groups others are due than at the last look.
     fn entries_now(
         &self,
         alloc: Global,
         router: &Router<'_, F>,
+        touched: &Touched<F>,
     ) -> Result<Vec<Event<F::Addr>>, AllocError>
+        requires { HoldsOutside F.family touched.now self.now router.now }
         ensures due { IfOk result (λ entries. AreDueIf (has_neighbour self.now.upstream router.now)
-            F.family self.now router.now (map (event_seen F.bytes_of) entries.items)) }
+            F.family (sides_of self.now router.now)
+            (map (event_seen F.bytes_of) entries.items)) }
         ensures order { IfOk result (λ entries.
             EntriesAscend (map (event_seen F.bytes_of) entries.items)) }
+        ensures exact { IfOk result (λ entries. AreExactlyNow F.family self.now router.now
+            (map (event_seen F.bytes_of) entries.items)) }
     {
         if !has_neighbour::<F>(router, self.upstream) {
             return Ok(Vec::new(alloc));
         }
-        let (wanted, routes) = (router.ports(), router.routes());
-        due_entries::<F>(alloc, &self.asked, wanted, routes, self.upstream)
+        due_entries::<F>(alloc, &self.sides(router), &self.due, touched)
     }
 
-    /// Looks at what is due at the router's present moment.
+    /// Looks at what is due at the router's present moment. Afterwards no group is touched.
     ///
     /// # Errors
     /// Memory was refused. Then nothing has changed.
@@ -164,13 +199,17 @@ impl<F: Family> Audit<F> {
         &mut self,
         alloc: Global,
         router: &Router<'_, F>,
+        touched: &mut Touched<F>,
     ) -> Result<Report<F::Addr>, AllocError>
+        requires { HoldsOutside F.family touched.old self.old router.now }
         ensures looks { IfOk result (λ report.
             LooksAt F.family self.old router.now (report_seen F.bytes_of self.new.due report)) }
         ensures rest { self.new ≡ with_due self.old self.new.due }
+        ensures holds { OnOk result (HoldsOutside F.family touched.new self.new router.now) }
         ensures err { OnErr result (self.new ≡ self.old) }
+        ensures same { OnErr result (touched.new ≡ touched.old) }
     {
-        let entries = self.entries_now(alloc, router)?;
+        let entries = self.entries_now(alloc, router, touched)?;
         let Look {
             due,
             new,
@@ -178,6 +217,7 @@ impl<F: Family> Audit<F> {
             late,
         } = look_at::<F>(alloc, &self.due, &entries, router.now(), self.grace)?;
         self.due = due;
+        touched.clear();
         Ok(Report { new, ended, late })
     }
 
@@ -198,14 +238,16 @@ impl<F: Family> Audit<F> {
             && (src == router.port(port).address || has_neighbour_on::<F>(router, port, src))
     }
 
-    /// Lets the upstream neighbour hear a message. Its Prunes take effect at once.
+    /// Lets the upstream neighbour hear a message. Its Prunes take effect at once. Touches the
+    /// groups whose machines it may change.
     ///
     /// # Errors
-    /// As those of `Ports::hear`. Then nothing has changed.
+    /// As those of `Ports::hear`. Then nothing has changed, but groups may be touched.
     pub(crate) fn hear(
         &mut self,
         message: &JpView<'_, F>,
         routes: &Routes<F>,
+        touched: &mut Touched<F>,
     ) -> Result<(), HearFault>
         requires { self.old.asked.moment ≤ 10 ^ 15 }
         ensures ok { OnOk result (AskedBy message.now (rp_of F.family routes.now)
@@ -217,27 +259,35 @@ impl<F: Family> Audit<F> {
         ensures memory { MayWantMemory
             (new_for 0 message.now (rp_of F.family routes.now) self.old.asked) result }
         ensures present { self.new.asked.moment ≡ self.old.asked.moment }
+        ensures stays { OthersStay touched.new self.old.asked self.new.asked }
+        ensures grows { Grows touched.old touched.new }
     {
-        hear_at_once::<F>(&mut self.asked, message, routes)
+        hear_at_once::<F>(&mut self.asked, message, routes, touched)
     }
 
-    /// Lets time pass for what was asked, up to this moment, at most 10^15 milliseconds.
-    pub(crate) fn pass_to(&mut self, moment: u64)
+    /// Lets time pass for what was asked, up to this moment, at most 10^15 milliseconds. Touches
+    /// the groups of the timers that fire.
+    pub(crate) fn pass_to(&mut self, moment: u64, touched: &mut Touched<F>)
         requires { moment ≤ 10 ^ 15 }
         ensures passes { PassesTo moment self.old.asked self.new.asked }
         ensures rest { self.new ≡ with_asked self.old self.new.asked }
         ensures moment { self.new.asked.moment ≡ max self.old.asked.moment moment }
+        ensures stays { OthersStay touched.new self.old.asked self.new.asked }
+        ensures grows { Grows touched.old touched.new }
     {
-        pass_to::<F>(&mut self.asked, moment);
+        pass_to::<F>(&mut self.asked, moment, touched);
     }
 
-    /// Forgets what the upstream neighbour was asked for: it restarted, or it is gone.
-    pub(crate) fn forget(&mut self, alloc: Global)
+    /// Forgets what the upstream neighbour was asked for: it restarted, or it is gone. Touches all
+    /// groups.
+    pub(crate) fn forget(&mut self, alloc: Global, touched: &mut Touched<F>)
         requires { self.old.asked.moment ≤ 10 ^ 15 }
-        ensures { self.new ≡ with_asked self.old (without_records self.old.asked) }
+        ensures forgets { self.new ≡ with_asked self.old (without_records self.old.asked) }
+        ensures touches { (group : List ℕ) → is_touched group touched.new ≡ true }
     {
         let mut asked = Ports::new(alloc, 1, self.asked.limit());
-        pass_to::<F>(&mut asked, self.asked.now());
+        pass_to::<F>(&mut asked, self.asked.now(), touched);
         self.asked = asked;
+        touched.touch_all();
     }
 }

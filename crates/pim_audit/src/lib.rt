@@ -9,14 +9,16 @@
 //! - A turn lets time pass for the router and the audit, looks, lets a port of the router take a
 //!   message, and looks again. A look follows each end of a timer or of a neighbour's time.
 //!
-//! A look makes two normal forms, so it takes time for the whole state. Callers: `pim_commands`.
+//! A look finds what is due of the groups that something touched since the last look, machine by
+//! machine. It takes time for these machines, and for all that is due. Callers: `pim_commands`.
 #![tactic(auto)]
 
 mod asked;
 mod audit;
 mod between;
 mod due;
-mod entries;
+mod gathering;
+mod groups;
 mod late;
 pub mod laws;
 mod lines;
@@ -26,8 +28,11 @@ mod own;
 mod passing;
 mod renewal;
 mod run;
+mod sides;
 mod taking;
 mod totals;
+mod touched;
+mod tracked;
 mod turn;
 
 pub use run::{AuditOptions, audit_into};

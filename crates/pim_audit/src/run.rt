@@ -8,7 +8,9 @@ ghost use Rattle.pim_merge.specs.Run.{IsTallied, turn_seen};
 ghost use Rattle.pim_router.specs.State.{setup_of};
 ghost use Rattle.pim_run.specs.Faults.{failures_of_device};
 ghost use Rattle.pim_audit_events.specs.Seen.{lines_seen, origin_seen};
-ghost use Rattle.pim_audit.specs.Run.{IsReady, message_of, origin_of, own_in, run_at_start};
+ghost use Rattle.pim_audit.specs.Holding.{HoldsOutside};
+ghost use Rattle.pim_audit.specs.Ready.{IsReady};
+ghost use Rattle.pim_audit.specs.Run.{message_of, origin_of, own_in, run_at_start};
 ghost use Rattle.pim_audit.specs.Run.{AuditsTurn, PassesOn, Closes, Audits};
 ghost use Rattle.pim_audit.specs.Run.{WritesEnd, WritesStop};
 ghost use Rattle.pim_audit.specs.Turn.{received_seen};
@@ -18,11 +20,14 @@ use crate::lines::{push_ends, push_look, push_turn};
 use crate::own::{own_generation, remember_own};
 use crate::passing::pass_time;
 use crate::totals::{nothing_counted, status_of, with_all_open, with_lines};
+use crate::touched::Touched;
+use crate::tracked::TrackedAudit;
 use crate::turn::{Received, take_turn};
 use pim_addr::{Family, Feed};
 use pim_audit_events::{
     AuditEvent, AuditLine, AuditTotals, AuditWriter, MessageOrigin, write_lines,
 };
+use pim_local::LocalJoins;
 use pim_merge::{Content, End, Merge, Turn};
 use pim_router::{Router, read_message};
 use pim_run::{Hooks, RunFault, TurnFault, run};
@@ -39,6 +44,8 @@ pub struct AuditOptions<'t, F: Family, T> {
     pub upstream: F::Addr,
     /// An entry is late if it is due for more than this many milliseconds.
     pub grace: u64,
+    /// What the router's local receivers have joined.
+    pub local: &'t LocalJoins<F>,
     /// The most records that are kept of what the neighbour was asked: 1 to 100,000.
     pub limit: usize,
     /// The groups whose entries count. If there are none, all do.
@@ -49,22 +56,26 @@ pub struct AuditOptions<'t, F: Family, T> {
 
 /// What an audit keeps over its run, beside the router.
 #[derive(Drop)]
-pub(crate) struct AuditRun<F: Family> {
-    audit: Audit<F>,
+pub(crate) struct AuditRun<'t, F: Family> {
+    tracked: TrackedAudit<'t, F>,
     ledger: Ledger<F>,
     totals: AuditTotals,
 }
 
-impl<F: Family> Model for AuditRun<F> {
-    ghost use Rattle.pim_audit.specs.Run.{RunState, progress_of};
+impl<'t, F: Family> Model for AuditRun<'t, F> {
+    ghost use Rattle.pim_audit.specs.Ready.{TrackedRun};
+    ghost use Rattle.pim_audit.specs.Run.{progress_of};
     ghost use Rattle.pim_trace.specs.Kept.{ledger_seen};
 
-    ghost Value = { RunState };
+    ghost Value = { TrackedRun };
 
     ghost view = { λ run. record {
-      audit = run.audit;
-      progress = progress_of (ledger_seen F.bytes_of run.ledger);
-      totals = run.totals;
+      run = record {
+        audit = run.tracked.audit;
+        progress = progress_of (ledger_seen F.bytes_of run.ledger);
+        totals = run.totals;
+      };
+      touched = run.tracked.touched;
     } };
 }
 
@@ -126,7 +137,7 @@ fn own_in<F: Family>(
 fn audit_turn<F: Family>(
     alloc: Global,
     groups: &[F::Addr],
-    run: &mut AuditRun<F>,
+    run: &mut AuditRun<'_, F>,
     router: &mut Router<'_, F>,
     turn: &Turn,
     bytes: &[u8],
@@ -135,11 +146,11 @@ fn audit_turn<F: Family>(
     requires moment { turn.now.moment ≤ 10 ^ 15 }
     requires payload { PayloadLiesIn bytes.now turn.now.event }
     requires bytes { length bytes.now ≤ most_captured }
-    requires ready { IsReady run.old router.old }
+    requires ready { IsReady F.family run.old router.old }
     ensures turn { IfOk result (λ lines. AuditsTurn F.family F.bytes_of
-        (map F.bytes_of groups.now) (turn_seen bytes.now turn.now) run.old router.old
-        (lines_seen F.bytes_of lines.items) run.new router.new) }
-    ensures ready { OnOk result (IsReady run.new router.new) }
+        (map F.bytes_of groups.now) (turn_seen bytes.now turn.now) run.old.run router.old
+        (lines_seen F.bytes_of lines.items) run.new.run router.new) }
+    ensures ready { OnOk result (IsReady F.family run.new router.new) }
     ensures reached { OnOk result
         (router.new.machines.moment ≡ max router.old.machines.moment turn.now.moment) }
     ensures setup { setup_of router.new ≡ setup_of router.old }
@@ -151,7 +162,14 @@ fn audit_turn<F: Family>(
     let received = received_in::<F>(turn, bytes);
     let own = own_in::<F>(router, port, &received);
     let restart = remember_own::<F>(&mut run.ledger, port, frame, own);
-    let report = take_turn::<F>(alloc, &mut run.audit, router, turn.moment, port, &received)?;
+    let report = take_turn::<F>(
+        alloc,
+        &mut run.tracked,
+        router,
+        turn.moment,
+        port,
+        &received,
+    )?;
     let origin = origin_of::<F>(port, frame, &received);
     let mut lines = Vec::new(alloc);
     push_turn::<F>(&mut lines, router.now(), origin, restart, &report)?;
@@ -159,19 +177,21 @@ fn audit_turn<F: Family>(
     Ok(lines)
 }
 
-impl<'t, F: Family, W, T: AuditWriter<F, W>> Hooks<F, W, AuditRun<F>> for AuditOptions<'t, F, T> {
+impl<'t, F: Family, W, T: AuditWriter<F, W>> Hooks<F, W, AuditRun<'t, F>>
+    for AuditOptions<'t, F, T> {
     ghost use Rattle.std.specs.Prelude.{map};
-    ghost use Rattle.pim_audit.specs.Run.{WritesTurn, BeginsTurn, IsReady};
+    ghost use Rattle.pim_audit.specs.Ready.{IsReady};
+    ghost use Rattle.pim_audit.specs.Run.{WritesTurn, BeginsTurn};
 
     ghost takes = { λ options turn run state old run' after new.
         WritesTurn F.family F.bytes_of (map F.bytes_of options.groups.now)
-        (T.line options.writer.now) turn run state old run' after new };
+        (T.line options.writer.now) turn run.run state old run'.run after new };
 
     ghost begins = { λ options turn run state old new.
         BeginsTurn F.family F.bytes_of (map F.bytes_of options.groups.now)
-        (T.line options.writer.now) turn run state old new };
+        (T.line options.writer.now) turn run.run state old new };
 
-    ghost is_ready = { IsReady };
+    ghost is_ready = { IsReady F.family };
 
     ghost contents = { T.contents };
 
@@ -181,7 +201,7 @@ impl<'t, F: Family, W, T: AuditWriter<F, W>> Hooks<F, W, AuditRun<F>> for AuditO
         &self,
         device: &mut W,
         router: &mut Router<'_, F>,
-        run: &mut AuditRun<F>,
+        run: &mut AuditRun<'t, F>,
         turn: &Turn,
         bytes: &[u8],
     ) -> Result<(), TurnFault> {
@@ -200,20 +220,23 @@ impl<'t, F: Family, W, T: AuditWriter<F, W>> Hooks<F, W, AuditRun<F>> for AuditO
 /// the way.
 fn pass_on<F: Family>(
     alloc: Global,
-    run: &mut AuditRun<F>,
+    run: &mut AuditRun<'_, F>,
     router: &mut Router<'_, F>,
     moment: u64,
 ) -> Result<Vec<AuditLine<F::Addr>>, AllocError>
     requires moment { moment ≤ 10 ^ 15 }
-    requires step { run.old.audit.asked.moment ≡ router.old.machines.moment }
+    requires step { run.old.run.audit.asked.moment ≡ router.old.machines.moment }
     requires present { router.old.machines.moment ≤ 10 ^ 15 }
-    ensures passes { IfOk result (λ lines. PassesOn F.family F.bytes_of moment run.old router.old
-        (lines_seen F.bytes_of lines.items) run.new.audit router.new) }
-    ensures progress { run.new.progress ≡ run.old.progress }
-    ensures totals { run.new.totals ≡ run.old.totals }
+    requires holds { HoldsOutside F.family run.old.touched run.old.run.audit router.old }
+    ensures passes { IfOk result (λ lines. PassesOn F.family F.bytes_of moment run.old.run
+        router.old (lines_seen F.bytes_of lines.items) run.new.run.audit router.new) }
+    ensures progress { run.new.run.progress ≡ run.old.run.progress }
+    ensures totals { run.new.run.totals ≡ run.old.run.totals }
+    ensures holds { OnOk result
+        (HoldsOutside F.family run.new.touched run.new.run.audit router.new) }
 {
     let mut ended = Vec::new(alloc);
-    pass_time::<F>(alloc, &mut run.audit, router, moment, &mut ended)?;
+    pass_time::<F>(alloc, &mut run.tracked, router, moment, &mut ended)?;
     let mut lines = Vec::new(alloc);
     push_ends::<F>(&mut lines, &ended)?;
     Ok(lines)
@@ -233,23 +256,24 @@ struct Closing<A> {
 fn close<F: Family>(
     alloc: Global,
     groups: &[F::Addr],
-    run: &mut AuditRun<F>,
+    run: &mut AuditRun<'_, F>,
     router: &mut Router<'_, F>,
     moment: u64,
 ) -> Result<Closing<F::Addr>, AllocError>
     requires moment { moment ≤ 10 ^ 15 }
-    requires step { run.old.audit.asked.moment ≡ router.old.machines.moment }
+    requires step { run.old.run.audit.asked.moment ≡ router.old.machines.moment }
     requires present { router.old.machines.moment ≤ 10 ^ 15 }
+    requires holds { HoldsOutside F.family run.old.touched run.old.run.audit router.old }
     ensures closes { IfOk result (λ closing. Closes F.family F.bytes_of
-        (map F.bytes_of groups.now) moment run.old router.old
+        (map F.bytes_of groups.now) moment run.old.run router.old
         (lines_seen F.bytes_of closing.lines.items) closing.totals router.new) }
 {
     let mut lines = pass_on::<F>(alloc, run, router, moment)?;
-    let report = run.audit.look(alloc, router)?;
+    let report = run.tracked.look(alloc, router)?;
     let now = router.now();
     push_look::<F>(&mut lines, now, None, &report)?;
     let counted = with_lines::<F>(groups, &lines, run.totals);
-    let totals = with_all_open::<F>(groups, now, run.audit.due(), counted);
+    let totals = with_all_open::<F>(groups, now, run.tracked.audit.due(), counted);
     lines.push(AuditLine {
         moment: now,
         origin: None,
@@ -264,14 +288,15 @@ fn write_end<F: Family, W, T: AuditWriter<F, W>>(
     options: &AuditOptions<'_, F, T>,
     device: &mut W,
     router: &mut Router<'_, F>,
-    run: &mut AuditRun<F>,
+    run: &mut AuditRun<'_, F>,
     moment: u64,
 ) -> Result<AuditTotals, RunFault>
     requires moment { moment ≤ 10 ^ 15 }
-    requires step { run.old.audit.asked.moment ≡ router.old.machines.moment }
+    requires step { run.old.run.audit.asked.moment ≡ router.old.machines.moment }
     requires present { router.old.machines.moment ≤ 10 ^ 15 }
+    requires holds { HoldsOutside F.family run.old.touched run.old.run.audit router.old }
     ensures ended { WritesEnd F.family F.bytes_of (map F.bytes_of options.now.groups.now)
-        (T.line options.now.writer.now) moment run.old router.old router.new
+        (T.line options.now.writer.now) moment run.old.run router.old router.new
         (T.contents device.old) (T.contents device.new) result }
     ensures count { T.failures device.new ≡ failures_of_device (T.failures device.old) result }
 {
@@ -291,12 +316,13 @@ fn write_stop<F: Family, W, T: AuditWriter<F, W>>(
     options: &AuditOptions<'_, F, T>,
     device: &mut W,
     router: &mut Router<'_, F>,
-    run: &mut AuditRun<F>,
+    run: &mut AuditRun<'_, F>,
 ) -> Result<(), RunFault>
-    requires step { run.old.audit.asked.moment ≡ router.old.machines.moment }
+    requires step { run.old.run.audit.asked.moment ≡ router.old.machines.moment }
     requires present { router.old.machines.moment ≤ 10 ^ 15 }
+    requires holds { HoldsOutside F.family run.old.touched run.old.run.audit router.old }
     ensures stopped { WritesStop F.family F.bytes_of (map F.bytes_of options.now.groups.now)
-        (T.line options.now.writer.now) run.old router.old router.new
+        (T.line options.now.writer.now) run.old.run router.old router.new
         (T.contents device.old) (T.contents device.new) result }
     ensures count { T.failures device.new ≡ failures_of_device (T.failures device.old) result }
 {
@@ -312,20 +338,20 @@ fn write_stop<F: Family, W, T: AuditWriter<F, W>>(
 }
 
 /// Audits a whole run, which begins with this state.
-fn audit_with<F: Family, R: Feed + Drop, W, T: AuditWriter<F, W>>(
-    options: &AuditOptions<'_, F, T>,
+fn audit_with<'t, F: Family, R: Feed + Drop, W, T: AuditWriter<F, W>>(
+    options: &AuditOptions<'t, F, T>,
     device: &mut W,
     merge: &mut Merge<R>,
     router: &mut Router<'_, F>,
-    run_state: &mut AuditRun<F>,
+    run_state: &mut AuditRun<'t, F>,
     end: End,
 ) -> Result<u8, RunFault>
     requires ports { length merge.old.lanes ≡ length router.old.ports }
     requires moment { router.old.machines.moment ≤ latest_moment }
     requires end { IsBoundedEnd end }
-    requires ready { IsReady run_state.old router.old }
+    requires ready { IsReady F.family run_state.old router.old }
     ensures audits { Audits F.family F.bytes_of (map F.bytes_of options.now.groups.now)
-        (T.line options.now.writer.now) end merge.old run_state.old router.old
+        (T.line options.now.writer.now) end merge.old run_state.old.run router.old
         (T.contents device.old) merge.new router.new (T.contents device.new) result }
     ensures count { T.failures device.new ≡ failures_of_device (T.failures device.old) result }
     ensures tallied { IsTallied end merge.old merge.new }
@@ -342,7 +368,8 @@ fn audit_with<F: Family, R: Feed + Drop, W, T: AuditWriter<F, W>>(
             Ok(()) => Err(RunFault::Capture(reported)),
             Err(fault) => Err(fault),
         },
-        Err(fault) => Err(fault),
+        Err(RunFault::Output) => Err(RunFault::Output),
+        Err(RunFault::Memory) => Err(RunFault::Memory),
     }
 }
 
@@ -351,8 +378,8 @@ fn audit_with<F: Family, R: Feed + Drop, W, T: AuditWriter<F, W>>(
 /// order of time, and a last line with the totals. Returns the status: 1 if something was late,
 /// otherwise 0.
 ///
-/// Besides the router, it needs memory for one buffer for each capture, and for what the neighbour
-/// was asked. Each look needs it for two normal forms.
+/// Besides the router, it needs memory for one buffer for each capture, for what the neighbour was
+/// asked, for what is due, and at a look for what is due of the groups that something touched.
 ///
 /// # Errors
 /// - `Capture`: a capture has a fault. Exactly the lines of the turns before it were written, and
@@ -373,8 +400,8 @@ pub fn audit_into<F: Family, R: Feed + Drop, W, T: AuditWriter<F, W>>(
     requires limit { options.now.limit ≤ 100000 }
     ensures audits { Audits F.family F.bytes_of (map F.bytes_of options.now.groups.now)
         (T.line options.now.writer.now) end merge.old
-        (run_at_start (F.bytes_of options.now.upstream) options.now.grace options.now.limit
-        router.old) router.old (T.contents device.old)
+        (run_at_start (F.bytes_of options.now.upstream) options.now.grace
+        options.now.local.now options.now.limit router.old) router.old (T.contents device.old)
         merge.new router.new (T.contents device.new) result }
     ensures count { T.failures device.new ≡ failures_of_device (T.failures device.old) result }
     // The tallies of the captures after the run are those of the turns that were taken.
@@ -383,13 +410,16 @@ pub fn audit_into<F: Family, R: Feed + Drop, W, T: AuditWriter<F, W>>(
     let Ok(ledger) = Ledger::<F>::new(options.alloc, router.port_count()) else {
         return Err(RunFault::Memory);
     };
+    let audit = Audit::new(
+        options.alloc,
+        options.upstream,
+        options.grace,
+        options.local,
+        options.limit,
+    );
+    let touched = Touched::all(options.alloc);
     let mut run_state = AuditRun {
-        audit: Audit::new(
-            options.alloc,
-            options.upstream,
-            options.grace,
-            options.limit,
-        ),
+        tracked: TrackedAudit { audit, touched },
         ledger,
         totals: nothing_counted(),
     };

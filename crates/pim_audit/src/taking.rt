@@ -1,15 +1,20 @@
 //! A message that a port of the router takes.
 
-ghost use Rattle.std.specs.Prelude.{◌≡◌, ◌≤◌, ◌<◌, ◌^◌, length, IfOk};
+ghost use Rattle.std.specs.Prelude.{◌≡◌, ◌≤◌, ◌<◌, ◌^◌, length, IfOk, OnOk};
 ghost use Rattle.pim_addr.specs.Routes.{rp_of};
-ghost use Rattle.pim_router.specs.Reading.{reading_seen};
+ghost use Rattle.pim_router.specs.Reading.{reading_seen, read_received};
 ghost use Rattle.pim_router.specs.State.{setup_of};
 ghost use Rattle.pim_audit.specs.Audited.{has_neighbour, with_asked};
+ghost use Rattle.pim_audit.specs.Holding.{HoldsOutside, RouterStays};
 ghost use Rattle.pim_audit.specs.Taking.{lost_by, lost, HearsOrRefuses, TakesMessage};
+ghost use Rattle.pim_audit.specs.Touched.{Grows, OthersStay, TouchesReading};
 
 use crate::audit::{Audit, has_neighbour};
+use crate::touched::Touched;
+use crate::tracked::TrackedAudit;
 use pim_addr::{Family, Routes};
 use pim_down::HearFault;
+use pim_down::laws::hearing_acts_at_each_key;
 use pim_hello::Heard;
 use pim_jp::JpView;
 use pim_router::{PimMessage, Router, Verdict};
@@ -47,7 +52,7 @@ fn lost_by(verdict: Verdict, still: bool) -> Option<Effect>
 
 /// What a message of this source says of what the upstream neighbour was asked.
 fn lost<F: Family>(
-    audit: &Audit<F>,
+    audit: &Audit<'_, F>,
     router: &Router<'_, F>,
     src: F::Addr,
     verdict: Verdict,
@@ -62,20 +67,69 @@ fn lost<F: Family>(
 
 /// Lets the upstream neighbour hear a Join/Prune message, or refuse it.
 fn hear_or_refuse<F: Family>(
-    audit: &mut Audit<F>,
+    tracked: &mut TrackedAudit<'_, F>,
     message: &JpView<'_, F>,
     routes: &Routes<F>,
 ) -> Result<Effect, AllocError>
-    requires { audit.old.asked.moment ≤ 10 ^ 15 }
+    requires { tracked.old.audit.asked.moment ≤ 10 ^ 15 }
     ensures effect { IfOk result (λ effect. HearsOrRefuses message.now
-        (rp_of F.family routes.now) audit.old effect audit.new) }
-    ensures present { audit.new.asked.moment ≡ audit.old.asked.moment }
+        (rp_of F.family routes.now) tracked.old.audit effect tracked.new.audit) }
+    ensures present { tracked.new.audit.asked.moment ≡ tracked.old.audit.asked.moment }
+    ensures rest { tracked.new.audit ≡ with_asked tracked.old.audit tracked.new.audit.asked }
+    ensures stays { OthersStay tracked.new.touched tracked.old.audit.asked
+        tracked.new.audit.asked }
+    ensures grows { Grows tracked.old.touched tracked.new.touched }
 {
-    match audit.hear(message, routes) {
+    match tracked.audit.hear(message, routes, &mut tracked.touched) {
         Ok(()) => Ok(Effect::Heard),
         Err(HearFault::Full { needed }) => Ok(Effect::Full { needed }),
         Err(HearFault::Memory) => Err(AllocError),
     }
+}
+
+/// Touches the groups that a message names, if it is a Join/Prune.
+fn touch_read<F: Family>(touched: &mut Touched<F>, message: &PimMessage<'_, F>)
+    ensures touches { TouchesReading (reading_seen F.family message.now) touched.new }
+    ensures grows { Grows touched.old touched.new }
+{
+    match message {
+        PimMessage::JoinPrune(message) => touched.touch_message(message),
+        PimMessage::Hello(_) | PimMessage::Other(_) | PimMessage::Malformed(_) => {}
+    }
+}
+
+/// Lets a port of the router take a message. Touches the groups that the message names, and all if
+/// the upstream neighbour becomes a neighbour or goes.
+///
+/// # Errors
+/// Memory was refused.
+fn take_message<F: Family>(
+    router: &mut Router<'_, F>,
+    port: usize,
+    src: F::Addr,
+    message: &PimMessage<'_, F>,
+    upstream: F::Addr,
+    touched: &mut Touched<F>,
+) -> Result<Verdict, AllocError>
+    requires port { port < length router.old.ports }
+    ensures received { IfOk result (λ verdict. (verdict, router.new)
+        ≡ read_received F.family port (F.bytes_of src) router.old
+        (reading_seen F.family message.now)) }
+    ensures stays { OnOk result
+        (RouterStays touched.new (F.bytes_of upstream) router.old router.new) }
+    ensures grows { Grows touched.old touched.new }
+    ensures moment { router.new.machines.moment ≡ router.old.machines.moment }
+    ensures setup { setup_of router.new ≡ setup_of router.old }
+{
+    router.ports().is_sound();
+    hearing_acts_at_each_key();
+    let was_neighbour = has_neighbour::<F>(router, upstream);
+    let verdict = router.take_read(port, src, message)?;
+    touch_read::<F>(touched, message);
+    if has_neighbour::<F>(router, upstream) != was_neighbour {
+        touched.touch_all();
+    }
+    Ok(verdict)
 }
 
 /// Lets a port of the router take a message from this source, and the audit follow. No look comes.
@@ -84,31 +138,38 @@ fn hear_or_refuse<F: Family>(
 /// Memory was refused.
 pub(crate) fn take<F: Family>(
     alloc: Global,
-    audit: &mut Audit<F>,
+    tracked: &mut TrackedAudit<'_, F>,
     router: &mut Router<'_, F>,
     port: usize,
     src: F::Addr,
     message: &PimMessage<'_, F>,
 ) -> Result<Effect, AllocError>
+    requires holds { HoldsOutside F.family tracked.old.touched tracked.old.audit router.old }
     requires port { port < length router.old.ports }
-    requires present { audit.old.asked.moment ≤ 10 ^ 15 }
+    requires present { tracked.old.audit.asked.moment ≤ 10 ^ 15 }
     ensures takes { IfOk result (λ effect. TakesMessage F.family port (F.bytes_of src)
-        (reading_seen F.family message.now) audit.old router.old effect audit.new router.new) }
-    ensures step { audit.new.asked.moment ≡ audit.old.asked.moment }
+        (reading_seen F.family message.now) tracked.old.audit router.old effect
+        tracked.new.audit router.new) }
+    ensures step { tracked.new.audit.asked.moment ≡ tracked.old.audit.asked.moment }
     ensures moment { router.new.machines.moment ≡ router.old.machines.moment }
     ensures setup { setup_of router.new ≡ setup_of router.old }
+    ensures holds { OnOk result
+        (HoldsOutside F.family tracked.new.touched tracked.new.audit router.new) }
 {
+    let upstream = tracked.audit.upstream();
     let heard = match message {
-        PimMessage::JoinPrune(message) if audit.hears(router, port, src, message) => Some(message),
+        PimMessage::JoinPrune(message) if tracked.audit.hears(router, port, src, message) => {
+            Some(message)
+        }
         _ => None,
     };
-    let verdict = router.take_read(port, src, message)?;
-    if let Some(effect) = lost::<F>(audit, router, src, verdict) {
-        audit.forget(alloc);
+    let verdict = take_message::<F>(router, port, src, message, upstream, &mut tracked.touched)?;
+    if let Some(effect) = lost::<F>(&tracked.audit, router, src, verdict) {
+        tracked.audit.forget(alloc, &mut tracked.touched);
         return Ok(effect);
     }
     match heard {
-        Some(message) => hear_or_refuse::<F>(audit, message, router.routes()),
+        Some(message) => hear_or_refuse::<F>(tracked, message, router.routes()),
         None => Ok(Effect::Unchanged),
     }
 }

@@ -2,11 +2,13 @@
 
 ghost use Rattle.std.specs.Prelude.{◌≡◌, ◌≤◌, ◌<◌, ◌^◌, length, max, option_map, IfOk, OnOk};
 ghost use Rattle.pim_router.specs.State.{setup_of};
+ghost use Rattle.pim_audit.specs.Holding.{HoldsOutside};
 ghost use Rattle.pim_audit.specs.Turn.{received_seen, TakesIfAny, TakesTurn};
 
-use crate::audit::{Audit, Report};
+use crate::audit::Report;
 use crate::passing::{Ended, pass_time};
 use crate::taking::{Effect, take};
+use crate::tracked::TrackedAudit;
 use pim_addr::Family;
 use pim_router::{PimMessage, Router};
 use std::alloc::{AllocError, Global};
@@ -36,25 +38,28 @@ pub(crate) struct TurnReport<A> {
 /// Lets a port of the router take the message of a record, if it has one, and the audit follow.
 fn take_if_any<F: Family>(
     alloc: Global,
-    audit: &mut Audit<F>,
+    tracked: &mut TrackedAudit<'_, F>,
     router: &mut Router<'_, F>,
     port: usize,
     received: &Option<Received<'_, F>>,
 ) -> Result<Effect, AllocError>
+    requires holds { HoldsOutside F.family tracked.old.touched tracked.old.audit router.old }
     requires port { port < length router.old.ports }
-    requires present { audit.old.asked.moment ≤ 10 ^ 15 }
+    requires present { tracked.old.audit.asked.moment ≤ 10 ^ 15 }
     ensures takes { IfOk result (λ effect. TakesIfAny F.family port
         (option_map (received_seen F.family F.bytes_of) received.now)
-        audit.old router.old effect audit.new router.new) }
-    ensures step { audit.new.asked.moment ≡ audit.old.asked.moment }
+        tracked.old.audit router.old effect tracked.new.audit router.new) }
+    ensures step { tracked.new.audit.asked.moment ≡ tracked.old.audit.asked.moment }
     ensures moment { router.new.machines.moment ≡ router.old.machines.moment }
     ensures setup { setup_of router.new ≡ setup_of router.old }
+    ensures holds { OnOk result
+        (HoldsOutside F.family tracked.new.touched tracked.new.audit router.new) }
 {
     match received {
         None => Ok(Effect::Unchanged),
         Some(received) => {
             let (source, message) = (received.source, &received.message);
-            take::<F>(alloc, audit, router, port, source, message)
+            take::<F>(alloc, tracked, router, port, source, message)
         }
     }
 }
@@ -67,29 +72,32 @@ fn take_if_any<F: Family>(
 /// Memory was refused: some first part of the turn was done.
 pub(crate) fn take_turn<F: Family>(
     alloc: Global,
-    audit: &mut Audit<F>,
+    tracked: &mut TrackedAudit<'_, F>,
     router: &mut Router<'_, F>,
     moment: u64,
     port: usize,
     received: &Option<Received<'_, F>>,
 ) -> Result<TurnReport<F::Addr>, AllocError>
+    requires holds { HoldsOutside F.family tracked.old.touched tracked.old.audit router.old }
     requires port { port < length router.old.ports }
     requires moment { moment ≤ 10 ^ 15 }
-    requires step { audit.old.asked.moment ≡ router.old.machines.moment }
+    requires step { tracked.old.audit.asked.moment ≡ router.old.machines.moment }
     requires present { router.old.machines.moment ≤ 10 ^ 15 }
     ensures turn { IfOk result (λ report. TakesTurn F.family F.bytes_of moment port
         (option_map (received_seen F.family F.bytes_of) received.now)
-        audit.old router.old report audit.new router.new) }
-    ensures step { OnOk result (audit.new.asked.moment ≡ router.new.machines.moment) }
+        tracked.old.audit router.old report tracked.new.audit router.new) }
+    ensures step { OnOk result (tracked.new.audit.asked.moment ≡ router.new.machines.moment) }
     ensures reached { OnOk result
         (router.new.machines.moment ≡ max router.old.machines.moment moment) }
     ensures setup { setup_of router.new ≡ setup_of router.old }
+    ensures holds { OnOk result
+        (HoldsOutside F.family tracked.new.touched tracked.new.audit router.new) }
 {
     let mut ended = Vec::new(alloc);
-    pass_time::<F>(alloc, audit, router, moment, &mut ended)?;
-    let before = audit.look(alloc, router)?;
-    let effect = take_if_any::<F>(alloc, audit, router, port, received)?;
-    let after = audit.look(alloc, router)?;
+    pass_time::<F>(alloc, tracked, router, moment, &mut ended)?;
+    let before = tracked.look(alloc, router)?;
+    let effect = take_if_any::<F>(alloc, tracked, router, port, received)?;
+    let after = tracked.look(alloc, router)?;
     Ok(TurnReport {
         ended,
         before,

@@ -3,6 +3,8 @@ pub use Rattle.pim_addr.specs.declared.family.AddressFamily.{AddressFamily}
 pub use Rattle.pim_addr.specs.Routes.{rp_of}
 pub use Rattle.pim_audit.specs.Between.{AreDue}
 pub use Rattle.pim_audit.specs.Entries.{action_entries, announced_entries, due_entries}
+pub use Rattle.pim_audit.specs.Local.{local_port}
+pub use Rattle.pim_audit.specs.Sides.{SidesState, wanted_demand}
 pub use Rattle.pim_change.specs.Change.{Action, ChangeUnit, change_at, group_change, lacking, of_source}
 pub use Rattle.pim_change.specs.Change.{sources_change, star_change, star_joined, star_pruned, unit_of}
 unfoldable pub use Rattle.pim_change.specs.Change.{change, in_order}
@@ -16,7 +18,10 @@ pub use Rattle.pim_form.specs.NormalForm.{Agree, AreAscending, GroupForm, IsForm
 pub use Rattle.pim_form.specs.NormalForm.{group_wants, groups_of, is_excepted, is_listed, same_address}
 pub use Rattle.pim_form.specs.Settled.{unwanted}
 unfoldable pub use Rattle.pim_form.specs.Settled.{group_in}
+pub use Rattle.pim_form.specs.Toward.{is_neighbour, rpf_neighbour, via_of}
 pub use Rattle.pim_form.specs.Wants.{wants}
+unfoldable pub use Rattle.pim_form.specs.Wants.{some_below}
+unfoldable pub use Rattle.pim_down.specs.Records.{machine_at}
 pub use Rattle.pim_form.specs.declared.tree.Tree.{Tree}
 pub use Rattle.pim_mirror.specs.Laws.{DemandedStarsHaveRps}
 pub use Rattle.pim_router.specs.Canonical.{demanded}
@@ -33,3 +38,4 @@ pub use Rattle.std.specs.Ordering.{is_eq, nat_cmp}
 pub use Rattle.std.specs.declared.cmp.Ordering.TheVariants.{Less}
 pub use Rattle.pim_audit_laws.specs.Laws.{IsOneDemand, NothingDueIsOneDemand, NothingDueIsOneForm}
 pub use Rattle.pim_audit_laws.specs.Laws.{NothingDueIsOneList, OneListIsNothingDue}
+pub use Rattle.pim_audit_laws.specs.Laws.{WithoutLocalIsDemanded, without_local}

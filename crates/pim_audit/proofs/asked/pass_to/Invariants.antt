@@ -1,4 +1,5 @@
 use Rattle.pim_audit.proofs.Words.{◌≡◌, ◌≤◌, max, weight, Downstream, PassesTo}
+use Rattle.pim_audit.specs.Touched.{Grows, OthersStay}
 use Rattle.pim_audit.proofs.asked.pass_to.Given as goal
 
 -- what passes from here passes from the start
@@ -9,6 +10,8 @@ invariant-loop-firing g l = record {
   limit : l.asked.limit ≡ l.fn.asked.limit;
   later : l.fn.asked.moment ≤ l.asked.moment;
   within : l.asked.moment ≤ max l.fn.asked.moment l.moment;
+  stays : OthersStay l.touched l.fn.asked l.asked;
+  grows : Grows l.fn.touched l.touched;
 }
 
 -- each timer that fires makes the records lighter

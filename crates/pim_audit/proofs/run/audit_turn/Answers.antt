@@ -8,7 +8,8 @@ use Rattle.pim_audit_events.specs.declared.line.AuditLine.{AuditLine}
 use Rattle.pim_audit_events.specs.Seen.{lines_seen, origin_seen}
 use Rattle.pim_audit.specs.Audited.{AuditState}
 use Rattle.pim_audit.specs.Own.{own_restart, after_own}
-use Rattle.pim_audit.specs.Run.{Progress, RunState, progress_of, ledger_of, counted, message_of, origin_of, own_in, frame_on, restart_in}
+use Rattle.pim_audit.specs.Ready.{TrackedRun}
+use Rattle.pim_audit.specs.Run.{Progress, progress_of, ledger_of, counted, message_of, origin_of, own_in, frame_on, restart_in}
 use Rattle.pim_audit.specs.Totals.{with_lines}
 use Rattle.pim_audit.specs.Turn.{ReceivedMessage, received_seen, TakesTurn}
 use Rattle.pim_audit.specs.TurnLines.{turn_lines}
@@ -26,10 +27,10 @@ returns-clause-turn g c =
     let after = c.take_turn.new.router in
     let report = c.in_ok-report.report in
     let message = message_of family turn in
-    let audit_is = ap (λ (r : RunState). r.audit) c.run.view_is in
-    let progress_is = ap (λ (r : RunState). r.progress) c.run.view_is in
-    let totals_is = ap (λ (r : RunState). r.totals) c.run.view_is in
-    let now = counted turn c.args.run.now.progress in
+    let audit_is = ap (λ (r : TrackedRun). r.run.audit) c.run.view_is in
+    let progress_is = ap (λ (r : TrackedRun). r.run.progress) c.run.view_is in
+    let totals_is = ap (λ (r : TrackedRun). r.run.totals) c.run.view_is in
+    let now = counted turn c.args.run.now.run.progress in
     let opened_is : progress_of (ledger_seen bytes_of c.open.new.self) ≡ now =
     opens turn c.frame_after-next.result c.frame.result c.time.result (ledger_seen bytes_of c.run.inside.ledger) (ledger_seen bytes_of c.open.new.self)
     c.open.ensures c.frame.ensures (c.frame_after-next.ensures c.args.bytes.now) (c.time.ensures c.args.bytes.now)
@@ -54,8 +55,8 @@ returns-clause-turn g c =
     ∙ ap (λ r. turn_lines bytes_of after.machines.moment (origin_of port (frame_on port now) message) r report) restart_is in
     record {
       report = report;
-      takes = subst (λ (a : AuditState). TakesTurn family bytes_of turn.moment port message a router report c.take_turn.new.audit after) audit_is
-          (subst (λ (m : Option ReceivedMessage). TakesTurn family bytes_of turn.moment port m c.run.inside.audit router report c.take_turn.new.audit after) message_is
+      takes = subst (λ (a : AuditState). TakesTurn family bytes_of turn.moment port message a router report c.take_turn.new.tracked.audit after) audit_is
+          (subst (λ (m : Option ReceivedMessage). TakesTurn family bytes_of turn.moment port m c.run.inside.tracked.audit router report c.take_turn.new.tracked.audit after) message_is
           c.in_ok-report.ensures.turn);
       lines_are = lines_are;
       progress = ap progress_of c.remember_own-restart.ensures.ledger
@@ -73,8 +74,8 @@ returns-clause-ready g c =
     let bytes_of = g.F.Family.bytes_of in
     let turn = turn_seen c.args.bytes.now c.args.turn.now in
     let port = c.args.turn.now.capture in
-    let progress_is = ap (λ (r : RunState). r.progress) c.run.view_is in
-    let opened_is : progress_of (ledger_seen bytes_of c.open.new.self) ≡ counted turn c.args.run.now.progress =
+    let progress_is = ap (λ (r : TrackedRun). r.run.progress) c.run.view_is in
+    let opened_is : progress_of (ledger_seen bytes_of c.open.new.self) ≡ counted turn c.args.run.now.run.progress =
     opens turn c.frame_after-next.result c.frame.result c.time.result (ledger_seen bytes_of c.run.inside.ledger) (ledger_seen bytes_of c.open.new.self)
     c.open.ensures c.frame.ensures (c.frame_after-next.ensures c.args.bytes.now) (c.time.ensures c.args.bytes.now)
     ∙ ap (counted turn) progress_is in
@@ -83,10 +84,11 @@ returns-clause-ready g c =
       frames = ap (λ (l : Ledger). length l.frames) c.remember_own-restart.ensures.ledger
           ∙ frames_stay port c.own_in-own.result (ledger_seen bytes_of c.open.new.self)
           ∙ ap (λ (p : Progress). length p.frames) opened_is
-          ∙ counted_frames turn c.args.run.now.progress ∙ c.requires.ready.frames ∙ sym ports;
+          ∙ counted_frames turn c.args.run.now.run.progress ∙ c.requires.ready.frames ∙ sym ports;
       own = ap (λ (l : Ledger). length l.own) c.remember_own-restart.ensures.ledger
           ∙ own_stays port c.own_in-own.result (ledger_seen bytes_of c.open.new.self)
           ∙ ap (λ (p : Progress). length p.own) opened_is ∙ c.requires.ready.own ∙ sym ports;
       step = c.in_ok-report.ensures.step;
+      holds = c.in_ok-report.ensures.holds;
       present = omega (arith, c.in_ok-report.ensures.reached, c.requires.moment, c.requires.ready.present);
     }

@@ -5,7 +5,7 @@ use Rattle.pim_audit_events.specs.Lines.{Statement, ended}
 use Rattle.pim_audit_events.specs.Seen.{line_seen, lines_seen}
 use Rattle.pim_audit.specs.Audited.{AuditState, LooksAt, with_due}
 use Rattle.pim_audit.specs.Lines.{line}
-use Rattle.pim_audit.specs.Run.{RunState}
+use Rattle.pim_audit.specs.Ready.{TrackedRun}
 use Rattle.pim_audit.specs.Seen.{dues_seen, report_seen}
 use Rattle.pim_audit.specs.Totals.{with_lines, with_all_open}
 use Rattle.pim_audit.specs.TurnLines.{report_lines}
@@ -17,14 +17,14 @@ returns g c =
     let groups = map bytes_of c.args.groups.now in
     let router = c.pass_on.new.router in
     let report = c.in_ok-report.report in
-    let after = c.look.new.self in
+    let after = c.look.new.self.audit in
     let way = lines_seen bytes_of c.in_ok-lines.lines.items in
     let at = c.now-now.ensures in
-    let audit_is : c.run.inside.audit ≡ c.pass_on.new.run.audit = ap (λ (r : RunState). r.audit) c.run.view_is in
-    let totals_is : c.run.inside.totals ≡ c.args.run.now.totals = ap (λ (r : RunState). r.totals) c.run.view_is ∙ c.pass_on.ensures.totals in
+    let audit_is : c.run.inside.tracked.audit ≡ c.pass_on.new.run.run.audit = ap (λ (r : TrackedRun). r.run.audit) c.run.view_is in
+    let totals_is : c.run.inside.totals ≡ c.args.run.now.run.totals = ap (λ (r : TrackedRun). r.run.totals) c.run.view_is ∙ c.pass_on.ensures.totals in
     let looked : lines_seen bytes_of c.push_look.new.lines.items ≡ way ++ report_lines bytes_of router.machines.moment None report =
     c.in_ok-push_look.ensures ∙ ap (λ m. way ++ report_lines bytes_of m None report) at in
-    let counted : c.with_lines-counted.result ≡ with_lines groups (way ++ report_lines bytes_of router.machines.moment None report) c.args.run.now.totals =
+    let counted : c.with_lines-counted.result ≡ with_lines groups (way ++ report_lines bytes_of router.machines.moment None report) c.args.run.now.run.totals =
     c.with_lines-counted.ensures
     ∙ ap (λ (l : List (AuditLine g.row.F-Addr.Denot)). with_lines groups (lines_seen bytes_of l) c.run.inside.totals) c.deref.ensures.value
     ∙ ap (λ l. with_lines groups l c.run.inside.totals) looked
@@ -32,7 +32,7 @@ returns g c =
     record {
       closes = record {
         way = way;
-        passed = c.pass_on.new.run.audit;
+        passed = c.pass_on.new.run.run.audit;
         passes = c.in_ok-lines.ensures.passes;
         report = report;
         after = after;

@@ -1,13 +1,25 @@
-use Rattle.pim_router.specs.Reading.{reading_seen}
-use Rattle.pim_audit.proofs.ReadMoment.{received_moment}
+use Rattle.pim_audit.proofs.Words.{ℕ, List, sym, subst, AuditState}
+use Rattle.pim_audit.specs.Holding.{HoldsOutside, RouterStays}
+use Rattle.pim_audit.proofs.Carrying.{carried}
+use Rattle.pim_audit.proofs.Touching.{none_stirred, on_ok_if}
 use Rattle.pim_audit.proofs.taking.take.Goals as goal
 
-pub returns-in-Some-clause-moment : goal.returns-in-Some-clause-moment
-returns-in-Some-clause-moment g c =
-    received_moment g.F.Family.family c.args.port (g.F.Family.bytes_of c.args.src) c.args.router.now c.take_read.new.self
-    (reading_seen g.F.Family.family c.args.message.now) c.in_ok-verdict.verdict c.in_ok-verdict.ensures.reported
+pub returns-in-None-clause-holds : goal.returns-in-None-clause-holds
+returns-in-None-clause-holds g c =
+    carried g.F.Family.family c.args.tracked.now.touched c.take_message.new.touched c.take_message.new.touched c.args.tracked.now.audit
+    c.args.tracked.now.audit.asked c.args.router.now c.take_message.new.router c.requires.holds c.take_message.ensures.grows (λ group is. is)
+    (subst (λ (u : List ℕ). RouterStays c.take_message.new.touched u c.args.router.now c.take_message.new.router) c.upstream-upstream.ensures
+    c.in_ok-verdict.ensures.stays)
+    (none_stirred c.take_message.new.touched c.args.tracked.now.audit.asked)
 
-pub returns-in-None-clause-moment : goal.returns-in-None-clause-moment
-returns-in-None-clause-moment g c =
-    received_moment g.F.Family.family c.args.port (g.F.Family.bytes_of c.args.src) c.args.router.now c.take_read.new.self
-    (reading_seen g.F.Family.family c.args.message.now) c.in_ok-verdict.verdict c.in_ok-verdict.ensures.reported
+pub returns-in-Some-heard-clause-holds : goal.returns-in-Some-heard-clause-holds
+returns-in-Some-heard-clause-holds g c =
+    let family = g.F.Family.family in
+    on_ok_if c.hear_or_refuse.result
+    (subst (λ (a : AuditState). HoldsOutside family c.hear_or_refuse.new.tracked.touched a c.take_message.new.router) (sym c.hear_or_refuse.ensures.rest)
+    (carried family c.args.tracked.now.touched c.take_message.new.touched c.hear_or_refuse.new.tracked.touched c.args.tracked.now.audit
+    c.hear_or_refuse.new.tracked.audit.asked c.args.router.now c.take_message.new.router c.requires.holds c.take_message.ensures.grows
+    c.hear_or_refuse.ensures.grows
+    (subst (λ (u : List ℕ). RouterStays c.take_message.new.touched u c.args.router.now c.take_message.new.router) c.upstream-upstream.ensures
+    c.in_ok-verdict.ensures.stays)
+    c.hear_or_refuse.ensures.stays))

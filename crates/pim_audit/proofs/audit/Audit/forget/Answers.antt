@@ -2,8 +2,8 @@ use Rattle.pim_audit.proofs.Words.{◌≡◌, ◌∙◌, max, sym, ap, arith, Do
 use Rattle.pim_audit.proofs.FiresOn.{stays_empty}
 use Rattle.pim_audit.proofs.audit.Audit.forget.Goals as goal
 
-pub returns : goal.returns
-returns g c =
+pub returns-clause-forgets : goal.returns-clause-forgets
+returns-clause-forgets g c =
     let begun = c.new-asked.ensures in
     let first : max 0 c.now.result ≡ c.now.result = omega arith in
     let ports = c.pass_to.ensures.ports ∙ ap (λ (a : Downstream). a.ports) begun ∙ sym c.self.invariant.port in
@@ -15,6 +15,7 @@ returns g c =
     let before : AuditState = record {
       upstream = g.F.Family.bytes_of c.self.inside.upstream;
       grace = c.self.inside.grace;
+      local = c.self.inside.local.now;
       asked = c.self.inside.asked;
       due = dues_seen g.F.Family.bytes_of c.self.inside.due.items;
     } in
