@@ -7,8 +7,8 @@ _pimtree_options() {
     case $1 in
         check | build) echo --src --dst --help ;;
         replay) echo "$run" --input --help ;;
-        trace) echo "$run" --from --group --source --time --all --json --help ;;
-        audit) echo "$run" --upstream --grace --from --group --time --json --help ;;
+        trace) echo "$run" --from --group --source --time --all --state --json --help ;;
+        audit) echo "$run" --upstream --local --grace --from --group --time --json --help ;;
         same | mirror | emit | change) echo "$run" "$messages" --input --help ;;
         session) echo --help ;;
     esac
@@ -56,8 +56,8 @@ _pimtree() {
     case $before in
         --time) _pimtree_words 'ms epoch utc' "$2" ;;
         --input) _pimtree_words 'classic any' "$2" ;;
-        --routes | [\<\>]*) _pimtree_files '' "$2" ;;
-        --all | --json) _pimtree_argument "$command" "$2" ;;
+        --routes | --local | [\<\>]*) _pimtree_files '' "$2" ;;
+        --all | --state | --json) _pimtree_argument "$command" "$2" ;;
         --*) ;;
         *) _pimtree_argument "$command" "$2" ;;
     esac

@@ -59,6 +59,7 @@ complete -c pimtree -n $of_demand -l own -x -d 'Address the messages come from'
 complete -c pimtree -n $of_demand -l holdtime -x -d 'Holdtime of the messages in seconds'
 complete -c pimtree -n $of_demand -l budget -x -d 'Most bytes of a message'
 
+complete -c pimtree -n $of_audit -l local -r -F -d 'File of what receivers on own links want'
 complete -c pimtree -n $of_audit -l grace -x -d 'Milliseconds that an entry may be due'
 
 complete -c pimtree -n $of_shown -l from -x -d 'Leave out what is before this time'
@@ -66,4 +67,5 @@ complete -c pimtree -n $of_shown -l group -x -d 'Show only this group'
 complete -c pimtree -n $of_trace -l source -x -d 'Show only this source, and (*,G)'
 complete -c pimtree -n $of_shown -l time -x -a 'ms epoch utc' -d 'Form of times'
 complete -c pimtree -n $of_trace -l all -d 'Show what changes no state, too'
+complete -c pimtree -n $of_trace -l state -d 'Show at the end what the router holds and wants'
 complete -c pimtree -n $of_shown -l json -d 'Write a JSON object a line'

@@ -64,6 +64,8 @@ OF_TRACE = {
     "skipped": ["frame", "why"],
     "timed-out": ["neighbour", "cause"],
     "fired": ["timer", "what", "group", "source", "was", "now", "echo", "cause"],
+    "record": ["what", "group", "source", "state", "for", "et", "ppt", "cause"],
+    "want": ["what", "group", "source", "via"],
     "end": ["records", "neighbours", "skipped"],
 }
 OF_AUDIT = {
@@ -79,6 +81,7 @@ MEMBERS = {"trace": OF_TRACE, "audit": OF_AUDIT}
 WITHIN = {
     "timed-out": ("cause", ["frame", "ms"]),
     "fired": ("cause", ["frame", "from", "ms"]),
+    "record": ("cause", ["frame", "from", "ms"]),
     "end": ("skipped", ["cut", "not-ip", "bad-header", "not-pim", "fragment", "family"]),
 }
 USED = re.compile(r"\buse Rattle\.(\w+)\.(specs|proofs)\.([\w.]+?)(?:\.\{| as |;|$)", re.MULTILINE)

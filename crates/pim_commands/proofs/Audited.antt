@@ -1,5 +1,6 @@
 -- What is printed of a line of an audit, as the printers say it and as the words ask for it.
 use Rattle.pim_commands.proofs.Words.{◌≡◌, ℕ, true, false, List, Option, Result, map, sym, ap, subst, if◌then◌else◌, AddressFamily}
+use Rattle.pim_local.specs.Joins.{Join}
 use Rattle.pim_merge.specs.declared.end.End.{End}
 use Rattle.pim_merge.specs.Next.{MergeState}
 use Rattle.pim_router.specs.State.{RouterState}
@@ -30,19 +31,20 @@ module _ {A : Type 0} (family : AddressFamily) (bytes_of : A → List ℕ) (name
 
 module _ {A : Type 0} (family : AddressFamily) (bytes_of : A → List ℕ) (merge merge' : MergeState) (state after : RouterState) (old new : Option (List ℕ))
     (result : Result ℕ RunFault) where
-  abbrev IsAudit : List (List ℕ) → (Option ℕ → Statement → List ℕ) → End → List ℕ → ℕ → ℕ → Type 0
-  IsAudit groups text end upstream grace limit =
-      Audits family bytes_of groups text end merge (run_at_start upstream grace limit state) state old merge' after new result
+  abbrev IsAudit : List (List ℕ) → (Option ℕ → Statement → List ℕ) → End → List ℕ → ℕ → List Join → ℕ → Type 0
+  IsAudit groups text end upstream grace local limit =
+      Audits family bytes_of groups text end merge (run_at_start upstream grace local limit state) state old merge' after new result
 
   -- an audit by what the words ask
   pub as_asked : (groups groups' : List (List ℕ)) (text text' : Option ℕ → Statement → List ℕ) (end end' : End) (upstream upstream' : List ℕ)
-      (grace grace' limit limit' : ℕ) → groups ≡ groups' → text ≡ text' → end ≡ end' → upstream ≡ upstream' → grace ≡ grace' → limit ≡ limit'
-      → Audits family bytes_of groups text end merge (run_at_start upstream grace limit state) state old merge' after new result
-      → Audits family bytes_of groups' text' end' merge (run_at_start upstream' grace' limit' state) state old merge' after new result
-  as_asked groups groups' text text' end end' upstream upstream' grace grace' limit limit' g t e u r l audits =
-      subst (IsAudit groups' text' end' upstream' grace') l
-      (subst (λ n. IsAudit groups' text' end' upstream' n limit) r
-      (subst (λ a. IsAudit groups' text' end' a grace limit) u
-      (subst (λ (x : End). IsAudit groups' text' x upstream grace limit) e
-      (subst (λ (x : Option ℕ → Statement → List ℕ). IsAudit groups' x end upstream grace limit) t
-      (subst (λ (x : List (List ℕ)). IsAudit x text end upstream grace limit) g audits)))))
+      (grace grace' : ℕ) (local local' : List Join) (limit limit' : ℕ) → groups ≡ groups' → text ≡ text' → end ≡ end' → upstream ≡ upstream' → grace ≡ grace' → local ≡ local' → limit ≡ limit'
+      → Audits family bytes_of groups text end merge (run_at_start upstream grace local limit state) state old merge' after new result
+      → Audits family bytes_of groups' text' end' merge (run_at_start upstream' grace' local' limit' state) state old merge' after new result
+  as_asked groups groups' text text' end end' upstream upstream' grace grace' local local' limit limit' g t e u r j l audits =
+      subst (IsAudit groups' text' end' upstream' grace' local') l
+      (subst (λ (x : List Join). IsAudit groups' text' end' upstream' grace' x limit) j
+      (subst (λ n. IsAudit groups' text' end' upstream' n local limit) r
+      (subst (λ a. IsAudit groups' text' end' a grace local limit) u
+      (subst (λ (x : End). IsAudit groups' text' x upstream grace local limit) e
+      (subst (λ (x : Option ℕ → Statement → List ℕ). IsAudit groups' x end upstream grace local limit) t
+      (subst (λ (x : List (List ℕ)). IsAudit x text end upstream grace local limit) g audits))))))

@@ -9,3 +9,4 @@ pub mod Opened
 pub mod Traced
 pub mod Audited
 pub mod TraceAndReplay
+pub mod StateLines

@@ -1,10 +1,13 @@
 -- What was opened, and what is returned and written over it.
 use Rattle.pim_commands.proofs.Words.{◌≡◌, ◌∙◌, inr, sym, ap, refl, ℕ, List, Option, Result, Ok, Err, AddressFamily}
-use Rattle.pim_commands.proofs.Words.{RouteTable, IsOpen, AreOpen, MergeState, Fault, OpensNot, Opens, OverOne}
+use Rattle.std.specs.Borrow.{Bor}
+use Rattle.pim_local.specs.Joins.{Join}
+use Rattle.pim_commands.proofs.Words.{RouteTable, IsOpenWithLocal, AreOpen, MergeState, Fault, OpensNot, Opens, OverOne}
 use Rattle.pim_commands.proofs.Words.{OverBoth, write_failures_after}
 use Rattle.pim_files.specs.declared.fault.OpenFault.{OpenFault}
 use Rattle.pim_files.specs.declared.fault.OpenFault.TheVariants as opening
 use Rattle.pim_files.specs.Files.{Known}
+use Rattle.pim_files.specs.declared.local.fault.LocalFileFault.TheVariants as local_file
 use Rattle.pim_files.specs.declared.routes.fault.RoutesFault.TheVariants as routes
 use Rattle.pim_words.specs.declared.task.Captures.{Captures}
 use Rattle.pim_faults.specs.Unopened.{open_fault}
@@ -19,19 +22,25 @@ not_written before (opening.Routes routes.TooLong) = refl
 not_written before (opening.Routes routes.Read) = refl
 not_written before (opening.Routes (routes.Line number)) = refl
 not_written before (opening.Routes routes.Memory) = refl
+not_written before (opening.Local local_file.TooLong) = refl
+not_written before (opening.Local local_file.Read) = refl
+not_written before (opening.Local (local_file.Line number)) = refl
+not_written before (opening.Local local_file.Memory) = refl
 not_written before opening.Memory = refl
 
 -- ---- the result over what is open
 
 module _ {A R : Type 0} (family : AddressFamily) (bytes_of : A → List ℕ) (remaining : R → Option (List ℕ)) (failures : R → ℕ) (known last : Known) (captures : Captures A)
-    (upstream : Option A) where
+    (upstream : Option A) (local : Option (Bor (List ℕ))) where
   -- of one router
-  pub over_open : (Answers : RouteTable → MergeState → MergeState → Type 0) (table : RouteTable) (merge merge' : MergeState)
-      → IsOpen family bytes_of remaining failures known last captures upstream table merge → Answers table merge merge'
-      → OverOne family bytes_of remaining failures known last captures upstream Answers
-  over_open Answers table merge merge' o is = record {
+  pub over_open : (Answers : RouteTable → List Join → MergeState → MergeState → Type 0) (table : RouteTable) (joins : List Join) (merge merge' : MergeState)
+      → IsOpenWithLocal family bytes_of remaining failures known last captures upstream local table joins merge → Answers table joins merge merge'
+      → OverOne family bytes_of remaining failures known last captures upstream local Answers
+  over_open Answers table joins merge merge' o is = record {
     table = table;
     is_table = o.is_table;
+    joins = joins;
+    has_joins = o.has_joins;
     merge = merge;
     merge' = merge';
     each = o.each;
@@ -41,6 +50,8 @@ module _ {A R : Type 0} (family : AddressFamily) (bytes_of : A → List ℕ) (re
     answers = is;
   }
 
+module _ {A R : Type 0} (family : AddressFamily) (bytes_of : A → List ℕ) (remaining : R → Option (List ℕ)) (failures : R → ℕ) (known last : Known) (captures : Captures A)
+    (upstream : Option A) where
   -- of two routers
   pub over_both : (Answers : RouteTable → MergeState → MergeState → MergeState → MergeState → Type 0) (table : RouteTable) (merge merge' other other' : MergeState)
       → AreOpen family bytes_of remaining failures known last captures upstream table merge other → Answers table merge merge' other other'
@@ -62,13 +73,12 @@ module _ {A R : Type 0} (family : AddressFamily) (bytes_of : A → List ℕ) (re
     answers = is;
   }
 
-  -- a file isn't open, and the device has not failed
-  pub not_failed : (before : ℕ) (fault : Fault) → OpensNot family bytes_of remaining failures known last captures upstream fault
-      → before ≡ write_failures_after {A = ℕ} before (Err fault)
-  not_failed before fault u = sym (ap (λ (f : Fault). write_failures_after {A = ℕ} before (Err f)) u.is ∙ not_written before u.reported)
+-- a file isn't open, and the device has not failed
+pub not_failed : (Unopened : OpenFault → Type 0) (known last : Known) (names : List (List ℕ)) (before : ℕ) (fault : Fault) → OpensNot Unopened known last names fault
+    → before ≡ write_failures_after {A = ℕ} before (Err fault)
+not_failed Unopened known last names before fault u = sym (ap (λ (f : Fault). write_failures_after {A = ℕ} before (Err f)) u.is ∙ not_written before u.reported)
 
-  -- what is returned and written over it
-  pub answered : (Warns : List ℕ → Type 0) (old new : Option (List ℕ)) (result : Result ℕ Fault) (Answered : Type 0) → Answered
-      → Opens family bytes_of remaining failures known last captures upstream Warns old new result Answered
-  answered Warns old new (Ok status) Answered is = is
-  answered Warns old new (Err fault) Answered is = inr is
+-- what is returned and written over it
+pub answered : (Unopened : Fault → Type 0) (Warns : List ℕ → Type 0) (old new : Option (List ℕ)) (result : Result ℕ Fault) (Answered : Type 0) → Answered → Opens Unopened Warns old new result Answered
+answered Unopened Warns old new (Ok status) Answered is = is
+answered Unopened Warns old new (Err fault) Answered is = inr is

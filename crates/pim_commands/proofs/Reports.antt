@@ -2,7 +2,7 @@
 use Rattle.pim_commands.proofs.Words.{◌≡◌, ℕ, ◌≤◌, List, [], ◌∷◌, ◌++◌, length, map, Option, None, Some, Result, Ok, Err, refl}
 use Rattle.pim_commands.proofs.Words.{sym, subst, ap, ◌∙◌, IfSome, IfOk, Keeps, AddressFamily, judged, Content, hello, join_prune}
 use Rattle.pim_commands.proofs.Words.{content, frame_faults, faults, message_text, hello_text, Fault, Words, File, Unopened}
-use Rattle.pim_commands.proofs.Words.{RoutesTooLong, RoutesRead, RoutesLine, Capture, InFile, TooBig, Full, Frame, Hello}
+use Rattle.pim_commands.proofs.Words.{RoutesTooLong, RoutesRead, RoutesLine, LocalTooLong, LocalRead, LocalLine, Capture, InFile, TooBig, Full, Frame, Hello}
 use Rattle.pim_commands.proofs.Words.{JoinPrune, InputTooLong, InputRead, Output, Memory, TextTooLong, TextLine, TextFamily}
 use Rattle.pim_commands.proofs.Words.{content_faults, content_text, body_report, hello_report, message_report, input_report}
 use Rattle.pim_commands.proofs.Words.{Explains, IsMessageFault, IsStated, Reports}
@@ -51,6 +51,9 @@ unreported report old new (Unopened file why) kept cause = absurd cause
 unreported report old new RoutesTooLong kept cause = absurd cause
 unreported report old new RoutesRead kept cause = absurd cause
 unreported report old new (RoutesLine number) kept cause = absurd cause
+unreported report old new LocalTooLong kept cause = absurd cause
+unreported report old new LocalRead kept cause = absurd cause
+unreported report old new (LocalLine number) kept cause = absurd cause
 unreported report old new (Capture why) kept cause = absurd cause
 unreported report old new (InFile why file number) kept cause = absurd cause
 unreported report old new (TooBig group) kept cause = absurd cause

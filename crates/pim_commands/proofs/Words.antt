@@ -9,11 +9,11 @@ pub use Rattle.pim_faults.specs.Ending.{IsReported}
 pub use Rattle.pim_faults.specs.declared.fault.Fault.{Fault}
 pub use Rattle.pim_faults.specs.declared.fault.Fault.TheVariants.{Capture, File, Frame, Full, Hello, InFile}
 pub use Rattle.pim_faults.specs.declared.fault.Fault.TheVariants.{InputRead, InputTooLong, JoinPrune, Memory}
-pub use Rattle.pim_faults.specs.declared.fault.Fault.TheVariants.{Output, RoutesLine, RoutesRead, RoutesTooLong}
+pub use Rattle.pim_faults.specs.declared.fault.Fault.TheVariants.{LocalLine, LocalRead, LocalTooLong, Output, RoutesLine, RoutesRead, RoutesTooLong}
 pub use Rattle.pim_faults.specs.declared.fault.Fault.TheVariants.{TextFamily, TextLine, TextTooLong, TooBig}
 pub use Rattle.pim_faults.specs.declared.fault.Fault.TheVariants.{Unopened, Words}
 pub use Rattle.pim_files.specs.Captures.{PortFiles, files_from, is_further, of_router, with_more}
-pub use Rattle.pim_files.specs.Opening.{AreOpen, IsOpen, port_files}
+pub use Rattle.pim_files.specs.Opening.{AreOpen, IsOpenWithLocal, port_files}
 pub use Rattle.pim_frame.specs.Frame.{Content, content, frame_faults, hello, join_prune, other}
 pub use Rattle.pim_jp.specs.Faults.{faults}
 pub use Rattle.pim_merge.specs.Lane.{IsComing, tallies_of}
@@ -43,7 +43,7 @@ pub use Rattle.pim_commands.specs.Opening.{OneRuns, Opens, OpensNot, OverBoth, O
 pub use Rattle.pim_commands.specs.Report.{Explains, IsMessageFault, IsStated, Reports, body_report, content_faults}
 pub use Rattle.pim_commands.specs.Report.{content_text, hello_report, input_report, message_faults, message_report}
 pub use Rattle.pim_commands.specs.Report.{write_failures_after}
-pub use Rattle.pim_commands.specs.Routers.{IsFirstCause, IsWriterOf, config_causes, config_fault, config_of}
+pub use Rattle.pim_commands.specs.Routers.{IsFirstCause, IsWriterOf, config_causes, config_fault, config_of, end_of}
 pub use Rattle.pim_commands.specs.Routers.{setup_in, writer_causes, writing_of}
-pub use Rattle.pim_commands.specs.Tracing.{line_of, names_of, selection_of}
+pub use Rattle.pim_commands.specs.Tracing.{TracesAsAsked, line_of, names_of, selection_of}
 pub use Rattle.pim_commands.specs.Warnings.{port_warnings, warnings_from, warnings_text}

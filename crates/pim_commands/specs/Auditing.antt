@@ -5,21 +5,25 @@ use Rattle.pim_audit_events.specs.Filter.{Selection, if_shown}
 use Rattle.pim_audit_events.specs.Lines.{Statement}
 use Rattle.pim_audit_lines.specs.AuditJson.{audit_json}
 use Rattle.pim_audit_lines.specs.AuditText.{audit_text}
+use Rattle.pim_local.specs.Joins.{Join}
 use Rattle.pim_words.specs.declared.task.Auditing.{Auditing}
 use Rattle.pim_words.specs.declared.task.Tracing.{Tracing}
 
--- What an audit asks: which groups count, of whom the router asks, and when an entry is late.
+-- What an audit asks: which groups count, of whom the router asks, when an entry is late, and what
+-- local receivers have joined.
 pub record AuditAsked : Type 0 where
   pub groups : List (List ℕ)
   pub upstream : List ℕ
   pub grace : ℕ
+  pub local : List Join
 
--- What the words ask.
-abbrev pub audit_of : {A : Type 0} → (A → List ℕ) → Auditing A → Tracing A → AuditAsked
-audit_of bytes_of auditing tracing = record {
+-- What the words ask, with these local joins.
+abbrev pub audit_of : {A : Type 0} → (A → List ℕ) → Auditing A → Tracing A → List Join → AuditAsked
+audit_of bytes_of auditing tracing local = record {
   groups = map bytes_of tracing.groups.items;
   upstream = bytes_of auditing.upstream;
   grace = auditing.grace_ms;
+  local = local;
 }
 
 -- Which lines the words ask for.

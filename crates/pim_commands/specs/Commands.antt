@@ -2,6 +2,7 @@
 -- only.
 use Rattle.std.specs.Prelude.{⊤, List, ℕ, Option, None, Some}
 use Rattle.pim_addr.specs.declared.family.AddressFamily.{AddressFamily}
+use Rattle.pim_local.specs.Joins.{Join}
 use Rattle.pim_words.specs.declared.task.Captures.{Captures}
 use Rattle.pim_words.specs.Plan.{AreNames, IsWritable}
 use Rattle.pim_commands.specs.declared.one_router.OneRouter.{OneRouter}
@@ -13,16 +14,16 @@ use Rattle.pim_commands.specs.Auditing.{audit_line_of, audit_of}
 use Rattle.pim_commands.specs.Routers.{writing_of}
 use Rattle.pim_commands.specs.Tracing.{line_of, names_of}
 
--- What a command for one router asks of its engine.
-abbrev pub engine_of : {A : Type 0} → AddressFamily → (A → List ℕ) → OneRouter A → Engine
-engine_of family bytes_of Report = a_report
-engine_of family bytes_of (Trace tracing) =
-    a_trace (line_of family bytes_of (names_of 0 tracing.now.names.items) tracing.now)
-engine_of family bytes_of (Audit words) =
+-- What a command for one router asks of its engine, with these local joins.
+abbrev pub engine_of : {A : Type 0} → AddressFamily → (A → List ℕ) → OneRouter A → List Join → Engine
+engine_of family bytes_of Report local = a_report
+engine_of family bytes_of (Trace tracing) local =
+    a_trace tracing.now.state (line_of family bytes_of (names_of 0 tracing.now.names.items) tracing.now)
+engine_of family bytes_of (Audit words) local =
     an_audit (audit_line_of family bytes_of (names_of 0 words.tracing.now.names.items) words.auditing.now.upstream words.tracing.now)
-    (audit_of bytes_of words.auditing.now words.tracing.now)
-engine_of family bytes_of (Mirror writing) = a_mirror (writing_of bytes_of writing.now)
-engine_of family bytes_of (Emit writing) = an_emission (writing_of bytes_of writing.now)
+    (audit_of bytes_of words.auditing.now words.tracing.now local)
+engine_of family bytes_of (Mirror writing) local = a_mirror (writing_of bytes_of writing.now)
+engine_of family bytes_of (Emit writing) local = an_emission (writing_of bytes_of writing.now)
 
 -- The upstream neighbour that it names.
 abbrev pub upstream_of : {A : Type 0} → OneRouter A → Option A
@@ -42,9 +43,10 @@ Fits captures (Emit writing) = IsWritable writing.now
 -- The engine with what was made of the words.
 abbrev pub engine_seen : {F A N : Type 0} → AddressFamily → (A → List ℕ) → Made F A N → Engine
 engine_seen family bytes_of made.Report = a_report
-engine_seen family bytes_of (made.Trace names tracing) = a_trace (line_of family bytes_of names.now tracing.now)
-engine_seen family bytes_of (made.Audit names words) =
+engine_seen family bytes_of (made.Trace names tracing) =
+    a_trace tracing.now.state (line_of family bytes_of names.now tracing.now)
+engine_seen family bytes_of (made.Audit names words local) =
     an_audit (audit_line_of family bytes_of names.now words.auditing.now.upstream words.tracing.now)
-    (audit_of bytes_of words.auditing.now words.tracing.now)
+    (audit_of bytes_of words.auditing.now words.tracing.now local.now)
 engine_seen family bytes_of (made.Mirror by) = a_mirror by.now
 engine_seen family bytes_of (made.Emit by) = an_emission by.now

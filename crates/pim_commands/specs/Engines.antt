@@ -1,5 +1,5 @@
 -- What the engines of the commands return and write, and what the program makes of it.
-use Rattle.std.specs.Prelude.{◌≡◌, ◌⊎◌, ℕ, List, [], ◌++◌, is_some, Option, None, Some, Result, Ok, Err}
+use Rattle.std.specs.Prelude.{◌≡◌, ◌⊎◌, ℕ, Bool, List, [], ◌++◌, is_some, Option, None, Some, Result, Ok, Err}
 use Rattle.pim_addr.specs.declared.family.AddressFamily.{AddressFamily}
 use Rattle.pim_addr.specs.Routes.{RouteTable}
 use Rattle.pim_audit.specs.Run.{Audits, run_at_start}
@@ -19,7 +19,6 @@ use Rattle.pim_merge.specs.Next.{MergeState}
 use Rattle.pim_run.specs.declared.fault.RunFault.{RunFault}
 use Rattle.pim_replay.specs.Report.{Replays}
 use Rattle.pim_router.specs.State.{RouterState, new_router}
-use Rattle.pim_trace.specs.Trace.{Traces}
 use Rattle.pim_words.specs.declared.fault.RouterSide.TheVariants as side
 use Rattle.pim_words.specs.declared.task.Captures.{Captures}
 use Rattle.pim_faults.specs.declared.fault.Fault.{Fault}
@@ -28,15 +27,17 @@ use Rattle.pim_commands.specs.declared.two_routers.TwoRouters.TheVariants.{Same,
 use Rattle.pim_commands.specs.Answers.{answer_of}
 use Rattle.pim_commands.specs.Auditing.{AuditAsked}
 use Rattle.pim_commands.specs.Census.{begun}
+use Rattle.pim_commands.specs.Tracing.{TracesAsAsked}
 use Rattle.pim_commands.specs.Routers.{end_of, setup_in, writer_causes, config_causes, IsFirstCause}
 
 -- ---- the engines
 
 -- The engine of a command for one router. It writes the report, this line of each event of a trace,
--- this text of each line of an audit, or the messages of this writer as text or as bytes.
+-- with the state at the end or without, this text of each line of an audit, or the messages of this
+-- writer as text or as bytes.
 pub data Engine : Type 0 where
   a_report : Engine
-  a_trace : (Occurrence → List ℕ) → Engine
+  a_trace : Bool → (Occurrence → List ℕ) → Engine
   an_audit : (Option ℕ → Statement → List ℕ) → AuditAsked → Engine
   a_mirror : Writing → Engine
   an_emission : Writing → Engine
@@ -63,11 +64,11 @@ module _ {A : Type 0} (family : AddressFamily) (bytes_of : A → List ℕ) (capt
       Result ℕ (ExchangeFault A) → Type 0
   Does a_report merge merge' state old new after reported = IsAsOf
       (Replays family (is_some captures.routes) (end_of captures) merge merge' state after old new) of_replayed reported
-  Does (a_trace line) merge merge' state old new after reported = IsAsOf
-      (Traces line family (end_of captures) merge merge' state after old new) of_traced reported
+  Does (a_trace has_state line) merge merge' state old new after reported = IsAsOf
+      (TracesAsAsked has_state line family (end_of captures) merge merge' state after old new) of_traced reported
   Does (an_audit line asked) merge merge' state old new after reported = IsAsOf
       (Audits family bytes_of asked.groups line (end_of captures) merge
-      (run_at_start asked.upstream asked.grace captures.limit state) state old merge' after new) of_replayed reported
+      (run_at_start asked.upstream asked.grace asked.local captures.limit state) state old merge' after new) of_replayed reported
   Does (a_mirror writing) merge merge' state old new after reported =
       WritesMirror family (end_of captures) writing captures.limit merge merge' state after bytes_of old new reported
   Does (an_emission writing) merge merge' state old new after reported =
@@ -86,7 +87,7 @@ module _ {A : Type 0} (family : AddressFamily) (bytes_of : A → List ℕ) (capt
   -- The captures before the run. A census of each has begun, if ports of the words have links, but
   -- for a trace and an audit.
   abbrev pub begun_for : Engine → MergeState → MergeState
-  begun_for (a_trace line) merge = merge
+  begun_for (a_trace has_state line) merge = merge
   begun_for (an_audit line asked) merge = merge
   begun_for engine merge = begun family captures merge
 

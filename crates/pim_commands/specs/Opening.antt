@@ -3,14 +3,17 @@
 -- hold. Or it returns a fault of opening, and writes nothing.
 use Rattle.std.specs.Prelude.{◌≡◌, ◌⊎◌, ℕ, List, [], ◌++◌, length, filter}
 use Rattle.std.specs.Prelude.{Option, None, Some, Result, Ok, Err}
+use Rattle.std.specs.Borrow.{Bor}
 use Rattle.pim_addr.specs.declared.family.AddressFamily.{AddressFamily}
 use Rattle.pim_addr.specs.Routes.{RouteTable}
 use Rattle.pim_files.specs.declared.fault.OpenFault.{OpenFault}
 use Rattle.pim_files.specs.Captures.{of_router, HoldFiles}
 use Rattle.pim_words.specs.Faults.{is_of}
 use Rattle.pim_files.specs.Files.{Known, RequestsFor, RequestsFront}
-use Rattle.pim_files.specs.Opening.{file_names, port_files, IsUnopened}
+use Rattle.pim_files.specs.Opening.{file_names, local_file_names, port_files, IsUnopened, IsUnopenedWithLocal}
+use Rattle.pim_files.specs.Receivers.{HasJoins}
 use Rattle.pim_files.specs.Table.{IsTable}
+use Rattle.pim_local.specs.Joins.{Join}
 use Rattle.pim_merge.specs.Next.{MergeState, IsUntaken}
 use Rattle.pim_words.specs.declared.fault.RouterSide.TheVariants as side
 use Rattle.pim_words.specs.declared.task.Auditing.{Auditing}
@@ -29,40 +32,61 @@ use Rattle.pim_commands.specs.Tracing.{line_of, names_of}
 use Rattle.pim_commands.specs.Warnings.{warnings_text}
 use Rattle.pim_faults.specs.Unopened.{open_fault}
 
--- ---- what is opened for these captures, with this upstream neighbour; `known` and `known'` say
--- what is known of the opener before and after
+-- ---- files that aren't open
+
+-- Not all files of these names are open, and this is the program's fault. Some first ones of the
+-- names were asked for. `Unopened` says why, and `known` and `known'` what is known of the opener
+-- before and after.
+pub record OpensNot (Unopened : OpenFault → Type 0) (known known' : Known) (names : List (List ℕ)) (fault : Fault)
+    : Type 0 where
+  pub reported : OpenFault
+  pub is : fault ≡ open_fault reported
+  pub unopened : Unopened reported
+  pub requested : RequestsFront known known' names
+
+-- The result has the property `Answered`, or it is a fault of opening and nothing is written. `Warns`
+-- says of a text that it was written to the device for errors.
+abbrev pub Opens : (Fault → Type 0) → (List ℕ → Type 0) → Option (List ℕ) → Option (List ℕ) → Result ℕ Fault → Type 0 →
+    Type 0
+Opens Unopened Warns old new (Ok status) Answered = Answered
+Opens Unopened Warns old new (Err fault) Answered = (Unopened fault × (new ≡ old) × Warns []) ⊎ Answered
+
+-- ---- what is opened for these captures, with this upstream neighbour and this file of local joins
 
 module _ {A R : Type 0} (family : AddressFamily) (bytes_of : A → List ℕ) (remaining : R → Option (List ℕ))
-    (failures : R → ℕ) (known known' : Known) (captures : Captures A) (upstream : Option A) where
-  -- Not all files are open, and this is the program's fault. Some first ones of the names were
-  -- asked for.
-  pub record OpensNot (fault : Fault) : Type 0 where
-    pub reported : OpenFault
-    pub is : fault ≡ open_fault reported
-    pub unopened : IsUnopened family bytes_of remaining failures known.files captures upstream reported
-    pub requested : RequestsFront known known' (file_names captures)
+    (failures : R → ℕ) (known known' : Known) (captures : Captures A) (upstream : Option A)
+    (local : Option (Bor (List ℕ))) where
+  -- Not all files of a router are open.
+  abbrev pub OpensNotOne : Fault → Type 0
+  OpensNotOne = OpensNot (IsUnopenedWithLocal family bytes_of remaining failures known.files captures upstream local)
+      known known' (local_file_names captures local)
 
-  -- The result has the property `Answered`, or it is a fault of opening and nothing is written.
-  -- `Warns` says of a text that it was written to the device for errors.
-  abbrev pub Opens : (List ℕ → Type 0) → Option (List ℕ) → Option (List ℕ) → Result ℕ Fault → Type 0 → Type 0
-  Opens Warns old new (Ok status) Answered = Answered
-  Opens Warns old new (Err fault) Answered = (OpensNot fault × (new ≡ old) × Warns []) ⊎ Answered
-
-  -- The result is so over a table and the captures of one router. They are those of its ports'
-  -- files, in their order, each by the link of its port, and nothing of them was read before all
-  -- were open. `merge'` is what the run leaves of them.
-  pub record OverOne (Answers : RouteTable → MergeState → MergeState → Type 0) : Type 0 where
+  -- The result is so over a table, local joins and the captures of one router. They are those of its
+  -- ports' files, in their order, each by the link of its port, and nothing of them was read before
+  -- all were open. `merge'` is what the run leaves of them.
+  pub record OverOne (Answers : RouteTable → List Join → MergeState → MergeState → Type 0) : Type 0 where
     pub table : RouteTable
     pub is_table : IsTable family bytes_of remaining failures known.files captures upstream table
+    pub joins : List Join
+    pub has_joins : HasJoins family remaining failures known.files local joins
     pub merge : MergeState
     pub merge' : MergeState
     pub each : length merge.lanes ≡ length captures.ports.items
     pub untaken : IsUntaken merge
     pub held : HoldFiles known.files (port_files captures) merge.lanes
-    pub requested : RequestsFor known known' (file_names captures)
-    pub answers : Answers table merge merge'
+    pub requested : RequestsFor known known' (local_file_names captures local)
+    pub answers : Answers table joins merge merge'
 
-  -- The same for two routers, each with the captures of its own ports.
+-- ---- the same for two routers, without local joins
+
+module _ {A R : Type 0} (family : AddressFamily) (bytes_of : A → List ℕ) (remaining : R → Option (List ℕ))
+    (failures : R → ℕ) (known known' : Known) (captures : Captures A) (upstream : Option A) where
+  -- Not all files of two routers are open.
+  abbrev pub OpensNotBoth : Fault → Type 0
+  OpensNotBoth = OpensNot (IsUnopened family bytes_of remaining failures known.files captures upstream)
+      known known' (file_names captures)
+
+  -- The result is so over a table, and the captures of each router's own ports.
   pub record OverBoth (Answers : RouteTable → MergeState → MergeState → MergeState → MergeState → Type 0) : Type 0
     where
       pub table : RouteTable
@@ -86,21 +110,26 @@ module _ {A R : Type 0} (family : AddressFamily) (bytes_of : A → List ℕ) (re
 module _ {A R : Type 0} (family : AddressFamily) (bytes_of : A → List ℕ) (remaining : R → Option (List ℕ))
     (failures : R → ℕ) (known known' : Known) (captures : Captures A) where
   -- The result has the property, over what is opened for one router.
-  abbrev pub OpensOne : Option A → (List ℕ → Type 0) → Option (List ℕ) → Option (List ℕ) → Result ℕ Fault →
-      (RouteTable → MergeState → MergeState → Type 0) → Type 0
-  OpensOne upstream Warns old new result Answers = Opens family bytes_of remaining failures known known' captures
-      upstream Warns old new result (OverOne family bytes_of remaining failures known known' captures upstream Answers)
+  abbrev pub OpensOne : Option A → Option (Bor (List ℕ)) → (List ℕ → Type 0) → Option (List ℕ) → Option (List ℕ) →
+      Result ℕ Fault → (RouteTable → List Join → MergeState → MergeState → Type 0) → Type 0
+  OpensOne upstream local Warns old new result Answers = Opens
+      (OpensNotOne family bytes_of remaining failures known known' captures upstream local) Warns old new result
+      (OverOne family bytes_of remaining failures known known' captures upstream local Answers)
 
   -- The result has the property, over what is opened for two routers.
   abbrev pub OpensBoth : Option A → (List ℕ → Type 0) → Option (List ℕ) → Option (List ℕ) → Result ℕ Fault →
       (RouteTable → MergeState → MergeState → MergeState → MergeState → Type 0) → Type 0
-  OpensBoth upstream Warns old new result Answers = Opens family bytes_of remaining failures known known' captures
-      upstream Warns old new result (OverBoth family bytes_of remaining failures known known' captures upstream Answers)
+  OpensBoth upstream Warns old new result Answers = Opens
+      (OpensNotBoth family bytes_of remaining failures known known' captures upstream) Warns old new result
+      (OverBoth family bytes_of remaining failures known known' captures upstream Answers)
 
-  -- An engine runs over what is opened for one router. Then come the warnings on its captures.
-  abbrev pub OneRuns : Option A → Engine → (List ℕ → Type 0) → Option (List ℕ) → Option (List ℕ) → Result ℕ Fault → Type 0
-  OneRuns upstream engine Warns old new result = OpensOne upstream Warns old new result (λ table merge merge'.
-      RunsOne family bytes_of captures engine table (begun_for family bytes_of captures engine merge) merge' old new result
+  -- An engine runs over what is opened for one router; it may depend on the local joins. Then come the
+  -- warnings on its captures.
+  abbrev pub OneRuns : Option A → Option (Bor (List ℕ)) → (List Join → Engine) → (List ℕ → Type 0) → Option (List ℕ) →
+      Option (List ℕ) → Result ℕ Fault → Type 0
+  OneRuns upstream local engine Warns old new result = OpensOne upstream local Warns old new result
+      (λ table joins merge merge'. RunsOne family bytes_of captures (engine joins) table
+      (begun_for family bytes_of captures (engine joins) merge) merge' old new result
       × Warns (warnings_text family bytes_of table (port_files captures) merge'))
 
   -- An engine with a writer runs over what is opened for two routers. Then come the warnings on the
@@ -115,28 +144,29 @@ module _ {A R : Type 0} (family : AddressFamily) (bytes_of : A → List ℕ) (re
 
   -- What `replay` returns and writes. It writes upstream neighbours if a file of routes is named.
   abbrev pub ReplaysFiles : (List ℕ → Type 0) → Option (List ℕ) → Option (List ℕ) → Result ℕ Fault → Type 0
-  ReplaysFiles Warns old new result = OneRuns None a_report Warns old new result
+  ReplaysFiles Warns old new result = OneRuns None None (λ joins. a_report) Warns old new result
 
   -- What `trace` returns and writes.
   abbrev pub TracesFiles : Tracing A → (List ℕ → Type 0) → Option (List ℕ) → Option (List ℕ) → Result ℕ Fault → Type 0
-  TracesFiles tracing Warns old new result = OneRuns None
-      (a_trace (line_of family bytes_of (names_of 0 tracing.names.items) tracing)) Warns old new result
+  TracesFiles tracing Warns old new result = OneRuns None None
+      (λ joins. a_trace tracing.state (line_of family bytes_of (names_of 0 tracing.names.items) tracing))
+      Warns old new result
 
   -- What `audit` returns and writes.
   abbrev pub AuditsFiles : Auditing A → Tracing A → (List ℕ → Type 0) → Option (List ℕ) → Option (List ℕ) → Result ℕ Fault → Type 0
-  AuditsFiles auditing tracing Warns old new result = OneRuns (Some auditing.upstream)
-      (an_audit (audit_line_of family bytes_of (names_of 0 tracing.names.items) auditing.upstream tracing)
-      (audit_of bytes_of auditing tracing)) Warns old new result
+  AuditsFiles auditing tracing Warns old new result = OneRuns (Some auditing.upstream) auditing.local
+      (λ joins. an_audit (audit_line_of family bytes_of (names_of 0 tracing.names.items) auditing.upstream tracing)
+      (audit_of bytes_of auditing tracing joins)) Warns old new result
 
   -- What `mirror` returns and writes.
   abbrev pub MirrorsFiles : Writing A → (List ℕ → Type 0) → Option (List ℕ) → Option (List ℕ) → Result ℕ Fault → Type 0
   MirrorsFiles writing Warns old new result =
-      OneRuns (Some writing.upstream) (a_mirror (writing_of bytes_of writing)) Warns old new result
+      OneRuns (Some writing.upstream) None (λ joins. a_mirror (writing_of bytes_of writing)) Warns old new result
 
   -- What `emit` returns and writes.
   abbrev pub EmitsFiles : Writing A → (List ℕ → Type 0) → Option (List ℕ) → Option (List ℕ) → Result ℕ Fault → Type 0
   EmitsFiles writing Warns old new result =
-      OneRuns (Some writing.upstream) (an_emission (writing_of bytes_of writing)) Warns old new result
+      OneRuns (Some writing.upstream) None (λ joins. an_emission (writing_of bytes_of writing)) Warns old new result
 
   -- What `same` returns and writes.
   abbrev pub ComparesFiles : Writing A → (List ℕ → Type 0) → Option (List ℕ) → Option (List ℕ) → Result ℕ Fault → Type 0

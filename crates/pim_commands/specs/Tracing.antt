@@ -1,12 +1,18 @@
--- What a trace prints of each event, as its words ask.
-use Rattle.std.specs.Prelude.{ℕ, suc, if◌then◌else◌, List, [], ◌∷◌, map, decimal}
-use Rattle.std.specs.Prelude.{Option, None, Some}
+-- What a trace prints of each event, and whether it has the state at the end, as its words ask.
+use Rattle.std.specs.Prelude.{ℕ, suc, Bool, true, false, if◌then◌else◌, List, [], ◌∷◌, map, decimal}
+use Rattle.std.specs.Prelude.{Option, None, Some, Result}
 use Rattle.std.specs.Borrow.{Bor}
 use Rattle.pim_addr.specs.declared.family.AddressFamily.{AddressFamily}
 use Rattle.pim_events.specs.Events.{Occurrence}
 use Rattle.pim_events.specs.Filter.{Selection, if_shown}
 use Rattle.pim_event_lines.specs.JsonLine.{json_line}
 use Rattle.pim_event_lines.specs.TextLine.{text_line}
+use Rattle.pim_merge.specs.declared.end.End.{End}
+use Rattle.pim_merge.specs.Next.{MergeState}
+use Rattle.pim_router.specs.State.{RouterState}
+use Rattle.pim_run.specs.declared.fault.RunFault.{RunFault}
+use Rattle.pim_trace.specs.StateTrace.{TracesState}
+use Rattle.pim_trace.specs.Trace.{Traces}
 use Rattle.pim_words.specs.declared.task.Tracing.{Tracing}
 
 -- ---- what is printed of an event
@@ -34,3 +40,14 @@ selection_of bytes_of tracing = record {
 abbrev pub line_of : {A : Type 0} → AddressFamily → (A → List ℕ) → List (List ℕ) → Tracing A → Occurrence → List ℕ
 line_of family bytes_of names tracing event = if_shown (selection_of bytes_of tracing) event
     (if tracing.json then json_line family names event else text_line family names tracing.form event)
+
+-- ---- the state at the end
+
+-- What a trace returns and writes: with the state at the end if the words ask for it, otherwise
+-- without.
+abbrev pub TracesAsAsked : {A : Type 0} → Bool → (Occurrence → List ℕ) → AddressFamily → End → MergeState → MergeState →
+    RouterState → RouterState → Option (List ℕ) → Option (List ℕ) → Result A RunFault → Type 0
+TracesAsAsked true line family end merge merge' state after old new result =
+    TracesState line family end merge merge' state after old new result
+TracesAsAsked false line family end merge merge' state after old new result =
+    Traces line family end merge merge' state after old new result

@@ -13,6 +13,7 @@ use pim_audit::{AuditOptions, audit_into};
 use pim_audit_events::AuditFilter;
 use pim_audit_lines::{AuditJsonPrinter, AuditTextPrinter};
 use pim_lines::Name;
+use pim_local::LocalJoins;
 use pim_merge::Merge;
 use pim_router::Router;
 use pim_run::RunFault;
@@ -23,21 +24,23 @@ use std::alloc::Global;
 #[derive(Clone, Copy)]
 pub(crate) struct AuditWords<'t, A> {
     /// Of whom the router asks, and when an entry is late.
-    pub(crate) auditing: &'t Auditing<A>,
+    pub(crate) auditing: &'t Auditing<'t, A>,
     /// What is shown, and how.
     pub(crate) tracing: &'t Tracing<'t, A>,
 }
 
-/// What the words ask of an audit whose lines this writer takes.
+/// What the words ask of an audit with these local joins, whose lines this writer takes.
 fn options_of<'t, F: Family, T>(
     alloc: Global,
     captures: &Captures<'_, F::Addr>,
     words: AuditWords<'t, F::Addr>,
+    local: &'t LocalJoins<F>,
     writer: &'t T,
 ) -> AuditOptions<'t, F, T>
     ensures upstream { F.bytes_of result.upstream
         ≡ F.bytes_of words.entry.auditing.now.upstream }
     ensures grace { result.grace ≡ words.entry.auditing.now.grace_ms }
+    ensures local { result.local.now ≡ local.now }
     ensures limit { result.limit ≡ captures.now.limit }
     ensures groups { result.groups.now ≡ words.entry.tracing.now.groups.items }
     ensures writer { result.writer.now ≡ writer.now }
@@ -46,17 +49,22 @@ fn options_of<'t, F: Family, T>(
         alloc,
         upstream: words.auditing.upstream,
         grace: words.auditing.grace_ms,
+        local,
         limit: captures.limit,
         groups: &words.tracing.groups,
         writer,
     }
 }
 
-/// Audits the captures of a router, and prints the lines with these names as the words ask. Returns
-/// the status: 1 if something was late, otherwise 0.
+/// Audits the captures of a router with these local joins, and prints the lines with these names as
+/// the words ask. Returns the status: 1 if something was late, otherwise 0.
 pub(crate) fn audit_by<F: Family, R: Feed + Drop, W: Drain>(
     alloc: Global,
-    requested: (&Captures<'_, F::Addr>, AuditWords<'_, F::Addr>),
+    requested: (
+        &Captures<'_, F::Addr>,
+        AuditWords<'_, F::Addr>,
+        &LocalJoins<F>,
+    ),
     names: &[Name],
     merge: &mut Merge<R>,
     router: &mut Router<'_, F>,
@@ -72,11 +80,12 @@ pub(crate) fn audit_by<F: Family, R: Feed + Drop, W: Drain>(
         requested.entry.1.tracing.now)
         (end_of requested.entry.0.now) merge.old
         (run_at_start (F.bytes_of requested.entry.1.auditing.now.upstream)
-        requested.entry.1.auditing.now.grace_ms requested.entry.0.now.limit router.old)
+        requested.entry.1.auditing.now.grace_ms requested.entry.2.now
+        requested.entry.0.now.limit router.old)
         router.old (W.contents writer.old) merge.new router.new (W.contents writer.new) result }
     ensures count { W.failures writer.new ≡ failures_of_device (W.failures writer.old) result }
 {
-    let (captures, words) = requested;
+    let (captures, words, local) = requested;
     let filter = AuditFilter {
         groups: &words.tracing.groups,
         from: words.tracing.from,
@@ -88,7 +97,7 @@ pub(crate) fn audit_by<F: Family, R: Feed + Drop, W: Drain>(
             filter,
             upstream,
         };
-        let options = options_of::<F, _>(alloc, captures, words, &printer);
+        let options = options_of::<F, _>(alloc, captures, words, local, &printer);
         return audit_into(&options, writer, merge, router, end_of(captures));
     }
     let printer = AuditTextPrinter {
@@ -97,6 +106,6 @@ pub(crate) fn audit_by<F: Family, R: Feed + Drop, W: Drain>(
         filter,
         upstream,
     };
-    let options = options_of::<F, _>(alloc, captures, words, &printer);
+    let options = options_of::<F, _>(alloc, captures, words, local, &printer);
     audit_into(&options, writer, merge, router, end_of(captures))
 }

@@ -7,9 +7,9 @@
 //!   that the caller gives (`pim_files`). Each calls the engine of that name in `pim_replay`,
 //!   `pim_trace`, `pim_audit` or `pim_exchange`. Warnings follow on a device for errors.
 //!
-//! The file of routes is opened first, then the files of the ports in the order of the words. A
-//! device's count of failures rises exactly where its failure is the result. By a law, `trace` ends
-//! with the router whose state `replay` prints. Callers: `pim_main`.
+//! The file of routes is opened first, then that of local joins, then the files of the ports in the
+//! order of the words. A device's count of failures rises exactly where its failure is the result.
+//! By a law, `trace` ends with the router whose state `replay` prints. Callers: `pim_main`.
 #![tactic(auto)]
 
 mod answers;

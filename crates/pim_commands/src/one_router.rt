@@ -2,8 +2,9 @@
 //!
 //! All files are opened before any record is read. So a fault of opening comes before all output.
 
-ghost use Rattle.std.specs.Prelude.{◌≡◌, ◌≤◌, [], length};
+ghost use Rattle.std.specs.Prelude.{◌≡◌, ◌≤◌, List, [], length};
 ghost use Rattle.pim_capture.specs.Next.{latest_moment};
+ghost use Rattle.pim_local.specs.Joins.{Join};
 ghost use Rattle.pim_commands.specs.Report.{write_failures_after};
 ghost use Rattle.pim_faults.specs.Ending.{IsReported};
 ghost use Rattle.pim_exchange.specs.Fault.{failures_of_exchange};
@@ -28,6 +29,7 @@ use pim_faults::Fault;
 use pim_files::Opener;
 use pim_form::Writer;
 use pim_lines::Name;
+use pim_local::LocalJoins;
 use pim_merge::Merge;
 use pim_replay::replay_into;
 use pim_router::Router;
@@ -57,8 +59,8 @@ enum Made<'t, F: Family> {
     Report,
     /// The trace, with the names of the ports.
     Trace(&'t [Name], &'t Tracing<'t, F::Addr>),
-    /// The audit, with the names of the ports.
-    Audit(&'t [Name], AuditWords<'t, F::Addr>),
+    /// The audit, with the names of the ports, and what local receivers have joined.
+    Audit(&'t [Name], AuditWords<'t, F::Addr>, &'t LocalJoins<F>),
     /// The messages as text.
     Mirror(&'t Writer<F>),
     /// The messages as bytes.
@@ -91,8 +93,8 @@ fn begin_for<F: Family, R: Feed + Drop>(
     command: OneRouter<'_, F::Addr>,
     merge: &mut Merge<R>,
 )
-    ensures census { merge.new ≡ begun_for F.family F.bytes_of captures.now
-        (engine_of F.family F.bytes_of command.entry) merge.old }
+    ensures census { (joins : List Join) → merge.new ≡ begun_for F.family F.bytes_of captures.now
+        (engine_of F.family F.bytes_of command.entry joins) merge.old }
     ensures length { length merge.new.lanes ≡ length merge.old.lanes }
 {
     match command {
@@ -153,8 +155,8 @@ fn lead<F: Family, R: Feed + Drop, W: Drain>(
             let requested = (captures, tracing);
             of_traced(trace_by::<F, R, W>(alloc, requested, names, merge, router, writer))
         }
-        Made::Audit(names, words) => {
-            let requested = (captures, words);
+        Made::Audit(names, words, local) => {
+            let requested = (captures, words, local);
             of_replayed(audit_by::<F, R, W>(alloc, requested, names, merge, router, writer))
         }
         Made::Mirror(by) => {
@@ -202,7 +204,7 @@ fn run_made<'a, F: Family, R: Feed + Drop, W: Drain>(
     answer_of::<F>(captures, None, None, reported)
 }
 
-/// Runs a command over the captures of a new router.
+/// Runs a command over the captures of a new router, with this table and these local joins.
 ///
 /// # Errors
 /// Those of the engine. If the writer or the router can't be made, the result is the first fault of
@@ -212,7 +214,7 @@ fn run_command<'a, 't, F: Family, R: Feed + Drop, W: Drain>(
     alloc: Global,
     captures: &Captures<'a, F::Addr>,
     command: OneRouter<'t, F::Addr>,
-    routes: &'t Routes<F>,
+    tables: (&'t Routes<F>, &'t LocalJoins<F>),
     merge: &mut Merge<R>,
     writer: &mut W,
 ) -> Result<u8, Fault<'a>>
@@ -221,10 +223,11 @@ fn run_command<'a, 't, F: Family, R: Feed + Drop, W: Drain>(
     requires fits { Fits captures.now command }
     requires ports { length merge.old.lanes ≡ length captures.now.ports.items }
     ensures runs { RunsOne F.family F.bytes_of captures.now
-        (engine_of F.family F.bytes_of command.entry) routes.now merge.old merge.new
-        (W.contents writer.old) (W.contents writer.new) result }
+        (engine_of F.family F.bytes_of command.entry tables.entry.1.now) tables.entry.0.now
+        merge.old merge.new (W.contents writer.old) (W.contents writer.new) result }
     ensures count { W.failures writer.new ≡ write_failures_after (W.failures writer.old) result }
 {
+    let (routes, local) = tables;
     match command {
         OneRouter::Report => {
             let made: Made<'t, F> = Made::Report;
@@ -239,7 +242,7 @@ fn run_command<'a, 't, F: Family, R: Feed + Drop, W: Drain>(
         },
         OneRouter::Audit(words) => match names_of(alloc, &words.tracing.names) {
             Ok(names) => {
-                let made = Made::Audit(&names, words);
+                let made = Made::Audit(&names, words, local);
                 run_made::<F, R, W>(alloc, captures, made, routes, merge, writer)
             }
             Err(_) => Err(Fault::Memory),
@@ -257,38 +260,40 @@ fn run_command<'a, 't, F: Family, R: Feed + Drop, W: Drain>(
     }
 }
 
-/// Opens the files that the words name, runs the command over them, and writes the warnings on the
-/// captures.
+/// Opens the files that the words name, and this file of local joins if one is named. Runs the
+/// command over them, and writes the warnings on the captures.
 ///
 /// # Errors
 /// The fault of the first file that isn't open, or those of the command.
 fn run_one<'a, F: Family, O: Opener, W: Drain, E: Drain>(
     alloc: Global,
     opener: &mut O,
-    captures: &Captures<'a, F::Addr>,
+    files: (&Captures<'a, F::Addr>, Option<&'a str>),
     command: OneRouter<'_, F::Addr>,
     writer: &mut W,
     errors: &mut E,
 ) -> Result<u8, Fault<'a>>
-    requires after { IsBounded captures.now }
-    requires limit { IsLimited captures.now }
-    requires fits { Fits captures.now command }
+    requires after { IsBounded files.0.now }
+    requires limit { IsLimited files.0.now }
+    requires fits { Fits files.0.now command }
     ensures runs { OneRuns F.family F.bytes_of O.Reader.remaining O.Reader.failures
-        (O.known opener.old) (O.known opener.new) captures.now
-        (upstream_of command.entry) (engine_of F.family F.bytes_of command.entry)
+        (O.known opener.old) (O.known opener.new) files.entry.0.now
+        (upstream_of command.entry) files.entry.1 (engine_of F.family F.bytes_of command.entry)
         (λ text. IsReported text (E.contents errors.old) (E.contents errors.new)
         (E.failures errors.old) (E.failures errors.new))
         (W.contents writer.old) (W.contents writer.new) result }
     ensures count { W.failures writer.new ≡ write_failures_after (W.failures writer.old) result }
 {
-    let mut files = match open_one::<F, O>(alloc, opener, captures, upstream_of(command)) {
-        Ok(files) => files,
+    let (captures, local) = files;
+    let mut opened = match open_one::<F, O>(alloc, opener, captures, upstream_of(command), local) {
+        Ok(opened) => opened,
         Err(fault) => return Err(fault),
     };
-    begin_for::<F, _>(captures, command, &mut files.merge);
-    let merge = &mut files.merge;
-    let answer = run_command::<F, _, W>(alloc, captures, command, &files.routes, merge, writer);
-    warn_of_one::<F, E, _>(errors, captures, &files.routes, &files.merge);
+    begin_for::<F, _>(captures, command, &mut opened.merge);
+    let tables = (&opened.routes, &opened.local);
+    let merge = &mut opened.merge;
+    let answer = run_command::<F, _, W>(alloc, captures, command, tables, merge, writer);
+    warn_of_one::<F, E, _>(errors, captures, &opened.routes, &opened.merge);
     answer
 }
 
@@ -316,7 +321,7 @@ pub fn replay<'a, F: Family, O: Opener, W: Drain, E: Drain>(
     ensures count { W.failures writer.new ≡ write_failures_after (W.failures writer.old) result }
 {
     let command = report::<F::Addr>(captures);
-    run_one::<F, O, W, E>(alloc, opener, captures, command, writer, errors)
+    run_one::<F, O, W, E>(alloc, opener, (captures, None), command, writer, errors)
 }
 
 /// Traces the captures that the words name, and prints the events that are shown. It opens files as
@@ -324,7 +329,7 @@ pub fn replay<'a, F: Family, O: Opener, W: Drain, E: Drain>(
 ///
 /// # Errors
 /// `File` of a file that can't be opened, or a fault of the file of routes: nothing was written.
-/// Otherwise those of `pim_trace::trace_into` and of making the router.
+/// Otherwise those of `pim_trace::trace_into`, or of `trace_state_into`, and of making the router.
 pub fn trace<'a, F: Family, O: Opener, W: Drain, E: Drain>(
     alloc: Global,
     opener: &mut O,
@@ -344,22 +349,22 @@ pub fn trace<'a, F: Family, O: Opener, W: Drain, E: Drain>(
     ensures count { W.failures writer.new ≡ write_failures_after (W.failures writer.old) result }
 {
     let command = OneRouter::Trace(tracing);
-    run_one::<F, O, W, E>(alloc, opener, captures, command, writer, errors)
+    run_one::<F, O, W, E>(alloc, opener, (captures, None), command, writer, errors)
 }
 
 /// Audits what a router asks of its upstream neighbour, by the captures that the words name, and
-/// prints the lines that are shown. It opens files as `replay` does. Without a file of routes, the
-/// table leads all addresses to the upstream neighbour. Returns the status: 1 if something was
-/// late, otherwise 0.
+/// prints the lines that are shown. It opens files as `replay` does, and reads a file of local
+/// joins after that of routes. Without a file of routes, the table leads all addresses to the
+/// upstream neighbour. Returns the status: 1 if something was late, otherwise 0.
 ///
 /// # Errors
-/// `File` of a file that can't be opened, or a fault of the file of routes: nothing was written.
-/// Otherwise those of `pim_audit::audit_into` and of making the router.
-pub fn audit<'a, F: Family, O: Opener, W: Drain, E: Drain>(
+/// `File` of a file that can't be opened, or a fault of the file of routes or of local joins:
+/// nothing was written. Otherwise those of `pim_audit::audit_into` and of making the router.
+pub fn audit<'a, 't, F: Family, O: Opener, W: Drain, E: Drain>(
     alloc: Global,
     opener: &mut O,
     captures: &Captures<'a, F::Addr>,
-    words: (&Auditing<F::Addr>, &Tracing<'a, F::Addr>),
+    words: (&'t Auditing<'a, F::Addr>, &'t Tracing<'a, F::Addr>),
     writer: &mut W,
     errors: &mut E,
 ) -> Result<u8, Fault<'a>>
@@ -375,8 +380,9 @@ pub fn audit<'a, F: Family, O: Opener, W: Drain, E: Drain>(
     ensures count { W.failures writer.new ≡ write_failures_after (W.failures writer.old) result }
 {
     let (auditing, tracing) = words;
+    let local = auditing.local;
     let command = OneRouter::Audit(AuditWords { auditing, tracing });
-    run_one::<F, O, W, E>(alloc, opener, captures, command, writer, errors)
+    run_one::<F, O, W, E>(alloc, opener, (captures, local), command, writer, errors)
 }
 
 /// Replays the captures that the words name, and writes the canonical messages of the demand toward
@@ -406,7 +412,7 @@ pub fn mirror<'a, F: Family, O: Opener, W: Drain, E: Drain>(
     ensures count { W.failures writer.new ≡ write_failures_after (W.failures writer.old) result }
 {
     let command = OneRouter::Mirror(writing);
-    run_one::<F, O, W, E>(alloc, opener, captures, command, writer, errors)
+    run_one::<F, O, W, E>(alloc, opener, (captures, None), command, writer, errors)
 }
 
 /// Writes the same messages as `mirror`, as bytes. Two bytes with the length, big-endian, precede
@@ -434,5 +440,5 @@ pub fn emit<'a, F: Family, O: Opener, W: Drain, E: Drain>(
     ensures count { W.failures writer.new ≡ write_failures_after (W.failures writer.old) result }
 {
     let command = OneRouter::Emit(writing);
-    run_one::<F, O, W, E>(alloc, opener, captures, command, writer, errors)
+    run_one::<F, O, W, E>(alloc, opener, (captures, None), command, writer, errors)
 }

@@ -5,20 +5,19 @@ ghost use Rattle.std.specs.List.{AllByRecursion};
 ghost use Rattle.pim_capture.specs.Next.{latest_moment};
 ghost use Rattle.pim_lines.specs.PortNames.{is_port_name};
 ghost use Rattle.pim_run.specs.Faults.{failures_of_device};
-ghost use Rattle.pim_trace.specs.Trace.{Traces};
 ghost use Rattle.pim_words.specs.Plan.{IsBounded};
 ghost use Rattle.pim_commands.specs.Routers.{end_of};
-ghost use Rattle.pim_commands.specs.Tracing.{name_of, names_of, line_of};
+ghost use Rattle.pim_commands.specs.Tracing.{name_of, names_of, line_of, TracesAsAsked};
 
 use crate::routers::end_of;
 use pim_addr::{Drain, Family, Feed};
 use pim_event_lines::{JsonPrinter, TextPrinter};
-use pim_events::Filter;
+use pim_events::{EventWriter, Filter};
 use pim_lines::Name;
 use pim_merge::Merge;
 use pim_router::Router;
 use pim_run::RunFault;
-use pim_trace::trace_into;
+use pim_trace::{trace_into, trace_state_into};
 use pim_words::{Captures, Tracing};
 use std::alloc::{AllocError, Global};
 
@@ -64,6 +63,33 @@ fn filter_of<'t, A>(tracing: &'t Tracing<'_, A>) -> Filter<'t, A>
     }
 }
 
+/// Traces the captures of a router by this printer, with the state at the end if the words ask for
+/// it.
+fn trace_on<F: Family, R: Feed + Drop, W, T: EventWriter<F, W>>(
+    alloc: Global,
+    requested: (&Captures<'_, F::Addr>, &Tracing<'_, F::Addr>),
+    printer: &T,
+    merge: &mut Merge<R>,
+    router: &mut Router<'_, F>,
+    writer: &mut W,
+) -> Result<(), RunFault>
+    requires after { IsBounded requested.0.now }
+    requires ports { length merge.old.lanes ≡ length router.old.ports }
+    requires moment { router.old.machines.moment ≤ latest_moment }
+    ensures events { TracesAsAsked requested.entry.1.now.state (T.line printer.now) F.family
+        (end_of requested.entry.0.now)
+        merge.old merge.new router.old router.new
+        (T.contents writer.old) (T.contents writer.new) result }
+    ensures count { T.failures writer.new ≡ failures_of_device (T.failures writer.old) result }
+{
+    let (captures, tracing) = requested;
+    let end = end_of(captures);
+    if tracing.state {
+        return trace_state_into(alloc, printer, writer, merge, router, end);
+    }
+    trace_into(alloc, printer, writer, merge, router, end)
+}
+
 /// Traces the captures of a router, and prints its events with these names as the words ask.
 pub(crate) fn trace_by<F: Family, R: Feed + Drop, W: Drain>(
     alloc: Global,
@@ -76,23 +102,23 @@ pub(crate) fn trace_by<F: Family, R: Feed + Drop, W: Drain>(
     requires after { IsBounded requested.0.now }
     requires ports { length merge.old.lanes ≡ length router.old.ports }
     requires moment { router.old.machines.moment ≤ latest_moment }
-    ensures events { Traces (line_of F.family F.bytes_of names.now requested.entry.1.now) F.family
+    ensures events { TracesAsAsked requested.entry.1.now.state
+        (line_of F.family F.bytes_of names.now requested.entry.1.now) F.family
         (end_of requested.entry.0.now)
         merge.old merge.new router.old router.new
         (W.contents writer.old) (W.contents writer.new) result }
     ensures count { W.failures writer.new ≡ failures_of_device (W.failures writer.old) result }
 {
-    let (captures, tracing) = requested;
-    let end = end_of(captures);
+    let (_, tracing) = requested;
     let filter = filter_of(tracing);
     if tracing.json {
         let printer = JsonPrinter { names, filter };
-        return trace_into(alloc, &printer, writer, merge, router, end);
+        return trace_on::<F, R, W, _>(alloc, requested, &printer, merge, router, writer);
     }
     let printer = TextPrinter {
         names,
         form: tracing.form,
         filter,
     };
-    trace_into(alloc, &printer, writer, merge, router, end)
+    trace_on::<F, R, W, _>(alloc, requested, &printer, merge, router, writer)
 }

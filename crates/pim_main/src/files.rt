@@ -29,22 +29,26 @@ pub struct SystemFiles<'r> {
     reads_any: bool,
     /// The name of the file of routes.
     routes: Option<&'r str>,
+    /// The name of the file of local joins.
+    local: Option<&'r str>,
 }
 
 impl<'r> SystemFiles<'r> {
-    /// Returns the opener of this process for a file of routes and captures, whose progress is
-    /// shown on a line.
+    /// Returns the opener of this process for a file of routes, one of local joins, and captures,
+    /// whose progress is shown on a line.
     pub fn new(
         rt: &'r HostRuntime,
         line: &'r ProgressLine,
         reads_any: bool,
         routes: Option<&'r str>,
+        local: Option<&'r str>,
     ) -> Self {
         SystemFiles {
             rt,
             line,
             reads_any,
             routes,
+            local,
         }
     }
 
@@ -52,6 +56,7 @@ impl<'r> SystemFiles<'r> {
     fn refuses(&self, name: &str) -> bool {
         self.reads_any
             && self.routes != Some(name)
+            && self.local != Some(name)
             && metadata(self.rt, name).is_ok_and(|it| it.is_dir())
     }
 

@@ -25,7 +25,7 @@ mod source;
 ghost use Rattle.pim_words.specs.Plan.{IsInRange};
 
 use crate::files::{SystemFiles, SystemInput};
-use crate::output::{is_live, routes_of};
+use crate::output::{is_live, local_of, routes_of};
 use crate::progress::{Clearing, ProgressLine};
 pub use inputs::WithInput;
 pub use output::{Output, task_reads_any};
@@ -66,7 +66,7 @@ fn run_on_system<'a, F: Family>(
         return Err(Fault::Memory);
     };
     let reads_any = task_reads_any(task);
-    let files = SystemFiles::new(rt, &line, reads_any, routes_of(task));
+    let files = SystemFiles::new(rt, &line, reads_any, routes_of(task), local_of(task));
     let mut files = WithInput::new(files, SystemInput::new(rt), reads_any);
     let mut input = Counted::new(rt.stdin());
     let mut errors = Counted::new(Clearing::new(rt, Some(&line), rt.stderr()));

@@ -96,6 +96,14 @@ pub fn routes_of<'a, A>(task: &Task<'a, A>) -> Option<&'a str> {
     captures.routes
 }
 
+/// The name of the file of local joins of this task.
+pub fn local_of<'a, A>(task: &Task<'a, A>) -> Option<&'a str> {
+    match task {
+        Task::Audit(_, auditing, _) => auditing.local,
+        _ => None,
+    }
+}
+
 /// Whether the captures of this task are of any container.
 pub fn task_reads_any<A>(task: &Task<'_, A>) -> bool {
     captures_of(task).is_some_and(|it| reads_any(it))

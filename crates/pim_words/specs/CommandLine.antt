@@ -69,11 +69,11 @@ with_choices command =
     with_rule (with_rule (with_rule command (text_option (codes "from"))) (repeated_option (codes "group")))
     (repeated_option (codes "source"))
 
--- What a trace shows: what it is about, and `[--time FORM] [--all] [--json]`.
+-- What a trace shows: what it is about, and `[--time FORM] [--all] [--state] [--json]`.
 abbrev pub with_shown : App → App
 with_shown command =
-    with_rule (with_rule (with_rule (with_choices command) (text_option (codes "time"))) (flag (codes "all")))
-    (flag (codes "json"))
+    with_rule (with_rule (with_rule (with_rule (with_choices command) (text_option (codes "time")))
+    (flag (codes "all"))) (flag (codes "state"))) (flag (codes "json"))
 
 -- What an audit shows: `[--from TIME] [--group G].. [--time FORM] [--json]`.
 abbrev pub with_audit_shown : App → App
@@ -99,12 +99,13 @@ abbrev pub trace : Shape
 trace = (with_shown (with_trace_options (with_rule (with_rule (new_app (codes "trace")) (text_option (codes "rp")))
     (text_option (codes "routes"))))).top
 
--- `audit --upstream A [--rp A] [--routes FILE] [--grace MS]`, a run's options, and what is shown.
+-- `audit --upstream A [--rp A] [--routes FILE] [--local FILE] [--grace MS]`, a run's options, and
+-- what is shown.
 abbrev pub audit : Shape
 audit =
-    (with_audit_shown (with_trace_options (with_rule (with_rule (with_rule (with_rule (new_app (codes "audit"))
-    (required_option (codes "upstream"))) (text_option (codes "rp"))) (text_option (codes "routes")))
-    (number_option (codes "grace") 0 1000000000)))).top
+    (with_audit_shown (with_trace_options (with_rule (with_rule (with_rule (with_rule (with_rule
+    (new_app (codes "audit")) (required_option (codes "upstream"))) (text_option (codes "rp")))
+    (text_option (codes "routes"))) (text_option (codes "local"))) (number_option (codes "grace") 0 1000000000)))).top
 
 -- A command that writes messages: `same`, `mirror`, `emit` or `change`.
 abbrev pub writing : Text → Shape

@@ -66,12 +66,15 @@ pub record AreTraced (command : CommandKind) (rows : List Row) (captures : Captu
   pub run : IsRun rows captures
   pub shown : IsShown rows (shown_of tracing)
   pub all : tracing.all ≡ is_flag (codes "all") rows
+  pub state : tracing.state ≡ is_flag (codes "state") rows
   pub json : tracing.json ≡ is_flag (codes "json") rows
   pub ports : ArePorts command rows captures.ports.items captures.more.items tracing.names.items
 
--- The upstream neighbour of an audit, and the time for which an entry may be due.
+-- The upstream neighbour of an audit, its file of local joins, and the time for which an entry may
+-- be due.
 pub record IsAuditing (rows : List Row) (auditing : Auditing AnyAddress) : Type 0 where
   pub upstream : Names (required (codes "upstream") rows) auditing.upstream
+  pub local : option_map (λ name. name.now) auditing.local ≡ first_of (codes "local") rows
   pub grace : IsNumber 0 1000000000 (option_or (codes "3000") (codes "grace") rows) auditing.grace_ms
 
 -- The options of the writer.

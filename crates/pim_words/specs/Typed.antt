@@ -40,20 +40,22 @@ module _ {A : Type 0} (family : AddressFamily) (bytes_of : A → List ℕ) where
     pub ports : map port_seen typed.ports.items ≡ captures.ports.items
     pub more : typed.more.items ≡ captures.more.items
 
-  -- The two show the same: the time from which they show, groups, sources, form, all or not, JSON
-  -- or not, and names.
+  -- The two show the same: the time from which they show, groups, sources, form, all or not, the
+  -- state at the end or not, JSON or not, and names.
   pub record SameTracing (typed : Tracing A) (tracing : Tracing AnyAddress) : Type 0 where
     pub from : typed.from ≡ tracing.from
     pub groups : map address_seen typed.groups.items ≡ tracing.groups.items
     pub sources : map address_seen typed.sources.items ≡ tracing.sources.items
     pub form : typed.form ≡ tracing.form
     pub all : typed.all ≡ tracing.all
+    pub state : typed.state ≡ tracing.state
     pub json : typed.json ≡ tracing.json
     pub names : typed.names.items ≡ tracing.names.items
 
-  -- The two have the same upstream neighbour and grace.
+  -- The two have the same upstream neighbour, file of local joins and grace.
   pub record SameAuditing (typed : Auditing A) (auditing : Auditing AnyAddress) : Type 0 where
     pub upstream : address_seen typed.upstream ≡ auditing.upstream
+    pub local : typed.local ≡ auditing.local
     pub grace : typed.grace_ms ≡ auditing.grace_ms
 
   -- The two have the same addresses, holdtime and budget.

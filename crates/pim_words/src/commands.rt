@@ -158,6 +158,15 @@ these groups,{n}and `via PREFIX/LENGTH ADDRESS`, the upstream{n}neighbour toward
 [default: none]",
 };
 
+/// `--local`.
+const LOCAL: OptionRow<'static> = OptionRow {
+    name: "local",
+    form: Form::Text,
+    value: "FILE",
+    help: "File of lines, at most 4096, of two forms: `star G`{n}and `source S G`, what receivers on \
+the router's{n}own links want [default: none]",
+};
+
 /// `--holdtime`.
 const HOLDTIME: OptionRow<'static> = OptionRow {
     name: "holdtime",
@@ -294,6 +303,14 @@ const ALL: OptionRow<'static> = OptionRow {
     help: "Show what changes no state, too, such as refreshes",
 };
 
+/// `--state`.
+const STATE: OptionRow<'static> = OptionRow {
+    name: "state",
+    form: Form::Flag,
+    value: "",
+    help: "Show at the end what the router holds and wants",
+};
+
 /// `--json`.
 const JSON: OptionRow<'static> = OptionRow {
     name: "json",
@@ -337,7 +354,7 @@ const OF_REPLAY: [OptionRow<'static>; 9] = [
 ];
 
 /// The options and words of `trace`.
-const OF_TRACE: [OptionRow<'static>; 14] = [
+const OF_TRACE: [OptionRow<'static>; 15] = [
     TRACE_RP,
     ROUTES,
     LIMIT,
@@ -351,14 +368,16 @@ const OF_TRACE: [OptionRow<'static>; 14] = [
     SOURCE,
     TIME,
     ALL,
+    STATE,
     JSON,
 ];
 
 /// The options and words of `audit`.
-const OF_AUDIT: [OptionRow<'static>; 14] = [
+const OF_AUDIT: [OptionRow<'static>; 15] = [
     AUDIT_UPSTREAM,
     TRACE_RP,
     ROUTES,
+    LOCAL,
     GRACE,
     LIMIT,
     AFTER,
@@ -530,13 +549,23 @@ Other packets:
 The last line is `end:`, with the machines and the neighbours that are held, and
 the skipped records by cause.
 
+--state has these lines before `end:`, the records of the ports, then the demand
+toward upstream:
+  holds MACHINE: STATE for N ms, et N, ppt N; time set by A in #N, N ms before
+                           the machine left no-info N milliseconds before
+  wants star G via A       the group's shared tree; A is the upstream neighbour,
+                           if it is known
+  wants source S G via A   the tree of one source
+  wants star G via A except S
+                           the shared tree, but not for this source
+
 --all also shows refreshes (STATE -> the same STATE), `hello same`, each packet
 that is applied, the router's own, and each skipped record. --group leaves out
-machines of other groups, --source those of other sources, and Join/Prune
-messages about neither.
+machines and demand of other groups, --source those of other sources, and
+Join/Prune messages about neither.
 
 --json writes these events: hello, packet, transition, ignored, restarted,
-skipped, timed-out, fired, end. Members without a value are null.
+skipped, timed-out, fired, record, want, end. Members without a value are null.
 
 Example, at the top of the repository:
   pimtree trace --rp 10.9.9.9 --after 5000 lan=10.0.0.2@examples/lan.pcap",
@@ -550,6 +579,7 @@ const AUDIT: Offer<'static> = Offer {
     usage: Some("pimtree audit [OPTIONS] [NAME=]ADDRESS@FILE..."),
     after_help: "The words name all ports of the router, the one toward U among them; U is the
 address of --upstream. `pimtree trace --help` explains times, NAME, #N and FILE.
+The FILE of --local may be `-`, too.
 
 From what the neighbours of the ports want follows what the router has to ask U
 for (RFC 7761, 4.5). U was asked for what it heard from the router, and from the
@@ -583,8 +613,9 @@ Each line begins with a time, and with the name of a port if it has a #N:
                  the worst of these was due; how many of them still are
 
 Receivers on the router's own links (IGMP, MLD, static joins) make it ask for
-more than its PIM neighbours want, which shows as late prunes. An RP or a
-first-hop router joins sources for other reasons.
+more than its PIM neighbours want, which shows as late prunes. --local states
+what they want: each of its lines counts as wanted from the start to the end.
+An RP or a first-hop router joins sources for other reasons.
 
 --group leaves out entries of other groups; they count in no number of `end`.
 

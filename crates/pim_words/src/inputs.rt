@@ -1,8 +1,7 @@
 //! Standard input among the files of a command. It can be read once.
 
-ghost use Rattle.std.specs.Prelude.{◌≡◌, ◌&&◌, ◌+◌, nat_lt, count_by, false};
-ghost use Rattle.std.specs.Option.{option_map_or};
-ghost use Rattle.pim_words.specs.Inputs.{is_input, reads_any, input_count};
+ghost use Rattle.std.specs.Prelude.{◌≡◌, ◌&&◌, ◌+◌, nat_lt, count_by};
+ghost use Rattle.pim_words.specs.Inputs.{is_input, is_given_input, reads_any};
 ghost use Rattle.pim_words.specs.Inputs.{reads_input_twice, names_input_twice};
 
 use crate::task::{Captures, Task};
@@ -20,7 +19,7 @@ fn is_input(name: &str) -> bool
 
 /// Whether the name is given, and is that of standard input.
 fn is_given_input(name: Option<&str>) -> bool
-    ensures { result ≡ option_map_or (λ name. is_input name.now) name.entry false }
+    ensures { result ≡ is_given_input name.entry }
 {
     match name {
         Some(name) => is_input(name),
@@ -57,14 +56,16 @@ fn count_further_inputs(captures: &Captures<'_, AnyAddress>) -> usize
         .count()
 }
 
-/// Whether a second file of these is standard input.
-fn reads_input_twice(captures: &Captures<'_, AnyAddress>) -> bool
-    ensures { result ≡ reads_input_twice captures.now }
+/// Whether a second file of these is standard input. An audit may have one of local joins.
+fn reads_input_twice(captures: &Captures<'_, AnyAddress>, local: Option<&str>) -> bool
+    ensures { result ≡ reads_input_twice captures.now local.entry }
 {
     let of_routes = usize::from(is_given_input(captures.routes));
+    let of_local = usize::from(is_given_input(local));
     let of_ports = count_port_inputs(captures);
     let further = count_further_inputs(captures);
-    reads_any(captures) && 1 < of_routes.saturating_add(of_ports).saturating_add(further)
+    let named = of_routes.saturating_add(of_local);
+    reads_any(captures) && 1 < named.saturating_add(of_ports).saturating_add(further)
 }
 
 /// Whether a second file of the task is standard input.
@@ -73,12 +74,11 @@ pub(crate) fn names_input_twice(task: &Task<'_, AnyAddress>) -> bool
 {
     match task {
         Task::Check { .. } | Task::Build { .. } => false,
-        Task::Replay(captures) | Task::Trace(captures, _) | Task::Audit(captures, _, _) => {
-            reads_input_twice(captures)
-        }
+        Task::Replay(captures) | Task::Trace(captures, _) => reads_input_twice(captures, None),
+        Task::Audit(captures, auditing, _) => reads_input_twice(captures, auditing.local),
         Task::Same(captures, _)
         | Task::Mirror(captures, _)
         | Task::Emit(captures, _)
-        | Task::Change(captures, _) => reads_input_twice(captures),
+        | Task::Change(captures, _) => reads_input_twice(captures, None),
     }
 }

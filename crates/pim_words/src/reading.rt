@@ -221,6 +221,7 @@ fn read_traced<'a>(
         sources: shown.sources,
         form: shown.form,
         all: is_flag(options, "all"),
+        state: is_flag(options, "state"),
         json: is_flag(options, "json"),
         names: labelled.names,
     };
@@ -264,15 +265,20 @@ fn read_audited<'a>(options: &ArgMatches<'a>) -> Result<AuditAddresses, CommandF
     })
 }
 
-/// What an audit with this upstream neighbour asks, and how long an entry may be due.
-fn auditing_of(upstream: AnyAddress, options: &ArgMatches<'_>) -> Auditing<AnyAddress>
+/// What an audit with this upstream neighbour asks, its file of local joins, and how long an entry
+/// may be due.
+fn auditing_of<'a>(upstream: AnyAddress, options: &ArgMatches<'a>) -> Auditing<'a, AnyAddress>
     requires upstream { Names (required (codes "upstream") (rows_of (found_of options.now)))
         upstream }
     requires numbers { HasNumbers (rows_of (found_of options.now)) }
     ensures { IsAuditing (rows_of (found_of options.now)) result }
 {
     let grace_ms = number_of(options, "grace", "3000", 0, 1_000_000_000);
-    Auditing { upstream, grace_ms }
+    Auditing {
+        upstream,
+        local: option_of(options, "local"),
+        grace_ms,
+    }
 }
 
 /// The task of `audit`.

@@ -74,11 +74,13 @@ pub struct Writing<A> {
     pub budget: usize,
 }
 
-/// The audit of a router: whom the router asks, and when it is late.
+/// The audit of a router: whom the router asks, what its own links want, and when it is late.
 #[derive(Clone, Copy, Debug, PartialEq, Eq)]
-pub struct Auditing<A> {
+pub struct Auditing<'a, A> {
     /// The upstream neighbour that the router asks.
     pub upstream: A,
+    /// The name of the file of local joins, if one is given.
+    pub local: Option<&'a str>,
     /// How long an entry may be due before it is late, in milliseconds: 0 to 1,000,000,000.
     pub grace_ms: u64,
 }
@@ -97,6 +99,8 @@ pub struct Tracing<'a, A> {
     pub form: TimeForm,
     /// Whether what changes nothing is shown, too. An audit has no option for it.
     pub all: bool,
+    /// Whether the records and the demand at the end are shown, too. An audit has no option for it.
+    pub state: bool,
     /// Whether JSON is written in place of text.
     pub json: bool,
     /// The names of the ports, in their order. A port without a name goes under its number.
@@ -125,7 +129,7 @@ pub enum Task<'a, A> {
     /// To print each change of a router's machines, in time, with its cause.
     Trace(Captures<'a, A>, Tracing<'a, A>),
     /// To report whether a router asks its upstream neighbour for what it has to.
-    Audit(Captures<'a, A>, Auditing<A>, Tracing<'a, A>),
+    Audit(Captures<'a, A>, Auditing<'a, A>, Tracing<'a, A>),
     /// To report whether two routers want the same traffic.
     Same(Captures<'a, A>, Writing<A>),
     /// To print the messages that make a fresh router want what this router wants.

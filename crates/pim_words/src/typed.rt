@@ -156,23 +156,26 @@ fn tracing_in_family<'a, F: Family>(
         sources,
         form: tracing.form,
         all: tracing.all,
+        state: tracing.state,
         json: tracing.json,
         names,
     })
 }
 
-/// The upstream neighbour of an audit, if it is of this family, and the grace.
-fn auditing_in_family<F: Family>(
-    auditing: Auditing<AnyAddress>,
-) -> Result<Auditing<F::Addr>, CommandFault<'static>>
+/// The upstream neighbour of an audit, if it is of this family, its file of local joins, and the
+/// grace.
+fn auditing_in_family<'a, F: Family>(
+    auditing: Auditing<'a, AnyAddress>,
+) -> Result<Auditing<'a, F::Addr>, CommandFault<'static>>
     ensures { MatchResult result
-        (λ typed. (is_in F.family auditing.upstream ≡ true)
-        × SameAuditing F.family F.bytes_of typed auditing)
-        (IsForeign (is_in F.family auditing.upstream)) }
+        (λ typed. (is_in F.family auditing.entry.upstream ≡ true)
+        × SameAuditing F.family F.bytes_of typed auditing.entry)
+        (IsForeign (is_in F.family auditing.entry.upstream)) }
 {
     let upstream = in_family::<F>(auditing.upstream)?;
     Ok(Auditing {
         upstream,
+        local: auditing.local,
         grace_ms: auditing.grace_ms,
     })
 }

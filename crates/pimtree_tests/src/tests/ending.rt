@@ -157,7 +157,7 @@ struct Row {
 }
 
 /// The last row's second file isn't there.
-const ROWS: [Row; 2] = [
+const ROWS: [Row; 3] = [
     Row {
         words: &[
             "pimtree",
@@ -169,6 +169,20 @@ const ROWS: [Row; 2] = [
             "10.0.0.3@joined",
         ],
         names: &["routes", "joined", "empty", "joined"],
+    },
+    Row {
+        words: &[
+            "pimtree",
+            "audit",
+            "--local",
+            "local",
+            "--upstream",
+            "10.0.0.9",
+            "--routes",
+            "routes",
+            "10.0.0.2@joined",
+        ],
+        names: &["routes", "local", "joined"],
     },
     Row {
         words: &[

@@ -85,11 +85,12 @@ pub fn file_of<'a>(name: &'a str, bytes: &'a [u8]) -> HeldFile<'a> {
 }
 
 /// The captures, one without records, and a route to the RP.
-pub fn all_files() -> [HeldFile<'static>; 3] {
+pub fn all_files() -> [HeldFile<'static>; 4] {
     [
         file_of("joined", &CAPTURE),
         file_of("empty", &HEADER),
         file_of("routes", b"via 10.9.0.0/16 10.0.0.6\n"),
+        file_of("local", b"star 239.1.1.2\n"),
     ]
 }
 

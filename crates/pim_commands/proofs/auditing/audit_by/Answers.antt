@@ -16,11 +16,11 @@ returns-then-words-clause-audits g c =
     let tracing = c.args.requested.1.tracing.now in
     let upstream = c.args.requested.1.auditing.now.upstream in
     as_asked family bytes_of c.args.merge.now c.audit_into.new.merge c.args.router.now c.audit_into.new.router
-    (g.W.Drain.contents c.args.writer.now) (g.W.Drain.contents c.audit_into.new.device) c.audit_into.result _ _ _ _ _ _ _ _ _ _ _ _
+    (g.W.Drain.contents c.args.writer.now) (g.W.Drain.contents c.audit_into.new.device) c.audit_into.result _ _ _ _ _ _ _ _ _ _ _ _ _ _
     (ap (map bytes_of) c.options_of-options.ensures.groups)
     (ap {B = Option ℕ → Statement → List ℕ} (λ (p : AuditJsonPrinter g.row.F-Addr.Denot) begin line. if_shown (filter_seen bytes_of p.filter) begin line (audit_json family p.names.now (bytes_of p.upstream) begin line)) c.options_of-options.ensures.writer
     ∙ as_json family bytes_of c.args.names.now upstream tracing (record { groups = c.deref.result; from = tracing.from }) c.deref.ensures.value refl c.if-words.true)
-    c.end_of.ensures.end c.options_of-options.ensures.upstream c.options_of-options.ensures.grace c.options_of-options.ensures.limit c.audit_into.ensures.audits
+    c.end_of.ensures.end c.options_of-options.ensures.upstream c.options_of-options.ensures.grace c.options_of-options.ensures.local c.options_of-options.ensures.limit c.audit_into.ensures.audits
 
 pub returns-clause-audits : goal.returns-clause-audits
 returns-clause-audits g c =
@@ -30,8 +30,8 @@ returns-clause-audits g c =
     let tracing = c.args.requested.1.tracing.now in
     let upstream = c.args.requested.1.auditing.now.upstream in
     as_asked family bytes_of c.args.merge.now c.audit_into-2.new.merge c.args.router.now c.audit_into-2.new.router
-    (g.W.Drain.contents c.args.writer.now) (g.W.Drain.contents c.audit_into-2.new.device) c.audit_into-2.result _ _ _ _ _ _ _ _ _ _ _ _
+    (g.W.Drain.contents c.args.writer.now) (g.W.Drain.contents c.audit_into-2.new.device) c.audit_into-2.result _ _ _ _ _ _ _ _ _ _ _ _ _ _
     (ap (map bytes_of) c.options_of-options-2.ensures.groups)
     (ap {B = Option ℕ → Statement → List ℕ} (λ (p : AuditTextPrinter g.row.F-Addr.Denot) begin line. if_shown (filter_seen bytes_of p.filter) begin line (audit_text family p.names.now p.form (bytes_of p.upstream) begin line)) c.options_of-options-2.ensures.writer
     ∙ as_text family bytes_of c.args.names.now upstream tracing (record { groups = c.deref.result; from = tracing.from }) c.deref.ensures.value refl c.if-words.false)
-    c.end_of-2.ensures.end c.options_of-options-2.ensures.upstream c.options_of-options-2.ensures.grace c.options_of-options-2.ensures.limit c.audit_into-2.ensures.audits
+    c.end_of-2.ensures.end c.options_of-options-2.ensures.upstream c.options_of-options-2.ensures.grace c.options_of-options-2.ensures.local c.options_of-options-2.ensures.limit c.audit_into-2.ensures.audits

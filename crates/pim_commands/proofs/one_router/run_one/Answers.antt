@@ -9,18 +9,16 @@ returns-in-Err-clause-runs g c = rw (← c.upstream_of.ensures)
 
 pub returns-in-Err-clause-count : goal.returns-in-Err-clause-count
 returns-in-Err-clause-count g c =
-    not_failed g.F.Family.family g.F.Family.bytes_of g.O.Reader.Feed.remaining g.O.Reader.Feed.failures (g.O.Opener.known c.args.opener.now) (g.O.Opener.known c.open_one.new.opener)
-    c.args.captures.now c.upstream_of.result (g.W.Drain.failures c.args.writer.now) c.in-Err.fault c.in-Err.ensures.unopened
+    not_failed _ (g.O.Opener.known c.args.opener.now) (g.O.Opener.known c.open_one.new.opener) _ (g.W.Drain.failures c.args.writer.now) c.in-Err.fault c.in-Err.ensures.unopened
 
 pub returns-clause-runs : goal.returns-clause-runs
 returns-clause-runs g c = rw (← c.upstream_of.ensures)
-    (answered g.F.Family.family g.F.Family.bytes_of g.O.Reader.Feed.remaining g.O.Reader.Feed.failures (g.O.Opener.known c.args.opener.now) (g.O.Opener.known c.open_one.new.opener)
-    c.args.captures.now c.upstream_of.result
+    (answered _
     (λ text. IsReported text (g.E.Drain.contents c.args.errors.now) (g.E.Drain.contents c.warn_of_one.new.errors) (g.E.Drain.failures c.args.errors.now) (g.E.Drain.failures c.warn_of_one.new.errors))
     (g.W.Drain.contents c.args.writer.now) (g.W.Drain.contents c.run_command-answer.new.writer) c.run_command-answer.result _
     (over_open g.F.Family.family g.F.Family.bytes_of g.O.Reader.Feed.remaining g.O.Reader.Feed.failures (g.O.Opener.known c.args.opener.now) (g.O.Opener.known c.open_one.new.opener)
-    c.args.captures.now c.upstream_of.result _ c.in-Ok.files.routes c.in-Ok.files.merge c.run_command-answer.new.merge c.in-Ok.ensures.opened (
-      subst (λ (m : MergeState). RunsOne g.F.Family.family g.F.Family.bytes_of c.args.captures.now (engine_of g.F.Family.family g.F.Family.bytes_of c.args.command) c.in-Ok.files.routes m c.run_command-answer.new.merge
-          (g.W.Drain.contents c.args.writer.now) (g.W.Drain.contents c.run_command-answer.new.writer) c.run_command-answer.result) c.begin_for.ensures.census c.run_command-answer.ensures.runs,
+    c.args.files.0.now c.upstream_of.result c.args.files.1 _ c.in-Ok.opened.routes c.in-Ok.opened.local c.in-Ok.opened.merge c.run_command-answer.new.merge c.in-Ok.ensures.opened (
+      subst (λ (m : MergeState). RunsOne g.F.Family.family g.F.Family.bytes_of c.args.files.0.now (engine_of g.F.Family.family g.F.Family.bytes_of c.args.command c.in-Ok.opened.local) c.in-Ok.opened.routes m c.run_command-answer.new.merge
+          (g.W.Drain.contents c.args.writer.now) (g.W.Drain.contents c.run_command-answer.new.writer) c.run_command-answer.result) (c.begin_for.ensures.census c.in-Ok.opened.local) c.run_command-answer.ensures.runs,
       c.warn_of_one.ensures,
     )))

@@ -8,13 +8,11 @@ returns-in-Err-clause-runs g c = inl (c.in-Err.ensures.unopened, refl {a = g.W.D
 
 pub returns-in-Err-clause-count : goal.returns-in-Err-clause-count
 returns-in-Err-clause-count g c =
-    not_failed g.F.Family.family g.F.Family.bytes_of g.O.Reader.Feed.remaining g.O.Reader.Feed.failures (g.O.Opener.known c.args.opener.now) (g.O.Opener.known c.open_two.new.opener)
-    c.args.captures.now (Some c.args.requested.1.now.upstream) (g.W.Drain.failures c.args.writer.now) c.in-Err.fault c.in-Err.ensures.unopened
+    not_failed _ (g.O.Opener.known c.args.opener.now) (g.O.Opener.known c.open_two.new.opener) _ (g.W.Drain.failures c.args.writer.now) c.in-Err.fault c.in-Err.ensures.unopened
 
 pub returns-clause-runs : goal.returns-clause-runs
 returns-clause-runs g c =
-    answered g.F.Family.family g.F.Family.bytes_of g.O.Reader.Feed.remaining g.O.Reader.Feed.failures (g.O.Opener.known c.args.opener.now) (g.O.Opener.known c.open_two.new.opener)
-    c.args.captures.now (Some c.args.requested.1.now.upstream)
+    answered _
     (λ text. IsReported text (g.E.Drain.contents c.args.errors.now) (g.E.Drain.contents c.warn_of_both.new.errors) (g.E.Drain.failures c.args.errors.now) (g.E.Drain.failures c.warn_of_both.new.errors))
     (g.W.Drain.contents c.args.writer.now) (g.W.Drain.contents c.run_command-answer.new.writer) c.run_command-answer.result _
     (over_both g.F.Family.family g.F.Family.bytes_of g.O.Reader.Feed.remaining g.O.Reader.Feed.failures (g.O.Opener.known c.args.opener.now) (g.O.Opener.known c.open_two.new.opener)
