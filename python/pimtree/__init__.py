@@ -8,6 +8,7 @@ from .events import (
     End,
     Event,
     Fired,
+    HeldMachine,
     HelloHeard,
     IgnoredJoin,
     PacketHeard,
@@ -16,6 +17,7 @@ from .events import (
     Skipped,
     TimedOut,
     Transition,
+    WantedEntry,
     trace,
 )
 from .message import (
@@ -32,8 +34,9 @@ from .session import Echo, Neighbour, Record, Refresh, Session, Verdict, Want
 
 __version__ = VERSION
 __all__ = [
-    "Cause", "Echo", "End", "Entry", "Event", "Fired", "GroupSet", "Hello", "HelloHeard",
-    "IgnoredJoin", "JoinPrune", "LanPruneDelay", "Message", "Neighbour", "OtherMessage",
-    "PacketHeard", "PimtreeFault", "PimtreeWarning", "Record", "Refresh", "Restarted", "Session",
-    "Skipped", "TimedOut", "Transition", "Verdict", "Want", "trace",
+    "Cause", "Echo", "End", "Entry", "Event", "Fired", "GroupSet", "HeldMachine", "Hello",
+    "HelloHeard", "IgnoredJoin", "JoinPrune", "LanPruneDelay", "Message", "Neighbour",
+    "OtherMessage", "PacketHeard", "PimtreeFault", "PimtreeWarning", "Record", "Refresh",
+    "Restarted", "Session", "Skipped", "TimedOut", "Transition", "Verdict", "Want", "WantedEntry",
+    "trace",
 ]

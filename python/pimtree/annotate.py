@@ -15,7 +15,8 @@ bytes, times and options.
 The comment of a record has its lines of the trace. A line of time is in the comment of the port's
 next record: the first one after the packet that set the timer, whose time isn't before that of the
 line. Where there is none, it is in that of the port's last record. The line `end:` is in that of
-the last record of all. A comment above 65,535 bytes is written as several.
+the last record of all, after those of `--state`. A comment above 65,535 bytes is written as
+several.
 
 A simple packet block becomes an enhanced one with the time of the record before it in its file.
 Before any time it stays a simple one on the first interface, and has no room for a comment. A
@@ -39,7 +40,9 @@ from typing import (
 
 from . import arguments, captures, events, pcapng
 from .arguments import Port
-from .events import End, Event, Fired, HelloHeard, PacketHeard, Skipped, TimedOut
+from .events import (
+    End, Event, Fired, HeldMachine, HelloHeard, PacketHeard, Skipped, TimedOut, WantedEntry,
+)
 from .program import PimtreeFault
 from .records import CaptureFault, Interface, Option, Record
 
@@ -115,7 +118,7 @@ class _Trace:
     def add(self, event: Event, text: str, count: int) -> None:
         """Adds a line."""
         self.is_empty = False
-        if isinstance(event, End):
+        if isinstance(event, (HeldMachine, WantedEntry, End)):
             self.end.append(text)
         elif isinstance(event, (Fired, TimedOut)):
             # A timer that is set to the present moment fires before the very next record.

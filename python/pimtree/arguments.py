@@ -15,7 +15,7 @@ _TAKES_VALUE = {
     f"--{it}"
     for it in "rp routes limit after at vlan interface from group source time".split()
 }
-_FLAGS = {"--all", "--json"}
+_FLAGS = {"--all", "--state", "--json"}
 STANDARD_INPUT = "-"
 
 

@@ -10,7 +10,8 @@ The other words are those of `pimtree trace` but `--json`; `pimtree trace --help
 2000. `--all` adds marks of refreshes and of packets that need no line.
 
 A bar is a state; its title has the lines of the trace that begin and end it. A mark is an event;
-its title has its line. With `--from`, only what has an event since then has a row.
+its title has its line. With `--from`, only what has an event since then has a row. The lines of
+`--state` aren't drawn.
 
 If the trace ends with a fault inside a capture, the chart shows what came before it.
 """

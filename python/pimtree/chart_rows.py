@@ -7,8 +7,8 @@ from dataclasses import dataclass, field
 from typing import Dict, List, Optional, Sequence, Tuple, Union
 
 from .events import (
-    End, Event, Fired, HelloHeard, IgnoredJoin, PacketHeard, Restarted, Skipped, TimedOut,
-    Transition,
+    End, Event, Fired, HeldMachine, HelloHeard, IgnoredJoin, PacketHeard, Restarted, Skipped,
+    TimedOut, Transition, WantedEntry,
 )
 
 _NO_INFO = "no-info"
@@ -177,7 +177,7 @@ class Rows:
             self._row(event, Part.STAR, event.group).mark(Sign.IGNORED, event, line)
         elif isinstance(event, Restarted):
             self._row(event, Part.PORT).mark(Sign.RESTARTED, event, line)
-        elif not isinstance(event, End):
+        elif not isinstance(event, (HeldMachine, WantedEntry, End)):
             self._take_other(event, line)
 
     def _row(self, event: Event, part: Part, group: str = "", address: str = "") -> Row:

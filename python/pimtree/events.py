@@ -79,8 +79,8 @@ class Transition(Event):
     source: Optional[str]
     was: str
     now: str
-    et: Optional[int]
-    """The time left on the Expiry Timer, in milliseconds; none is never."""
+    et: Union[int, str, None]
+    """The time left on the Expiry Timer, in milliseconds, or `never`; none in `no-info`."""
     ppt: Optional[int]
     """The time left on the Prune-Pending Timer, in milliseconds."""
     neighbours: int
@@ -150,6 +150,38 @@ class Fired(Event):
 
 
 @dataclass(frozen=True)
+class HeldMachine(Event):
+    """A machine that the router holds at the end (`--state`)."""
+
+    what: str
+    """`star`, `source` or `rpt`, as of a `Transition`."""
+    group: str
+    source: Optional[str]
+    state: str
+    held_for: int
+    """The time since it was last in `no-info`, in milliseconds."""
+    et: Union[int, str]
+    """The time left on the Expiry Timer, in milliseconds, or `never`."""
+    ppt: Optional[int]
+    """The time left on the Prune-Pending Timer, in milliseconds."""
+    cause: Cause
+    """The packet that set the Expiry Timer."""
+
+
+@dataclass(frozen=True)
+class WantedEntry(Event):
+    """What the router wants at the end (`--state`). It has no port."""
+
+    what: str
+    """`star` for the shared tree, `source` for the tree of a source, `except` for a source that is
+    not wanted on the shared tree."""
+    group: str
+    source: Optional[str]
+    via: Optional[str]
+    """The upstream neighbour, if it is known."""
+
+
+@dataclass(frozen=True)
 class End(Event):
     """The end of the run."""
 
@@ -167,11 +199,14 @@ _KINDS: Dict[str, Type[Event]] = {
     "skipped": Skipped,
     "timed-out": TimedOut,
     "fired": Fired,
+    "record": HeldMachine,
+    "want": WantedEntry,
     "end": End,
 }
 NAMES = tuple(_KINDS)
 """The names of events, as `trace --json` writes them."""
 _RENAMED = {"from": "sender", "for": "upstream"}
+_RENAMED_IN_RECORDS = {**_RENAMED, "for": "held_for"}
 
 
 def name_of(event: Event) -> str:
@@ -179,14 +214,15 @@ def name_of(event: Event) -> str:
     return next(name for name, kind in _KINDS.items() if isinstance(event, kind))
 
 
-def _renamed(members: Dict[str, Any]) -> Dict[str, Any]:
-    return {_RENAMED.get(name, name): value for name, value in members.items()}
+def _renamed(members: Dict[str, Any], names: Mapping[str, str] = _RENAMED) -> Dict[str, Any]:
+    return {names.get(name, name): value for name, value in members.items()}
 
 
 def event_of(members: Dict[str, Any]) -> Event:
     """The event of an object of `trace --json`."""
-    values = _renamed(members)
-    kind = _KINDS.get(values.pop("event", ""))
+    kind = _KINDS.get(members.get("event", ""))
+    values = _renamed(members, _RENAMED_IN_RECORDS if kind is HeldMachine else _RENAMED)
+    values.pop("event", None)
     if "cause" in values:
         values["cause"] = Cause(**_renamed(values["cause"]))
     try:
@@ -261,6 +297,7 @@ def trace(
     groups: Iterable[str] = (),
     sources: Iterable[str] = (),
     everything: bool = False,
+    state: bool = False,
     stdin: program.Input = None,
 ) -> Iterator[Event]:
     """The events of a trace, as they come.
@@ -276,4 +313,5 @@ def trace(
     words = [f"--{name}={value}" for name, value in single.items() if value is not None]
     words += [f"--{name}={value}" for name, values in several.items() for value in values]
     words += ["--all"] if everything else []
+    words += ["--state"] if state else []
     return events([*words, *([ports] if isinstance(ports, str) else ports)], stdin)

@@ -164,6 +164,22 @@ class Lines(Folder):
         expected = {at: lines for at, lines in LAN_COMMENTS.items() if at < 9}
         self.check(packets, {**expected, 9: ["14000 lan prune"], 11: ["14500 end: "]})
 
+    def test_the_state_at_the_end(self) -> None:
+        word = f"lan={OWN}@{support.example('lan.pcap')}"
+        words = ["--state", "--at", "14500", word]
+        _, packets = self.annotate(*words)
+        expected = {at: lines for at, lines in LAN_COMMENTS.items() if at < 9}
+        star = "star 239.1.1.1"
+        state = [f"14500 lan holds {star}: join", f"14500 wants {star}", "14500 end: "]
+        found = self.check(packets, {**expected, 9: ["14000 lan prune"], 11: state})
+        self.assertEqual(found, self.lines(*words))
+
+    def test_the_state_after_further_files(self) -> None:
+        files = [self.file(f"{at}", made.pcap(it)) for at, it in enumerate([LAN[:4], LAN[4:]])]
+        words = ["--state", f"lan={OWN}@{files[0]}", f"+{files[1]}"]
+        _, packets = self.annotate(*words)
+        self.assertEqual(lines_of(packets), self.lines(*words))
+
     def test_a_long_comment(self) -> None:
         joined = tuple(Entry("source", f"192.0.{at >> 8}.{at & 255}") for at in range(2000))
         start, sets = LAN[0][0], (GroupSet(G, joined),)

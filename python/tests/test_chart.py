@@ -182,6 +182,11 @@ class ExampleRows(unittest.TestCase):
             "star 239.2.2.2, join 10000-11000, prune-pending 11000-14000, echo 14000",
         ])
 
+    def test_the_state_at_the_end_is_not_drawn(self) -> None:
+        for name in ("lan", "ipv6"):
+            drawn = [described(it) for it in rows_of(words_of(name))]
+            self.check(["--state", *words_of(name)], drawn)
+
     def test_refreshes(self) -> None:
         """With `--all` the packets have lines, too: each Join/Prune, the IGMP query, and the Join
         that refreshes."""

@@ -16,6 +16,7 @@ from pimtree import (
     Entry,
     Fired,
     GroupSet,
+    HeldMachine,
     Hello,
     HelloHeard,
     IgnoredJoin,
@@ -28,6 +29,7 @@ from pimtree import (
     Skipped,
     TimedOut,
     Transition,
+    WantedEntry,
     events,
     trace,
 )
@@ -115,7 +117,50 @@ class Events(unittest.TestCase):
         for event, wanted in zip(found, expected):
             self.assertEqual(event, wanted)
         self.assertEqual(len(found), len(expected))
-        self.assertEqual({events.name_of(it) for it in found}, set(events.NAMES))
+        kinds = set(events.NAMES) - {"record", "want"}
+        self.assertEqual({events.name_of(it) for it in found}, kinds)
+
+    def routes(self) -> str:
+        """A file of routes to the RP, and to the source."""
+        path = os.path.join(self.folder, "routes")
+        with open(path, "w", encoding="utf-8") as file:
+            file.write(f"rp 224.0.0.0/4 {RP}\nvia 10.9.9.9/32 10.1.0.1\n")
+            file.write("via 192.0.2.0/24 10.1.0.9\n")
+        return path
+
+    def test_the_state_at_the_end(self) -> None:
+        """Holdtime 65535 never ends. Where there is no other neighbour, a Prune takes effect at
+        once (RFC 7761, 4.5.3)."""
+        at, cause, times = self.at(1100), Cause(2, 100, B), (1000, "never", None)
+        both = GroupSet(G, (Entry("star", RP), Entry("source", S)), (Entry("rpt", S),))
+        heard = [
+            (0, packet(B, Hello(holdtime=105, generation=1))),
+            (100, packet(B, JoinPrune(OWN, 65_535, (both,)))),
+        ]
+        word = f"lan={OWN}@{support.write_capture(self.path, heard)}"
+        found = list(trace(word, routes=self.routes(), since="1100", at="1100", state=True))
+        no_port = self.at(1100, None)
+        self.assertEqual(found[:-1], [
+            HeldMachine(*at, "star", G, None, "join", *times, cause),
+            HeldMachine(*at, "source", G, S, "join", *times, cause),
+            HeldMachine(*at, "rpt", G, S, "prune", *times, cause),
+            WantedEntry(*no_port, "star", G, None, "10.1.0.1"),
+            WantedEntry(*no_port, "except", G, S, "10.1.0.1"),
+            WantedEntry(*no_port, "source", G, S, "10.1.0.9"),
+        ])
+        self.assertIsInstance(found[-1], End)
+        self.assertEqual({events.name_of(it) for it in found}, {"record", "want", "end"})
+
+    def test_times_of_a_held_machine(self) -> None:
+        """Join(*,G) of record 8 sets the timer again. After 300 ms a Prune is pending for 3 s."""
+        heard = [*story()[:8], (500, packet(B, entry("star", RP, joins=False)))]
+        word = f"lan={OWN}@{support.write_capture(self.path, heard)}"
+        held = [it for it in trace(word, rp=RP, since="2000", at="2000", state=True)
+                if isinstance(it, HeldMachine)]
+        star, cause = ("star", G, None), Cause(8, 200, B)
+        self.assertEqual(held, [
+            HeldMachine(*self.at(2000), *star, "prune-pending", 1900, 208_200, 1500, cause),
+        ])
 
     def test_options(self) -> None:
         words = [f"lan={OWN}@{self.path}"]

@@ -221,6 +221,18 @@ class Streams(unittest.TestCase):
                          "pimtree: warning: --exec: the command ended with status 1\n")
         self.assertEqual(ran.returncode, 0)
 
+    def test_the_state_at_the_end(self) -> None:
+        data = made.pcap(made.example_records("lan.pcap"))
+        ran = self.run_live(data, "--state", "--alert", "record,want", f"{OWN}@-")
+        words = [support.PROGRAM, "trace", "--rp", RP, "--state", f"{OWN}@-"]
+        rows = subprocess.run(words, input=data, capture_output=True).stdout.decode().splitlines()
+        expected = [it for it in rows if " holds " in it or " wants " in it]
+        self.assertEqual([it.split(":")[0] for it in expected], [
+            "80000 0 holds star 239.1.1.1", "80000 0 holds rpt 192.0.2.1 239.1.1.1",
+            "80000 wants star 239.1.1.1",
+        ])
+        self.assertEqual((ran.stdout.decode().splitlines(), ran.returncode), (expected, 0))
+
     def test_words(self) -> None:
         faults: List[Tuple[List[str], str]] = [
             (["--alert", "fired,fire", OWN], "--alert fire: events are hello, packet, "),

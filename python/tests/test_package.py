@@ -105,13 +105,15 @@ class Bash(unittest.TestCase):
         self.assertEqual(self.offers(""), {"--help", "--version", *names})
         for name, options in names.items():
             self.assertEqual(self.offers(name, "--"), {f"--{it}" for it in options}, name)
-        self.assertEqual(self.offers("trace", "--all", "--tim"), {"--time"})
+        for flag in ("--all", "--state"):
+            self.assertEqual(self.offers("trace", flag, "--tim"), {"--time"})
 
     def test_values(self) -> None:
         self.assertEqual(self.offers("trace", "--time", ""), {"ms", "epoch", "utc"})
         self.assertEqual(self.offers("trace", "--time", "=", "u"), {"utc"})
         self.assertEqual(self.offers("replay", "--input", ""), {"classic", "any"})
-        self.assertEqual(self.offers("trace", "--routes", "exampl"), {"examples/"})
+        for words in (("trace", "--routes"), ("audit", "--local")):
+            self.assertEqual(self.offers(*words, "exampl"), {"examples/"})
         self.assertEqual(self.offers("check", "<", "examples/join-s"), {"examples/join-star.pim"})
         self.assertEqual(self.offers("trace", "--rp", ""), set())
 
@@ -168,7 +170,8 @@ class Fish(unittest.TestCase):
     def test_values(self) -> None:
         found = self.offers("pimtree trace --time ", "pimtree same --input ", "pimtree emit --rp ")
         self.assertEqual(found, [{"ms", "epoch", "utc"}, {"classic", "any"}, set()])
-        self.assertEqual(self.offers("pimtree trace --routes exampl"), [{"examples/"}])
+        lines = ("pimtree trace --routes exampl", "pimtree audit --local exampl")
+        self.assertEqual(self.offers(*lines), [{"examples/"}, {"examples/"}])
 
     def test_ports(self) -> None:
         found = self.offers("pimtree trace lan=::1@examples/lan.p", "pimtree trace x@y +exampl")
