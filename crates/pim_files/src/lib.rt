@@ -3,8 +3,8 @@
 //!
 //! - `Opener` opens files by name. `HeldFiles` is one of files in memory, for tests.
 //! - `table` makes the route table; `read_routes` adds the rows of a file of routes.
-//! - `local_joins` makes the list of what local receivers have joined; `read_local` adds the joins of
-//!   their file.
+//! - `local_joins` makes the list of what local receivers have joined; `read_local` adds the joins
+//!   of their file.
 //! - `open_with_local` makes the table and the list of joins, and opens the captures of one router.
 //!   `open_two` makes the table and opens the captures of two. Both follow the order of the words.
 //!   The further files of a port come after its own, and are one capture.

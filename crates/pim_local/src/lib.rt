@@ -3,8 +3,8 @@
 //!
 //! - `LocalJoin` is one of these joins. `LocalJoins` is a list of them in one order, each once, at
 //!   most 4,096.
-//! - `add` refuses a join exactly if it isn't valid, if the list is full, or if memory is refused. A
-//!   refusal changes nothing.
+//! - `add` refuses a join exactly if it isn't valid, if the list is full, or if memory is refused.
+//!   A refusal changes nothing.
 //! - `has_star` and `has_source` return whether the list has a join, `joins_of` those of a group.
 //!
 //! Callers: `pim_files`, which reads a file of joins, and `pim_audit`.
