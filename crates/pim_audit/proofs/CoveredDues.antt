@@ -1,20 +1,32 @@
 -- What is due of a group is due of its star, of a machine that some port holds, or of a local join.
 use Rattle.pim_audit.proofs.GatherWords.{◌≡◌, ◌∙◌, ℕ, zero, suc, ◌<◌, ◌⊎◌, inl, inr, Bool, true, false, ◌&&◌, ◌||◌, not, List}
-use Rattle.pim_audit.proofs.GatherWords.{◌++◌, Event, Option, None, Some, refl, sym, ap, subst, arith, false≢true, cases_lt, AddressFamily, What, Star}
+use Rattle.pim_audit.proofs.GatherWords.{Option, None, Some, refl, sym, ap, subst, arith, false≢true, cases_lt, AddressFamily, What, Star}
 use Rattle.pim_audit.proofs.GatherWords.{Source, Rpt, State, Downstream, is_some, is_joined, is_pruned, state_on, wants, wants_on}
-use Rattle.pim_audit.proofs.GatherWords.{some_below, Shared, SourceTree, star}
-use Rattle.pim_audit.proofs.Gather.{or_cases, and_both, gathers_one, gathers_both, gathers_group}
+use Rattle.pim_audit.proofs.GatherWords.{some_below, Shared, SourceTree, Join, is_joined_locally, source_join}
+use Rattle.pim_audit.proofs.Gather.{or_cases, and_both}
 use Rattle.pim_audit.proofs.LocalPort.{local_star, local_shared, local_source}
-use Rattle.pim_audit.specs.Dues.{change_of, due_of, exception_change, is_excepted, is_one}
+use Rattle.pim_audit.specs.Dues.{change_of, exception_change, is_excepted, is_one}
 use Rattle.pim_audit.specs.Entries.{entry}
-use Rattle.pim_audit.specs.Gathering.{is_due_between, entry_if, Gathers, GathersGroup, IsHeldBelow, IsLocal}
+use Rattle.pim_audit.specs.Gathering.{is_due_between}
 use Rattle.pim_audit.specs.Local.{local_port}
 use Rattle.pim_audit.specs.Sides.{SidesState, has_star, is_rp_reached, asked_side, wanted_side}
 
+-- some port holds the machine
+pub record HeldIn (state : Downstream) (group : List ℕ) (what : What (List ℕ)) : Type 0 where
+  pub port : ℕ
+  pub below : port < state.ports
+  pub is : is_some (state_on state.records port group what) ≡ true
+
+-- local receivers have joined this source of the group
+abbrev pub IsLocal : List Join → List ℕ → What (List ℕ) → Type 0
+IsLocal local group Star = ⊥
+IsLocal local group (Source source) = is_joined_locally (source_join source group) local ≡ true
+IsLocal local group (Rpt source) = ⊥
+
 -- it is the star, or some port holds it, or local receivers have joined it
 abbrev pub IsCovered : SidesState → List ℕ → What (List ℕ) → Type 0
-IsCovered sides group what = (what ≡ Star)
-    ⊎ (IsHeldBelow sides.asked.ports sides.asked group what ⊎ (IsHeldBelow sides.wanted.ports sides.wanted group what ⊎ IsLocal sides.local group what))
+IsCovered sides group what =
+    (what ≡ Star) ⊎ (HeldIn sides.asked group what ⊎ (HeldIn sides.wanted group what ⊎ IsLocal sides.local group what))
 
 -- ---- tests of ports
 
@@ -58,19 +70,19 @@ is_excluded false prunes is none = absurd (false≢true is)
 
 -- a source that is wanted on its own tree has a machine on some port
 pub source_held : (state : Downstream) (source group : List ℕ) → wants state source group SourceTree ≡ true
-    → IsHeldBelow state.ports state group (Source source)
+    → HeldIn state group (Source source)
 source_held state source group wanted =
     let one = some_passes state.ports (wants_on state.records source group SourceTree) wanted in
-    (one.port, one.below, (refl, joined_some (state_on state.records one.port group (Source source)) one.is))
+    record { port = one.port; below = one.below; is = joined_some (state_on state.records one.port group (Source source)) one.is }
 
 -- so has an exception of a star
 exception_held : (state : Downstream) (source group : List ℕ) → has_star state group ≡ true → wants state source group Shared ≡ false
-    → IsHeldBelow state.ports state group (Rpt source)
+    → HeldIn state group (Rpt source)
 exception_held state source group starred unwanted =
     let one = some_passes state.ports (λ port. is_joined (state_on state.records port group Star)) starred in
     let none = none_passes state.ports (wants_on state.records source group Shared) unwanted one.port one.below in
     let is = is_excluded (is_joined (state_on state.records one.port group Star)) (is_pruned (state_on state.records one.port group (Rpt source))) one.is none in
-    (one.port, one.below, (refl, pruned_some (state_on state.records one.port group (Rpt source)) is))
+    record { port = one.port; below = one.below; is = pruned_some (state_on state.records one.port group (Rpt source)) is }
 
 -- ---- changes
 
@@ -85,7 +97,7 @@ excepts true false true joins due = inr refl
 excepts true false false joins due = absurd (false≢true due)
 excepts false was is joins due = absurd (false≢true due)
 
-not_is : (b : Bool) → not b ≡ true → b ≡ false
+pub not_is : (b : Bool) → not b ≡ true → b ≡ false
 not_is true e = absurd (false≢true e)
 not_is false e = refl
 
@@ -113,14 +125,10 @@ lacking port_star local_star port_wants local_wants reached is =
 -- ---- what is due
 
 module _ (family : AddressFamily) (sides : SidesState) (group : List ℕ) where
-  -- some port of the state holds it
-  abbrev IsHeld : Downstream → What (List ℕ) → Type 0
-  IsHeld state what = IsHeldBelow state.ports state group what
-
-  asked_holds : (what : What (List ℕ)) → IsHeldBelow sides.asked.ports sides.asked group what → IsCovered sides group what
+  asked_holds : (what : What (List ℕ)) → HeldIn sides.asked group what → IsCovered sides group what
   asked_holds what held = inr (inl held)
 
-  wanted_holds : (what : What (List ℕ)) → IsHeldBelow sides.wanted.ports sides.wanted group what → IsCovered sides group what
+  wanted_holds : (what : What (List ℕ)) → HeldIn sides.wanted group what → IsCovered sides group what
   wanted_holds what held = inr (inr (inl held))
 
   source_covered : (source : List ℕ) → (wanted_side family sides).demand source group SourceTree ≡ true → IsCovered sides group (Source source)
@@ -160,20 +168,3 @@ module _ (family : AddressFamily) (sides : SidesState) (group : List ℕ) where
             asked_holds (Rpt source) (exception_held sides.asked source group both.0 (not_is (wants sides.asked source group Shared) both.1))
         | inr is ↦ exception_covered source is
       ]
-
-  -- the star, the machines of both sides and the local joins are all of the group
-  pub all_gathered : (asked wanted : Downstream) (e0 e1 e2 e3 e4 : List Event) → asked ≡ sides.asked → wanted ≡ sides.wanted
-      → e1 ≡ e0 ++ entry_if group Star (due_of (asked_side sides) (wanted_side family sides) group Star)
-      → Gathers family sides group (IsHeldBelow asked.ports asked group) e1 e2
-      → Gathers family sides group (IsHeldBelow wanted.ports wanted group) e2 e3
-      → Gathers family sides group (IsLocal sides.local group) e3 e4 → GathersGroup family sides group e0 e4
-  all_gathered asked wanted e0 e1 e2 e3 e4 is_asked is_wanted star of_asked of_wanted of_local =
-      gathers_group family sides group (IsCovered sides group) e0 e4 due_is_covered
-      (gathers_both family sides group (λ what. what ≡ Star) (λ what. IsHeld sides.asked what ⊎ (IsHeld sides.wanted what ⊎ IsLocal sides.local group what))
-      (IsCovered sides group) e0 e1 e4 (λ what covered. covered) (gathers_one family sides group Star e0 e1 star)
-      (gathers_both family sides group (IsHeld sides.asked) (λ what. IsHeld sides.wanted what ⊎ IsLocal sides.local group what)
-      (λ what. IsHeld sides.asked what ⊎ (IsHeld sides.wanted what ⊎ IsLocal sides.local group what)) e1 e2 e4 (λ what covered. covered)
-      (subst (λ (state : Downstream). Gathers family sides group (IsHeld state) e1 e2) is_asked of_asked)
-      (gathers_both family sides group (IsHeld sides.wanted) (IsLocal sides.local group)
-      (λ what. IsHeld sides.wanted what ⊎ IsLocal sides.local group what) e2 e3 e4 (λ what covered. covered)
-      (subst (λ (state : Downstream). Gathers family sides group (IsHeld state) e2 e3) is_wanted of_wanted) of_local)))

@@ -1,5 +1,5 @@
--- What is due is due of a machine that some side holds, or of its group's star. So its addresses are
--- valid, and its group is one of the groups of all machines.
+-- What is due is due of a machine that some side holds or local receivers have joined. So its
+-- addresses are valid.
 use Rattle.std.proofs.Common.{◌≡◌, ◌∙◌, ℕ, inl, inr, Bool, true, false, ◌||◌, List, [], ◌∷◌, None, Some, refl, sym, subst, cond}
 use Rattle.std.proofs.lemmas.Bool.{false≢true}
 use Rattle.std.specs.List.{AllByRecursion}
@@ -16,21 +16,15 @@ unfoldable use Rattle.pim_down.specs.Records.{machine_at}
 use Rattle.pim_down.specs.Records.{state_of_machine}
 use Rattle.pim_down.specs.Sound.{IsReal, IsSound}
 use Rattle.pim_down.specs.Time.{Downstream}
-use Rattle.pim_form.specs.NormalForm.{is_listed}
 use Rattle.pim_form.specs.Wants.{is_joined, state_on}
 use Rattle.pim_local.specs.Joins.{star, source_join, is_listed as is_joined_locally}
 use Rattle.pim_audit.specs.Entries.{entry}
-use Rattle.pim_audit.specs.Gathering.{is_due_between, IsHeldBelow, HasGroups, HasLocalGroups}
+use Rattle.pim_audit.specs.Gathering.{is_due_between}
 use Rattle.pim_audit.specs.Local.{local_port}
 use Rattle.pim_audit.specs.Sides.{SidesState, IsEntry, has_star, wanted_side}
-use Rattle.pim_audit.proofs.CoveredDues.{due_is_covered, some_passes, joined_some, changes, source_held}
+use Rattle.pim_audit.proofs.CoveredDues.{HeldIn, due_is_covered, some_passes, joined_some, changes, source_held}
 use Rattle.pim_audit.proofs.Gather.{or_cases, and_both}
 use Rattle.pim_audit.proofs.LocalPort.{local_star, local_source}
-
--- some port holds the machine
-record HeldIn (state : Downstream) (group : List ℕ) (what : What (List ℕ)) : Type 0 where
-  port : ℕ
-  is : is_some (state_on state.records port group what) ≡ true
 
 -- ---- a machine that is held has valid addresses
 
@@ -63,13 +57,10 @@ held_valid distinct family state group what joins sound held =
 starred : (state : Downstream) (group : List ℕ) → has_star state group ≡ true → HeldIn state group Star
 starred state group is =
     let one = some_passes state.ports (λ port. is_joined (state_on state.records port group Star)) is in
-    record { port = one.port; is = joined_some (state_on state.records one.port group Star) one.is }
-
-held_below : (count : ℕ) (state : Downstream) (group : List ℕ) (what : What (List ℕ)) → IsHeldBelow count state group what → HeldIn state group what
-held_below count state group what (port, below, is) = record { port = port; is = is.1 }
+    record { port = one.port; below = one.below; is = joined_some (state_on state.records one.port group Star) one.is }
 
 -- a machine on some side, or what local receivers have joined
-data DueOf (sides : SidesState) (group : List ℕ) (what : What (List ℕ)) : Type 0 where
+pub data DueOf (sides : SidesState) (group : List ℕ) (what : What (List ℕ)) : Type 0 where
   of_asked : HeldIn sides.asked group what → DueOf sides group what
   of_wanted : HeldIn sides.wanted group what → DueOf sides group what
   of_local_star : what ≡ Star → is_joined_locally (star group) sides.local ≡ true → HeldIn (local_port sides.local) group what → DueOf sides group what
@@ -88,26 +79,25 @@ module _ (family : AddressFamily) (sides : SidesState) (group : List ℕ) where
         ]
   ]
 
-  machine_due : (joins : Bool) (what : What (List ℕ)) → is_due_between family sides (entry joins group what) ≡ true → DueOf sides group what
+  pub machine_due : (joins : Bool) (what : What (List ℕ)) → is_due_between family sides (entry joins group what) ≡ true → DueOf sides group what
   machine_due joins Star due = star_due joins due
   machine_due joins (Source source) due = elim (due_is_covered family sides group joins (Source source) due) as (λ _. DueOf sides group (Source source)) [
     | inl is ↦ absurd cc
     | inr some ↦ elim some as (λ _. DueOf sides group (Source source)) [
-      | inl held ↦ of_asked (held_below sides.asked.ports sides.asked group (Source source) held)
+      | inl held ↦ of_asked held
       | inr other ↦ elim other as (λ _. DueOf sides group (Source source)) [
-        | inl held ↦ of_wanted (held_below sides.wanted.ports sides.wanted group (Source source) held)
+        | inl held ↦ of_wanted held
         | inr listed ↦ of_local_source source refl listed
-            (held_below 1 (local_port sides.local) group (Source source)
-            (source_held (local_port sides.local) source group (local_source sides.local source group ∙ listed)))
+            (source_held (local_port sides.local) source group (local_source sides.local source group ∙ listed))
       ]
     ]
   ]
   machine_due joins (Rpt source) due = elim (due_is_covered family sides group joins (Rpt source) due) as (λ _. DueOf sides group (Rpt source)) [
     | inl is ↦ absurd cc
     | inr some ↦ elim some as (λ _. DueOf sides group (Rpt source)) [
-      | inl held ↦ of_asked (held_below sides.asked.ports sides.asked group (Rpt source) held)
+      | inl held ↦ of_asked held
       | inr other ↦ elim other as (λ _. DueOf sides group (Rpt source)) [
-        | inl held ↦ of_wanted (held_below sides.wanted.ports sides.wanted group (Rpt source) held)
+        | inl held ↦ of_wanted held
         | inr none ↦ absurd none
       ]
     ]
@@ -122,16 +112,4 @@ due_valid distinct family sides of_asked_sound of_wanted_sound of_local_sound th
       | of_wanted held ↦ held_valid distinct family sides.wanted this.group this.what this.joins of_wanted_sound held
       | of_local_star is listed held ↦ held_valid distinct family (local_port sides.local) this.group this.what this.joins of_local_sound held
       | of_local_source source is listed held ↦ held_valid distinct family (local_port sides.local) this.group this.what this.joins of_local_sound held
-    ]
-
--- the group of what is due is one of the groups of all machines and joins
-pub due_listed : (family : AddressFamily) (sides : SidesState) (groups : List (List ℕ)) → HasGroups sides.asked groups
-    → HasGroups sides.wanted groups → HasLocalGroups sides.local groups → (this : Event) → is_due_between family sides this ≡ true
-    → is_listed this.group groups ≡ true
-due_listed family sides groups asked wanted local this due =
-    elim (machine_due family sides this.group this.joins this.what due) as (λ _. is_listed this.group groups ≡ true) [
-      | of_asked held ↦ asked held.port this.group this.what held.is
-      | of_wanted held ↦ wanted held.port this.group this.what held.is
-      | of_local_star is listed held ↦ local (star this.group) listed
-      | of_local_source source is listed held ↦ local (source_join source this.group) listed
     ]

@@ -1,19 +1,16 @@
--- A walk over the machines that a port holds of a group, which gathers what is due of each.
+-- A walk over the machines that a port holds of a group.
 use Rattle.pim_audit.proofs.GatherWords.{◌≡◌, ◌∙◌, ℕ, ◌<◌, ◌≤◌, ◌⊎◌, inl, inr, Bool, true, false, ◌&&◌, cond, List, [], ◌∷◌}
-use Rattle.pim_audit.proofs.GatherWords.{◌++◌, length, filter, Option, None, Some, refl, sym, ap, subst, arith, false≢true, eq-eqb, eqb-true}
+use Rattle.pim_audit.proofs.GatherWords.{length, filter, Option, None, Some, refl, sym, ap, subst, arith, false≢true, eq-eqb, eqb-true}
 use Rattle.pim_audit.proofs.GatherWords.{find, is_some, is_eq, is_lt, Ordering, Less, Equal, Greater, nat_cmp, ordering_then}
 use Rattle.pim_audit.proofs.GatherWords.{IsTotalOrder, nat_cmp_total, nat_list_cmp_total, on_total, then_total, tied_itself, address_cmp}
-use Rattle.pim_audit.proofs.GatherWords.{AddressFamily, Event, rank, source_of, what_cmp, key_cmp, same_key, IsAscending, IsBelow}
+use Rattle.pim_audit.proofs.GatherWords.{rank, source_of, what_cmp, key_cmp, same_key, IsAscending, IsBelow}
 use Rattle.pim_audit.proofs.GatherWords.{machine_at, state_of_machine, Key, What, Star, Source, Rpt, Machine, Record, state_on, ◌==◌}
-use Rattle.pim_audit.proofs.Gather.{and_both, and_true, gathers_none, gathers_one, gathers_both, gathers_fewer}
+use Rattle.pim_audit.proofs.Gather.{and_both, and_true}
 use Rattle.std.specs.FinMap.{slice_cmp-IsAntisymmetric, nat_cmp-IsAntisymmetric}
 use Rattle.pim_down.specs.After.{MachinesLeft, next_machine, next_in_group, left_behind, is_machine_after}
-use Rattle.pim_audit.specs.Dues.{due_of}
-use Rattle.pim_audit.specs.Gathering.{entry_if, has_source, Gathers}
-use Rattle.pim_audit.specs.Sides.{SidesState, asked_side, wanted_side}
 
 -- either way of a test
-by_test : {P : Type 0} (b : Bool) → (b ≡ true → P) → (b ≡ false → P) → P
+pub by_test : {P : Type 0} (b : Bool) → (b ≡ true → P) → (b ≡ false → P) → P
 by_test true here later = here refl
 by_test false here later = later refl
 
@@ -23,10 +20,10 @@ what_total : IsTotalOrder what_cmp
 unfolding what_cmp
 what_total = then_total (on_total rank nat_cmp_total) (on_total source_of nat_list_cmp_total)
 
-what_itself : (what : What (List ℕ)) → what_cmp what what ≡ Equal
+pub what_itself : (what : What (List ℕ)) → what_cmp what what ≡ Equal
 what_itself what = tied_itself what_total what
 
-is_equal : (r : Ordering) → is_eq r ≡ true → r ≡ Equal
+pub is_equal : (r : Ordering) → is_eq r ≡ true → r ≡ Equal
 is_equal Less e = absurd (false≢true e)
 is_equal Equal e = refl
 is_equal Greater e = absurd (false≢true e)
@@ -36,15 +33,15 @@ is_less Less e = refl
 is_less Equal e = absurd (false≢true e)
 is_less Greater e = absurd (false≢true e)
 
-both_equal : (r s : Ordering) → ordering_then r s ≡ Equal → (r ≡ Equal) × (s ≡ Equal)
+pub both_equal : (r s : Ordering) → ordering_then r s ≡ Equal → (r ≡ Equal) × (s ≡ Equal)
 both_equal Less s e = absurd (false≢true (ap is_eq e))
 both_equal Equal s e = (refl, e)
 both_equal Greater s e = absurd (false≢true (ap is_eq e))
 
-one_address : (a b : List ℕ) → address_cmp a b ≡ Equal → a ≡ b
+pub one_address : (a b : List ℕ) → address_cmp a b ≡ Equal → a ≡ b
 one_address a b e = slice_cmp-IsAntisymmetric nat_cmp-IsAntisymmetric a b e
 
-one_what : (a b : What (List ℕ)) → what_cmp a b ≡ Equal → a ≡ b
+pub one_what : (a b : What (List ℕ)) → what_cmp a b ≡ Equal → a ≡ b
 unfolding what_cmp
 one_what Star Star e = refl
 one_what Star (Source t) e = absurd (false≢true (ap is_eq e))
@@ -56,7 +53,7 @@ one_what (Rpt s) Star e = absurd (false≢true (ap is_eq e))
 one_what (Rpt s) (Source t) e = absurd (false≢true (ap is_eq e))
 one_what (Rpt s) (Rpt t) e = ap (λ a. Rpt a) (one_address s t (both_equal (nat_cmp 2 2) (address_cmp s t) e).1)
 
-one_key : (a b : Key (List ℕ)) → same_key a b ≡ true → a ≡ b
+pub one_key : (a b : Key (List ℕ)) → same_key a b ≡ true → a ≡ b
 unfolding key_cmp
 one_key a b e =
     let whole = both_equal (ordering_then (nat_cmp a.port b.port) (address_cmp a.group b.group)) (what_cmp a.what b.what) (is_equal (key_cmp a b) e) in
@@ -66,7 +63,7 @@ one_key a b e =
     let whats = one_what a.what b.what whole.1 in
     λ i. record { port = ports i; group = groups i; what = whats i }
 
-address_equal : (address : List ℕ) → address_cmp address address ≡ Equal
+pub address_equal : (address : List ℕ) → address_cmp address address ≡ Equal
 address_equal address = tied_itself nat_list_cmp_total address
 
 -- ---- the first of a list that passes
@@ -111,7 +108,7 @@ one_fewer more less a all not (x ∷ xs) found =
 -- ---- the machines of one group on one port
 
 module _ (port : ℕ) (group : List ℕ) where
-  abbrev key_of : What (List ℕ) → Key (List ℕ)
+  abbrev pub key_of : What (List ℕ) → Key (List ℕ)
   key_of what = record { port = port; group = group; what = what }
 
   by_what : (what this : What (List ℕ)) → key_cmp (key_of what) (key_of this) ≡ what_cmp what this
@@ -155,13 +152,13 @@ module _ (port : ℕ) (group : List ℕ) where
       by false b c e = refl
 
   -- a machine that is held, here or later
-  held_later : (what : What (List ℕ)) (first : Record (List ℕ)) (records : List (Record (List ℕ))) → same_key (key_of what) first.key ≡ false
+  pub held_later : (what : What (List ℕ)) (first : Record (List ℕ)) (records : List (Record (List ℕ))) → same_key (key_of what) first.key ≡ false
       → is_some (state_on (first ∷ records) port group what) ≡ true → is_some (state_on records port group what) ≡ true
   unfolding machine_at
   held_later what first records apart held =
       subst (λ b. is_some (state_of_machine (cond b (Some first.machine) (machine_at (key_of what) records))) ≡ true) apart held
 
-  none_held : (what : What (List ℕ)) → is_some (state_on [] port group what) ≡ true → ⊥
+  pub none_held : (what : What (List ℕ)) → is_some (state_on [] port group what) ≡ true → ⊥
   unfolding machine_at
   none_held what held = false≢true held
 
@@ -228,17 +225,9 @@ module _ (port : ℕ) (group : List ℕ) where
   abbrev pub left_count : List (Record (List ℕ)) → What (List ℕ) → ℕ
   left_count records behind = length (filter (is_machine_after port group behind) records)
 
-  -- the machine is held, has a source and doesn't come after this one
+  -- the machine is held and doesn't come after this one
   abbrev pub IsPassed : List (Record (List ℕ)) → What (List ℕ) → What (List ℕ) → Type 0
-  IsPassed records behind what =
-      (has_source what ≡ true) × (is_some (state_on records port group what) ≡ true) × (is_lt (what_cmp behind what) ≡ false)
-
-  -- no machine with a source comes up to the star
-  none_passed : (records : List (Record (List ℕ))) (what : What (List ℕ)) → IsPassed records Star what → ⊥
-  unfolding what_cmp
-  none_passed records Star passed = false≢true passed.0
-  none_passed records (Source source) passed = false≢true (sym passed.2)
-  none_passed records (Rpt source) passed = false≢true (sym passed.2)
+  IsPassed records behind what = (is_some (state_on records port group what) ≡ true) × (is_lt (what_cmp behind what) ≡ false)
 
   -- a step of the walk
   pub record Steps (records : List (Record (List ℕ))) (left next : MachinesLeft) (given : What (List ℕ)) : Type 0 where
@@ -255,8 +244,8 @@ module _ (port : ℕ) (group : List ℕ) where
     what = what_is;
     passes = λ what passed.
         by_test (is_lt (what_cmp left.behind.what what))
-        (λ over. inr (only_one left.behind.what what records given up found passed.1 over passed.2))
-        (λ upto. inl (passed.0, passed.1, upto));
+        (λ over. inr (only_one left.behind.what what records given up found passed.0 over passed.1))
+        (λ upto. inl (passed.0, upto));
     fewer = one_fewer (is_machine_after port group left.behind.what) (is_machine_after port group given.key.what) given
         (λ held later. after_more left.behind.what given held first later) (not_after_itself given) records found;
   }
@@ -278,26 +267,6 @@ module _ (port : ℕ) (group : List ℕ) where
 
   -- all are passed at the end
   pub all_passed : (records : List (Record (List ℕ))) (left : MachinesLeft) → left ≡ walk records left.behind.what → next_machine left ≡ None
-      → (what : What (List ℕ)) → (has_source what ≡ true) × (is_some (state_on records port group what) ≡ true) → IsPassed records left.behind.what what
+      → (what : What (List ℕ)) → is_some (state_on records port group what) ≡ true → IsPassed records left.behind.what what
   all_passed records left walks none what held =
-      (held.0, held.1, none_after left.behind.what what records (ap next_machine (sym walks) ∙ none) held.1)
-
-  module _ (family : AddressFamily) (sides : SidesState) where
-    pub starts : (records : List (Record (List ℕ))) (entries : List Event) → Gathers family sides group (IsPassed records Star) entries entries
-    starts records entries = gathers_none family sides group (IsPassed records Star) entries (none_passed records)
-
-    pub gathers_more : (records : List (Record (List ℕ))) (left next : MachinesLeft) (given : What (List ℕ)) (before between after : List Event)
-        → Steps records left next given → Gathers family sides group (IsPassed records left.behind.what) before between
-        → after ≡ between ++ entry_if group given (due_of (asked_side sides) (wanted_side family sides) group given)
-        → Gathers family sides group (IsPassed records next.behind.what) before after
-    gathers_more records left next given before between after step gathered added =
-        gathers_both family sides group (IsPassed records left.behind.what) (λ what. what ≡ given) (IsPassed records next.behind.what) before between after
-        (subst (λ (w : What (List ℕ)). (what : What (List ℕ)) → IsPassed records w what → IsPassed records left.behind.what what ⊎ (what ≡ given)) (sym step.what) step.passes)
-        gathered (gathers_one family sides group given between after added)
-
-    pub gathers_held : (records : List (Record (List ℕ))) (left : MachinesLeft) (before after : List Event) → left ≡ walk records left.behind.what
-        → next_machine left ≡ None → Gathers family sides group (IsPassed records left.behind.what) before after
-        → Gathers family sides group (λ what. (has_source what ≡ true) × (is_some (state_on records port group what) ≡ true)) before after
-    gathers_held records left before after walks none =
-        gathers_fewer family sides group (IsPassed records left.behind.what) (λ what. (has_source what ≡ true) × (is_some (state_on records port group what) ≡ true))
-        before after (all_passed records left walks none)
+      (held, none_after left.behind.what what records (ap next_machine (sym walks) ∙ none) held)

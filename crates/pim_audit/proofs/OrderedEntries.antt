@@ -1,49 +1,22 @@
--- Entries that are sorted and then freed of repeated ones.
-use Rattle.pim_audit.proofs.GatherWords.{◌≡◌, ◌∙◌, Bool, true, false, ◌||◌, cond, false≢true, List, [], ◌∷◌, map, refl, sym}
-use Rattle.pim_audit.proofs.GatherWords.{ap, subst}
-use Rattle.pim_audit.proofs.GatherWords.{IsTotalOrder, on_total, AllByRecursion, IsStrictlySortedBy, list_any, Ordering, Less}
-use Rattle.pim_audit.proofs.GatherWords.{is_eq}
-use Rattle.pim_audit.proofs.GatherWords.{is_lt, Event}
-use Rattle.pim_audit.proofs.Words.{same_entry, entry_cmp, EntriesAscend}
+-- Entries that are sorted, and are there once.
+use Rattle.pim_audit.proofs.GatherWords.{◌≡◌, Bool, false, cond, List, [], ◌∷◌, map, refl, ap, subst}
+use Rattle.pim_audit.proofs.GatherWords.{IsTotalOrder, on_total, AllByRecursion, IsStrictlySortedBy, Ordering, Less}
+use Rattle.pim_audit.proofs.GatherWords.{is_eq, is_lt, Event, ◌∙◌}
+use Rattle.pim_audit.proofs.GatherWords.{ℕ}
+use Rattle.pim_audit.proofs.Words.{Due, dues_seen, event_seen, held_entries, same_entry, entry_cmp, EntriesAscend}
+use Rattle.pim_audit.proofs.Keys.{same_turned}
 use Rattle.pim_audit.proofs.EntryOrder.{entry_total}
-use Rattle.pim_audit.proofs.SameEntry.{same_is}
 use Rattle.std.proofs.lemmas.Fn.{always_returns_same}
 use Rattle.std.proofs.lemmas.List.Kept.{IsStrictlySortedBy-dedup}
-use Rattle.std.proofs.lemmas.List.Sorted.{list_any-IsPermutation, ranks_by}
+use Rattle.std.proofs.lemmas.List.Sorted.{IsPermutation-map, ranks_by}
+use Rattle.std.proofs.lemmas.Map.Keys.{IsDistinct-IsPermutation}
 use Rattle.std.specs.Borrow.{Bor}
+use Rattle.std.specs.Cmp.{IsStrictWeakOrder}
 use Rattle.std.specs.Fn.{Mut, Called, ComparesAs}
 use Rattle.std.specs.List.{dedup, dedup_from}
-use Rattle.std.specs.Cmp.{IsStrictWeakOrder}
+unfoldable use Rattle.std.specs.List.{IsDistinct}
 use Rattle.std.specs.List.Sorted.{IsPermutation, IsSorted, IsSortedBy}
-use Rattle.pim_audit.specs.Gathering.{SameEntries}
-
--- ---- lists
-
-any_mapped : {A B : Type 0} (f : A → B) (test : B → Bool) (xs : List A) → list_any test (map f xs) ≡ list_any (λ x. test (f x)) xs
-any_mapped f test [] = refl
-any_mapped f test (x ∷ xs) = ap (λ b. test (f x) || b) (any_mapped f test xs)
-
-twice : (a b c : Bool) → a ≡ b → (a || c) ≡ (a || (b || c))
-twice true b c e = refl
-twice false true c e = absurd (false≢true e)
-twice false false c e = refl
-
-any_from : {A : Type 0} (same : A → A → Bool) (test : A → Bool) → ((x y : A) → same x y ≡ true → test x ≡ test y)
-    → (x : A) (xs : List A)
-    → list_any test (dedup_from same x xs) ≡ (test x || list_any test xs)
-any_from same test alike x [] = refl
-any_from same test alike x (y ∷ ys) = by (same y x) refl (any_from same test alike x ys) (any_from same test alike y ys)
-  where
-    by : (b : Bool) → same y x ≡ b → list_any test (dedup_from same x ys) ≡ (test x || list_any test ys)
-        → list_any test (dedup_from same y ys) ≡ (test y || list_any test ys)
-        → list_any test (cond b (dedup_from same x ys) (x ∷ dedup_from same y ys)) ≡ (test x || (test y || list_any test ys))
-    by true e here later = here ∙ twice (test x) (test y) (list_any test ys) (sym (alike y x e))
-    by false e here later = ap (λ b. test x || b) later
-
-any_dedup : {A : Type 0} (same : A → A → Bool) (test : A → Bool) → ((x y : A) → same x y ≡ true → test x ≡ test y) → (xs : List A)
-    → list_any test (dedup same xs) ≡ list_any test xs
-any_dedup same test alike [] = refl
-any_dedup same test alike (x ∷ xs) = any_from same test alike x xs
+use Rattle.pim_audit.specs.Compared.{AreApart}
 
 module _ {A : Type 0} (f : A → Event) where
   abbrev pub cmp_by : A → A → Ordering
@@ -65,16 +38,42 @@ module _ {A : Type 0} (f : A → Event) where
   ascend [] up = tt
   ascend (x ∷ xs) up = (all_less x xs up.0, ascend xs up.1)
 
-  pub ordered : (xs ys : List A) → ys ≡ dedup same_by xs → IsSorted cmp_by xs → EntriesAscend (map f ys)
-  ordered xs ys is sorted =
-      subst (λ (zs : List A). EntriesAscend (map f zs)) (sym is)
-      (ascend (dedup same_by xs) (IsStrictlySortedBy-dedup total_by (λ x y. refl) xs sorted))
+  -- the entries of different items are different
+  apart_items : (xs : List A) → AreApart (map f xs) → IsDistinct same_by xs
+  unfolding IsDistinct
+  apart_items [] apart = tt
+  apart_items (x ∷ xs) apart = (others xs apart.0, apart_items xs apart.1)
+    where
+      others : (ys : List A) → AllByRecursion (λ e. same_entry (f x) e ≡ false) (map f ys) → AllByRecursion (λ y. same_by x y ≡ false) ys
+      others [] all = tt
+      others (y ∷ ys) all = (all.0, others ys all.1)
 
-  pub same_after : (xs ys zs : List A) → IsPermutation xs ys → zs ≡ dedup same_by ys → SameEntries (map f xs) (map f zs)
-  same_after xs ys zs moved is this =
-      any_mapped f (same_entry this) zs ∙ ap (list_any (λ x. same_entry this (f x))) is
-      ∙ any_dedup same_by (λ x. same_entry this (f x)) (λ x y tied. ap (same_entry this) (same_is (f x) (f y) tied)) ys
-      ∙ sym (list_any-IsPermutation (λ x. same_entry this (f x)) xs ys moved) ∙ sym (any_mapped f (same_entry this) xs)
+  -- of different items none is dropped
+  all_kept_from : (x : A) (xs : List A) → IsDistinct same_by (x ∷ xs) → dedup_from same_by x xs ≡ x ∷ xs
+  unfolding IsDistinct
+  all_kept_from x [] apart = refl
+  all_kept_from x (y ∷ ys) apart =
+      ap (λ b. cond b (dedup_from same_by x ys) (x ∷ dedup_from same_by y ys)) (same_turned (f y) (f x) ∙ apart.0.0)
+      ∙ ap (λ (l : List A). x ∷ l) (all_kept_from y ys apart.1)
+
+  all_kept : (xs : List A) → IsDistinct same_by xs → dedup same_by xs ≡ xs
+  all_kept [] apart = refl
+  all_kept (x ∷ xs) apart = all_kept_from x xs apart
+
+  -- different items that were sorted ascend
+  pub in_order : (old new : List A) → AreApart (map f old) → IsPermutation old new → IsSorted cmp_by new → EntriesAscend (map f new)
+  in_order old new apart moved sorted =
+      ascend new
+      (subst (IsStrictlySortedBy cmp_by)
+      (all_kept new (apart_items new
+      (IsDistinct-IsPermutation same_entry same_turned (map f old) (map f new) (IsPermutation-map f old new moved) apart)))
+      (IsStrictlySortedBy-dedup total_by (λ x y. refl) new sorted))
+
+-- the entries of what is due, as the code has it
+pub held_seen : {A : Type 0} (bytes_of : A → List ℕ) (xs : List (Due A)) → held_entries (dues_seen bytes_of xs)
+    ≡ map (λ due. event_seen bytes_of due.entry) xs
+held_seen bytes_of [] = refl
+held_seen bytes_of (x ∷ xs) = ap (λ (l : List Event). event_seen bytes_of x.entry ∷ l) (held_seen bytes_of xs)
 
 -- what a closure sorts that compares as entries
 pub sorts_by : {A F : Type 0} (f : A → Event) {g : Mut F (Bor A × (Bor A × Unit {0})) Ordering} {s : F} (ys : List A)

@@ -3,7 +3,7 @@ use Rattle.pim_audit.proofs.Words.{◌≡◌, ◌∙◌, ◌<◌, ◌-◌, ℕ, 
 use Rattle.pim_audit.proofs.Words.{sym, ap, subst, arith, false≢true, list_any, is_some, sooner, Record, Firing, Downstream}
 use Rattle.pim_audit.proofs.Words.{IsNextDue, fired, first_due, is_due_after, ticks, first_timeout, TheEndedGoAtFirstTimeout}
 use Rattle.pim_audit.proofs.Words.{IsRouter, RouterState, FiresThrough, PassesTo, AuditState, HappensTo, IsNextEnd, IsAfter}
-use Rattle.pim_audit.proofs.Words.{IsQuiet, if_gone}
+use Rattle.pim_audit.proofs.Words.{IsQuiet}
 use Rattle.pim_down.specs.declared.machines.step.Step.{Step as Fires}
 use Rattle.pim_down.specs.declared.machines.step.Step.TheVariants as fires
 use Rattle.pim_router.specs.Time.{Outcome, rests, moves, stops_with, has_ended, turn, turn_of_timers}
@@ -47,10 +47,6 @@ asked_quiet moment state after passes = by passes.firings state passes.through
 pub empty_quiet : fired [] ≡ None
 unfolding fired first_due
 empty_quiet = refl
-
-pub gone_quiet : (gone : Bool) (asked : Downstream) → fired asked.records ≡ None → fired (if_gone gone asked).records ≡ None
-gone_quiet true asked quiet = empty_quiet
-gone_quiet false asked quiet = quiet
 
 -- ---- the next end
 

@@ -154,15 +154,15 @@ same_rests e x xs ys after after' same =
       | false ↦ λ is equal. equal
     ] refl same
 
--- two ascending lists that have the same valid entries, and have no others, are one
-pub one_list : (family : AddressFamily) (xs ys : List Event) → EntriesAscend xs → EntriesAscend ys
-    → AllByRecursion (IsEntry family) xs → AllByRecursion (IsEntry family) ys
-    → ((e : Event) → IsEntry family e → list_any (same_entry e) xs ≡ list_any (same_entry e) ys) → xs ≡ ys
+-- two ascending lists that have the same entries of these, and have no others, are one
+pub one_list_by : (P : Event → Type 0) (xs ys : List Event) → EntriesAscend xs → EntriesAscend ys
+    → AllByRecursion P xs → AllByRecursion P ys
+    → ((e : Event) → P e → list_any (same_entry e) xs ≡ list_any (same_entry e) ys) → xs ≡ ys
 unfolding IsStrictlySortedBy
-one_list family [] [] up up' are are' same = refl
-one_list family [] (y ∷ ys) up up' are are' same = absurd (false≢true (same y are'.0 ∙ first_listed y ys))
-one_list family (x ∷ xs) [] up up' are are' same = absurd (false≢true (sym (same x are.0) ∙ first_listed x xs))
-one_list family (x ∷ xs) (y ∷ ys) up up' are are' same =
+one_list_by P [] [] up up' are are' same = refl
+one_list_by P [] (y ∷ ys) up up' are are' same = absurd (false≢true (same y are'.0 ∙ first_listed y ys))
+one_list_by P (x ∷ xs) [] up up' are are' same = absurd (false≢true (sym (same x are.0) ∙ first_listed x xs))
+one_list_by P (x ∷ xs) (y ∷ ys) up up' are are' same =
     elim (entry_cmp x y) as (λ o. entry_cmp x y ≡ o → x ∷ xs ≡ y ∷ ys) [
       | Less ↦ λ less. absurd (false≢true
           (sym (none_after x (y ∷ ys) (less, all_after x y ys less up'.0)) ∙ sym (same x are.0) ∙ first_listed x xs))
@@ -170,7 +170,7 @@ one_list family (x ∷ xs) (y ∷ ys) up up' are are' same =
           let one : y ≡ x = sym (same_is x y (ap is_eq equal)) in
           let after : AllByRecursion (λ e. entry_cmp x e ≡ Less) ys =
           subst (λ (e : Event). AllByRecursion (λ f. entry_cmp e f ≡ Less) ys) one up'.0 in
-          let rests : xs ≡ ys = one_list family xs ys up.1 up'.1 are.1 are'.1
+          let rests : xs ≡ ys = one_list_by P xs ys up.1 up'.1 are.1 are'.1
           (λ e is. same_rests e x xs ys up.0 after
           (same e is ∙ ap (λ (f : Event). list_any (same_entry e) (f ∷ ys)) one)) in
           ap₂ (λ (e : Event) (es : List Event). e ∷ es) (sym one) rests
@@ -178,3 +178,9 @@ one_list family (x ∷ xs) (y ∷ ys) up up' are are' same =
           let less = turned x y Greater greater in
           absurd (false≢true (sym (none_after y (x ∷ xs) (less, all_after y x xs less up.0)) ∙ same y are'.0 ∙ first_listed y ys))
     ] refl
+
+-- the same of valid entries
+pub one_list : (family : AddressFamily) (xs ys : List Event) → EntriesAscend xs → EntriesAscend ys
+    → AllByRecursion (IsEntry family) xs → AllByRecursion (IsEntry family) ys
+    → ((e : Event) → IsEntry family e → list_any (same_entry e) xs ≡ list_any (same_entry e) ys) → xs ≡ ys
+one_list family = one_list_by (IsEntry family)

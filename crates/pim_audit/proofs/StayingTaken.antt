@@ -1,17 +1,17 @@
--- What a port that takes what it read leaves of a group, and of the router.
-use Rattle.pim_audit.proofs.Words.{◌≡◌, ℕ, Bool, true, false, List, [], ◌∷◌, map, refl, sym, ap, subst, false≢true, list_any}
-use Rattle.pim_audit.proofs.Words.{RouterState, setup_of}
+-- What a port that takes what it read leaves of a machine, and of the router.
+use Rattle.pim_audit.proofs.Words.{◌≡◌, ℕ, Bool, true, false, List, [], ◌∷◌, refl, sym, ap, subst, false≢true}
+use Rattle.pim_audit.proofs.Words.{RouterState}
 use Rattle.pim_addr.specs.declared.family.AddressFamily.{AddressFamily}
 use Rattle.pim_addr.specs.Routes.{rp_of}
 use Rattle.pim_jp.specs.Message.{Message}
+use Rattle.pim_down.specs.declared.machines.key.What.{What}
 use Rattle.pim_down.specs.Laws.{HearingActsAtEachKey}
 use Rattle.pim_down.specs.Sound.{IsSound}
-use Rattle.pim_form.specs.NormalForm.{same_address}
 use Rattle.pim_router.specs.declared.verdict.Verdict.{Verdict}
 use Rattle.pim_router.specs.Packets.{timing_on, unless}
 use Rattle.pim_router.specs.Reading.{Reading, read_causes, read_fault, read_hello, read_message, read_other, read_received}
 use Rattle.pim_router.specs.Reading.{read_taken}
-use Rattle.pim_audit.specs.Touched.{SameStates}
+use Rattle.pim_audit.specs.Touched.{TouchedMachines, is_touched, Touches, SameStates}
 use Rattle.pim_audit.proofs.Staying.{same_states_refl}
 use Rattle.pim_audit.proofs.StayingHeard.{heard_stays}
 
@@ -37,20 +37,16 @@ module _ (family : AddressFamily) (port : ℕ) (source : List ℕ) (router next 
       either_left P (read_causes family port source router reading) router next verdict
       (read_taken family port source router reading) is
 
-  -- a Join/Prune message that does not name the group
-  pub message_stays : HearingActsAtEachKey → (message : Message)
+  -- a Join/Prune message that doesn't touch the machine
+  pub message_stays : HearingActsAtEachKey → (message : Message) (touched : TouchedMachines)
       → (verdict, next) ≡ read_received family port source router (read_message message) → IsSound family router.machines
-      → (group : List ℕ) → list_any (same_address group) (map (λ set. set.group) message.sets) ≡ false
-      → SameStates group router.machines next.machines
-  message_stays law message is sound group none =
-      kept_by (λ (r : RouterState). SameStates group router.machines r.machines) (read_message message) is
-      (same_states_refl group router.machines)
-      (heard_stays law family port message (rp_of family router.routes) (timing_on port router) router.machines sound group none)
-
-  -- a Join/Prune message leaves the neighbours
-  pub message_keeps_tables : (message : Message)
-      → (verdict, next) ≡ read_received family port source router (read_message message) → next.tables ≡ router.tables
-  message_keeps_tables message is = kept_by (λ (r : RouterState). r.tables ≡ router.tables) (read_message message) is refl refl
+      → Touches port message router.machines touched → (group : List ℕ) (what : What (List ℕ)) → is_touched group what touched ≡ false
+      → SameStates group what router.machines next.machines
+  message_stays law message touched is sound touches group what apart =
+      kept_by (λ (r : RouterState). SameStates group what router.machines r.machines) (read_message message) is
+      (same_states_refl group what router.machines)
+      (heard_stays law family port message (rp_of family router.routes) (timing_on port router) router.machines touched sound touches
+      group what apart)
 
   -- any other message leaves the machines
   pub other_keeps_machines : (reading : Reading) → is_message reading ≡ false
@@ -63,14 +59,3 @@ module _ (family : AddressFamily) (port : ℕ) (source : List ℕ) (router next 
       taken (read_message message) e = absurd (false≢true (sym e))
       taken (read_other type) e = refl
       taken (read_fault fault) e = refl
-
-  -- all messages leave the ports and the routes
-  pub setup_stays : (reading : Reading) → (verdict, next) ≡ read_received family port source router reading
-      → setup_of next ≡ setup_of router
-  setup_stays reading is = kept_by (λ (r : RouterState). setup_of r ≡ setup_of router) reading is refl (taken reading)
-    where
-      taken : (r : Reading) → setup_of (read_taken family port source router r).1 ≡ setup_of router
-      taken (read_hello said) = refl
-      taken (read_message message) = refl
-      taken (read_other type) = refl
-      taken (read_fault fault) = refl

@@ -19,7 +19,13 @@ pub mod Dues
 pub mod Local
 pub mod Sides
 pub mod Touched
+pub mod Changes
+pub mod Watched
 pub mod Stars
 pub mod Gathering
 pub mod Holding
+pub mod Compared
+pub mod Dued
 pub mod Ready
+pub mod Keyed
+pub mod Waiting

@@ -4,15 +4,15 @@ use Rattle.pim_addr.specs.declared.family.AddressFamily.{AddressFamily}
 use Rattle.pim_router.specs.State.{RouterState}
 use Rattle.pim_audit.specs.Holding.{HoldsOutside}
 use Rattle.pim_audit.specs.Run.{RunState}
-use Rattle.pim_audit.specs.Touched.{TouchedGroups}
+use Rattle.pim_audit.specs.Touched.{TouchedMachines}
 
--- The state of the run, and the groups that something touched since the last look.
+-- The state of the run, and the machines that something touched since the last look.
 pub record TrackedRun : Type 0 where
   pub run : RunState
-  pub touched : TouchedGroups
+  pub touched : TouchedMachines
 
 -- Before each turn each port is counted, no time has passed for the router that hasn't passed for the
--- audit, and what is held as due is right outside of the touched groups.
+-- audit, and what is held as due is right but for the touched machines.
 pub record IsReady (family : AddressFamily) (tracked : TrackedRun) (router : RouterState) : Type 0 where
   pub frames : length tracked.run.progress.frames ≡ length router.ports
   pub own : length tracked.run.progress.own ≡ length router.ports

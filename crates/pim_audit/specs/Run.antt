@@ -22,7 +22,7 @@ use Rattle.pim_trace.specs.Trace.{ledger_for}
 use Rattle.pim_trace.specs.Turn.{counting}
 use Rattle.pim_audit_events.specs.declared.line.AuditTotals.{AuditTotals}
 use Rattle.pim_audit_events.specs.Lines.{Origin, Statement, ended}
-use Rattle.pim_audit.specs.declared.audit.Report.{Report}
+use Rattle.pim_audit.specs.declared.look.Report.{Report}
 use Rattle.pim_audit.specs.declared.passing.Ended.{Ended}
 use Rattle.pim_audit.specs.declared.turn.TurnReport.{TurnReport}
 use Rattle.pim_audit.specs.Audited.{AuditState, LooksAt, with_due}

@@ -1,9 +1,8 @@
 -- How contracts see due entries: addresses as lists of bytes.
 use Rattle.std.specs.Prelude.{ℕ, List, map}
 use Rattle.pim_down.specs.Seen.{event_seen}
-use Rattle.pim_audit.specs.declared.audit.Report.{Report}
+use Rattle.pim_audit.specs.declared.look.Report.{Report}
 use Rattle.pim_audit.specs.declared.due.Due.{Due}
-use Rattle.pim_audit.specs.declared.look.Look.{Look}
 use Rattle.pim_audit.specs.Look.{DueEntry, Found}
 
 module _ {A : Type 0} (bytes_of : A → List ℕ) where
@@ -14,11 +13,6 @@ module _ {A : Type 0} (bytes_of : A → List ℕ) where
   -- Due entries, with their addresses as lists of bytes.
   abbrev pub dues_seen : List (Due A) → List DueEntry
   dues_seen due = map due_seen due
-
-  -- What a look found, with addresses as lists of bytes.
-  abbrev pub look_seen : Look A → Found
-  look_seen look =
-      record { due = dues_seen look.due.items; new = map (event_seen bytes_of) look.new.items; ended = dues_seen look.ended.items; late = dues_seen look.late.items }
 
   -- What a look found by its report, with what is due afterwards.
   abbrev pub report_seen : List DueEntry → Report A → Found

@@ -4,7 +4,7 @@ use Rattle.std.specs.List.{flat_map}
 use Rattle.pim_down.specs.Seen.{event_seen}
 use Rattle.pim_events.specs.declared.event.OwnRestart.{OwnRestart}
 use Rattle.pim_audit_events.specs.Lines.{Origin, Statement}
-use Rattle.pim_audit.specs.declared.audit.Report.{Report}
+use Rattle.pim_audit.specs.declared.look.Report.{Report}
 use Rattle.pim_audit.specs.declared.passing.Ended.{Ended}
 use Rattle.pim_audit.specs.declared.turn.TurnReport.{TurnReport}
 use Rattle.pim_audit.specs.Lines.{look_lines, gone_lines, message_lines, origin_if_heard}

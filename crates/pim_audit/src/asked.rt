@@ -13,7 +13,7 @@ use pim_down::{HearFault, Ports, Timing};
 use pim_jp::JpView;
 
 /// Lets time pass up to this moment, in milliseconds, at most 10^15. An earlier moment counts as
-/// the present one. Each timer on the way fires. Touches the groups of these timers.
+/// the present one. Each timer on the way fires. Touches the machines of these timers.
 ///
 /// It looks only at the timer that fires first.
 pub(crate) fn pass_to<F: Family>(asked: &mut Ports<F>, moment: u64, touched: &mut Touched<F>)
@@ -28,16 +28,16 @@ pub(crate) fn pass_to<F: Family>(asked: &mut Ports<F>, moment: u64, touched: &mu
     timers_run_out();
     firing_says_more();
     while let Some(firing) = asked.fire_to(moment) {
-        touched.touch(firing.before.key.group);
+        touched.touch(firing.before.key.group, firing.before.key.what);
     }
 }
 
 /// Hears a message that the upstream neighbour hears. Its Prunes take effect at once. The machines
-/// are those of port 0. Touches the groups whose machines may change.
+/// are those of port 0. Touches those that may change.
 ///
 /// # Errors
 /// As those of `Ports::hear`: the message needs more records than the limit, or memory was refused.
-/// Then nothing has changed, but groups may be touched.
+/// Then nothing has changed, but machines may be touched.
 pub(crate) fn hear_at_once<F: Family>(
     asked: &mut Ports<F>,
     message: &JpView<'_, F>,
@@ -65,7 +65,7 @@ pub(crate) fn hear_at_once<F: Family>(
         override_ms: 0,
         several: false,
     };
-    touched.touch_message(message);
+    touched.touch_message(asked, 0, message);
     asked.hear(0, message, routes, timing)?;
     let moment = asked.now();
     pass_to::<F>(asked, moment, touched);

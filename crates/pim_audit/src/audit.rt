@@ -6,41 +6,35 @@ ghost use Rattle.std.specs.Option.{is_some};
 ghost use Rattle.pim_hello.specs.Neighbours.{neighbour_at};
 ghost use Rattle.pim_addr.specs.Routes.{rp_of};
 ghost use Rattle.pim_down.specs.Heard.{needed_for, new_for, IsWithin, MayWantMemory};
+ghost use Rattle.pim_down.specs.Hearing.{Event};
 ghost use Rattle.pim_down.specs.Seen.{event_seen};
 ghost use Rattle.pim_down.specs.Time.{IsNextDue};
 ghost use Rattle.pim_router.specs.State.{table_at};
 ghost use Rattle.pim_audit.specs.Asked.{PassesTo, AskedBy};
-ghost use Rattle.pim_audit.specs.Audited.{AreDueIf, LooksAt, has_neighbour, is_heard, sides_of};
+ghost use Rattle.pim_audit.specs.Audited.{LooksAt, has_neighbour, is_heard, sides_of};
 ghost use Rattle.pim_audit.specs.Audited.{with_due, with_asked, without_records};
+ghost use Rattle.pim_audit.specs.Between.{AreDue};
+ghost use Rattle.pim_audit.specs.Changes.{AreChanges, AreChanged};
+ghost use Rattle.pim_audit.specs.Gathering.{AreExactly};
 ghost use Rattle.pim_audit.specs.Holding.{HoldsOutside, AreExactlyNow};
 ghost use Rattle.pim_audit.specs.Order.{EntriesAscend};
 ghost use Rattle.pim_audit.specs.Seen.{dues_seen, report_seen};
-ghost use Rattle.pim_audit.specs.Touched.{Grows, OthersStay, is_touched};
+ghost use Rattle.pim_audit.specs.Touched.{Grows, OthersStay};
 
 use crate::asked::{hear_at_once, pass_to};
-use crate::between::due_entries;
-use crate::due::Due;
-use crate::look::{Look, look_at};
+use crate::changes::{Changes, changes_of};
+use crate::dues::Dues;
+use crate::look::{Report, look_at};
 use crate::sides::Sides;
 use crate::touched::Touched;
+use crate::watched::watched_machines;
 use pim_addr::{Family, Routes};
-use pim_down::{Event, HearFault, Ports};
+use pim_down::{HearFault, Ports};
 use pim_jp::JpView;
 use pim_local::LocalJoins;
 use pim_router::Router;
 use std::alloc::{AllocError, Global};
 use std::marker::Model;
-
-/// What a look reports. All lists are in order.
-#[derive(Drop)]
-pub(crate) struct Report<A> {
-    /// The entries that are due and weren't due at the last look.
-    pub(crate) new: Vec<Event<A>>,
-    /// What is no longer due of the entries that were reported as late.
-    pub(crate) ended: Vec<Due<A>>,
-    /// The entries that become late.
-    pub(crate) late: Vec<Due<A>>,
-}
 
 /// What an upstream neighbour was asked for, and what is due toward it. It has a router of its own
 /// beside it, whose machines say what has to be asked.
@@ -50,12 +44,11 @@ pub(crate) struct Audit<'t, F: Family> {
     grace: u64,
     local: &'t LocalJoins<F>,
     asked: Ports<F>,
-    due: Vec<Due<F::Addr>>,
+    dues: Dues<F>,
 }
 
 impl<'t, F: Family> Model for Audit<'t, F> {
     ghost use Rattle.pim_audit.specs.Audited.{AuditState, IsAudit};
-    ghost use Rattle.pim_audit.specs.Seen.{dues_seen};
 
     ghost Value = { AuditState };
 
@@ -64,7 +57,7 @@ impl<'t, F: Family> Model for Audit<'t, F> {
       grace = audit.grace;
       local = audit.local.now;
       asked = audit.asked;
-      due = dues_seen F.bytes_of audit.due.items;
+      due = audit.dues;
     } };
 
     ghost invariant = { λ audit. IsAudit (record {
@@ -72,7 +65,7 @@ impl<'t, F: Family> Model for Audit<'t, F> {
       grace = audit.grace;
       local = audit.local.now;
       asked = audit.asked;
-      due = dues_seen F.bytes_of audit.due.items;
+      due = audit.dues;
     }) };
 }
 
@@ -122,7 +115,7 @@ impl<'t, F: Family> Audit<'t, F> {
             grace,
             local,
             asked: Ports::new(alloc, 1, limit),
-            due: Vec::new(alloc),
+            dues: Dues::new(alloc),
         }
     }
 
@@ -133,11 +126,11 @@ impl<'t, F: Family> Audit<'t, F> {
         self.upstream
     }
 
-    /// The entries that were due at the last look, in order.
-    pub(crate) fn due(&self) -> &[Due<F::Addr>]
-        ensures { dues_seen F.bytes_of result.now ≡ self.now.due }
+    /// What was due at the last look.
+    pub(crate) fn dues(&self) -> &Dues<F>
+        ensures { result.now ≡ self.now.due }
     {
-        &self.due
+        &self.dues
     }
 
     /// The present moment of what was asked, in milliseconds.
@@ -168,33 +161,49 @@ impl<'t, F: Family> Audit<'t, F> {
         }
     }
 
-    /// The entries that are due now: none while the upstream neighbour is no neighbour. Only of
-    /// touched groups others are due than at the last look.
-    fn entries_now(
+    /// A law: entries in order that are exactly those that are due now are the entries of a change.
+    /// It does nothing.
+    fn are_of_a_change(&self, router: &Router<'_, F>)
+        ensures { (entries : List Event) → EntriesAscend entries
+            → AreExactly F.family (sides_of self.now router.now) entries
+            → AreDue F.family (sides_of self.now router.now) entries }
+    {
+        let sides = self.sides(router);
+        sides.are_of_a_change();
+    }
+
+    /// What changed of the machines at which a look has to look.
+    ///
+    /// # Errors
+    /// Memory was refused.
+    fn changes_now(
         &self,
         alloc: Global,
         router: &Router<'_, F>,
         touched: &Touched<F>,
-    ) -> Result<Vec<Event<F::Addr>>, AllocError>
+    ) -> Result<Changes<F::Addr>, AllocError>
         requires { HoldsOutside F.family touched.now self.now router.now }
-        ensures due { IfOk result (λ entries. AreDueIf (has_neighbour self.now.upstream router.now)
-            F.family (sides_of self.now router.now)
-            (map (event_seen F.bytes_of) entries.items)) }
-        ensures order { IfOk result (λ entries.
-            EntriesAscend (map (event_seen F.bytes_of) entries.items)) }
-        ensures exact { IfOk result (λ entries. AreExactlyNow F.family self.now router.now
-            (map (event_seen F.bytes_of) entries.items)) }
+        ensures order { IfOk result (λ changes.
+            EntriesAscend (map (event_seen F.bytes_of) changes.new.items)) }
+        ensures changes { IfOk result (λ changes. AreChanges self.now.due
+            (map (event_seen F.bytes_of) changes.new.items)
+            (dues_seen F.bytes_of changes.gone.items)) }
+        ensures exact { IfOk result (λ changes. (entries : List Event) → AreChanged self.now.due
+            (map (event_seen F.bytes_of) changes.new.items)
+            (dues_seen F.bytes_of changes.gone.items) entries
+            → AreExactlyNow F.family self.now router.now entries) }
     {
-        if !has_neighbour::<F>(router, self.upstream) {
-            return Ok(Vec::new(alloc));
-        }
-        due_entries::<F>(alloc, &self.sides(router), &self.due, touched)
+        let is_known = has_neighbour::<F>(router, self.upstream);
+        let sides = self.sides(router);
+        let machines = watched_machines::<F>(alloc, &sides, &self.dues, touched)?;
+        let changes = changes_of::<F>(alloc, &sides, is_known, &self.dues, &machines)?;
+        Ok(changes)
     }
 
-    /// Looks at what is due at the router's present moment. Afterwards no group is touched.
+    /// Looks at what is due at the router's present moment. Afterwards no machine is touched.
     ///
     /// # Errors
-    /// Memory was refused. Then nothing has changed.
+    /// Memory was refused.
     pub(crate) fn look(
         &mut self,
         alloc: Global,
@@ -206,19 +215,13 @@ impl<'t, F: Family> Audit<'t, F> {
             LooksAt F.family self.old router.now (report_seen F.bytes_of self.new.due report)) }
         ensures rest { self.new ≡ with_due self.old self.new.due }
         ensures holds { OnOk result (HoldsOutside F.family touched.new self.new router.now) }
-        ensures err { OnErr result (self.new ≡ self.old) }
-        ensures same { OnErr result (touched.new ≡ touched.old) }
     {
-        let entries = self.entries_now(alloc, router, touched)?;
-        let Look {
-            due,
-            new,
-            ended,
-            late,
-        } = look_at::<F>(alloc, &self.due, &entries, router.now(), self.grace)?;
-        self.due = due;
+        self.are_of_a_change(router);
+        let changes = self.changes_now(alloc, router, touched)?;
         touched.clear();
-        Ok(Report { new, ended, late })
+        let report = look_at::<F>(alloc, &mut self.dues, changes, router.now(), self.grace);
+        self.dues.is_sound();
+        report
     }
 
     /// Whether the upstream neighbour hears this message of this source on the port: the message
@@ -239,10 +242,10 @@ impl<'t, F: Family> Audit<'t, F> {
     }
 
     /// Lets the upstream neighbour hear a message. Its Prunes take effect at once. Touches the
-    /// groups whose machines it may change.
+    /// machines that it may change.
     ///
     /// # Errors
-    /// As those of `Ports::hear`. Then nothing has changed, but groups may be touched.
+    /// As those of `Ports::hear`. Then nothing has changed, but machines may be touched.
     pub(crate) fn hear(
         &mut self,
         message: &JpView<'_, F>,
@@ -266,7 +269,7 @@ impl<'t, F: Family> Audit<'t, F> {
     }
 
     /// Lets time pass for what was asked, up to this moment, at most 10^15 milliseconds. Touches
-    /// the groups of the timers that fire.
+    /// the machines of the timers that fire.
     pub(crate) fn pass_to(&mut self, moment: u64, touched: &mut Touched<F>)
         requires { moment ≤ 10 ^ 15 }
         ensures passes { PassesTo moment self.old.asked self.new.asked }
@@ -279,11 +282,11 @@ impl<'t, F: Family> Audit<'t, F> {
     }
 
     /// Forgets what the upstream neighbour was asked for: it restarted, or it is gone. Touches all
-    /// groups.
+    /// machines.
     pub(crate) fn forget(&mut self, alloc: Global, touched: &mut Touched<F>)
         requires { self.old.asked.moment ≤ 10 ^ 15 }
         ensures forgets { self.new ≡ with_asked self.old (without_records self.old.asked) }
-        ensures touches { (group : List ℕ) → is_touched group touched.new ≡ true }
+        ensures touches { touched.new.all ≡ true }
     {
         let mut asked = Ports::new(alloc, 1, self.asked.limit());
         pass_to::<F>(&mut asked, self.asked.now(), touched);

@@ -9,24 +9,25 @@
 //! - A turn lets time pass for the router and the audit, looks, lets a port of the router take a
 //!   message, and looks again. A look follows each end of a timer or of a neighbour's time.
 //!
-//! A look finds what is due of the groups that something touched since the last look, machine by
-//! machine. It takes time for these machines, and for all that is due. Callers: `pim_commands`.
+//! A look finds what changed at the machines that something touched since the last look. It takes
+//! time for these machines alone; with (*,G), for all (S,G,rpt) of its group. Callers:
+//! `pim_commands`.
 #![tactic(auto)]
 
 mod asked;
 mod audit;
-mod between;
+mod changes;
 mod due;
-mod gathering;
-mod groups;
-mod late;
+mod due_map;
+mod dues;
+mod entry_key;
 pub mod laws;
 mod lines;
 mod look;
+mod machine;
 mod order;
 mod own;
 mod passing;
-mod renewal;
 mod run;
 mod sides;
 mod taking;
@@ -34,5 +35,6 @@ mod totals;
 mod touched;
 mod tracked;
 mod turn;
+mod watched;
 
 pub use run::{AuditOptions, audit_into};

@@ -10,8 +10,8 @@ ghost use Rattle.pim_audit.specs.Lines.{restart_lines, message_lines, origin_if_
 ghost use Rattle.pim_audit.specs.Seen.{due_seen, dues_seen};
 ghost use Rattle.pim_audit.specs.TurnLines.{report_lines, end_lines, turn_lines};
 
-use crate::audit::Report;
 use crate::due::Due;
+use crate::look::Report;
 use crate::passing::Ended;
 use crate::taking::Effect;
 use crate::turn::TurnReport;

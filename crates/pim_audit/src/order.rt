@@ -12,7 +12,7 @@ use std::cmp::Ordering;
 
 /// The rank of an entry in the change of its group: (*,G), (S,G,rpt), (S,G), of each the Join
 /// before the Prune.
-fn rank<F: Family>(entry: &Event<F::Addr>) -> u8
+pub(crate) fn rank<F: Family>(entry: &Event<F::Addr>) -> u8
     ensures { result ≡ entry_rank (event_seen F.bytes_of entry.now) }
 {
     let of_join = match entry.what {

@@ -9,7 +9,8 @@ ghost use Rattle.pim_audit.specs.Seen.{report_seen};
 ghost use Rattle.pim_audit.specs.Steps.{PassesStep, PassesAll, ReachesBy};
 ghost use Rattle.pim_audit.specs.Touched.{Grows, OthersStay};
 
-use crate::audit::{Audit, Report, has_neighbour};
+use crate::audit::{Audit, has_neighbour};
+use crate::look::Report;
 use crate::touched::Touched;
 use crate::tracked::TrackedAudit;
 use pim_addr::Family;
@@ -50,7 +51,7 @@ fn sooner(a: Option<u64>, b: Option<u64>) -> Option<u64>
 
 /// Lets time pass for the router up to this moment, in milliseconds, at most 10^15. An earlier
 /// moment counts as the present one. Each timer on the way fires, through PruneEchoes and
-/// refreshes, and neighbours go. Touches the groups of these timers.
+/// refreshes, and neighbours go. Touches the machines of these timers.
 fn fire_router<F: Family>(router: &mut Router<'_, F>, moment: u64, touched: &mut Touched<F>)
     requires { moment ≤ 10 ^ 15 }
     ensures happens { HappensTo moment router.old router.new }
@@ -62,11 +63,11 @@ fn fire_router<F: Family>(router: &mut Router<'_, F>, moment: u64, touched: &mut
     firing_passes();
     happening_goes_on();
     while let Some(firing) = router.fire_to(moment) {
-        touched.touch(firing.before.key.group);
+        touched.touch(firing.before.key.group, firing.before.key.what);
     }
 }
 
-/// The same. If this upstream neighbour goes, it touches all groups. Returns whether it goes.
+/// The same. If this upstream neighbour goes, it touches all machines. Returns whether it goes.
 fn pass_router<F: Family>(
     router: &mut Router<'_, F>,
     moment: u64,

@@ -273,7 +273,7 @@ fn close<F: Family>(
     let now = router.now();
     push_look::<F>(&mut lines, now, None, &report)?;
     let counted = with_lines::<F>(groups, &lines, run.totals);
-    let totals = with_all_open::<F>(groups, now, run.tracked.audit.due(), counted);
+    let totals = with_all_open::<F>(groups, now, run.tracked.audit.dues(), counted);
     lines.push(AuditLine {
         moment: now,
         origin: None,

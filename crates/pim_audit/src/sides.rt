@@ -1,18 +1,28 @@
 //! What was asked and what is wanted, looked up in the machines of both sides.
 
-ghost use Rattle.std.specs.Prelude.{◌≡◌, ◌||◌};
+ghost use Rattle.std.specs.Prelude.{◌≡◌, ◌||◌, List};
+ghost use Rattle.pim_down.specs.Hearing.{Event};
 ghost use Rattle.pim_down.specs.Seen.{what_seen};
 ghost use Rattle.pim_down.specs.declared.machines.key.What.TheVariants.{Rpt, Star};
 ghost use Rattle.pim_form.specs.Demanded.{either_demand};
 ghost use Rattle.pim_form.specs.Wants.{is_joined, state_on, wants};
 ghost use Rattle.pim_form.specs.declared.tree.Tree.TheVariants.{Shared, Source};
+ghost use Rattle.pim_audit.specs.Between.{AreDue};
 ghost use Rattle.pim_audit.specs.Dues.{change_of, due_of, is_excepted};
+ghost use Rattle.pim_audit.specs.Gathering.{AreExactly};
 ghost use Rattle.pim_audit.specs.Local.{local_port};
+ghost use Rattle.pim_audit.specs.Order.{EntriesAscend};
 ghost use Rattle.pim_audit.specs.Sides.{has_star, is_rp_reached, asked_side, wanted_side};
 ghost use Rattle.pim_audit.specs.Stars.{AreStars};
 
 use pim_addr::{Family, Routes};
+use pim_change::laws::addresses_are_in_order;
+use pim_down::laws::keys_are_distinct;
 use pim_down::{Ports, State, What};
+use pim_form::laws::{
+    form_of_all_ports, form_of_demand_toward, joined_star_wants_some_source,
+    merge_is_the_form_of_either, some_source_is_outside,
+};
 use pim_form::{Tree, is_neighbour, rpf_neighbour, wants};
 use pim_local::LocalJoins;
 use std::marker::Model;
@@ -185,5 +195,23 @@ impl<'a, F: Family> Sides<'a, F> {
                 change_of(was, self.is_source_wanted(source, group))
             }
         }
+    }
+
+    /// A law: entries in order that are exactly those that are due are the entries of a change from
+    /// what was asked to what is wanted. It does nothing.
+    pub(crate) fn are_of_a_change(&self)
+        ensures { (entries : List Event) → EntriesAscend entries
+            → AreExactly F.family self.now entries → AreDue F.family self.now entries }
+    {
+        self.asked.is_sound();
+        self.wanted.is_sound();
+        self.local.is_sound();
+        keys_are_distinct();
+        addresses_are_in_order();
+        some_source_is_outside();
+        form_of_all_ports();
+        form_of_demand_toward();
+        joined_star_wants_some_source();
+        merge_is_the_form_of_either();
     }
 }

@@ -13,8 +13,8 @@ use crate::audit::{Audit, has_neighbour};
 use crate::touched::Touched;
 use crate::tracked::TrackedAudit;
 use pim_addr::{Family, Routes};
-use pim_down::HearFault;
 use pim_down::laws::hearing_acts_at_each_key;
+use pim_down::{HearFault, Ports};
 use pim_hello::Heard;
 use pim_jp::JpView;
 use pim_router::{PimMessage, Router, Verdict};
@@ -87,19 +87,26 @@ fn hear_or_refuse<F: Family>(
     }
 }
 
-/// Touches the groups that a message names, if it is a Join/Prune.
-fn touch_read<F: Family>(touched: &mut Touched<F>, message: &PimMessage<'_, F>)
-    ensures touches { TouchesReading (reading_seen F.family message.now) touched.new }
+/// Touches the machines that a message may change, if it is a Join/Prune. The port has not heard it
+/// yet.
+fn touch_read<F: Family>(
+    touched: &mut Touched<F>,
+    ports: &Ports<F>,
+    port: usize,
+    message: &PimMessage<'_, F>,
+)
+    ensures touches { TouchesReading port (reading_seen F.family message.now) ports.now
+        touched.new }
     ensures grows { Grows touched.old touched.new }
 {
     match message {
-        PimMessage::JoinPrune(message) => touched.touch_message(message),
+        PimMessage::JoinPrune(message) => touched.touch_message(ports, port, message),
         PimMessage::Hello(_) | PimMessage::Other(_) | PimMessage::Malformed(_) => {}
     }
 }
 
-/// Lets a port of the router take a message. Touches the groups that the message names, and all if
-/// the upstream neighbour becomes a neighbour or goes.
+/// Lets a port of the router take a message. Touches the machines that the message may change, and
+/// all if the upstream neighbour becomes a neighbour or goes.
 ///
 /// # Errors
 /// Memory was refused.
@@ -124,8 +131,8 @@ fn take_message<F: Family>(
     router.ports().is_sound();
     hearing_acts_at_each_key();
     let was_neighbour = has_neighbour::<F>(router, upstream);
+    touch_read::<F>(touched, router.ports(), port, message);
     let verdict = router.take_read(port, src, message)?;
-    touch_read::<F>(touched, message);
     if has_neighbour::<F>(router, upstream) != was_neighbour {
         touched.touch_all();
     }

@@ -3,11 +3,12 @@
 ghost use Rattle.std.specs.Prelude.{◌≡◌, map};
 ghost use Rattle.pim_audit_events.specs.Seen.{line_seen, lines_seen, said_seen};
 ghost use Rattle.pim_trace.specs.Ledger.{one_more};
-ghost use Rattle.pim_audit.specs.Seen.{due_seen, dues_seen};
+ghost use Rattle.pim_audit.specs.Seen.{due_seen};
 ghost use Rattle.pim_audit.specs.Totals.{nothing_counted, with_line, with_line_of, with_lines};
 ghost use Rattle.pim_audit.specs.Totals.{with_open, with_all_open, status_of};
 
 use crate::due::Due;
+use crate::dues::Dues;
 use pim_addr::Family;
 use pim_audit_events::{AuditEvent, AuditLine, AuditTotals, is_counted};
 use pim_events::is_wanted;
@@ -111,14 +112,14 @@ fn with_open<F: Family>(
 pub(crate) fn with_all_open<F: Family>(
     groups: &[F::Addr],
     moment: u64,
-    due: &[Due<F::Addr>],
+    dues: &Dues<F>,
     totals: AuditTotals,
 ) -> AuditTotals
     ensures { result ≡ with_all_open (map F.bytes_of groups.now) moment
-        (dues_seen F.bytes_of due.now) totals }
+        dues.now totals }
 {
     let mut counted = totals;
-    for held in due {
+    for held in dues.iter() {
         counted = with_open::<F>(groups, moment, held, counted);
     }
     counted

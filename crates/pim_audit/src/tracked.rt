@@ -1,27 +1,28 @@
-//! An audit with the groups that something touched since its last look.
+//! An audit with the machines that something touched since its last look.
 
 ghost use Rattle.std.specs.Prelude.{◌≡◌, IfOk, OnOk};
 ghost use Rattle.pim_audit.specs.Audited.{LooksAt, with_due};
 ghost use Rattle.pim_audit.specs.Holding.{HoldsOutside};
 ghost use Rattle.pim_audit.specs.Seen.{report_seen};
 
-use crate::audit::{Audit, Report};
+use crate::audit::Audit;
+use crate::look::Report;
 use crate::touched::Touched;
 use pim_addr::Family;
 use pim_router::Router;
 use std::alloc::{AllocError, Global};
 
-/// An audit, and the groups that something touched since its last look.
+/// An audit, and the machines that something touched since its last look.
 #[derive(Drop)]
 pub(crate) struct TrackedAudit<'t, F: Family> {
     /// The audit.
     pub(crate) audit: Audit<'t, F>,
-    /// The groups.
+    /// The machines.
     pub(crate) touched: Touched<F>,
 }
 
 impl<'t, F: Family> TrackedAudit<'t, F> {
-    /// Looks at what is due at the router's present moment. Afterwards no group is touched.
+    /// Looks at what is due at the router's present moment. Afterwards no machine is touched.
     ///
     /// # Errors
     /// Memory was refused.

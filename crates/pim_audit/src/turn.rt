@@ -5,7 +5,7 @@ ghost use Rattle.pim_router.specs.State.{setup_of};
 ghost use Rattle.pim_audit.specs.Holding.{HoldsOutside};
 ghost use Rattle.pim_audit.specs.Turn.{received_seen, TakesIfAny, TakesTurn};
 
-use crate::audit::Report;
+use crate::look::Report;
 use crate::passing::{Ended, pass_time};
 use crate::taking::{Effect, take};
 use crate::tracked::TrackedAudit;

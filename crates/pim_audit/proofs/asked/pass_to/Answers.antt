@@ -1,6 +1,6 @@
 use Rattle.std.proofs.Common.{◌∙◌, arith}
 use Rattle.pim_audit.proofs.FiresOn.{lighter, fires_first, none_fires}
-use Rattle.pim_audit.proofs.Carrying.{grows_more}
+use Rattle.pim_audit.proofs.OneMachine.{grows_more}
 use Rattle.pim_audit.proofs.Touching.{fires_more, fires_no_more}
 use Rattle.pim_audit.proofs.asked.pass_to.Goals as goal
 

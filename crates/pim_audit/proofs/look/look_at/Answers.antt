@@ -1,37 +1,50 @@
-use Rattle.pim_audit.proofs.Words.{◌≡◌, ◌∙◌, ◌++◌, List, length, map, sym, ap, filter, length-map, take_at, event_seen, Due}
-use Rattle.pim_audit.proofs.Words.{held_entries, marked, due_at, ends_reported, is_newly_due, becomes_late, due_seen, dues_seen}
-use Rattle.pim_down.specs.declared.machines.event.Event.{Event as EventOf}
-use Rattle.pim_audit.proofs.Marking.{entries_kept}
+use Rattle.std.proofs.Common.{List, ap, ap₂, filter, map, subst, ◌≡◌, ◌∙◌}
+use Rattle.pim_down.specs.Seen.{event_seen}
+use Rattle.pim_audit.proofs.Looked.{changed, fresh_of, looked}
+use Rattle.pim_audit.specs.Dued.{with_all, without_all}
+use Rattle.pim_audit.specs.Look.{DueEntry, becomes_late, held_entries, marked}
+use Rattle.pim_audit.specs.Order.{EntriesAscend}
+use Rattle.pim_audit.specs.Seen.{dues_seen}
+use Rattle.pim_audit.specs.declared.due.Due.{Due}
 use Rattle.pim_audit.proofs.look.look_at.Goals as goal
+
+pub add_new-requires-clause-fresh : goal.add_new-requires-clause-fresh
+add_new-requires-clause-fresh g c =
+    let bytes_of = g.F.Family.bytes_of in
+    rw (c.deref-2.ensures.value, c.in_ok-ended.ensures.dues, c.deref.ensures.value)
+    (fresh_of c.args.dues.now (dues_seen bytes_of c.args.changes.gone.items) (map (event_seen bytes_of) c.args.changes.new.items)
+    c.requires.changes)
 
 pub returns-clause-finds : goal.returns-clause-finds
 returns-clause-finds g c =
     let bytes_of = g.F.Family.bytes_of in
-    let mark = marked c.args.moment c.args.grace in
-    let late = becomes_late c.args.moment c.args.grace in
-    let old = dues_seen bytes_of c.args.old.now in
-    let entries = map (event_seen bytes_of) c.args.entries.now in
-    let now : dues_seen bytes_of c.deref_mut.result.now ≡ map (due_at old c.args.moment) entries =
-    ap (dues_seen bytes_of) c.deref_mut.ensures.value ∙ c.in_ok-renew.ensures.due
-    ∙ ap (λ (l : List (Due g.row.F-Addr.Denot)). dues_seen bytes_of l ++ map (due_at old c.args.moment) entries) c.new-due.ensures.items in
-    let long : length c.mark_late.new.due ≡ c.renew.new.due.len =
-    sym (length-map c.mark_late.new.due (due_seen bytes_of)) ∙ ap length c.in_ok-mark_late.ensures.due
-    ∙ length-map (dues_seen bytes_of c.deref_mut.result.now) mark ∙ length-map c.deref_mut.result.now (due_seen bytes_of)
-    ∙ c.deref_mut.ensures.len in
-    record {
-      due = ap (dues_seen bytes_of) (take_at c.mark_late.new.due _ c.renew.new.due.len long) ∙ c.in_ok-mark_late.ensures.due ∙ ap (map mark) now;
-      new = c.in_ok-renew.ensures.new
-          ∙ ap (λ (l : List (EventOf g.row.F-Addr.Denot)). map (event_seen bytes_of) l ++ filter (is_newly_due old) entries) c.new-new.ensures.items;
-      ended = c.in_ok-renew.ensures.ended
-          ∙ ap (λ (l : List (Due g.row.F-Addr.Denot)). dues_seen bytes_of l ++ filter (ends_reported entries) old) c.new-ended.ensures.items;
-      late = c.in_ok-mark_late.ensures.late
-          ∙ ap (λ (l : List (Due g.row.F-Addr.Denot)). dues_seen bytes_of l ++ filter late (dues_seen bytes_of c.deref_mut.result.now)) c.new-late.ensures.items
-          ∙ ap (filter late) now;
-    }
+    let old = c.args.dues.now in
+    let gone = dues_seen bytes_of c.args.changes.gone.items in
+    let new = map (event_seen bytes_of) c.args.changes.new.items in
+    let now : c.add_new.new.dues ≡ with_all c.args.moment new (without_all gone old) =
+    c.in_ok-add_new.ensures
+    ∙ ap₂ (with_all c.args.moment) (ap (map (event_seen bytes_of)) c.deref-2.ensures.value)
+    (c.in_ok-ended.ensures.dues ∙ ap (λ (l : List (Due g.row.F-Addr.Denot)). without_all (dues_seen bytes_of l) old)
+    c.deref.ensures.value) in
+    let up_now = subst (λ (l : List DueEntry). EntriesAscend (held_entries l)) now c.is_sound-2.ensures in
+    looked old gone new c.args.moment c.args.grace c.requires.changes c.is_sound.ensures c.requires.order up_now
+    c.take_late.new.dues (dues_seen bytes_of c.in_ok-ended.ended.items) (dues_seen bytes_of c.in_ok-late.late.items)
+    (c.in_ok-late.ensures.dues ∙ ap (map (marked c.args.moment c.args.grace)) now)
+    (c.in_ok-ended.ensures.ended ∙ ap (λ (l : List (Due g.row.F-Addr.Denot)). filter (λ (h : DueEntry). h.is_reported)
+    (dues_seen bytes_of l)) c.deref.ensures.value)
+    (c.in_ok-late.ensures.late ∙ ap (filter (becomes_late c.args.moment c.args.grace)) now)
 
 pub returns-clause-entries : goal.returns-clause-entries
 returns-clause-entries g c =
     let bytes_of = g.F.Family.bytes_of in
-    let old = dues_seen bytes_of c.args.old.now in
-    let entries = map (event_seen bytes_of) c.args.entries.now in
-    ap held_entries (returns-clause-finds g c).due ∙ entries_kept old c.args.moment c.args.grace entries
+    let old = c.args.dues.now in
+    let gone = dues_seen bytes_of c.args.changes.gone.items in
+    let new = map (event_seen bytes_of) c.args.changes.new.items in
+    let now : c.add_new.new.dues ≡ with_all c.args.moment new (without_all gone old) =
+    c.in_ok-add_new.ensures
+    ∙ ap₂ (with_all c.args.moment) (ap (map (event_seen bytes_of)) c.deref-2.ensures.value)
+    (c.in_ok-ended.ensures.dues ∙ ap (λ (l : List (Due g.row.F-Addr.Denot)). without_all (dues_seen bytes_of l) old)
+    c.deref.ensures.value) in
+    let up_now = subst (λ (l : List DueEntry). EntriesAscend (held_entries l)) now c.is_sound-2.ensures in
+    changed old gone new c.args.moment c.args.grace c.requires.changes c.is_sound.ensures c.requires.order up_now
+    c.take_late.new.dues (c.in_ok-late.ensures.dues ∙ ap (map (marked c.args.moment c.args.grace)) now)

@@ -1,6 +1,6 @@
 use Rattle.std.proofs.Common.{◌∙◌, arith}
 use Rattle.pim_audit.proofs.HappensOn.{happens_first, happens_last}
-use Rattle.pim_audit.proofs.Carrying.{grows_more}
+use Rattle.pim_audit.proofs.OneMachine.{grows_more}
 use Rattle.pim_audit.proofs.Touching.{router_fires_more, router_fires_no_more}
 use Rattle.pim_audit.proofs.passing.fire_router.Goals as goal
 

@@ -1,7 +1,7 @@
 use Rattle.std.proofs.Common.{◌∙◌, None, length, map, ap, rules}
 use Rattle.std.proofs.lemmas.List.{length-replicate}
 use Rattle.pim_trace.specs.Ledger.{Ledger}
-use Rattle.pim_audit.specs.Touched.{TouchedGroups, is_touched}
+use Rattle.pim_audit.specs.Touched.{TouchedMachines}
 use Rattle.pim_audit.proofs.Carrying.{nothing_held}
 use Rattle.pim_audit.proofs.RunEnds.{none_tallied, nothing_yet}
 use Rattle.pim_audit.proofs.run.audit_into.Goals as goal
@@ -21,5 +21,5 @@ audit_with-requires-clause-ready g c = record {
   step = search rules;
   present = search rules;
   holds = nothing_held g.F.Family.family c.all-touched.result c.new-audit.result c.args.router.now
-      (λ group. ap (λ (t : TouchedGroups). is_touched group t) c.all-touched.ensures);
+      (ap (λ (t : TouchedMachines). t.all) c.all-touched.ensures);
 }

@@ -6,7 +6,7 @@ use Rattle.pim_audit_events.specs.Seen.{line_seen, lines_seen}
 use Rattle.pim_audit.specs.Audited.{AuditState, LooksAt, with_due}
 use Rattle.pim_audit.specs.Lines.{line}
 use Rattle.pim_audit.specs.Ready.{TrackedRun}
-use Rattle.pim_audit.specs.Seen.{dues_seen, report_seen}
+use Rattle.pim_audit.specs.Seen.{report_seen}
 use Rattle.pim_audit.specs.Totals.{with_lines, with_all_open}
 use Rattle.pim_audit.specs.TurnLines.{report_lines}
 use Rattle.pim_audit.proofs.run.close.Goals as goal
@@ -39,8 +39,8 @@ returns g c =
         looks = subst (λ (a : AuditState). LooksAt g.F.Family.family a router (report_seen bytes_of after.due report)) audit_is c.in_ok-report.ensures.looks;
         rest = c.look.ensures.rest ∙ ap (λ (a : AuditState). with_due a after.due) audit_is;
         totals_are = c.with_all_open-totals.ensures
-            ∙ ap (λ m. with_all_open groups m (dues_seen bytes_of c.due.result.now) c.with_lines-counted.result) at
-            ∙ ap (λ d. with_all_open groups router.machines.moment d c.with_lines-counted.result) c.due.ensures
+            ∙ ap (λ m. with_all_open groups m c.dues.result.now c.with_lines-counted.result) at
+            ∙ ap (λ d. with_all_open groups router.machines.moment d c.with_lines-counted.result) c.dues.ensures
             ∙ ap (with_all_open groups router.machines.moment after.due) counted;
         lines_are = ap (lines_seen bytes_of) c.in_ok-push.ensures.items
             ∙ map-append (line_seen bytes_of) c.push_look.new.lines.items _

@@ -1,4 +1,4 @@
-use Rattle.pim_audit.proofs.Words.{◌≡◌, ◌∙◌, max, sym, ap, arith, Downstream, AuditState, with_asked, without_records, dues_seen}
+use Rattle.pim_audit.proofs.Words.{◌≡◌, ◌∙◌, max, sym, ap, arith, Downstream, AuditState, with_asked, without_records}
 use Rattle.pim_audit.proofs.FiresOn.{stays_empty}
 use Rattle.pim_audit.proofs.audit.Audit.forget.Goals as goal
 
@@ -17,6 +17,6 @@ returns-clause-forgets g c =
       grace = c.self.inside.grace;
       local = c.self.inside.local.now;
       asked = c.self.inside.asked;
-      due = dues_seen g.F.Family.bytes_of c.self.inside.due.items;
+      due = c.self.inside.dues;
     } in
     ap (λ (a : Downstream). with_asked before a) same ∙ ap (λ (a : AuditState). with_asked a (without_records a.asked)) c.self.view_is

@@ -1,0 +1,12 @@
+use Rattle.pim_audit.proofs.Words.{ℕ, List, true}
+use Rattle.pim_jp.specs.declared.entry.Entry.{Entry}
+use Rattle.pim_audit.specs.Touched.{Grows, TouchesEntry}
+use Rattle.pim_audit.proofs.TouchedLists.{Leads}
+use Rattle.pim_audit.proofs.touched.Touched.touch_joined.Given as goal
+
+-- what touches for the entries that are left touches for all
+abbrev pub invariant-loop-entry : goal.invariant-loop-entry
+invariant-loop-entry g l = record {
+  leads : Leads {A = Entry (List ℕ)} (TouchesEntry l.port l.ports true l.set.group) l.entry-iterator l.set.joined l.self;
+  grows : Grows l.fn.self l.self;
+}
