@@ -5,7 +5,8 @@ _pimtree_options() {
     local run='--rp --routes --limit --after --at --vlan --interface'
     local messages='--upstream --own --holdtime --budget'
     case $1 in
-        check | build) echo --src --dst --help ;;
+        check) echo --src --dst --partial --help ;;
+        build) echo --src --dst --help ;;
         replay) echo "$run" --input --help ;;
         trace) echo "$run" --from --group --source --time --all --state --json --help ;;
         audit) echo "$run" --upstream --local --grace --from --group --time --json --help ;;
@@ -57,7 +58,7 @@ _pimtree() {
         --time) _pimtree_words 'ms epoch utc' "$2" ;;
         --input) _pimtree_words 'classic any' "$2" ;;
         --routes | --local | [\<\>]*) _pimtree_files '' "$2" ;;
-        --all | --state | --json) _pimtree_argument "$command" "$2" ;;
+        --all | --state | --json | --partial) _pimtree_argument "$command" "$2" ;;
         --*) ;;
         *) _pimtree_argument "$command" "$2" ;;
     esac

@@ -18,6 +18,7 @@ function __pimtree_files
 end
 
 set -l of_message '__pimtree_is check build'
+set -l of_check '__pimtree_is check'
 set -l of_run '__pimtree_is replay trace audit same mirror emit change'
 set -l of_input '__pimtree_is replay same mirror emit change'
 set -l of_demand '__pimtree_is same mirror emit change'
@@ -43,6 +44,7 @@ complete -c pimtree -n __fish_use_subcommand -a session -d 'How does a router an
 
 complete -c pimtree -n $of_message -l src -x -d 'IP source address of the message'
 complete -c pimtree -n $of_message -l dst -x -d 'IP destination address of the message'
+complete -c pimtree -n $of_check -l partial -d 'Print what precedes the first fault, too'
 
 complete -c pimtree -n $of_run -a '(__pimtree_files)'
 complete -c pimtree -n $of_run -l rp -x -d 'Rendezvous point of all groups'

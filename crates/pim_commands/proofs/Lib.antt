@@ -1,5 +1,6 @@
 pub mod Words
 pub mod Reports
+pub mod Partials
 pub mod Builds
 pub mod NewRouters
 pub mod Ran

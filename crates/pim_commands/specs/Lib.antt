@@ -1,5 +1,6 @@
 -- The definitions of `pim_commands`.
 pub mod Report
+pub mod Partial
 pub mod Ends
 pub mod Building
 pub mod Naming

@@ -3,9 +3,11 @@ use Rattle.std.specs.Prelude.{ℕ, List, [], Option, Result, IfSome}
 use Rattle.pim_addr.specs.declared.family.AddressFamily.{AddressFamily}
 use Rattle.pim_files.specs.Files.{Known}
 use Rattle.pim_words.specs.declared.task.Task.{Task}
-use Rattle.pim_words.specs.declared.task.Task.TheVariants.{Check, Build, Replay, Trace, Audit, Same, Mirror, Emit, Change}
+use Rattle.pim_words.specs.declared.task.Task.TheVariants.{Check, CheckPartial, Build, Replay, Trace, Audit, Same}
+use Rattle.pim_words.specs.declared.task.Task.TheVariants.{Mirror, Emit, Change}
 use Rattle.pim_faults.specs.declared.fault.Fault.{Fault}
 use Rattle.pim_commands.specs.Building.{Builds}
+use Rattle.pim_commands.specs.Partial.{PartlyReports}
 use Rattle.pim_commands.specs.Opening.{ReplaysFiles, TracesFiles, AuditsFiles, ComparesFiles, MirrorsFiles, EmitsFiles, ChangesFiles}
 use Rattle.pim_commands.specs.Report.{Reports, input_report}
 
@@ -17,6 +19,9 @@ module _ {A R : Type 0} (family : AddressFamily) (bytes_of : A → List ℕ) (re
   abbrev pub DoesTask : Task A → Type 0
   DoesTask (Check source destination) = IfSome input (λ message.
       Reports (input_report family (bytes_of source) (bytes_of destination) message) old new result) × Warns []
+  DoesTask (CheckPartial source destination) = IfSome input (λ message.
+      PartlyReports family message (input_report family (bytes_of source) (bytes_of destination) message) old new result)
+      × Warns []
   DoesTask (Build source destination) = IfSome input (λ text.
       Builds family (bytes_of source) (bytes_of destination) text old new result) × Warns []
   DoesTask (Replay captures) = ReplaysFiles family bytes_of remaining failures known known' captures Warns old new result

@@ -38,7 +38,7 @@ fn blank(alloc: Global, length: usize) -> Result<Vec<u8>, Fault<'static>>
 }
 
 /// Reads the input to its end, or one byte more than an input may have.
-fn read_input<R: Feed>(alloc: Global, reader: &mut R) -> Result<Vec<u8>, Fault<'static>>
+pub(crate) fn read_input<R: Feed>(alloc: Global, reader: &mut R) -> Result<Vec<u8>, Fault<'static>>
     ensures input { IfSome (R.remaining reader.old) (λ all. GivesInput (λ v. v.items) all result) }
     ensures causes { IfErr result IsReadFault }
     ensures failed { R.failures reader.new ≡ read_failures_after (R.failures reader.old) result }
@@ -101,7 +101,7 @@ fn report_hello<F: Family>(alloc: Global, body: &[u8]) -> Result<Vec<u8>, Fault<
 
 /// The text of a message, or its first fault.
 #[tactic(auto, using(crate::proofs::Reports::framed_body, crate::proofs::Reports::framed_hello))]
-fn report<F: Family>(
+pub(crate) fn report<F: Family>(
     alloc: Global,
     src: F::Addr,
     dst: F::Addr,

@@ -8,6 +8,7 @@ ghost use Rattle.pim_commands.specs.Running.{DoesTask};
 
 use crate::build::build_task;
 use crate::check::check_task;
+use crate::check_partial::check_partial_task;
 use crate::one_router::{audit, emit, mirror, replay, trace};
 use crate::two_routers::{change, same};
 use pim_addr::{Drain, Family, Feed};
@@ -39,6 +40,7 @@ pub fn run_task<'a, F: Family, O: Opener, R: Feed, W: Drain, E: Drain>(
 {
     match task {
         Task::Check { .. } => check_task::<F, _, _>(alloc, input, output, task),
+        Task::CheckPartial { .. } => check_partial_task::<F, _, _>(alloc, input, output, task),
         Task::Build { .. } => build_task::<F, _, _>(alloc, input, output, task),
         Task::Replay(captures) => replay::<F, O, W, E>(alloc, opener, captures, output, errors),
         Task::Trace(captures, tracing) => {

@@ -166,6 +166,10 @@ fault_words Memory = codes "memory"
 abbrev pub fault_text : Fault → List ℕ
 fault_text fault = line (codes "pimtree: " ++ fault_words fault)
 
+-- The line of a fault that ends the lines of what precedes it.
+abbrev pub ending_text : Fault → List ℕ
+ending_text fault = line (codes "fault " ++ fault_words fault)
+
 -- The words of a warning on the capture in this file, with its number.
 abbrev pub warning_words : Warning → List ℕ → ℕ → List ℕ
 warning_words CutShort file number = file ++ codes " ends inside record " ++ decimal number

@@ -7,7 +7,8 @@ ghost use Rattle.pim_lines.specs.Pieces.{line};
 ghost use Rattle.pim_report.specs.Malformed.{malformed_words};
 ghost use Rattle.pim_faults.specs.declared.fault.Fault.TheVariants.{Words};
 ghost use Rattle.pim_faults.specs.Words.{refusal_words, address_words, plan_words, fault_words};
-ghost use Rattle.pim_faults.specs.Words.{fault_text, routes_fault, local_fault, capture_words};
+ghost use Rattle.pim_faults.specs.Words.{fault_text, ending_text, routes_fault, local_fault};
+ghost use Rattle.pim_faults.specs.Words.{capture_words};
 ghost use Rattle.pim_faults.specs.Words.{file_words, is_of_record, build_fault, vlans_words};
 ghost use Rattle.pim_faults.specs.Words.{place_words};
 
@@ -475,4 +476,17 @@ pub fn fault_line<W: Drain>(fault: &Fault<'_>, writer: &mut W) -> Result<(), Fai
     ensures count { W.failures writer.new ≡ failures_after (W.failures writer.old) result }
 {
     write_after(writer, b"pimtree: ", fault)
+}
+
+/// Writes the line that ends the lines of what precedes a fault: `fault `, the words of the fault
+/// and a line feed.
+///
+/// # Errors
+/// The writer failed: a prefix of the line was written.
+pub fn ending_line<W: Drain>(fault: &Fault<'_>, writer: &mut W) -> Result<(), Failed>
+    ensures bytes { AppendsAll (W.contents writer.old) (W.contents writer.new) result
+        (ending_text fault.now) }
+    ensures count { W.failures writer.new ≡ failures_after (W.failures writer.old) result }
+{
+    write_after(writer, b"fault ", fault)
 }

@@ -2,6 +2,7 @@
 //!
 //! - `Fault` is why a command wasn't done. It holds faults of the crates below. `fault_line` writes
 //!   its line, and `report_fault` writes it on one of two devices and returns the status.
+//!   `ending_line` writes it after the lines of what precedes the fault.
 //! - `Warning` is what a command says of a capture beside its result. `warning_line` writes its
 //!   line. `missed_line` and `unserved_line` write those on whom the messages of a capture name.
 //!
@@ -19,6 +20,6 @@ mod unopened;
 mod warning;
 
 pub use ending::{FAULTY, report_fault};
-pub use fault::{Fault, fault_line};
+pub use fault::{Fault, ending_line, fault_line};
 pub use missing::{missed_line, unserved_line};
 pub use warning::{Warning, warning_line};

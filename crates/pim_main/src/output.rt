@@ -79,7 +79,7 @@ impl<W: Write + Drop> Answers for Output<W> {
 /// The captures that a task reads.
 fn captures_of<'t, 'a, A>(task: &'t Task<'a, A>) -> Option<&'t Captures<'a, A>> {
     match task {
-        Task::Check { .. } | Task::Build { .. } => None,
+        Task::Check { .. } | Task::CheckPartial { .. } | Task::Build { .. } => None,
         Task::Replay(captures) | Task::Trace(captures, _) | Task::Audit(captures, _, _) => {
             Some(captures)
         }

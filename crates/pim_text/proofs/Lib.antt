@@ -1,5 +1,7 @@
 pub mod Words
 pub mod Lines
+pub mod Fronts
+pub mod WholeFronts
 pub mod Bytes
 pub mod FieldEnds
 pub mod OneName

@@ -1,14 +1,16 @@
 -- The laws of texts and of the messages that they state.
-use Rattle.std.specs.Prelude.{◌≡◌, true, ℕ, List}
+use Rattle.std.specs.Prelude.{◌≡◌, true, ℕ, List, []}
 use Rattle.std.specs.List.{AllByRecursion}
-use Rattle.pim_addr.specs.Address.{IsAddress}
+use Rattle.pim_addr.specs.Address.{AreBytes, IsAddress}
 use Rattle.pim_hello.specs.Hello.{Hello}
 use Rattle.pim_hello.specs.Spelling.{ParametersFit}
-use Rattle.pim_jp.specs.Message.{Message}
+use Rattle.pim_jp.specs.Message.{Message, message_of}
 use Rattle.pim_jp.specs.Canonical.{IsMessage}
+use Rattle.pim_jp.specs.Faults.{faults}
 use Rattle.pim_addr.specs.declared.family.AddressFamily.{AddressFamily}
 use Rattle.pim_text.specs.Value.{TextValue, a_hello, a_message, hello_in, message_in}
 use Rattle.pim_text.specs.JoinPruneText.{message_text}
+use Rattle.pim_text.specs.PartialText.{partial_text}
 use Rattle.pim_text.specs.HelloText.{hello_text}
 use Rattle.pim_text.specs.Families.{value_is_in}
 use Rattle.pim_text.specs.Read.{States}
@@ -34,3 +36,8 @@ MessageTextStates = (family : AddressFamily) (message : Message) → IsMessage f
 abbrev pub HelloTextStates : Type 0
 HelloTextStates = (family : AddressFamily) (hello : Hello) → ParametersFit hello.parameters
     → AllByRecursion (IsAddress family) hello.addresses → States (hello_text family hello) (hello_in family hello)
+
+-- The text of a whole body without a fault is that of its message.
+abbrev pub WholeBodyIsItsMessage : Type 0
+WholeBodyIsItsMessage = (family : AddressFamily) (body : List ℕ) → AreBytes body → faults family body ≡ []
+    → partial_text family body ≡ message_text family (message_of family body)

@@ -1,6 +1,7 @@
 -- The definitions of `pim_text`.
 pub mod Text
 pub mod JoinPruneText
+pub mod PartialText
 pub mod HelloText
 pub mod Value
 pub mod Lines

@@ -1,6 +1,7 @@
 //! The text of a Hello or a Join/Prune message: lines of words, decimals and addresses.
 //!
 //! - `message_text` and `hello_text` write the text of a message that was read; `check` prints it.
+//!   `partial_text` writes the lines of a Join/Prune body that precede a fault.
 //! - `read_message_text` reads such a text. `Err(n)`: line n, from 1, is the first wrong one.
 //! - `spell` writes the body of the message that a text states, legal or not. `build_message` seals
 //!   it and refuses what a receiver refuses. `read_text` reads a text of at most 8 MiB from any
@@ -22,6 +23,7 @@ mod line;
 mod line_walk;
 mod message;
 mod one_reading;
+mod partial_lines;
 mod pieces;
 mod reading;
 mod reading_lines;
@@ -37,5 +39,6 @@ pub use hello_lines::hello_text;
 pub use join_prune_lines::message_text;
 pub use line::Stated;
 pub use message::{Spelled, TextFault, spell, stated_in};
+pub use partial_lines::partial_text;
 pub use pieces::type_text;
 pub use reading::read_message_text;

@@ -89,6 +89,7 @@ written_in_range command rows captures writing (are, is) =
 
 task_in_range : (kind : CommandKind) (rows : List Row) (asked : Task AnyAddress) → IsTask kind rows asked → IsInRange asked
 task_in_range Check rows (task.Check source destination) is = tt
+task_in_range Check rows (task.CheckPartial source destination) is = tt
 task_in_range Build rows (task.Build source destination) is = tt
 task_in_range Replay rows (task.Replay captures) is =
     ((is.1.run.after.most, is.1.run.early), (is.1.run.limit.least, is.1.run.limit.most), further_of Replay rows captures is.1.names is.1.ports)
@@ -146,6 +147,7 @@ module _ {A : Type 0} (family : AddressFamily) (bytes_of : A → List ℕ) where
 
   same_in_range : (typed : Task A) (asked : Task AnyAddress) → IsInRange asked → SameTask family bytes_of typed asked → IsInRange typed
   same_in_range (task.Check a b) asked is same = tt
+  same_in_range (task.CheckPartial a b) asked is same = tt
   same_in_range (task.Build a b) asked is same = tt
   same_in_range (task.Replay typed) (task.Replay captures) is same = (same_bounded typed captures is.0 same, same_limited typed captures is.1 same, same_further typed captures is.2 same)
   same_in_range (task.Trace typed how) (task.Trace captures tracing) is same =

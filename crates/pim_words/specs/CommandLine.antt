@@ -83,9 +83,15 @@ with_audit_shown command =
 
 -- ---- commands
 
--- A command on one message, `check` or `build`: `[--src A] [--dst A]`.
-abbrev pub of_message : Text → Shape
-of_message name = record (new_shape name) {
+-- `check [--src A] [--dst A] [--partial]`.
+abbrev pub check : Shape
+check = record (new_shape (codes "check")) {
+  rules = text_option (codes "src") ∷ text_option (codes "dst") ∷ flag (codes "partial") ∷ [];
+}
+
+-- `build [--src A] [--dst A]`.
+abbrev pub build : Shape
+build = record (new_shape (codes "build")) {
   rules = text_option (codes "src") ∷ text_option (codes "dst") ∷ [];
 }
 
@@ -125,9 +131,7 @@ bare = record (new_shape (codes "pimtree")) {
 
 -- The program with the commands on one message.
 abbrev pub message_commands : App
-message_commands =
-    with_subcommand (with_subcommand (record { top = bare; subs = [] }) (of_message (codes "check")))
-    (of_message (codes "build"))
+message_commands = with_subcommand (with_subcommand (record { top = bare; subs = [] }) check) build
 
 -- The program with the commands that need no writer of messages.
 abbrev pub reading_commands : App

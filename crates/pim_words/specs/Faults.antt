@@ -19,7 +19,7 @@ use Rattle.pim_words.specs.declared.task.Port.{Port}
 use Rattle.pim_words.specs.declared.task.Tracing.{Tracing}
 use Rattle.pim_words.specs.declared.task.Writing.{Writing}
 use Rattle.pim_words.specs.declared.task.Task.{Task}
-use Rattle.pim_words.specs.declared.task.Task.TheVariants.{Check, Build, Replay, Trace, Audit, Same, Mirror, Emit, Change}
+use Rattle.pim_words.specs.declared.task.Task.TheVariants.{Check, CheckPartial, Build, Replay, Trace, Audit, Same, Mirror, Emit, Change}
 
 -- ---- addresses
 
@@ -53,6 +53,7 @@ is_writing_in family writing = is_in family writing.upstream && is_in family wri
 -- Whether all addresses of the task are of this family.
 abbrev pub are_in : AddressFamily → Task AnyAddress → Bool
 are_in family (Check source destination) = is_in family source && is_in family destination
+are_in family (CheckPartial source destination) = is_in family source && is_in family destination
 are_in family (Build source destination) = is_in family source && is_in family destination
 are_in family (Replay captures) = are_captures_in family captures
 are_in family (Trace captures tracing) = are_captures_in family captures && is_tracing_in family tracing
@@ -119,6 +120,7 @@ faults_of_two captures writing =
 -- The faults of a task's routers, and of its writer or upstream neighbour.
 abbrev pub setting_faults : Task AnyAddress → List CommandFault
 setting_faults (Check source destination) = []
+setting_faults (CheckPartial source destination) = []
 setting_faults (Build source destination) = []
 setting_faults (Replay captures) = router_faults A captures
 setting_faults (Trace captures tracing) = router_faults A captures

@@ -8,7 +8,7 @@ use Rattle.clap.specs.Words.{Text}
 use Rattle.pim_lines.specs.declared.either.AnyAddress.{AnyAddress}
 use Rattle.pim_words.specs.declared.task.Captures.{Captures}
 use Rattle.pim_words.specs.declared.task.Task.{Task}
-use Rattle.pim_words.specs.declared.task.Task.TheVariants.{Check, Build, Replay, Trace, Audit, Same, Mirror, Emit, Change}
+use Rattle.pim_words.specs.declared.task.Task.TheVariants.{Check, CheckPartial, Build, Replay, Trace, Audit, Same, Mirror, Emit, Change}
 
 -- The name of standard input among those of files, where any container is read.
 abbrev pub input_name : Text
@@ -41,6 +41,7 @@ reads_input_twice captures local = reads_any captures && nat_lt 1 (input_count c
 -- The same of a task. That of one message has no files, and only an audit has one of local joins.
 abbrev pub names_input_twice : Task AnyAddress → Bool
 names_input_twice (Check source destination) = false
+names_input_twice (CheckPartial source destination) = false
 names_input_twice (Build source destination) = false
 names_input_twice (Replay captures) = reads_input_twice captures None
 names_input_twice (Trace captures tracing) = reads_input_twice captures None

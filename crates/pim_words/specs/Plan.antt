@@ -14,7 +14,7 @@ use Rattle.pim_words.specs.declared.task.CommandKind.{CommandKind}
 use Rattle.pim_words.specs.declared.task.CommandPlan.{CommandPlan}
 use Rattle.pim_words.specs.declared.task.CommandPlan.TheVariants.{V4, V6, Session}
 use Rattle.pim_words.specs.declared.task.Task.{Task}
-use Rattle.pim_words.specs.declared.task.Task.TheVariants.{Check, Build, Replay, Trace, Audit, Same, Mirror, Emit, Change}
+use Rattle.pim_words.specs.declared.task.Task.TheVariants.{Check, CheckPartial, Build, Replay, Trace, Audit, Same, Mirror, Emit, Change}
 use Rattle.pim_words.specs.declared.task.Auditing.{Auditing}
 use Rattle.pim_words.specs.declared.task.Captures.{Captures}
 use Rattle.pim_words.specs.declared.task.More.{More}
@@ -139,6 +139,7 @@ AreNames captures tracing = (length tracing.names.items ≡ length captures.port
 -- The numbers of the task are in their ranges.
 abbrev pub IsInRange : {A : Type 0} → Task A → Type 0
 IsInRange (Check source destination) = ⊤
+IsInRange (CheckPartial source destination) = ⊤
 IsInRange (Build source destination) = ⊤
 IsInRange (Replay captures) = IsBounded captures × IsLimited captures × AreFurther captures
 IsInRange (Trace captures tracing) =

@@ -17,7 +17,7 @@ use Rattle.pim_words.specs.declared.task.Writing.{Writing}
 use Rattle.pim_words.specs.declared.task.CommandKind.{CommandKind}
 use Rattle.pim_words.specs.declared.task.CommandKind.TheVariants as kind
 use Rattle.pim_words.specs.declared.task.Task.{Task}
-use Rattle.pim_words.specs.declared.task.Task.TheVariants.{Check, Build, Replay, Trace, Audit, Same, Mirror, Emit, Change}
+use Rattle.pim_words.specs.declared.task.Task.TheVariants.{Check, CheckPartial, Build, Replay, Trace, Audit, Same, Mirror, Emit, Change}
 use Rattle.pim_lines.specs.AnyAddress.{Names, IsRead}
 use Rattle.pim_words.specs.Ends.{are_both_given, has_two_ends, time_text, IsTimed, IsEarly, IsUntimed, IsTimely}
 use Rattle.pim_words.specs.Given.{IsNumber, address_texts, is_flag, option_or, required, rp_text, words_of}
@@ -92,7 +92,9 @@ AreCapturesOf command rows captures =
 -- The command was given this task.
 abbrev pub IsTask : CommandKind → List Row → Task AnyAddress → Type 0
 IsTask kind.Check rows (Check source destination) =
-    Names (source_text rows) source × Names (destination_text rows) destination
+    Names (source_text rows) source × Names (destination_text rows) destination × (is_flag (codes "partial") rows ≡ false)
+IsTask kind.Check rows (CheckPartial source destination) =
+    Names (source_text rows) source × Names (destination_text rows) destination × (is_flag (codes "partial") rows ≡ true)
 IsTask kind.Build rows (Build source destination) =
     Names (source_text rows) source × Names (destination_text rows) destination
 IsTask kind.Replay rows (Replay captures) = AreCapturesOf kind.Replay rows captures

@@ -13,7 +13,7 @@ use Rattle.pim_words.specs.declared.task.Writing.{Writing}
 use Rattle.pim_words.specs.declared.task.CommandPlan.{CommandPlan}
 use Rattle.pim_words.specs.declared.task.CommandPlan.TheVariants.{V4, V6, Session}
 use Rattle.pim_words.specs.declared.task.Task.{Task}
-use Rattle.pim_words.specs.declared.task.Task.TheVariants.{Check, Build, Replay, Trace, Audit, Same, Mirror, Emit, Change}
+use Rattle.pim_words.specs.declared.task.Task.TheVariants.{Check, CheckPartial, Build, Replay, Trace, Audit, Same, Mirror, Emit, Change}
 
 module _ {A : Type 0} (family : AddressFamily) (bytes_of : A → List ℕ) where
   -- An address of the family, as one of either family.
@@ -68,6 +68,8 @@ module _ {A : Type 0} (family : AddressFamily) (bytes_of : A → List ℕ) where
   -- The two tasks are the same.
   abbrev pub SameTask : Task A → Task AnyAddress → Type 0
   SameTask (Check source destination) (Check from to) =
+      (address_seen source ≡ from) × (address_seen destination ≡ to)
+  SameTask (CheckPartial source destination) (CheckPartial from to) =
       (address_seen source ≡ from) × (address_seen destination ≡ to)
   SameTask (Build source destination) (Build from to) =
       (address_seen source ≡ from) × (address_seen destination ≡ to)

@@ -97,6 +97,14 @@ const DST: OptionRow<'static> = OptionRow {
 224.0.0.13]",
 };
 
+/// `--partial`.
+const PARTIAL: OptionRow<'static> = OptionRow {
+    name: "partial",
+    form: Form::Flag,
+    value: "",
+    help: "Print what precedes the first fault, too",
+};
+
 /// `--rp` of a command that writes messages.
 const RP: OptionRow<'static> = OptionRow {
     name: "rp",
@@ -163,8 +171,8 @@ const LOCAL: OptionRow<'static> = OptionRow {
     name: "local",
     form: Form::Text,
     value: "FILE",
-    help: "File of lines, at most 4096, of two forms: `star G`{n}and `source S G`, what receivers on \
-the router's{n}own links want [default: none]",
+    help: "File of lines, at most 4096, of two forms: `star G`{n}and `source S G`, what receivers \
+on the router's{n}own links want [default: none]",
 };
 
 /// `--holdtime`.
@@ -345,8 +353,11 @@ const SIDED_PORTS: OptionRow<'static> = OptionRow {
 of each",
 };
 
-/// The options of `check` and `build`.
-const OF_MESSAGE: [OptionRow<'static>; 2] = [SRC, DST];
+/// The options of `check`.
+const OF_CHECK: [OptionRow<'static>; 3] = [SRC, DST, PARTIAL];
+
+/// The options of `build`.
+const OF_BUILD: [OptionRow<'static>; 2] = [SRC, DST];
 
 /// The options and words of `replay`.
 const OF_REPLAY: [OptionRow<'static>; 9] = [
@@ -427,9 +438,14 @@ the message's. So a message over IPv6 needs both options.
 A fault is printed with its offset in the body, which begins after the four
 bytes of the header: `pimtree: join/prune short at 22`.
 
+With --partial standard output has what precedes the first fault of a message,
+which for a Join/Prune is each line that ends before the offset of the fault,
+and then a line `fault WORDS`. Some routers act on entries that precede a fault.
+The status is 2, and the fault is printed on standard error, too.
+
 Example, at the top of the repository:
   pimtree check < examples/join-star.pim",
-    rows: &OF_MESSAGE,
+    rows: &OF_CHECK,
 };
 
 /// The command `build`.
@@ -451,7 +467,7 @@ needs both options.
 
 Example, at the top of the repository:
   pimtree check < examples/join-star.pim | pimtree build | pimtree check",
-    rows: &OF_MESSAGE,
+    rows: &OF_BUILD,
 };
 
 /// The command `replay`.

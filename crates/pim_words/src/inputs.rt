@@ -73,7 +73,7 @@ pub(crate) fn names_input_twice(task: &Task<'_, AnyAddress>) -> bool
     ensures { result ≡ names_input_twice task.now }
 {
     match task {
-        Task::Check { .. } | Task::Build { .. } => false,
+        Task::Check { .. } | Task::CheckPartial { .. } | Task::Build { .. } => false,
         Task::Replay(captures) | Task::Trace(captures, _) => reads_input_twice(captures, None),
         Task::Audit(captures, auditing, _) => reads_input_twice(captures, auditing.local),
         Task::Same(captures, _)

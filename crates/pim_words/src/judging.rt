@@ -219,7 +219,7 @@ pub(crate) fn judge(task: &Task<'_, AnyAddress>) -> Result<(), CommandFault<'sta
     ensures { result ≡ judged (setting_faults task.now) tt }
 {
     match task {
-        Task::Check { .. } | Task::Build { .. } => Ok(()),
+        Task::Check { .. } | Task::CheckPartial { .. } | Task::Build { .. } => Ok(()),
         Task::Replay(captures) | Task::Trace(captures, _) => judge_router(RouterSide::A, captures),
         Task::Audit(captures, auditing, _) => judge_audit(captures, auditing.upstream),
         Task::Same(captures, writing) | Task::Change(captures, writing) => {

@@ -171,6 +171,18 @@ fn read_ends<'a>(options: &ArgMatches<'a>) -> Result<AddressEnds, CommandFault<'
     Ok(AddressEnds { src, dst })
 }
 
+/// The task of `check`.
+fn read_check<'a>(options: &ArgMatches<'a>) -> Result<Task<'a, AnyAddress>, CommandFault<'a>>
+    ensures { MatchResult result (IsTask CommandKind.Check (rows_of (found_of options.now)))
+        (IsFirstUnread (address_texts CommandKind.Check (rows_of (found_of options.now)))) }
+{
+    let AddressEnds { src, dst } = read_ends(options)?;
+    if is_flag(options, "partial") {
+        return Ok(Task::CheckPartial { src, dst });
+    }
+    Ok(Task::Check { src, dst })
+}
+
 /// The task of `replay`.
 fn read_replay<'a>(
     alloc: Global,
@@ -370,10 +382,7 @@ pub(crate) fn read_task<'a>(
         (IsUnreadable kind (rows_of (found_of options.now))) }
 {
     match kind {
-        CommandKind::Check => {
-            let AddressEnds { src, dst } = read_ends(options)?;
-            Ok(Task::Check { src, dst })
-        }
+        CommandKind::Check => Ok(read_check(options)?),
         CommandKind::Build => {
             let AddressEnds { src, dst } = read_ends(options)?;
             Ok(Task::Build { src, dst })

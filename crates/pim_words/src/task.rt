@@ -117,6 +117,14 @@ pub enum Task<'a, A> {
         /// The IP destination address of the message.
         dst: A,
     },
+    /// To read one message and print it. If it has a fault, to print what precedes the fault, and
+    /// the fault.
+    CheckPartial {
+        /// The IP source address of the message.
+        src: A,
+        /// The IP destination address of the message.
+        dst: A,
+    },
     /// To write the bytes of the message that a text states.
     Build {
         /// The IP source address of the message.

@@ -209,15 +209,14 @@ pub(crate) fn task_in_family<'a, F: Family>(
         (IsForeign (are_in F.family task.now)) }
 {
     match task {
-        Task::Check { src, dst } => {
+        Task::Check { src, dst } | Task::CheckPartial { src, dst } | Task::Build { src, dst } => {
             let src = in_family::<F>(*src)?;
             let dst = in_family::<F>(*dst)?;
-            Ok(Task::Check { src, dst })
-        }
-        Task::Build { src, dst } => {
-            let src = in_family::<F>(*src)?;
-            let dst = in_family::<F>(*dst)?;
-            Ok(Task::Build { src, dst })
+            match task {
+                Task::Check { .. } => Ok(Task::Check { src, dst }),
+                Task::CheckPartial { .. } => Ok(Task::CheckPartial { src, dst }),
+                _ => Ok(Task::Build { src, dst }),
+            }
         }
         Task::Replay(captures) => Ok(Task::Replay(captures_in_family::<F>(alloc, captures)?)),
         Task::Trace(captures, tracing) => {
