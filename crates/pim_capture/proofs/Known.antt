@@ -6,7 +6,7 @@ use Rattle.std.proofs.lemmas.Grind.{common_steps}
 use Rattle.std.proofs.lemmas.List.{take_all, length-append}
 use Rattle.pim_addr.specs.Faults.{Answers, judged}
 use Rattle.pim_capture.specs.declared.fault.CaptureFault.{CaptureFault}
-use Rattle.pim_capture.specs.declared.fault.CaptureFault.TheVariants.{Magic, LinkType, Truncated, TooLong, Read, Memory, Failed, Block, Time, Vlans, Interfaces, InterfaceNames, LinkNumber}
+use Rattle.pim_capture.specs.declared.fault.CaptureFault.TheVariants.{Magic, LinkType, Truncated, TooLong, Read, Memory, Failed, Block, Time, Vlans, Interfaces, InterfaceNames, LinkNumber, Gzip}
 use Rattle.pim_capture.specs.declared.header.Format.{Format}
 use Rattle.pim_capture.specs.Header.{judge_header, IsOfBytes}
 use Rattle.pim_capture.specs.Frame.{Datagram, judge_frame}
@@ -35,6 +35,7 @@ header_answer xs ys header (Err (Vlans first other)) e d a k = ap judge_header e
 header_answer xs ys header (Err (Interfaces first other)) e d a k = ap judge_header e ∙ a
 header_answer xs ys header (Err (InterfaceNames first other)) e d a k = ap judge_header e ∙ a
 header_answer xs ys header (Err (LinkNumber number)) e d a k = ap judge_header e ∙ a
+header_answer xs ys header (Err Gzip) e d a k = ap judge_header e ∙ a
 
 pub header_known : (old new : Option (List ℕ)) (h : List ℕ) (got : ℕ) (r : Result Format CaptureFault) → length h ≡ 24 → got ≤ length h
     → Consumes old new (take got h) → (got < length h → IsAtEnd new)
@@ -131,6 +132,7 @@ frame_fault_known left format (Some xs) (Some ms) (Some ns) h bytes (Vlans first
 frame_fault_known left format (Some xs) (Some ms) (Some ns) h bytes (Interfaces first other) failures failures' some l e short fills counts = absurd fills
 frame_fault_known left format (Some xs) (Some ms) (Some ns) h bytes (InterfaceNames first other) failures failures' some l e short fills counts = absurd fills
 frame_fault_known left format (Some xs) (Some ms) (Some ns) h bytes (LinkNumber number) failures failures' some l e short fills counts = absurd fills
+frame_fault_known left format (Some xs) (Some ms) (Some ns) h bytes Gzip failures failures' some l e short fills counts = absurd fills
 
 -- ---- it is whole
 

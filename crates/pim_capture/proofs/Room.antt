@@ -43,6 +43,7 @@ memory_passed (fault.Vlans first other) P Q h p = tt
 memory_passed (fault.Interfaces first other) P Q h p = tt
 memory_passed (fault.InterfaceNames first other) P Q h p = tt
 memory_passed (fault.LinkNumber number) P Q h p = tt
+memory_passed fault.Gzip P Q h p = tt
 
 pub fits_told : (event : Event) (old new : ℕ) (size : Option (Option ℕ)) → event ≢ End → HasLength new size → FitsRecord (Ok event) old new size
 fits_told (Packet millis ip) old new size h next_length = next_length

@@ -5,7 +5,7 @@ use Rattle.std.proofs.lemmas.List.{drop_at, drop-drop, length-append, length-dro
 use Rattle.pim_device.specs.Device.{ConsumesAtMost}
 use Rattle.pim_capture.specs.declared.event.Event.{Event}
 use Rattle.pim_capture.specs.declared.fault.CaptureFault.{CaptureFault}
-use Rattle.pim_capture.specs.declared.fault.CaptureFault.TheVariants.{Magic, LinkType, Truncated, TooLong, Read, Memory, Failed, Block, Time, Vlans, Interfaces, InterfaceNames, LinkNumber}
+use Rattle.pim_capture.specs.declared.fault.CaptureFault.TheVariants.{Magic, LinkType, Truncated, TooLong, Read, Memory, Failed, Block, Time, Vlans, Interfaces, InterfaceNames, LinkNumber, Gzip}
 use Rattle.pim_capture.specs.Capture.{most_captured}
 use Rattle.pim_capture.specs.Next.{most_taken}
 
@@ -50,6 +50,7 @@ most_with_frame headers (Vlans first other) h = refl
 most_with_frame headers (Interfaces first other) h = refl
 most_with_frame headers (InterfaceNames first other) h = refl
 most_with_frame headers (LinkNumber number) h = refl
+most_with_frame headers Gzip h = refl
 
 -- the capture's header beside the record's
 pub most_with_header : (r : Result Event CaptureFault) → most_taken 40 r ≡ 24 + most_taken 16 r
@@ -67,3 +68,4 @@ most_with_header (Err (Vlans first other)) = refl
 most_with_header (Err (Interfaces first other)) = refl
 most_with_header (Err (InterfaceNames first other)) = refl
 most_with_header (Err (LinkNumber number)) = refl
+most_with_header (Err Gzip) = refl

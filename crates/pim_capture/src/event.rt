@@ -3,6 +3,7 @@
 ghost use Rattle.std.specs.Prelude.{◌≡◌};
 ghost use Rattle.pim_capture.specs.Seen.{ip_seen, LiesIn};
 
+use crate::incomplete::Incomplete;
 use std::ops::Range;
 
 /// An IP packet that carries PIM, with its message in the caller's buffer.
@@ -57,18 +58,25 @@ pub enum Why {
     NotPim,
     /// A fragment of an IPv4 packet.
     Fragment,
+    /// A fragment that is held until its packet is whole. `Capture` never returns it.
+    Part,
     /// It has no time, as a simple packet of pcapng. Its time counts as 0. `Capture` never returns
     /// it.
     NoTime,
-    /// Its link type isn't read. `Capture` never returns it.
-    LinkType,
-    /// The reader of the file wants packets of other links. `Capture` never returns it.
+    /// Its link type has this number, which isn't read. `Capture` never returns it.
+    LinkType(u16),
+    /// The reader of the file wants records of other links. `Capture` never returns it.
     NotChosen,
+    /// It is a copy of another packet, which is captured too. `Capture` never returns it.
+    Copy,
     /// Its file ends inside it. Its time counts as 0. `Capture` never returns it.
     CutShort,
     /// The capture goes on with its next file. It is no record of a file. Its time counts as 0.
     /// `Capture` never returns it.
     NextFile,
+    /// From here on the fragments of these packets are incomplete; `None` of no packet. It is no
+    /// record of a file. Its time counts as 0. `Capture` never returns it.
+    Incomplete(Option<Incomplete>),
 }
 
 /// What a record of a capture holds.

@@ -10,7 +10,7 @@ use std::alloc::AllocError;
 use thiserror::Error;
 
 /// Why a capture can't be read any further. Every later call returns `Failed`. Readers of other
-/// files than classic ones return the last six too; `Capture` never does.
+/// files than classic ones return the last seven too; `Capture` never does.
 #[derive(Clone, Copy, Debug, PartialEq, Eq, Error)]
 pub enum CaptureFault {
     /// It doesn't begin with the magic of a classic pcap file.
@@ -67,6 +67,9 @@ pub enum CaptureFault {
     /// Its link type has this number, which isn't read.
     #[error("link-type {0}")]
     LinkNumber(u16),
+    /// It is a file that gzip compressed.
+    #[error("gzip")]
+    Gzip,
 }
 
 impl From<Failed> for CaptureFault {

@@ -8,7 +8,8 @@ use Rattle.std.proofs.Math.Seq.{take-append_seam}
 use Rattle.std.specs.Prelude.{Option, Some, is_some, nat_lt, not, filter, ◌&&◌, ◌||◌}
 use Rattle.std.specs.List.{list_any}
 use Rattle.pim_fragments.specs.declared.fragments.PartialPacket.{PartialPacket}
-use Rattle.pim_fragments.specs.declared.fragments.Incomplete.{Incomplete}
+use Rattle.pim_capture.specs.declared.incomplete.Incomplete.{Incomplete}
+use Rattle.pim_capture.specs.declared.incomplete.RecordPlace.{RecordPlace}
 use Rattle.pim_fragments.specs.Pieces.{Piece, Next, taken}
 use Rattle.pim_fragments.specs.Packets.{Kept, is_over, passed, with_all, without_oldest, with_room, left_of, packets_with, whole_with, has_key, kept_after, whole_after, new_packet, most_packets, asks_with, asks_after}
 use Rattle.pim_fragments.specs.Places.{within_most, packets_at, whole_at, kept_at, begun_with, is_added_at}
@@ -103,7 +104,7 @@ module _ {K : Type 0} (same : K → K → Bool) (key : K) (moment : ℕ) where
     is_same (packet ∷ packets) zero first = here packet packets first
     is_same (packet ∷ packets) (suc place) first = later packet packets place first.0 (is_same packets place first.1)
 
-    module _ (kept : Kept K) (place number : ℕ) (first : IsFirst (λ (p : PartialPacket K). same p.key key && not (is_over moment p)) kept.packets place) where
+    module _ (kept : Kept K) (place : ℕ) (number : RecordPlace) (first : IsFirst (λ (p : PartialPacket K). same p.key key && not (is_over moment p)) kept.packets place) where
       same_here : IsSame kept.packets place
       same_here = is_same kept.packets place first
 
@@ -156,7 +157,7 @@ module _ {K : Type 0} (same : K → K → Bool) (key : K) (moment : ℕ) where
     asks_new [] none = refl
     asks_new (packet ∷ packets) none = rw (or_left (same packet.key key) _ none) (asks_new packets (or_right (same packet.key key) _ none))
 
-    module _ (kept : Kept K) (number : ℕ) (none : AreNone (λ (p : PartialPacket K). same p.key key && not (is_over moment p)) kept.packets) (mine : same key key ≡ true) where
+    module _ (kept : Kept K) (number : RecordPlace) (none : AreNone (λ (p : PartialPacket K). same p.key key && not (is_over moment p)) kept.packets) (mine : same key key ≡ true) where
       absent : list_any (has_key same key) (passed moment kept).packets ≡ false
       absent = none_left kept.packets none
 
@@ -226,7 +227,7 @@ module _ {K : Type 0} where
         ∙ room_after (passed moment kept) packet (let less = no_more (λ (p : PartialPacket K). not (is_over moment p)) kept.packets in omega (arith, less, few))
 
   -- the first fragment of a packet: the lists after each step of the code
-  module _ (piece : Piece) (key : K) (number moment : ℕ) (kept now : Kept K) (view : kept ≡ now) (few : length kept.packets ≤ most_packets) (held : Option (List Piece))
+  module _ (piece : Piece) (key : K) (number : RecordPlace) (moment : ℕ) (kept now : Kept K) (view : kept ≡ now) (few : length kept.packets ≤ most_packets) (held : Option (List Piece))
       (is : held ≡ (taken piece (Some [])).held) (items1 items2 items3 : List (PartialPacket K)) (gone1 gone3 : Option Incomplete)
       (one : items1 ≡ kept.packets ++ (record { key = key; first = number; since = moment; pieces = held }) ∷ [])
       (over : gone1 ≡ with_all (filter (is_over moment) items1) kept.gone) (two : items2 ≡ filter (λ (p : PartialPacket K). not (is_over moment p)) items1)

@@ -1,10 +1,11 @@
 -- Packets whose fragments are put together (RFC 791, 3.2; RFC 8200, 4.5): which are kept, which are
 -- whole, and which go before they are.
-use Rattle.std.specs.Prelude.{◌≤◌, ℕ, ◌+◌, Bool, true, not, nat_lt, min, List, [], ◌∷◌, ◌++◌, length, filter, if◌then◌else◌}
+use Rattle.std.specs.Prelude.{◌≤◌, ℕ, ◌+◌, Bool, true, not, ◌&&◌, ◌||◌, ◌==◌, nat_lt, min, List, [], ◌∷◌, ◌++◌, length, filter, if◌then◌else◌}
 use Rattle.std.specs.Prelude.{Option, None, Some, is_some}
 use Rattle.std.specs.List.{list_any, All}
 use Rattle.pim_fragments.specs.declared.fragments.PartialPacket.{PartialPacket}
-use Rattle.pim_fragments.specs.declared.fragments.Incomplete.{Incomplete}
+use Rattle.pim_capture.specs.declared.incomplete.Incomplete.{Incomplete}
+use Rattle.pim_capture.specs.declared.incomplete.RecordPlace.{RecordPlace}
 use Rattle.pim_fragments.specs.Pieces.{Piece, Next, taken, is_added, IsSmall}
 
 -- ---- packets that went before they were whole
@@ -13,10 +14,15 @@ use Rattle.pim_fragments.specs.Pieces.{Piece, Next, taken, is_added, IsSmall}
 abbrev pub one_more : ℕ → ℕ
 one_more count = min (count + 1) 18446744073709551615
 
--- Those that are incomplete, and one more, whose first fragment is the record with this number.
-abbrev pub with_incomplete : ℕ → Option Incomplete → Option Incomplete
+-- The sooner of two places of records.
+abbrev pub sooner_place : RecordPlace → RecordPlace → RecordPlace
+sooner_place one other =
+    if nat_lt other.file one.file || other.file == one.file && nat_lt other.«record» one.«record» then other else one
+
+-- Those that are incomplete, and one more, whose first fragment is the record at this place.
+abbrev pub with_incomplete : RecordPlace → Option Incomplete → Option Incomplete
 with_incomplete first None = Some (record { packets = 1; first = first })
-with_incomplete first (Some others) = Some (record { packets = one_more others.packets; first = min first others.first })
+with_incomplete first (Some others) = Some (record { packets = one_more others.packets; first = sooner_place first others.first })
 
 module _ {K : Type 0} where
   -- Those that are incomplete, and these packets.
@@ -72,7 +78,7 @@ module _ {K : Type 0} where
   }
 
   -- A packet of which nothing is held yet.
-  abbrev pub new_packet : K → ℕ → ℕ → PartialPacket K
+  abbrev pub new_packet : K → RecordPlace → ℕ → PartialPacket K
   new_packet key first since = record { key = key; first = first; since = since; pieces = Some [] }
 
   -- ---- one more fragment
@@ -110,9 +116,9 @@ module _ {K : Type 0} where
   abbrev pub has_key : (K → K → Bool) → K → PartialPacket K → Bool
   has_key same key packet = same packet.key key
 
-  module _ (same : K → K → Bool) (key : K) (first moment : ℕ) where
-    -- What is kept at this moment, with a packet of this key. If there is none, the record with the
-    -- number `first` begins it.
+  module _ (same : K → K → Bool) (key : K) (first : RecordPlace) (moment : ℕ) where
+    -- What is kept at this moment, with a packet of this key. If there is none, the record at the
+    -- place `first` begins it.
     abbrev pub with_packet : Kept K → Kept K
     with_packet kept =
         if list_any (has_key same key) kept.packets then kept else with_begun (new_packet key first moment) kept

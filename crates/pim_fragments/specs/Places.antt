@@ -1,7 +1,7 @@
 -- What private functions say of packets by their places.
 use Rattle.std.specs.Prelude.{ℕ, zero, suc, nat_lt, Bool, false, List, [], ◌∷◌, ◌++◌, length, Option, None, if◌then◌else◌}
 use Rattle.pim_fragments.specs.declared.fragments.PartialPacket.{PartialPacket}
-use Rattle.pim_fragments.specs.declared.fragments.Incomplete.{Incomplete}
+use Rattle.pim_capture.specs.declared.incomplete.Incomplete.{Incomplete}
 use Rattle.pim_fragments.specs.Pieces.{Piece, taken, is_added}
 use Rattle.pim_fragments.specs.Packets.{Kept, left_of, most_packets, without_oldest, with_room}
 

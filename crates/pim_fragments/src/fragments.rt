@@ -5,6 +5,7 @@ ghost use Rattle.std.specs.Prelude.{OnOk, OnErr, Some, [], true};
 ghost use Rattle.std.specs.List.{position};
 ghost use Rattle.pim_fragments.specs.Stored.{payload_seen, IsShort};
 ghost use Rattle.pim_fragments.specs.Packets.{with_incomplete, with_all, nothing, is_over, passed};
+ghost use Rattle.pim_fragments.specs.Packets.{sooner_place};
 ghost use Rattle.pim_fragments.specs.Packets.{new_packet, kept_after, whole_after};
 ghost use Rattle.pim_fragments.specs.Packets.{AreBounded, asks_after};
 ghost use Rattle.pim_fragments.specs.Places.{whole_at, kept_at, begun_with, within_most};
@@ -13,6 +14,7 @@ ghost use Rattle.pim_fragments.specs.Pieces.{piece_of, taken};
 
 use crate::headers::Fragment;
 use crate::pieces::Pieces;
+use pim_capture::{Incomplete, RecordPlace};
 use std::alloc::{AllocError, Global};
 use std::marker::Model;
 
@@ -22,22 +24,13 @@ const MOST_TIME: u64 = 30_000;
 /// How many packets are kept.
 const MOST_PACKETS: usize = 16;
 
-/// Packets whose fragments are incomplete.
-#[derive(Clone, Copy, Debug, PartialEq, Eq)]
-pub struct Incomplete {
-    /// How many they are. The count stops at 2^64 - 1.
-    pub packets: u64,
-    /// The least number of a record that has the first fragment of one of them.
-    pub first: u64,
-}
-
 /// A packet of which fragments are held.
 #[derive(Drop)]
 pub(crate) struct PartialPacket<K> {
     /// What its fragments have in common.
     key: K,
-    /// The number of the record of its first fragment.
-    first: u64,
+    /// The place of the record of its first fragment.
+    first: RecordPlace,
     /// The moment of that record, in milliseconds.
     since: u64,
     /// The fragments.
@@ -65,15 +58,26 @@ impl<K: Copy + Eq> Model for Fragments<K> {
     ghost invariant = { λ port. length port.packets.items ≤ 16 };
 }
 
+/// The sooner of two places of records.
+fn sooner_place(one: RecordPlace, other: RecordPlace) -> RecordPlace
+    ensures { result ≡ sooner_place one other }
+{
+    if other.file < one.file || (other.file == one.file && other.record < one.record) {
+        other
+    } else {
+        one
+    }
+}
+
 /// The incomplete packets, and one more.
-fn with_incomplete(first: u64, incomplete: Option<Incomplete>) -> Option<Incomplete>
+fn with_incomplete(first: RecordPlace, incomplete: Option<Incomplete>) -> Option<Incomplete>
     ensures { result ≡ with_incomplete first incomplete }
 {
     match incomplete {
         None => Some(Incomplete { packets: 1, first }),
         Some(others) => Some(Incomplete {
             packets: others.packets.saturating_add(1),
-            first: first.min(others.first),
+            first: sooner_place(first, others.first),
         }),
     }
 }
@@ -223,7 +227,7 @@ impl<K: Copy + Eq> Fragments<K> {
         key: K,
         fragment: Fragment,
         bytes: &[u8],
-        record: u64,
+        record: RecordPlace,
         moment: u64,
     ) -> Result<Option<Vec<u8>>, AllocError>
         ensures whole { IfOk result (λ whole. payload_seen whole
@@ -250,7 +254,7 @@ impl<K: Copy + Eq> Fragments<K> {
         Ok(whole)
     }
 
-    /// Takes one more fragment, which a record with this number and moment has. Returns the payload
+    /// Takes one more fragment, which a record at this place and of this moment has. Returns the payload
     /// of its packet if it is whole now.
     ///
     /// # Errors
@@ -261,7 +265,7 @@ impl<K: Copy + Eq> Fragments<K> {
         key: K,
         fragment: Fragment,
         bytes: &[u8],
-        record: u64,
+        record: RecordPlace,
         moment: u64,
     ) -> Result<Option<Vec<u8>>, AllocError>
         ensures whole { IfOk result (λ whole. payload_seen whole

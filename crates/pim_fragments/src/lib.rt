@@ -18,6 +18,6 @@ mod headers;
 mod parts;
 mod pieces;
 
-pub use fragments::{Fragments, Incomplete};
+pub use fragments::Fragments;
 pub use headers::Fragment;
 pub use parts::{Part, part_of, pim_begins, whole_packets_are_as_judged};
