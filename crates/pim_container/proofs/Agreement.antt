@@ -3,11 +3,12 @@ use Rattle.pim_container.proofs.Words.{◌≡◌, ℕ, zero, suc, ◌+◌, ◌-�
 use Rattle.pim_container.proofs.Words.{◌==◌, nat_lt, List, [], ◌∷◌, ◌++◌, length, take, drop, Option, Some, None, Result, Ok, Err}
 use Rattle.pim_container.proofs.Words.{ap, sym, ◌∙◌, subst, arith, refl, if◌then◌else◌, is_ok, false≢true, drop-take, take-take}
 use Rattle.pim_container.proofs.Words.{drop-drop, length-drop, common_steps, big_number, AddressFamily, fault_if, judged, Why}
-use Rattle.pim_container.proofs.Words.{Cut, NotIp, BadHeader, NotPim, Fragment, NoTime, LinkType, NotChosen, CutShort, NextFile}
+use Rattle.pim_container.proofs.Words.{Cut, NotIp, NotPim, Fragment, Part, part_of, part_or, v4_part, v6_part}
 use Rattle.pim_container.proofs.Words.{Datagram, judge_packet, ethernet_family, raw_family, version, records, BlockEndianness}
 use Rattle.pim_container.proofs.Words.{Big, Little, ClassicFormat, Classic, Blocks, Carried, number, is_tag, second_type}
-use Rattle.pim_container.proofs.Words.{after_one, after_two, tagged, link_of, place_in, typed_place, untagged_place, place_of}
-use Rattle.pim_container.proofs.Words.{EventSeen, section, packet_event, placed_event, frame_event, is_section, Answer, answers}
+use Rattle.pim_container.proofs.Words.{after_one, after_two, tagged, link_of, typed_place, untagged_place, place_of}
+use Rattle.pim_container.proofs.Words.{EventSeen, section, fragment_event, part_event, family_event, placed_event}
+use Rattle.pim_container.proofs.Words.{frame_event, is_section, Answer, answers}
 use Rattle.pim_container.proofs.Words.{classic_answers, judge_beginning, pieces, unless_fault, unless_faults, IsAt, SameEvent}
 use Rattle.pim_container.proofs.Words.{SameAnswers, AfterSection}
 use Rattle.pim_capture.specs.declared.fault.CaptureFault.{CaptureFault}
@@ -30,6 +31,8 @@ use Rattle.pim_container.specs.declared.fault.ContainerFault.TheVariants as faul
 use Rattle.pim_container.specs.declared.place.PacketPlace.{PacketPlace}
 use Rattle.pim_container.specs.declared.event.Origin.{Origin}
 use Rattle.pim_container.specs.Classic as classic
+use Rattle.pim_addr.specs.declared.family.AddressFamily.TheVariants.{Ipv4, Ipv6}
+use Rattle.pim_fragments.specs.declared.headers.Fragment as fragment_type
 
 -- ---- what stands for what
 
@@ -58,45 +61,57 @@ per_same resolution.Nanoseconds = refl
 
 -- ---- frames
 
-at_time : (millis : ℕ) (origin : Origin) (r : Result Datagram Why) → IsAt millis (packet_event millis origin r)
-at_time millis origin (Ok datagram) = refl
+at_part : (millis : ℕ) (origin : Origin) (datagram : Datagram) (part : Option fragment_type.Fragment) → IsAt millis (fragment_event millis origin datagram part)
+at_part millis origin datagram None = refl
+at_part millis origin datagram (Some part) = refl
+
+at_time : (millis : ℕ) (origin : Origin) (r : Result Part Why) → IsAt millis (part_event millis origin r)
+at_time millis origin (Ok part) = at_part millis origin part.datagram part.fragment
 at_time millis origin (Err why) = refl
+
+at_family : (millis : ℕ) (origin : Origin) (family : Option AddressFamily) (packet : List ℕ) → IsAt millis (family_event millis origin family packet)
+at_family millis origin None packet = refl
+at_family millis origin (Some family) packet = at_time millis origin (part_of family packet)
 
 placed_at : (millis : ℕ) (bytes : List ℕ) (r : Result PacketPlace Why) → IsAt millis (placed_event millis 0 None bytes r)
 placed_at millis bytes (Err why) = refl
 placed_at millis bytes (Ok place) =
-    at_time millis (record { interface = 0; name = None; index = place.index; vlan = place.vlan; is_copy = place.is_copy }) (judge_packet (Some place.family) (drop place.at bytes))
+    at_family millis (record { interface = 0; name = None; index = place.index; vlan = place.vlan; is_copy = place.is_copy }) place.family (drop place.at bytes)
 
-same_packet : (millis : ℕ) (bytes : List ℕ) (origin : Origin) (r : Result Datagram Why) → SameEvent (capture.event_by millis bytes r) (packet_event millis origin r)
-same_packet millis bytes origin (Ok datagram) = (refl, refl)
-same_packet millis bytes origin (Err Cut) = refl
-same_packet millis bytes origin (Err NotIp) = refl
-same_packet millis bytes origin (Err BadHeader) = refl
-same_packet millis bytes origin (Err NotPim) = refl
-same_packet millis bytes origin (Err Fragment) = refl
-same_packet millis bytes origin (Err NoTime) = refl
-same_packet millis bytes origin (Err LinkType) = refl
-same_packet millis bytes origin (Err NotChosen) = refl
-same_packet millis bytes origin (Err CutShort) = refl
-same_packet millis bytes origin (Err NextFile) = refl
+-- what `pim_capture` says of a packet, and what it holds
+same_part : (millis : ℕ) (bytes : List ℕ) (origin : Origin) (family : AddressFamily) (packet : List ℕ) (r : Result Datagram Why)
+    → SameEvent (capture.event_by millis bytes r) (part_event millis origin (part_or family packet r))
+same_part millis bytes origin Ipv4 packet (Ok datagram) = (refl, refl)
+same_part millis bytes origin Ipv6 packet (Ok datagram) = (refl, refl)
+same_part millis bytes origin Ipv4 packet (Err Fragment) = at_time millis origin (v4_part packet)
+same_part millis bytes origin Ipv6 packet (Err Fragment) = refl
+same_part millis bytes origin Ipv4 packet (Err NotPim) = refl
+same_part millis bytes origin Ipv6 packet (Err NotPim) = at_time millis origin (v6_part packet)
+same_part millis bytes origin Ipv4 packet (Err NotIp) = refl
+same_part millis bytes origin Ipv6 packet (Err NotIp) = refl
+same_part millis bytes origin Ipv4 packet (Err why) = (refl, refl)
+same_part millis bytes origin Ipv6 packet (Err why) = (refl, refl)
 
 same_raw : (millis : ℕ) (bytes : List ℕ) (cut : Bool) (family : Option AddressFamily)
-    → SameEvent (capture.event_by millis bytes (if cut then Err Cut else judge_packet family bytes)) (placed_event millis 0 None bytes (if cut then Err Cut else untagged_place family 0))
-same_raw millis bytes true family = refl
+    → SameEvent (capture.event_by millis bytes (if cut then Err Cut else judge_packet family bytes)) (placed_event millis 0 None bytes (if cut then Err Cut else Ok (untagged_place family 0)))
+same_raw millis bytes true family = (refl, refl)
 same_raw millis bytes false None = refl
 same_raw millis bytes false (Some family) =
-    same_packet millis bytes (record { interface = 0; name = None; index = 0; vlan = record { outer = 0; inner = 0 }; is_copy = false }) (judge_packet (Some family) bytes)
+    same_part millis bytes (record { interface = 0; name = None; index = 0; vlan = record { outer = 0; inner = 0 }; is_copy = false }) family bytes (judge_packet (Some family) bytes)
 
 -- what the types of tags name
 no_family : (type : ℕ) → is_tag type ≡ true → ethernet_family type ≡ None
 no_family type e = grind (arith, common_steps)
 
 -- a place behind these tags, and a packet of the family that it names
+abbrev pub place_in : Option AddressFamily → Carried → PacketPlace
+place_in family carrier = record { family = family; at = carrier.at; vlan = carrier.vlan; index = 0; is_copy = false }
+
 same_typed : (millis : ℕ) (bytes : List ℕ) (carrier : Carried) (family : Option AddressFamily)
-    → SameEvent (capture.event_by millis bytes (judge_packet family (drop carrier.at bytes))) (placed_event millis 0 None bytes (place_in family carrier 0 false))
+    → SameEvent (capture.event_by millis bytes (judge_packet family (drop carrier.at bytes))) (placed_event millis 0 None bytes (Ok (place_in family carrier)))
 same_typed millis bytes carrier None = refl
 same_typed millis bytes carrier (Some family) =
-    same_packet millis bytes (record { interface = 0; name = None; index = 0; vlan = carrier.vlan; is_copy = false }) (judge_packet (Some family) (drop carrier.at bytes))
+    same_part millis bytes (record { interface = 0; name = None; index = 0; vlan = carrier.vlan; is_copy = false }) family (drop carrier.at bytes) (judge_packet (Some family) (drop carrier.at bytes))
 
 -- no IP for `pim_capture`, and another result of that time
 same_other : (millis : ℕ) (bytes rest : List ℕ) (family : Option AddressFamily) (r : Result PacketPlace Why) → family ≡ None
@@ -108,7 +123,7 @@ same_other millis bytes rest family r e =
 untagged : (millis : ℕ) (bytes : List ℕ) (cut tag : Bool) (carrier : Carried) (more : Option Carried) → is_tag carrier.type_number ≡ tag
     → SameEvent (capture.event_by millis bytes (if cut then Err Cut else judge_packet (ethernet_family carrier.type_number) (drop carrier.at bytes)))
     (placed_event millis 0 None bytes (if cut then Err Cut else typed_place (if tag then more else Some carrier) 0 false))
-untagged millis bytes true tag carrier more e = refl
+untagged millis bytes true tag carrier more e = (refl, refl)
 untagged millis bytes false false carrier more e = same_typed millis bytes carrier (ethernet_family carrier.type_number)
 untagged millis bytes false true carrier more e =
     same_other millis bytes (drop carrier.at bytes) (ethernet_family carrier.type_number) (typed_place more 0 false) (no_family carrier.type_number e)
@@ -118,9 +133,9 @@ tagged_once : (millis : ℕ) (bytes : List ℕ) (cut short cut' tag : Bool) (car
     → is_tag carrier.type_number ≡ tag
     → SameEvent (capture.event_by millis bytes (if cut then Err Cut else judge_packet (ethernet_family carrier.type_number) (drop carrier.at bytes)))
     (placed_event millis 0 None bytes (if short then Err Cut else typed_place (if cut' then None else (if not tag then Some carrier else more)) 0 false))
-tagged_once millis bytes true true cut' tag carrier more h k e = refl
+tagged_once millis bytes true true cut' tag carrier more h k e = (refl, refl)
 tagged_once millis bytes false true cut' tag carrier more h k e = absurd (false≢true (h refl))
-tagged_once millis bytes true false true tag carrier more h k e = refl
+tagged_once millis bytes true false true tag carrier more h k e = (refl, refl)
 tagged_once millis bytes true false false tag carrier more h k e = absurd (false≢true (k refl))
 tagged_once millis bytes false false true tag carrier more h k e = absurd (false≢true (sym (k refl)))
 tagged_once millis bytes false false false false carrier more h k e = same_typed millis bytes carrier (ethernet_family carrier.type_number)
@@ -170,11 +185,11 @@ pub never : (n : ℕ) → nat_lt n 0 ≡ false
 never n = grind (arith, common_steps)
 
 same_frame : (millis : ℕ) (l : layer_type.Link) (bytes : List ℕ)
-    → SameEvent (capture.event_by millis bytes (frame.judge_frame l bytes)) (frame_event millis 0 None (Some (link_as l)) bytes)
+    → SameEvent (capture.event_by millis bytes (frame.judge_frame l bytes)) (frame_event millis 0 None (link_as l) bytes)
 same_frame millis layer.Ethernet bytes = same_ethernet millis bytes
 same_frame millis layer.Raw bytes =
     subst (λ it. SameEvent (capture.event_by millis bytes (frame.judge_frame layer.Raw bytes))
-    (placed_event millis 0 None bytes (if it then Err Cut else (if length bytes == 0 then Err Cut else untagged_place (raw_family (version bytes)) 0))))
+    (placed_event millis 0 None bytes (if it then Err Cut else (if length bytes == 0 then Err Cut else Ok (untagged_place (raw_family (version bytes)) 0)))))
     (sym (never (length bytes))) (same_raw millis bytes (length bytes == 0) (raw_family (version bytes)))
 
 -- ---- records
@@ -229,11 +244,11 @@ length_same f xs = number_same f.endianness 4 (drop 8 (take 16 xs))
 record_same : (f : format.Format) (xs : List ℕ) → SameEvent (capture.record_event f xs) (classic.record_event (format_as f) (take (16 + capture.captured_length f (take 16 xs)) xs))
 record_same f xs =
     let n = capture.captured_length f (take 16 xs) in
-    let same : SameEvent (capture.record_event f xs) (frame_event (capture.millis_of f (take 16 xs)) 0 None (Some (link_as f.link)) (take n (drop 16 xs))) =
+    let same : SameEvent (capture.record_event f xs) (frame_event (capture.millis_of f (take 16 xs)) 0 None (link_as f.link) (take n (drop 16 xs))) =
     same_frame (capture.millis_of f (take 16 xs)) f.link (take n (drop 16 xs)) in
-    let framed : SameEvent (capture.record_event f xs) (frame_event (capture.millis_of f (take 16 xs)) 0 None (Some (link_as f.link)) (drop 16 (take (16 + n) xs))) =
-    subst (λ it. SameEvent (capture.record_event f xs) (frame_event (capture.millis_of f (take 16 xs)) 0 None (Some (link_as f.link)) it)) (sym (drop-take 16 n xs)) same in
-    subst (λ it. SameEvent (capture.record_event f xs) (frame_event it 0 None (Some (link_as f.link)) (drop 16 (take (16 + n) xs)))) (sym (millis_same f xs n)) framed
+    let framed : SameEvent (capture.record_event f xs) (frame_event (capture.millis_of f (take 16 xs)) 0 None (link_as f.link) (drop 16 (take (16 + n) xs))) =
+    subst (λ it. SameEvent (capture.record_event f xs) (frame_event (capture.millis_of f (take 16 xs)) 0 None (link_as f.link) it)) (sym (drop-take 16 n xs)) same in
+    subst (λ it. SameEvent (capture.record_event f xs) (frame_event it 0 None (link_as f.link) (drop 16 (take (16 + n) xs)))) (sym (millis_same f xs n)) framed
 
 -- ---- the results, one by one
 
@@ -303,20 +318,24 @@ resolution_by : (b : Bool) → (if b then Nanoseconds else Microseconds) ≡ res
 resolution_by true = refl
 resolution_by false = refl
 
-rest_of_links : BlockEndianness → ℕ → Option LinkLayer
-rest_of_links o n =
-    if n == 228 then Some link.Ipv4
-    else (if n == 229 then Some link.Ipv6
-    else (if n == 113 then Some link.Cooked
-    else (if n == 276 then Some link.CookedV2
-    else (if n == 0 then Some (link.Loopback o)
-    else (if n == 108 then Some (link.Loopback Big) else None)))))
+rest_of_links : ℕ → LinkLayer
+rest_of_links n =
+    if n == 228 then link.Ipv4
+    else (if n == 229 then link.Ipv6
+    else (if n == 113 then link.Cooked
+    else (if n == 276 then link.CookedV2
+    else (if n == 0 || n == 108 then link.Loopback else link.Other n))))
 
-link_by : (t t' u v : Bool) (w : Option LinkLayer) → (not t && not t') ≡ false
-    → (if t then Some link.Ethernet else (if t' || u || v then Some link.Raw else w)) ≡ Some (link_as (if t then layer.Ethernet else layer.Raw))
+link_by : (t t' u v : Bool) (w : LinkLayer) → (not t && not t') ≡ false
+    → (if t then link.Ethernet else (if t' || u || v then link.Raw else w)) ≡ link_as (if t then layer.Ethernet else layer.Raw)
 link_by true t' u v w e = refl
 link_by false true u v w e = refl
 link_by false false u v w e = absurd (false≢true (sym e))
+
+formatted : (h : List ℕ) (l : layer_type.Link)
+    → classic.format_with h (link_as l) ≡ Ok (record { order = classic.file_order h; resolution = classic.resolution_of h; link = link_as l })
+formatted h layer.Ethernet = refl
+formatted h layer.Raw = refl
 
 whole_is : (xs : List ℕ) → nat_lt (length (take 24 xs)) 24 ≡ false → nat_lt (length xs) 24 ≡ false
 whole_is xs e = grind (arith, common_steps)
@@ -333,12 +352,13 @@ header_same f xs e =
     let magic : number (classic.file_order h) 4 h ≡ header.number o 4 h = ap (λ it. number it 4 h) same ∙ number_same o 4 h in
     let unit : classic.resolution_of h ≡ resolution_as (header.resolution_of h) =
     ap (λ it. if it == header.nanoseconds_magic then Nanoseconds else Microseconds) magic ∙ resolution_by (header.number o 4 h == header.nanoseconds_magic) in
-    let linked : link_of (classic.file_order h) (classic.link_type h) ≡ Some (link_as (header.link_of h)) =
-    ap (link_of (classic.file_order h)) type
-    ∙ link_by (header.link_type h == 1) (header.link_type h == 101) (header.link_type h == 12) (header.link_type h == 14) (rest_of_links (classic.file_order h) (header.link_type h)) t.2 in
+    let linked : link_of (classic.link_type h) ≡ link_as (header.link_of h) =
+    ap link_of type
+    ∙ link_by (header.link_type h == 1) (header.link_type h == 101) (header.link_type h == 12) (header.link_type h == 14) (rest_of_links (header.link_type h)) t.2 in
     ap (λ b. if b then Err fault.Truncated else classic.judge_header h) (whole_is xs t.0)
-    ∙ ap (λ b. if b then Err fault.Magic else classic.format_with h (link_of (classic.file_order h) (classic.link_type h))) t.1
+    ∙ ap (λ b. if b then (if classic.is_gzip h then Err fault.Gzip else Err fault.Magic) else classic.format_with h (link_of (classic.link_type h))) t.1
     ∙ ap (classic.format_with h) linked
+    ∙ formatted h (header.link_of h)
     ∙ ap (λ it. Ok (record { order = it; resolution = classic.resolution_of h; link = link_as (header.link_of h) })) same
     ∙ ap (λ it. Ok (record { order = order_as o; resolution = it; link = link_as (header.link_of h) })) unit
     ∙ ap (λ it. Ok (format_as it)) n.1

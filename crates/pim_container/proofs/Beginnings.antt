@@ -124,6 +124,7 @@ header_read head bytes xs ys l e =
 
 classic_fault : (xs ys : List ℕ) (f : ContainerFault) → judge_beginning xs ≡ Err f → BeginsClassic (Some xs) (Some ys) (Err f)
 classic_fault xs ys fault.Magic e = e
+classic_fault xs ys fault.Gzip e = e
 classic_fault xs ys (fault.LinkType n) e = e
 classic_fault xs ys fault.Truncated e = e
 classic_fault xs ys fault.TooLong e = e
@@ -156,6 +157,7 @@ classic_fault_known (Some xs) (Some ms) (Some ys) head fault.Read n n' after l s
 classic_fault_known (Some xs) (Some ms) (Some ys) head fault.Read n n' after l s e b (inr k) = absurd k.0
 classic_fault_known (Some xs) (Some ms) (Some ys) head fault.Memory n n' after l s e b k = inl tt
 classic_fault_known (Some xs) (Some ms) (Some ys) head fault.Magic n n' after l s e b k = inr (classic_at_fault xs head ms fault.Magic l s e b)
+classic_fault_known (Some xs) (Some ms) (Some ys) head fault.Gzip n n' after l s e b k = inr (classic_at_fault xs head ms fault.Gzip l s e b)
 classic_fault_known (Some xs) (Some ms) (Some ys) head (fault.LinkType m) n n' after l s e b k = inr (classic_at_fault xs head ms (fault.LinkType m) l s e b)
 classic_fault_known (Some xs) (Some ms) (Some ys) head fault.Truncated n n' after l s e b k = inr (classic_at_fault xs head ms fault.Truncated l s e b)
 classic_fault_known (Some xs) (Some ms) (Some ys) head fault.TooLong n n' after l s e b k = inr (classic_at_fault xs head ms fault.TooLong l s e b)

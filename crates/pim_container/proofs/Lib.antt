@@ -4,6 +4,7 @@ pub mod Options
 pub mod Steps
 pub mod Whole
 pub mod Beginnings
+pub mod Apart
 pub mod Agreement
 pub mod Room
 pub mod Exactly

@@ -25,7 +25,8 @@ needs_step (suc left) c count is bytes e =
 
 passes_unknown : (e : ContainerEvent) (new : Option (List Need)) → PassesNeed e None new
 passes_unknown (event.Packet millis origin ip) new = tt
-passes_unknown (event.Skipped millis why) new = tt
+passes_unknown (event.Fragment millis origin ip part) new = tt
+passes_unknown (event.Skipped millis origin why) new = tt
 passes_unknown event.Untimed new = tt
 passes_unknown event.Section new = tt
 passes_unknown (event.Interface name) new = tt
@@ -35,7 +36,8 @@ passes_unknown event.End new = tt
 passes_known : (e : ContainerEvent) (bytes : List ℕ) (count count' : ℕ) (need : Need) (all later : List Need) (rest : ℕ → List Need) → all ≡ need ∷ unless_record count (Ok (event_seen bytes e)) rest
     → CountsList e count count' → later ≡ rest count' → PassesNeed e (Some all) (Some later)
 passes_known (event.Packet millis origin ip) bytes count count' need all later rest a k l = tt
-passes_known (event.Skipped millis why) bytes count count' need all later rest a k l = tt
+passes_known (event.Fragment millis origin ip part) bytes count count' need all later rest a k l = tt
+passes_known (event.Skipped millis origin why) bytes count count' need all later rest a k l = tt
 passes_known event.Untimed bytes count count' need all later rest a k l = tt
 passes_known event.Section bytes count count' need all later rest a k l = ap Some (l ∙ ap rest k ∙ sym (ap (drop 1) a))
 passes_known (event.Interface name) bytes count count' need all later rest a k l = ap Some (l ∙ ap rest k ∙ sym (ap (drop 1) a))

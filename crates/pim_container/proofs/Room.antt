@@ -13,6 +13,7 @@ use Rattle.pim_container.proofs.Named.{named_ok}
 pub memory_passed : (A B : Type 0) (f : ContainerFault) (P Q : Type 0) → (P → Q) → OnMemory {A = A} (Err f) P → OnMemory {A = B} (Err f) Q
 memory_passed A B fault.Memory P Q h p = h p
 memory_passed A B fault.Magic P Q h p = tt
+memory_passed A B fault.Gzip P Q h p = tt
 memory_passed A B (fault.LinkType n) P Q h p = tt
 memory_passed A B fault.Truncated P Q h p = tt
 memory_passed A B fault.TooLong P Q h p = tt
@@ -28,6 +29,7 @@ memory_of {A = A} (Err f) P Q h p = memory_passed A A f P Q h p
 pub memory_not : (A : Type 0) (f : ContainerFault) (P : Type 0) → IsOfBytes f → OnMemory {A = A} (Err f) P
 memory_not A fault.Memory P h = absurd h
 memory_not A fault.Magic P h = tt
+memory_not A fault.Gzip P h = tt
 memory_not A (fault.LinkType n) P h = tt
 memory_not A fault.Truncated P h = tt
 memory_not A fault.TooLong P h = tt
@@ -75,6 +77,7 @@ classic_memory capacity (Some xs) (Some ms) head l s e m = inr (ap is_section e 
 memory_by : (A B C : Type 0) (f : ContainerFault) (P Q R : Type 0) → (P → Q → R) → OnMemory {A = A} (Err f) P → OnMemory {A = B} (Err f) Q → OnMemory {A = C} (Err f) R
 memory_by A B C fault.Memory P Q R h p q = h p q
 memory_by A B C fault.Magic P Q R h p q = tt
+memory_by A B C fault.Gzip P Q R h p q = tt
 memory_by A B C (fault.LinkType n) P Q R h p q = tt
 memory_by A B C fault.Truncated P Q R h p q = tt
 memory_by A B C fault.TooLong P Q R h p q = tt

@@ -57,7 +57,8 @@ reported left c c' is is' bytes later t some there e k i l =
 
 in_front_event : (bytes : List ℕ) (e : ContainerEvent) (later : List Answer) → e ≢ event.End → in_front (Ok (event_seen bytes e)) later ≡ Ok (event_seen bytes e) ∷ later
 in_front_event bytes (event.Packet millis origin ip) later h = refl
-in_front_event bytes (event.Skipped millis why) later h = refl
+in_front_event bytes (event.Fragment millis origin ip part) later h = refl
+in_front_event bytes (event.Skipped millis origin why) later h = refl
 in_front_event bytes event.Untimed later h = refl
 in_front_event bytes event.Section later h = refl
 in_front_event bytes (event.Interface name) later h = refl
@@ -89,6 +90,7 @@ fault_known left c is is' head bytes (Some xs) (Some ys) fault.Read n n' after s
 fault_known left c is is' head bytes (Some xs) (Some ys) fault.Read n n' after some there t (inr e) = absurd e.0
 fault_known left c is is' head bytes (Some xs) (Some ys) fault.Memory n n' after some there t k = inl tt
 fault_known left c is is' head bytes (Some xs) (Some ys) fault.Magic n n' after some there t k = inr (at_fault left c is (head ++ xs) fault.Magic some (longer head xs there) t)
+fault_known left c is is' head bytes (Some xs) (Some ys) fault.Gzip n n' after some there t k = inr (at_fault left c is (head ++ xs) fault.Gzip some (longer head xs there) t)
 fault_known left c is is' head bytes (Some xs) (Some ys) (fault.LinkType m) n n' after some there t k = inr (at_fault left c is (head ++ xs) (fault.LinkType m) some (longer head xs there) t)
 fault_known left c is is' head bytes (Some xs) (Some ys) fault.Truncated n n' after some there t k = inr (at_fault left c is (head ++ xs) fault.Truncated some (longer head xs there) t)
 fault_known left c is is' head bytes (Some xs) (Some ys) fault.TooLong n n' after some there t k = inr (at_fault left c is (head ++ xs) fault.TooLong some (longer head xs there) t)

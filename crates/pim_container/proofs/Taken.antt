@@ -78,6 +78,7 @@ pub takes_fault : (A : Type 0) (k : ℕ) (f : ContainerFault) (old new : Option 
 takes_fault A k fault.Read old new h = loses_most k old new h
 takes_fault A k fault.Memory old new h = loses_most k old new h
 takes_fault A k fault.Magic old new h = h
+takes_fault A k fault.Gzip old new h = h
 takes_fault A k (fault.LinkType n) old new h = h
 takes_fault A k fault.Truncated old new h = h
 takes_fault A k fault.TooLong old new h = h
@@ -94,6 +95,7 @@ pub takes_passed : (A B : Type 0) (k : ℕ) (f : ContainerFault) (old new : Opti
 takes_passed A B k fault.Read old new h = h
 takes_passed A B k fault.Memory old new h = h
 takes_passed A B k fault.Magic old new h = h
+takes_passed A B k fault.Gzip old new h = h
 takes_passed A B k (fault.LinkType n) old new h = h
 takes_passed A B k fault.Truncated old new h = h
 takes_passed A B k fault.TooLong old new h = h

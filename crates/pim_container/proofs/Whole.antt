@@ -47,6 +47,7 @@ extent_is c head extent e =
 -- a fault of the piece is that of the call
 as_fault : (c : Container) (is is' : List Interface) (bytes xs ys : List ℕ) (f : ContainerFault) → judge_piece c is xs ≡ Err f → TakesPiece c is (Some xs) (Some ys) is' bytes (Err f)
 as_fault c is is' bytes xs ys fault.Magic e = e
+as_fault c is is' bytes xs ys fault.Gzip e = e
 as_fault c is is' bytes xs ys (fault.LinkType n) e = e
 as_fault c is is' bytes xs ys fault.Truncated e = e
 as_fault c is is' bytes xs ys fault.TooLong e = e
@@ -84,6 +85,7 @@ rest_fault_known c is is' head bytes size (Some xs) (Some ys) fault.Truncated l 
 rest_fault_known c is is' head bytes size (Some xs) (Some ys) fault.Read l none e fills = tt
 rest_fault_known c is is' head bytes size (Some xs) (Some ys) fault.Memory l none e fills = tt
 rest_fault_known c is is' head bytes size (Some xs) (Some ys) fault.Magic l none e fills = absurd fills
+rest_fault_known c is is' head bytes size (Some xs) (Some ys) fault.Gzip l none e fills = absurd fills
 rest_fault_known c is is' head bytes size (Some xs) (Some ys) (fault.LinkType n) l none e fills = absurd fills
 rest_fault_known c is is' head bytes size (Some xs) (Some ys) fault.TooLong l none e fills = absurd fills
 rest_fault_known c is is' head bytes size (Some xs) (Some ys) fault.Block l none e fills = absurd fills

@@ -6,8 +6,8 @@ pub use Rattle.pim_capture.specs.Capture.{most_captured, most_records}
 unfoldable pub use Rattle.pim_capture.specs.Capture.{records}
 pub use Rattle.pim_capture.specs.Frame.{Datagram, ethernet_family, judge_packet, raw_family, version}
 pub use Rattle.pim_capture.specs.declared.event.Why.{Why}
-pub use Rattle.pim_capture.specs.declared.event.Why.TheVariants.{BadHeader, Cut, CutShort, Fragment, LinkType}
-pub use Rattle.pim_capture.specs.declared.event.Why.TheVariants.{NextFile, NoTime, NotChosen, NotIp, NotPim}
+pub use Rattle.pim_capture.specs.declared.event.Why.TheVariants.{BadHeader, Cut, Fragment, NotIp, NotPim}
+pub use Rattle.pim_fragments.specs.Parts.{Part, part_of, part_or, v4_part, v6_part}
 pub use Rattle.pim_device.specs.Device.{ConsumesAtMost, top_count}
 pub use Rattle.std.proofs.Common.{Bool, Err, IfSome, List, None, Ok, Option, Result, Some, [], ap, arith, drop}
 pub use Rattle.std.proofs.Common.{false, if◌then◌else◌, inl, inr, is_ok, length, max, min, nat_lt, not, refl, subst}
@@ -21,16 +21,16 @@ pub use Rattle.std.proofs.lemmas.Result.{IfOk-weaker, err_from_is_err_and}
 pub use Rattle.std.specs.Io.KnownBytes.{Consumes, IsAtEnd}
 pub use Rattle.std.specs.Option.{option_map}
 pub use Rattle.pim_container.specs.Agreement.{AfterSection, ExactAfterSection, ExactEvent, IsAt, SameEvent}
-pub use Rattle.pim_container.specs.Agreement.{has_further_tag, is_faulty, of_vlan}
-unfoldable pub use Rattle.pim_container.specs.Agreement.{ExactAnswers, SameAnswers, lacks_further_tags}
+pub use Rattle.pim_container.specs.Agreement.{has_further_tag, has_part, is_faulty, of_vlan, part_by}
+unfoldable pub use Rattle.pim_container.specs.Agreement.{ExactAnswers, SameAnswers, has_plain_frames}
 pub use Rattle.pim_container.specs.Block.{is_section, most_block}
 pub use Rattle.pim_container.specs.Classic.{judge_header, record_event}
-pub use Rattle.pim_container.specs.EventSeen.{EventSeen, ended, event_seen, frame_event, packet_event, placed_event}
-pub use Rattle.pim_container.specs.EventSeen.{section}
+pub use Rattle.pim_container.specs.EventSeen.{EventSeen, ended, event_seen, family_event, fragment_event, frame_event}
+pub use Rattle.pim_container.specs.EventSeen.{part_event, placed_event, section}
 pub use Rattle.pim_container.specs.Interface.{HasName, option_code, option_end, settings_of, settings_with}
 pub use Rattle.pim_container.specs.Interface.{stamp_millis, units_of}
 unfoldable pub use Rattle.pim_container.specs.Interface.{settings_from}
-pub use Rattle.pim_container.specs.Link.{after_one, after_two, is_tag, link_of, number, place_in, place_of}
+pub use Rattle.pim_container.specs.Link.{after_one, after_two, is_tag, link_of, number, place_of}
 pub use Rattle.pim_container.specs.Link.{second_type, tagged, typed_place, untagged_place}
 pub use Rattle.pim_container.specs.Next.{BeginsClassic, CountsReads, Describes, FillsAfter, IsNext, IsOfBytes}
 pub use Rattle.pim_container.specs.Next.{IsPiece, IsRefusal, NeedsMemory, NeedsToBegin, OnMemory, Reads, TakesPiece}

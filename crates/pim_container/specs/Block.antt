@@ -134,9 +134,39 @@ abbrev pub name_of : List ℕ → Settings → List ℕ
 name_of block settings = slice_range block settings.name_at settings.name_end
 
 -- An interface description gives the interface's name.
-abbrev pub interface_block : Option Settings → List ℕ → Result EventSeen ContainerFault
-interface_block None block = Err fault.Block
-interface_block (Some settings) block = Ok (described (name_of block settings))
+abbrev pub described_block : Option Settings → List ℕ → Result EventSeen ContainerFault
+described_block None block = Err fault.Block
+described_block (Some settings) block = Ok (described (name_of block settings))
+
+-- How many bytes describe the interfaces up to this one.
+abbrev pub described_up_to : Option Interface → ℕ
+described_up_to None = 0
+described_up_to (Some interface) = interface.described
+
+-- How many bytes describe these interfaces of a section.
+abbrev pub described_bytes : List Interface → ℕ
+described_bytes interfaces = described_up_to (slice_get interfaces (length interfaces - 1))
+
+-- The greatest number of interfaces of a section, and of the bytes that describe them.
+abbrev pub most_interfaces : ℕ
+most_interfaces = 65535
+
+abbrev pub most_described : ℕ
+most_described = 67108864
+
+-- A section with these interfaces has no room for one more, which a block of this length describes.
+abbrev pub is_full : List Interface → ℕ → Bool
+is_full interfaces size =
+    not (nat_lt (length interfaces) most_interfaces) || nat_lt (most_described - described_bytes interfaces) size
+
+abbrev pub interface_block : BlockEndianness → List Interface → List ℕ → Result EventSeen ContainerFault
+interface_block order interfaces block =
+    if is_full interfaces (length block) then Err fault.Block
+    else described_block (settings_of order (without_end block)) block
+
+-- A section header. Only the major version 1 is read.
+abbrev pub section_block : BlockEndianness → List ℕ → Result EventSeen ContainerFault
+section_block order block = if number order 2 (drop 12 block) == 1 then Ok section else Err fault.Block
 
 -- Blocks of this type have no time that is read, but a number among the packets of a file, as
 -- tshark counts them: simple packets, entries of a journal, events of sysdig (three types), and
@@ -150,8 +180,8 @@ is_untimed type =
 abbrev pub block_event : BlockEndianness → List Interface → List ℕ → Result EventSeen ContainerFault
 block_event order interfaces block =
     if is_unequal order block then Err fault.Block
-    else (if block_type order block == section_type then Ok section
-    else (if block_type order block == 1 then interface_block (settings_of order (without_end block)) block
+    else (if block_type order block == section_type then section_block order block
+    else (if block_type order block == 1 then interface_block order interfaces block
     else (if block_type order block == 2 || block_type order block == 6
     then packet_block order interfaces block
     else (if is_untimed (block_type order block) then Ok untimed else Ok passed))))
@@ -159,7 +189,8 @@ block_event order interfaces block =
 -- The interfaces of the section with a further one.
 abbrev pub with_interface : List Interface → Option Settings → BlockEndianness → List ℕ → List Interface
 with_interface interfaces None order block = interfaces
-with_interface interfaces (Some settings) order block = interfaces ++ interface_of order block settings ∷ []
+with_interface interfaces (Some settings) order block =
+    interfaces ++ interface_of order block settings (described_bytes interfaces + length block) ∷ []
 
 -- The interfaces of the section after a block: a section begins with none.
 abbrev pub interfaces_after : BlockEndianness → List Interface → List ℕ → List Interface

@@ -1,5 +1,5 @@
 -- Which packets of a capture are taken, by their origins.
-use Rattle.std.specs.Prelude.{◌≡◌, ℕ, Bool, true, false, ◌&&◌, ◌==◌, not, List, [], ◌++◌, Option, None, Some, Result, Ok, is_none}
+use Rattle.std.specs.Prelude.{◌≡◌, ℕ, Bool, true, false, ◌&&◌, ◌==◌, not, List, [], ◌++◌, Option, None, Some, Result, Ok, is_none, ⊤}
 use Rattle.std.specs.Prelude.{if◌then◌else◌}
 use Rattle.pim_addr.specs.Faults.{fault_if, judged}
 use Rattle.pim_capture.specs.declared.interface.InterfaceChoice.{InterfaceChoice}
@@ -44,10 +44,13 @@ abbrev pub fits_vlan : Option Vlan → Vlan → Bool
 fits_vlan None vlan = true
 fits_vlan (Some chosen) vlan = is_same_vlan chosen vlan
 
+-- A frame of this origin is of the chosen link.
+abbrev pub is_of_link : Choice → Origin → Bool
+is_of_link choice origin = fits_vlan choice.vlan origin.vlan && fits choice.interface origin
+
 -- A packet of this origin is chosen. A copy of another packet never is.
 abbrev pub is_chosen : Choice → Origin → Bool
-is_chosen choice origin =
-    not origin.is_copy && fits_vlan choice.vlan origin.vlan && fits choice.interface origin
+is_chosen choice origin = not origin.is_copy && is_of_link choice origin
 
 -- The packets of these origins are of interfaces with two names.
 abbrev pub mixed_names : Option InterfaceName → Option InterfaceName → List Mixed
@@ -66,11 +69,24 @@ mixed_numbers first origin =
     ++ fault_if (not (first.interface == origin.interface)) (Numbers first.interface origin.interface)
     ++ mixed_indexes first origin
 
--- They are of two interfaces, where this choice leaves that open. A chosen name leaves open the
--- index in a cooked header, since a capture of all interfaces has one name.
+-- Both are of named interfaces, and the names are the same.
+abbrev pub are_named_alike : Option InterfaceName → Option InterfaceName → Bool
+are_named_alike None other = false
+are_named_alike (Some first) other = has_name first other
+
+-- They are of two interfaces, where none is chosen. Interfaces of one name are one, whatever their
+-- numbers, since tools that merge files describe an interface again. A capture of all interfaces has
+-- one name, and the index in a cooked header tells them apart.
+abbrev pub mixed_unchosen : Origin → Origin → List Mixed
+mixed_unchosen first origin =
+    if are_named_alike first.name origin.name then mixed_indexes first origin
+    else mixed_names first.name origin.name ++ mixed_numbers first origin
+
+-- They are of two interfaces, where this choice leaves that open. A number names an interface of its
+-- section, so it may mean two names. A name leaves open the index in a cooked header.
 abbrev pub mixed_interfaces : Option InterfaceChoice → Origin → Origin → List Mixed
-mixed_interfaces None first origin = mixed_names first.name origin.name ++ mixed_numbers first origin
-mixed_interfaces (Some (Number number)) first origin = []
+mixed_interfaces None first origin = mixed_unchosen first origin
+mixed_interfaces (Some (Number number)) first origin = mixed_names first.name origin.name
 mixed_interfaces (Some (Name name)) first origin = mixed_indexes first origin
 
 -- The packets of these origins have two VLANs.
@@ -105,9 +121,14 @@ first_or (Some first) origin = Some first
 abbrev pub first_after : Choice → Option Origin → Origin → Option Origin
 first_after choice first origin = if is_chosen choice origin then first_or first origin else first
 
--- Where a VLAN and the number of an interface are chosen, packets are never mixed, and those that
--- are taken are those of the choice.
+-- The number of the chosen interface doesn't mean two names.
+abbrev pub MeansOneName : Option Origin → Origin → Type 0
+MeansOneName None origin = ⊤
+MeansOneName (Some first) origin = mixed_names first.name origin.name ≡ []
+
+-- Where a VLAN and the number of an interface are chosen, and that means one name, packets are never
+-- mixed, and those that are taken are those of the choice.
 abbrev pub OneLinkIsAFilter : Type 0
 OneLinkIsAFilter = (choice : Choice) (first : Option Origin) (origin : Origin) (vlan : Vlan) (number : ℕ)
-    → choice.vlan ≡ Some vlan → choice.interface ≡ Some (Number number)
+    → choice.vlan ≡ Some vlan → choice.interface ≡ Some (Number number) → MeansOneName first origin
     → judge_origin choice first origin ≡ Ok (is_chosen choice origin)

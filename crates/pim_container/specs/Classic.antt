@@ -1,12 +1,14 @@
 -- The file header and the records of a classic pcap file, of any link that is read.
 use Rattle.std.specs.Prelude.{ℕ, ◌+◌, ◌*◌, ◌/◌, ◌%◌, ◌^◌, Bool, ◌&&◌, ◌||◌, ◌==◌, not, List, drop, nat_lt}
-use Rattle.std.specs.Prelude.{Option, None, Some, Result, Ok, Err, if◌then◌else◌}
+use Rattle.std.specs.Prelude.{None, Result, Ok, Err, if◌then◌else◌}
+use Rattle.byteorder.specs.Endian.{big_number}
 use Rattle.pim_addr.specs.Faults.{fault_if}
 use Rattle.pim_capture.specs.Header.{microseconds_magic, nanoseconds_magic}
 use Rattle.pim_capture.specs.Capture.{most_captured}
 use Rattle.pim_container.specs.declared.link.BlockEndianness.{BlockEndianness}
 use Rattle.pim_container.specs.declared.link.BlockEndianness.TheVariants.{Big, Little}
 use Rattle.pim_container.specs.declared.link.LinkLayer.{LinkLayer}
+use Rattle.pim_container.specs.declared.link.LinkLayer.TheVariants as link
 use Rattle.pim_container.specs.declared.fault.ContainerFault.{ContainerFault}
 use Rattle.pim_container.specs.declared.fault.ContainerFault.TheVariants as fault
 use Rattle.pim_container.specs.declared.classic.ClassicFormat.{ClassicFormat}
@@ -34,16 +36,21 @@ abbrev pub link_type : List ℕ → ℕ
 link_type header = number (file_order header) 4 (drop 20 header) % 2 ^ 16
 
 -- The format of a file with this link.
-abbrev pub format_with : List ℕ → Option LinkLayer → Result ClassicFormat ContainerFault
-format_with header None = Err (fault.LinkType (link_type header))
-format_with header (Some layer) =
+abbrev pub format_with : List ℕ → LinkLayer → Result ClassicFormat ContainerFault
+format_with header (link.Other type) = Err (fault.LinkType (link_type header))
+format_with header layer =
     Ok (record { order = file_order header; resolution = resolution_of header; link = layer })
+
+-- The file begins as one that gzip compressed (RFC 1952, 2.3.1).
+abbrev pub is_gzip : List ℕ → Bool
+is_gzip header = big_number 2 header == 0x1f8b
 
 -- The format that a file header gives, or its first fault.
 abbrev pub judge_header : List ℕ → Result ClassicFormat ContainerFault
 judge_header header =
-    if not (is_magic Big header) && not (is_magic Little header) then Err fault.Magic
-    else format_with header (link_of (file_order header) (link_type header))
+    if not (is_magic Big header) && not (is_magic Little header)
+    then (if is_gzip header then Err fault.Gzip else Err fault.Magic)
+    else format_with header (link_of (link_type header))
 
 -- ---- a record: seconds, fraction, captured length and original length, four bytes each; then its
 -- captured bytes
@@ -66,4 +73,4 @@ millis_of format bytes =
 
 -- What a whole record gives.
 abbrev pub record_event : ClassicFormat → List ℕ → EventSeen
-record_event format bytes = frame_event (millis_of format bytes) 0 None (Some format.link) (drop 16 bytes)
+record_event format bytes = frame_event (millis_of format bytes) 0 None format.link (drop 16 bytes)

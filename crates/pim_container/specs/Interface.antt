@@ -70,14 +70,15 @@ settings_from (suc left) order settings at bytes =
 abbrev pub settings_of : BlockEndianness → List ℕ → Option Settings
 settings_of order bytes = settings_from (length bytes) order no_settings 16 bytes
 
--- The interface of an interface description block with these settings. A text that is no name names
--- nothing.
-abbrev pub interface_of : BlockEndianness → List ℕ → Settings → Interface
-interface_of order block settings = record {
-  link = link_of order (number order 2 (drop 8 block));
+-- The interface of an interface description block with these settings, where this number of bytes
+-- describes it and those before it. A text that is no name names nothing.
+abbrev pub interface_of : BlockEndianness → List ℕ → Settings → ℕ → Interface
+interface_of order block settings described = record {
+  link = link_of (number order 2 (drop 8 block));
   resolution = settings.resolution;
   offset = settings.offset;
   name = name_of (slice_range block settings.name_at settings.name_end);
+  described = described;
 }
 
 -- The name of these settings lies within these bytes.

@@ -1,4 +1,4 @@
--- Where the IP packet of a captured frame begins, or why there is none. Restates the headers of the
+-- Where the packet of a captured frame begins, or why there is none. Restates the headers of the
 -- link types of pcap files: Ethernet, Linux cooked capture and its second version, BSD loopback,
 -- and IP without a link layer; and the tags of IEEE 802.1Q and 802.1ad.
 use Rattle.std.specs.Prelude.{ℕ, ◌+◌, ◌%◌, Bool, false, ◌&&◌, ◌||◌, ◌==◌, not, List, length, drop, slice_index, nat_lt}
@@ -7,7 +7,7 @@ use Rattle.byteorder.specs.Endian.{big_number, little_number}
 use Rattle.pim_addr.specs.declared.family.AddressFamily.{AddressFamily}
 use Rattle.pim_addr.specs.declared.family.AddressFamily.TheVariants.{Ipv4, Ipv6}
 use Rattle.pim_capture.specs.declared.event.Why.{Why}
-use Rattle.pim_capture.specs.declared.event.Why.TheVariants.{Cut, NotIp}
+use Rattle.pim_capture.specs.declared.event.Why.TheVariants.{Cut, LinkType}
 use Rattle.pim_capture.specs.Frame.{ethernet_family, raw_family, version}
 use Rattle.pim_container.specs.declared.link.BlockEndianness.{BlockEndianness}
 use Rattle.pim_container.specs.declared.link.BlockEndianness.TheVariants.{Big, Little}
@@ -25,17 +25,16 @@ number Little size bytes = little_number size bytes
 -- ---- link types
 
 -- What a frame begins with, by the link type of its file or interface. Systems number raw IP
--- differently. A BSD loopback header has the byte order of the file, or that of the network.
-abbrev pub link_of : BlockEndianness → ℕ → Option LinkLayer
-link_of order type =
-    if type == 1 then Some link.Ethernet
-    else (if type == 101 || type == 12 || type == 14 then Some link.Raw
-    else (if type == 228 then Some link.Ipv4
-    else (if type == 229 then Some link.Ipv6
-    else (if type == 113 then Some link.Cooked
-    else (if type == 276 then Some link.CookedV2
-    else (if type == 0 then Some (link.Loopback order)
-    else (if type == 108 then Some (link.Loopback Big) else None)))))))
+-- differently.
+abbrev pub link_of : ℕ → LinkLayer
+link_of type =
+    if type == 1 then link.Ethernet
+    else (if type == 101 || type == 12 || type == 14 then link.Raw
+    else (if type == 228 then link.Ipv4
+    else (if type == 229 then link.Ipv6
+    else (if type == 113 then link.Cooked
+    else (if type == 276 then link.CookedV2
+    else (if type == 0 || type == 108 then link.Loopback else link.Other type))))))
 
 -- ---- tags
 
@@ -98,7 +97,8 @@ link_length link.Ipv4 = 0
 link_length link.Ipv6 = 0
 link_length link.Cooked = 16
 link_length link.CookedV2 = 20
-link_length (link.Loopback order) = 4
+link_length link.Loopback = 4
+link_length (link.Other type) = 0
 
 -- The Ethernet type in a link layer's header.
 abbrev pub first_type : LinkLayer → List ℕ → ℕ
@@ -136,33 +136,35 @@ abbrev pub family_or : Option AddressFamily → Option AddressFamily → Option 
 family_or (Some family) other = Some family
 family_or None other = other
 
--- The place of a packet of this family, where the link layer has no tags.
-abbrev pub untagged_place : Option AddressFamily → ℕ → Result PacketPlace Why
-untagged_place None at = Err NotIp
-untagged_place (Some family) at =
-    Ok (record { family = family; at = at; vlan = stacked 0 0; index = 0; is_copy = false })
+-- The place of a packet of this family, if it is one of IP, where the link layer has no tags.
+abbrev pub untagged_place : Option AddressFamily → ℕ → PacketPlace
+untagged_place family at = record { family = family; at = at; vlan = stacked 0 0; index = 0; is_copy = false }
 
--- The place of a packet of this family after what carries it.
-abbrev pub place_in : Option AddressFamily → Carried → ℕ → Bool → Result PacketPlace Why
-place_in None carrier index is_copy = Err NotIp
-place_in (Some family) carrier index is_copy =
-    Ok (record { family = family; at = carrier.at; vlan = carrier.vlan; index = index; is_copy = is_copy })
-
--- The place of the packet that an Ethernet type names.
+-- The place of what an Ethernet type names.
 abbrev pub typed_place : Option Carried → ℕ → Bool → Result PacketPlace Why
 typed_place None index is_copy = Err Cut
-typed_place (Some carrier) index is_copy = place_in (ethernet_family carrier.type_number) carrier index is_copy
+typed_place (Some carrier) index is_copy = Ok (record {
+  family = ethernet_family carrier.type_number;
+  at = carrier.at;
+  vlan = carrier.vlan;
+  index = index;
+  is_copy = is_copy;
+})
 
--- The place of the packet in a frame whose link layer's header is whole.
+-- The place of what follows in a frame whose link layer's header is whole. The word of a BSD
+-- loopback header is read in both byte orders.
 abbrev pub whole_place : LinkLayer → List ℕ → Result PacketPlace Why
-whole_place link.Raw frame = if length frame == 0 then Err Cut else untagged_place (raw_family (version frame)) 0
-whole_place link.Ipv4 frame = untagged_place (Some Ipv4) 0
-whole_place link.Ipv6 frame = untagged_place (Some Ipv6) 0
-whole_place (link.Loopback order) frame =
-    untagged_place (family_or (socket_family (number order 4 frame)) (socket_family (number Big 4 frame))) 4
+whole_place link.Raw frame =
+    if length frame == 0 then Err Cut else Ok (untagged_place (raw_family (version frame)) 0)
+whole_place link.Ipv4 frame = Ok (untagged_place (Some Ipv4) 0)
+whole_place link.Ipv6 frame = Ok (untagged_place (Some Ipv6) 0)
+whole_place link.Loopback frame =
+    Ok (untagged_place (family_or (socket_family (number Little 4 frame)) (socket_family (number Big 4 frame))) 4)
+whole_place (link.Other type) frame = Err (LinkType type)
 whole_place layer frame =
     typed_place (carried (first_type layer frame) (link_length layer) frame) (index_of layer frame) (is_copy layer frame)
 
--- The place of the IP packet in a frame, or the first reason why there is none.
+-- The place of what a frame carries after the link layer's header and its tags, or the first reason
+-- why there is none.
 abbrev pub place_of : LinkLayer → List ℕ → Result PacketPlace Why
 place_of layer frame = if nat_lt (length frame) (link_length layer) then Err Cut else whole_place layer frame

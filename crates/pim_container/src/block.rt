@@ -1,6 +1,6 @@
 //! The blocks of a pcapng file (draft-ietf-opsawg-pcapng).
 
-ghost use Rattle.std.specs.Prelude.{◌≡◌, ◌≢◌, ◌+◌, ◌≤◌, length, take, IfOk, Some, Err, ◌⊎◌};
+ghost use Rattle.std.specs.Prelude.{◌≡◌, ◌≢◌, ◌+◌, ◌≤◌, length, take, IfOk, IfErr, Some, Err, ◌⊎◌};
 ghost use Rattle.std.specs.Prelude.{◌<◌, ◌∷◌, ◌++◌, [], max, OnOk, OnErr, vec_len, vec_capacity};
 ghost use Rattle.pim_addr.specs.Faults.{Answers, judged};
 ghost use Rattle.pim_container.specs.Block.{is_section, stated_order, least_block, head_faults};
@@ -10,7 +10,8 @@ ghost use Rattle.pim_container.specs.Block.{is_unequal, block_type, interface_nu
 ghost use Rattle.pim_container.specs.Block.{captured_length};
 ghost use Rattle.pim_container.specs.Block.{captured_on, packet_block, interface_block};
 ghost use Rattle.pim_container.specs.Block.{without_end, block_event, is_untimed};
-ghost use Rattle.pim_container.specs.Block.{interfaces_after, with_interface};
+ghost use Rattle.pim_container.specs.Block.{interfaces_after, with_interface, section_block};
+ghost use Rattle.pim_container.specs.Block.{described_bytes, is_full};
 ghost use Rattle.pim_container.specs.Interface.{settings_of, interface_of, HasName};
 ghost use Rattle.pim_container.specs.EventSeen.{latest_moment, event_seen, EventLiesIn, IsBy};
 ghost use Rattle.pim_container.specs.Next.{OnMemory};
@@ -42,6 +43,15 @@ const ENHANCED_PACKET: u32 = 6;
 /// The number at 8 of a section header, in the byte order of its section.
 const ORDER_MAGIC: u32 = 0x1a2b_3c4d;
 
+/// The major version of the sections that are read.
+const MAJOR_VERSION: u16 = 1;
+
+/// The greatest number of interfaces of a section.
+const MOST_INTERFACES: usize = 65_535;
+
+/// The greatest number of bytes that describe the interfaces of a section.
+const MOST_DESCRIBED: usize = 67_108_864;
+
 /// The greatest length of a block that is read, in bytes.
 const MOST_BLOCK: u32 = 16_777_216;
 
@@ -63,8 +73,8 @@ pub struct Captured {
     pub interface: u32,
     /// The name of that interface.
     pub name: Option<InterfaceName>,
-    /// What its frame begins with. `None` for a link type that isn't read.
-    pub link: Option<LinkLayer>,
+    /// What its frame begins with.
+    pub link: LinkLayer,
     /// The index after its frame in the block.
     pub end: usize,
 }
@@ -237,18 +247,44 @@ fn read_packet(
     ))
 }
 
-/// The interface that a block describes, with these settings.
-fn interface_of(order: BlockEndianness, block: &[u8], settings: Settings) -> Interface
+/// The interface that a block describes, with these settings, where this number of bytes describes
+/// it and those before it.
+fn interface_of(
+    order: BlockEndianness,
+    block: &[u8],
+    settings: Settings,
+    described: usize,
+) -> Interface
     requires least { 20 ≤ length block.now }
     requires name { HasName block.now settings }
-    ensures { result ≡ interface_of order block.now settings }
+    ensures { result ≡ interface_of order block.now settings described }
 {
     Interface {
-        link: link_of(order, order.read_u16_at(block, 8)),
+        link: link_of(order.read_u16_at(block, 8)),
         resolution: settings.resolution,
         offset: settings.offset,
         name: InterfaceName::of(&block[settings.name_at..settings.name_end]),
+        described,
     }
+}
+
+/// How many bytes describe these interfaces of a section.
+fn described_bytes(interfaces: &[Interface]) -> usize
+    ensures { result ≡ described_bytes interfaces.now }
+{
+    match interfaces.get(interfaces.len().saturating_sub(1)) {
+        Some(last) => last.described,
+        None => 0,
+    }
+}
+
+/// Whether a section with these interfaces has no room for one more, which a block of this length
+/// describes.
+fn is_full(interfaces: &[Interface], size: usize) -> bool
+    ensures { result ≡ is_full interfaces.now size }
+{
+    interfaces.len() >= MOST_INTERFACES
+        || MOST_DESCRIBED.saturating_sub(described_bytes(interfaces)) < size
 }
 
 /// Adds an interface to a list. One that is full grows to twice its length, and by four at least.
@@ -280,7 +316,7 @@ fn read_interface(
     requires least { 20 ≤ length block.now }
     requires most { length block.now ≤ 16777216 }
     ensures answer { (result ≡ Err ContainerFault.Memory) ⊎ Answers (event_seen block.now) result
-        (interface_block (settings_of order (without_end block.now)) block.now) }
+        (interface_block order interfaces.old.items block.now) }
     ensures interfaces { IfOk result (λ _. interfaces.new.items
         ≡ with_interface interfaces.old.items (settings_of order (without_end block.now)) order
         block.now) }
@@ -296,14 +332,38 @@ fn read_interface(
     ensures same_list { OnErr result
         (vec_capacity interfaces.new ≡ vec_capacity interfaces.old) }
 {
+    if is_full(interfaces.as_slice(), block.len()) {
+        return Err(ContainerFault::Block);
+    }
     let (front, _) = block.split_at(block.len() - 4);
     let Some(settings) = settings_of(order, front) else {
         return Err(ContainerFault::Block);
     };
-    add(interfaces, interface_of(order, block, settings))?;
+    let described = described_bytes(interfaces.as_slice()) + block.len();
+    add(interfaces, interface_of(order, block, settings, described))?;
     Ok(ContainerEvent::Interface {
         name: settings.name_at..settings.name_end,
     })
+}
+
+/// The event of a section header. The section begins with no interfaces.
+fn read_section(
+    order: BlockEndianness,
+    interfaces: &mut Vec<Interface>,
+    block: &[u8],
+) -> Result<ContainerEvent, ContainerFault>
+    requires { 28 ≤ length block.now }
+    ensures answer { Answers (event_seen block.now) result (section_block order block.now) }
+    ensures interfaces { IfOk result (λ _. interfaces.new.items ≡ []) }
+    ensures section { IfOk result (λ event. event ≡ ContainerEvent.Section) }
+    ensures fault { IfErr result (λ fault. fault ≡ ContainerFault.Block) }
+    ensures same_list { vec_capacity interfaces.new ≡ vec_capacity interfaces.old }
+{
+    if order.read_u16_at(block, 12) != MAJOR_VERSION {
+        return Err(ContainerFault::Block);
+    }
+    interfaces.clear();
+    Ok(ContainerEvent::Section)
 }
 
 /// The event of a whole block in the buffer. Interfaces are added or, by a new section, removed.
@@ -338,10 +398,7 @@ pub fn read_block(
         return Err(ContainerFault::Block);
     }
     match order.read_u32_at(buffer.as_slice(), 0) {
-        SECTION => {
-            interfaces.clear();
-            Ok(ContainerEvent::Section)
-        }
+        SECTION => read_section(order, interfaces, buffer.as_slice()),
         INTERFACE => read_interface(order, interfaces, buffer.as_slice()),
         OBSOLETE_PACKET | ENHANCED_PACKET => read_packet(order, interfaces.as_slice(), buffer),
         other if is_untimed(other) => Ok(ContainerEvent::Untimed),

@@ -6,6 +6,7 @@ ghost use Rattle.pim_container.specs.Choice.{choice_of, first_of, fits, is_same_
 ghost use Rattle.pim_container.specs.Choice.{is_chosen, number_of, has_name, mixed_names};
 ghost use Rattle.pim_container.specs.Choice.{mixed_indexes, mixed_numbers, mixed_interfaces};
 ghost use Rattle.pim_container.specs.Choice.{first_after, judge_origin, judge_second};
+ghost use Rattle.pim_container.specs.Choice.{is_of_link, are_named_alike, mixed_unchosen};
 
 use crate::event::Origin;
 use pim_capture::{InterfaceChoice, InterfaceName, Vlan};
@@ -19,7 +20,8 @@ pub struct Choice {
     pub interface: Option<InterfaceChoice>,
 }
 
-/// The packets have more than one link, and none is chosen.
+/// The packets have more than one link, and none is chosen; or the chosen number of an interface
+/// means two names.
 #[derive(Clone, Copy, Debug, PartialEq, Eq)]
 pub enum Mixed {
     /// A packet is of an interface with another name than that of the first one.
@@ -103,11 +105,18 @@ fn fits_vlan(chosen: Option<Vlan>, vlan: Vlan) -> bool
     }
 }
 
-/// Whether a packet of this origin is of the chosen link.
+/// Whether a frame of this origin is of the chosen link.
+fn is_of_link(choice: Choice, origin: Origin) -> bool
+    ensures { result ≡ is_of_link choice origin }
+{
+    fits_vlan(choice.vlan, origin.vlan) && fits(choice.interface, origin)
+}
+
+/// Whether a packet of this origin is of the chosen link, and no copy.
 fn is_chosen(choice: Choice, origin: Origin) -> bool
     ensures { result ≡ is_chosen choice origin }
 {
-    !origin.is_copy && fits_vlan(choice.vlan, origin.vlan) && fits(choice.interface, origin)
+    !origin.is_copy && is_of_link(choice, origin)
 }
 
 /// Judges the names of the interfaces of two packets.
@@ -156,6 +165,27 @@ fn judge_numbers(first: Origin, origin: Origin) -> Result<bool, Mixed>
     judge_indexes(first, origin)
 }
 
+/// Whether two interfaces have names, and these are the same.
+fn are_named_alike(first: Option<InterfaceName>, other: Option<InterfaceName>) -> bool
+    ensures { result ≡ are_named_alike first other }
+{
+    match first {
+        Some(first) => has_name(first, other),
+        None => false,
+    }
+}
+
+/// Judges the interfaces of two packets, where none is chosen.
+fn judge_unchosen(first: Origin, origin: Origin) -> Result<bool, Mixed>
+    ensures { Answers (λ it. it) result (judged (mixed_unchosen first origin) true) }
+{
+    if are_named_alike(first.name, origin.name) {
+        return judge_indexes(first, origin);
+    }
+    judge_names(first.name, origin.name)?;
+    judge_numbers(first, origin)
+}
+
 /// Judges the interfaces of two packets, where this one is chosen or none is.
 fn judge_interfaces(
     chosen: Option<InterfaceChoice>,
@@ -164,13 +194,10 @@ fn judge_interfaces(
 ) -> Result<bool, Mixed>
     ensures { Answers (λ it. it) result (judged (mixed_interfaces chosen first origin) true) }
 {
-    let Some(chosen) = chosen else {
-        judge_names(first.name, origin.name)?;
-        return judge_numbers(first, origin);
-    };
     match chosen {
-        InterfaceChoice::Number(_) => Ok(true),
-        InterfaceChoice::Name(_) => judge_indexes(first, origin),
+        None => judge_unchosen(first, origin),
+        Some(InterfaceChoice::Number(_)) => judge_names(first.name, origin.name),
+        Some(InterfaceChoice::Name(_)) => judge_indexes(first, origin),
     }
 }
 
@@ -200,11 +227,18 @@ impl Chooser {
         }
     }
 
+    /// Whether a frame of this origin is of the chosen link.
+    pub fn is_of_link(&self, origin: Origin) -> bool
+        ensures { result ≡ is_of_link (choice_of self.now) origin }
+    {
+        is_of_link(self.choice, origin)
+    }
+
     /// Whether the packet of this origin is taken.
     ///
     /// # Errors
     /// It is chosen, and of another interface or VLAN than the first packet that was taken, where
-    /// no interface or VLAN is chosen.
+    /// no interface or VLAN is chosen. Or its interface has another name, where a number is chosen.
     pub fn take(&mut self, origin: Origin) -> Result<bool, Mixed>
         ensures answer { Answers (λ it. it) result
             (judge_origin (choice_of self.old) (first_of self.old) origin) }

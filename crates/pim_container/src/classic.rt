@@ -40,6 +40,9 @@ const MICROSECONDS_MAGIC: u32 = 0xa1b2_c3d4;
 /// The magic of a file whose fractions count nanoseconds.
 const NANOSECONDS_MAGIC: u32 = 0xa1b2_3c4d;
 
+/// The first two bytes of a file that gzip compressed (RFC 1952, 2.3.1).
+const GZIP_MAGIC: u16 = 0x1f8b;
+
 /// The greatest captured length of a record that is read, in bytes.
 const MOST_CAPTURED: u32 = 262_144;
 
@@ -57,13 +60,14 @@ fn format_in(order: BlockEndianness, header: &[u8]) -> Result<ClassicFormat, Con
     requires whole { 24 ≤ length header.now }
     requires order { order ≡ file_order header.now }
     ensures answer { Answers (λ format. format) result
-        (format_with header.now (link_of order (link_type header.now))) }
+        (format_with header.now (link_of (link_type header.now))) }
     ensures not_read { result ≢ Err ContainerFault.Read }
     ensures not_memory { result ≢ Err ContainerFault.Memory }
 {
     let number = (order.read_u32_at(header, 20) & 0xffff) as u16;
-    let Some(link) = link_of(order, number) else {
-        return Err(ContainerFault::LinkType(number));
+    let link = match link_of(number) {
+        LinkLayer::Other(_) => return Err(ContainerFault::LinkType(number)),
+        link => link,
     };
     let resolution = if order.read_u32_at(header, 0) == NANOSECONDS_MAGIC {
         ClassicResolution::Nanoseconds
@@ -80,7 +84,7 @@ fn format_in(order: BlockEndianness, header: &[u8]) -> Result<ClassicFormat, Con
 /// The format that a file header of 24 bytes gives.
 ///
 /// # Errors
-/// `Magic` or `LinkType`, in this order.
+/// `Gzip`, `Magic` or `LinkType`, in this order.
 pub fn read_header(header: &[u8]) -> Result<ClassicFormat, ContainerFault>
     requires { 24 ≤ length header.now }
     ensures answer { Answers (λ format. format) result (judge_header header.now) }
@@ -92,6 +96,9 @@ pub fn read_header(header: &[u8]) -> Result<ClassicFormat, ContainerFault>
     }
     if is_magic(BlockEndianness::Little, header) {
         return format_in(BlockEndianness::Little, header);
+    }
+    if BlockEndianness::Big.read_u16_at(header, 0) == GZIP_MAGIC {
+        return Err(ContainerFault::Gzip);
     }
     Err(ContainerFault::Magic)
 }
@@ -136,5 +143,5 @@ pub fn read_record(format: ClassicFormat, record: &[u8]) -> ContainerEvent
     ensures record { result ≢ ContainerEvent.End }
 {
     let millis = millis_of(format, record);
-    event_of(millis, 0, None, Some(format.link), record, 16)
+    event_of(millis, 0, None, format.link, record, 16)
 }

@@ -1,9 +1,10 @@
 //! The events of a capture.
 
 use pim_capture::{InterfaceName, Ip, Vlan, Why};
+use pim_fragments::Fragment;
 use std::ops::Range;
 
-/// The link on which a packet was captured.
+/// The link on which a frame was captured, as far as the frame says it.
 #[derive(Clone, Copy, Debug, PartialEq, Eq)]
 pub struct Origin {
     /// The number of its interface in the section of a pcapng file, else 0.
@@ -31,10 +32,23 @@ pub enum ContainerEvent {
         /// Its addresses, and the range of its message in the buffer.
         ip: Ip,
     },
+    /// A fragment of a packet that may carry PIM. The buffer holds its bytes.
+    Fragment {
+        /// The time of capture, in milliseconds since 1970.
+        millis: u64,
+        /// The link on which it was captured.
+        origin: Origin,
+        /// Its addresses, and the range of its bytes in the buffer.
+        ip: Ip,
+        /// Which fragment it is.
+        fragment: Fragment,
+    },
     /// A frame that holds no whole PIM packet.
     Skipped {
         /// The time of capture, in milliseconds since 1970.
         millis: u64,
+        /// The link on which it was captured.
+        origin: Origin,
         /// Why it is skipped.
         why: Why,
     },

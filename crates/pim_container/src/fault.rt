@@ -13,6 +13,9 @@ pub enum ContainerFault {
     /// It begins with the magic of neither container, or a section with no known byte order.
     #[error("magic")]
     Magic,
+    /// It is a file that gzip compressed.
+    #[error("gzip")]
+    Gzip,
     /// A classic file has this link type, which isn't read.
     #[error("link-type")]
     LinkType(u16),
@@ -24,7 +27,8 @@ pub enum ContainerFault {
     TooLong,
     /// A block is shorter than its head, or its lengths are unequal or no multiples of four. Or an
     /// option is cut, or a packet is longer than its block, or of an interface that isn't
-    /// described.
+    /// described. Or a section has another major version than 1, or describes more than 65,535
+    /// interfaces, or these in more than 67,108,864 bytes.
     #[error("block")]
     Block,
     /// The time of a packet is before 1970 or after 4,294,971,589,967 ms.

@@ -25,14 +25,16 @@ pub struct Settings {
 /// An interface of a section.
 #[derive(Clone, Copy, Debug, PartialEq, Eq)]
 pub struct Interface {
-    /// What its frames begin with. `None` for a link type that isn't read.
-    pub link: Option<LinkLayer>,
+    /// What its frames begin with.
+    pub link: LinkLayer,
     /// if_tsresol.
     pub resolution: u8,
     /// if_tsoffset.
     pub offset: u64,
     /// if_name, if its text is a name.
     pub name: Option<InterfaceName>,
+    /// How many bytes describe it and the interfaces before it in its section.
+    pub described: usize,
 }
 
 /// The latest time of an event, in milliseconds since 1970.

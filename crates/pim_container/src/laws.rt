@@ -4,17 +4,20 @@ ghost use Rattle.pim_container.specs.Agreement.{AgreesOnClassic, AgreesExactly};
 ghost use Rattle.pim_container.specs.Choice.{OneLinkIsAFilter};
 
 /// For a classic file whose header `pim_capture` accepts, this crate returns the same after the
-/// beginning of the section, but for frames with further tags.
+/// beginning of the section, but for frames with further tags, fragments and headers of IPv6 before
+/// PIM.
 pub fn classic_agrees()
     ensures { AgreesOnClassic }
 {}
 
-/// For such a file in which no frame has a further tag, both crates return the same.
+/// For such a file in which no frame has a further tag, is a fragment or has a header before PIM,
+/// both crates return the same.
 pub fn classic_agrees_exactly()
     ensures { AgreesExactly }
 {}
 
-/// Where a VLAN and the number of an interface are chosen, a choice is a filter, packet by packet.
+/// Where a VLAN and the number of an interface are chosen, and that means one name, a choice is a
+/// filter, packet by packet.
 pub fn one_link_is_a_filter()
     ensures { OneLinkIsAFilter }
 {}

@@ -67,23 +67,24 @@ pub enum LinkLayer {
     Cooked,
     /// The header of its second version (link type 276).
     CookedV2,
-    /// A BSD loopback header in this byte order or in that of the network (link types 0 and 108).
-    Loopback(BlockEndianness),
+    /// A BSD loopback header, in either byte order (link types 0 and 108).
+    Loopback,
+    /// A header that isn't read, of the link type with this number.
+    Other(u16),
 }
 
-/// The link of a link type, in a file of this byte order. `None` if it is another one.
-pub fn link_of(order: BlockEndianness, number: u16) -> Option<LinkLayer>
-    ensures { result ≡ link_of order number }
+/// What the frames of a link type begin with.
+pub fn link_of(number: u16) -> LinkLayer
+    ensures { result ≡ link_of number }
 {
     match number {
-        1 => Some(LinkLayer::Ethernet),
-        12 | 14 | 101 => Some(LinkLayer::Raw),
-        228 => Some(LinkLayer::Ipv4),
-        229 => Some(LinkLayer::Ipv6),
-        113 => Some(LinkLayer::Cooked),
-        276 => Some(LinkLayer::CookedV2),
-        0 => Some(LinkLayer::Loopback(order)),
-        108 => Some(LinkLayer::Loopback(BlockEndianness::Big)),
-        _ => None,
+        1 => LinkLayer::Ethernet,
+        12 | 14 | 101 => LinkLayer::Raw,
+        228 => LinkLayer::Ipv4,
+        229 => LinkLayer::Ipv6,
+        113 => LinkLayer::Cooked,
+        276 => LinkLayer::CookedV2,
+        0 | 108 => LinkLayer::Loopback,
+        _ => LinkLayer::Other(number),
     }
 }

@@ -1,8 +1,8 @@
-//! The place of the IP packet in a frame.
+//! The place of the packet in a frame.
 
 ghost use Rattle.std.specs.Prelude.{◌≡◌, ◌/◌, ◌≤◌, length, drop, IfOk, IfSome};
 ghost use Rattle.pim_container.specs.Link.{number, socket_family, family_or, untagged_place};
-ghost use Rattle.pim_container.specs.Link.{place_in, typed_place, is_copied};
+ghost use Rattle.pim_container.specs.Link.{typed_place, is_copied};
 ghost use Rattle.pim_container.specs.Link.{whole_place, place_of, carried};
 ghost use Rattle.pim_capture.specs.Frame.{ethernet_family, raw_family, version};
 ghost use Rattle.pim_container.specs.declared.link.LinkLayer.TheVariants as link;
@@ -12,11 +12,11 @@ use crate::tags::{Carried, after_tags, stacked};
 use pim_addr::AddressFamily;
 use pim_capture::{Vlan, Why};
 
-/// Where the IP packet of a frame begins, and on which link it was captured.
+/// Where the packet of a frame begins, and on which link it was captured.
 #[derive(Clone, Copy, Debug, PartialEq, Eq)]
 pub struct PacketPlace {
-    /// The address family of the packet.
-    pub family: AddressFamily,
+    /// The address family of the packet. `None` if it isn't one of IP.
+    pub family: Option<AddressFamily>,
     /// The index of its first byte in the frame.
     pub at: usize,
     /// The VLAN of the frame.
@@ -61,22 +61,19 @@ fn socket_family(number: u32) -> Option<AddressFamily>
 }
 
 /// The place of a packet of this family without tags.
-fn untagged_place(family: Option<AddressFamily>, at: usize) -> Result<PacketPlace, Why>
+fn untagged_place(family: Option<AddressFamily>, at: usize) -> PacketPlace
     ensures { result ≡ untagged_place family at }
 {
-    let Some(family) = family else {
-        return Err(Why::NotIp);
-    };
-    Ok(PacketPlace {
+    PacketPlace {
         family,
         at,
         vlan: stacked(0, 0),
         index: 0,
         is_copy: false,
-    })
+    }
 }
 
-/// The place of the packet that an Ethernet type names.
+/// The place of what an Ethernet type names.
 fn typed_place(carrier: Option<Carried>, index: u32, is_copy: bool) -> Result<PacketPlace, Why>
     ensures place { result ≡ typed_place carrier index is_copy }
     ensures at { IfSome carrier (λ it. IfOk result (λ place. place.at ≡ it.at)) }
@@ -84,11 +81,8 @@ fn typed_place(carrier: Option<Carried>, index: u32, is_copy: bool) -> Result<Pa
     let Some(carrier) = carrier else {
         return Err(Why::Cut);
     };
-    let Some(family) = ethernet_family(carrier.type_number) else {
-        return Err(Why::NotIp);
-    };
     Ok(PacketPlace {
-        family,
+        family: ethernet_family(carrier.type_number),
         at: carrier.at,
         vlan: carrier.vlan,
         index,
@@ -145,18 +139,18 @@ fn cooked_v2_place(frame: &[u8]) -> Result<PacketPlace, Why>
 }
 
 /// The place of the packet in a frame of a BSD loopback.
-fn loopback_place(order: BlockEndianness, frame: &[u8]) -> Result<PacketPlace, Why>
-    ensures place { result ≡ place_of (link.Loopback order) frame.now }
+fn loopback_place(frame: &[u8]) -> Result<PacketPlace, Why>
+    ensures place { result ≡ place_of link.Loopback frame.now }
     ensures within { IfOk result (λ place. place.at ≤ length frame.now) }
 {
     if frame.len() < 4 {
         return Err(Why::Cut);
     }
-    let family = match socket_family(order.read_u32_at(frame, 0)) {
+    let family = match socket_family(BlockEndianness::Little.read_u32_at(frame, 0)) {
         Some(family) => Some(family),
         None => socket_family(BlockEndianness::Big.read_u32_at(frame, 0)),
     };
-    untagged_place(family, 4)
+    Ok(untagged_place(family, 4))
 }
 
 /// The place of the packet in a frame without a link layer.
@@ -167,10 +161,11 @@ fn raw_place(frame: &[u8]) -> Result<PacketPlace, Why>
     if frame.is_empty() {
         return Err(Why::Cut);
     }
-    untagged_place(raw_family(frame[0]), 0)
+    Ok(untagged_place(raw_family(frame[0]), 0))
 }
 
-/// The place of the IP packet in a frame, or the first reason why there is none.
+/// The place of what a frame carries after the link layer's header and its tags, or the first
+/// reason why there is none.
 pub fn place_of(link: LinkLayer, frame: &[u8]) -> Result<PacketPlace, Why>
     ensures place { result ≡ place_of link frame.now }
     ensures within { IfOk result (λ place. place.at ≤ length frame.now) }
@@ -178,10 +173,11 @@ pub fn place_of(link: LinkLayer, frame: &[u8]) -> Result<PacketPlace, Why>
     match link {
         LinkLayer::Ethernet => ethernet_place(frame),
         LinkLayer::Raw => raw_place(frame),
-        LinkLayer::Ipv4 => untagged_place(Some(AddressFamily::Ipv4), 0),
-        LinkLayer::Ipv6 => untagged_place(Some(AddressFamily::Ipv6), 0),
+        LinkLayer::Ipv4 => Ok(untagged_place(Some(AddressFamily::Ipv4), 0)),
+        LinkLayer::Ipv6 => Ok(untagged_place(Some(AddressFamily::Ipv6), 0)),
         LinkLayer::Cooked => cooked_place(frame),
         LinkLayer::CookedV2 => cooked_v2_place(frame),
-        LinkLayer::Loopback(order) => loopback_place(order, frame),
+        LinkLayer::Loopback => loopback_place(frame),
+        LinkLayer::Other(number) => Err(Why::LinkType(number)),
     }
 }

@@ -2,12 +2,13 @@
 use Rattle.pim_merge.proofs.Words.{◌≡◌, ◌∙◌, ℕ, zero, suc, List, [], ◌∷◌, ◌++◌, Option, None, Some, Result, Ok, Err, IfErr}
 use Rattle.pim_merge.proofs.Words.{get_or, refl, sym, ap, subst, ◌⊎◌, inl, inr, ⊤, CaptureFault, Answer, IsRefusal, Time, Clock}
 use Rattle.pim_merge.proofs.Words.{MergeFault, Turn, LaneState, IsComing, lane_at, failures_of, tallies_of, RecordPlace}
-use Rattle.pim_merge.proofs.Words.{tallies_with, place_next, Taken, Outcome, IsMergeBy, turn, turn_by, until, takes, fails}
+use Rattle.pim_merge.proofs.Words.{tallies_with, place_next, Taken, Outcome, IsMergeBy, never, past_at, rank_of, turn, turn_by, turn_ranked, until, takes, fails}
 use Rattle.pim_merge.proofs.Words.{ending, after_turn, clock_after, moment_of, event_time, MergeState, GivesTurnBy, IsCause}
 use Rattle.pim_merge.proofs.Words.{CountsFailures, KeepsTime, with_fault, KeepsTallies, IsNumbered}
 use Rattle.pim_merge.specs.declared.end.End.{End}
 use Rattle.pim_merge.specs.Ends.{last_of, clock_of, Takes, AreAll}
 use Rattle.pim_merge.proofs.Tallies.{tallies_more}
+use Rattle.pim_merge.proofs.Turning.{fails_by_any}
 use Rattle.pim_merge.specs.Run.{taken_by, IsBehind, HasTaken, Advances, IsTallied}
 
 -- ---- one turn more
@@ -118,8 +119,10 @@ module _ (end : End) (start : MergeState) (taken : List Taken) (merge merge' : M
           let b = has.turns captures coming in
           takes_all (last_of end) start.clock captures taken merge.clock b.rest (Some (reported.capture, reported.fault))
           b.takes_them
-          (fails_by (last_of end) merge.clock reported.capture reported.fault (turn b.rest)
-          (ap turn (sym (is b.rest b.coming)) ∙ fault b.rest b.coming)))
+          (fails_by (last_of end) merge.clock reported.capture reported.fault
+          (turn_ranked (rank_of (past_at (last_of end) merge.clock)) b.rest)
+          (fails_by_any (rank_of never) (rank_of (past_at (last_of end) merge.clock)) b.rest reported.capture
+          reported.fault (ap turn (sym (is b.rest b.coming)) ∙ fault b.rest b.coming))))
 
   -- one more
   one_more : (next : Turn) →

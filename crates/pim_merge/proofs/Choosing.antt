@@ -1,11 +1,15 @@
 -- The records of any container: what one piece gives, and what pieces give one after the other.
-use Rattle.pim_merge.proofs.Words.{◌≡◌, ◌∙◌, ◌⊎◌, ◌≤◌, ◌<◌, ◌+◌, ℕ, Bool, true, false, if◌then◌else◌, IfOk, IfSome}
+use Rattle.pim_merge.proofs.Words.{◌≡◌, ◌∙◌, ◌⊎◌, ◌≤◌, ◌<◌, ◌+◌, ◌*◌, ℕ, Bool, true, false, if◌then◌else◌, IfOk, IfSome}
 use Rattle.pim_merge.proofs.Words.{List, [], ◌∷◌, Option, None, Some, Result, Ok, Err, refl, sym, ap, subst, arith, inl}
-use Rattle.pim_merge.proofs.Words.{inr, ⊤, false≢true, option_map, CaptureFault, Event, CutShort, NextFile, Answer}
-use Rattle.pim_merge.proofs.Words.{skipped, ended, IsNext, IsRefusal, CountsReads, PayloadLiesIn, IsBy, latest_moment}
-use Rattle.pim_merge.proofs.Words.{ContainerFault, Origin, Choice, ReaderState, fault_of, is_cut, fault_given}
-use Rattle.pim_merge.proofs.Words.{event_given, first_then, put, chosen, next_files, known_too, IsGiven, StaysComing}
+use Rattle.pim_merge.proofs.Words.{inr, ⊤, false≢true, option_map, CaptureFault, Event, CutShort, NextFile, Incomplete}
+use Rattle.pim_merge.proofs.Words.{Answer, EventSeen, skipped, ended, in_front, IsNext, IsRefusal, CountsReads}
+use Rattle.pim_merge.proofs.Words.{PayloadLiesIn, IsBy, latest_moment, ContainerFault, ReaderState, fault_of, is_cut}
+use Rattle.pim_merge.proofs.Words.{fault_given, given, state_then, put, chosen, next_files, known_too, IsGiven, StaysComing}
 use Rattle.pim_merge.proofs.Words.{Steps, unless_cut, none_left, chosen_known, is_end, cut_left, step_count, failed}
+use Rattle.pim_merge.proofs.Words.{telling_left, TakerState, event_given, state_after, in_next_file, ending_given, news, told}
+use Rattle.pim_merge.proofs.Words.{incomplete_of}
+use Rattle.pim_merge.specs.declared.taker.FileLink.{FileLink}
+use Rattle.pim_merge.specs.declared.taker.FileLink.TheVariants.{Unmet, Unread, Met}
 use Rattle.pim_capture.specs.declared.fault.CaptureFault.TheVariants as fault
 use Rattle.pim_capture.specs.declared.event.Event.TheVariants as event
 use Rattle.pim_container.specs.declared.fault.ContainerFault.TheVariants as of_any
@@ -16,187 +20,344 @@ use Rattle.pim_container.specs.Pieces as pieces
 use Rattle.pim_container.specs.Next as next
 use Rattle.pim_merge.proofs.Failures.{Moves}
 
+-- ---- what is told of incomplete packets comes first
+
+abbrev with_told : TakerState → Bool → TakerState
+with_told state told = record {
+  choice = state.choice;
+  first = state.first;
+  kept = state.kept;
+  link = state.link;
+  place = state.place;
+  is_told = told;
+}
+
+-- nothing is to tell
+same_told : (state : TakerState) → state.is_told ≡ true → told state ≡ state
+same_told state is = ap (with_told state) (sym is)
+
+no_news : (state : TakerState) → state.is_told ≡ true → news state ≡ None
+no_news state is =
+    ap (λ (b : Bool). if b then None else Some (skipped 0 (Incomplete (incomplete_of state)))) is
+
+abbrev of_news : Option EventSeen → Option Answer
+of_news it = option_map (λ (reported : EventSeen). Ok reported) it
+
+tells_all : (behind : TakerState → List Answer) (begun : Bool) (state : TakerState) (left : List pieces.Answer)
+    (reported : EventSeen) → Some reported ≡ news state →
+    chosen behind begun state left ≡ in_front (Ok reported) (chosen behind begun (told state) left)
+unfolding chosen
+tells_all behind begun state [] reported is = ap (λ n. put (of_news n) (behind (told state))) (sym is)
+tells_all behind begun state (answer ∷ later) reported is =
+    ap (λ n. put (of_news n) (put (given begun (told state) answer) (chosen behind true (state_then (told state)
+    answer) later)))
+    (sym is)
+
+untold : (behind : TakerState → List Answer) (begun : Bool) (state : TakerState) (left : List pieces.Answer) →
+    news state ≡ None → chosen behind begun state left ≡ chosen behind begun (told state) left
+unfolding chosen
+untold behind begun state [] none = ap (λ n. put (of_news n) (behind (told state))) none
+untold behind begun state (answer ∷ later) none =
+    ap (λ n. put (of_news n) (put (given begun (told state) answer) (chosen behind true (state_then (told state)
+    answer) later)))
+    none
+
+-- this is told
+pub tells : (begun : Bool) (state state' : TakerState) (left : Option (List pieces.Answer))
+    (files : Option (List (List ℕ))) (reported : EventSeen) → Some reported ≡ news state → state' ≡ told state →
+    IsNext (chosen_known begun state left files) (Ok reported) (chosen_known begun state' left files)
+tells begun state state' None files reported is same = tt
+tells begun state state' (Some left) None reported is same = tt
+tells begun state state' (Some left) (Some files) reported is same =
+    tells_all (next_files files) begun state left reported is
+    ∙ ap (λ s. in_front (Ok reported) (chosen (next_files files) begun s left)) (sym same)
+
+pub known_told : (begun : Bool) (state : TakerState) (left : Option (List pieces.Answer)) (files : Option (List
+    (List ℕ))) →
+    news state ≡ None → chosen_known begun state left files ≡ chosen_known begun (told state) left files
+known_told begun state None files none = refl
+known_told begun state (Some left) None none = refl
+known_told begun state (Some left) (Some files) none = ap Some (untold (next_files files) begun state left none)
+
 -- ---- the results of a container
 
-pub put_is : (choice : Choice) (behind : Option Origin → List Answer) (begun : Bool) (first : Option Origin) (reported : any.EventSeen)
-    (later : List pieces.Answer) → (reported ≡ any.ended → ⊥) →
-    chosen choice behind begun first (next.in_front (Ok reported) later)
-    ≡ put (event_given choice first reported) (chosen choice behind true (first_then choice first (Ok reported)) later)
-unfolding chosen
-put_is choice behind begun first (any.packet millis origin datagram) later more = refl
-put_is choice behind begun first (any.skipped millis why) later more = refl
-put_is choice behind begun first any.untimed later more = refl
-put_is choice behind begun first any.section later more = refl
-put_is choice behind begun first (any.described name) later more = refl
-put_is choice behind begun first any.passed later more = refl
-put_is choice behind begun first any.ended later more = absurd (more refl)
+-- what is left after this result
+abbrev pub left_after : any.EventSeen → List pieces.Answer → List pieces.Answer
+left_after any.ended later = []
+left_after _ later = later
 
-fault_is : (choice : Choice) (behind : Option Origin → List Answer) (begun : Bool) (first : Option Origin) (fault : ContainerFault) →
-    chosen choice behind begun first (Err fault ∷ []) ≡ put (Some (fault_given begun fault)) (behind first)
+pub put_is : (behind : TakerState → List Answer) (begun : Bool) (state : TakerState) (reported : any.EventSeen)
+    (later : List pieces.Answer) → chosen behind begun (told state) (next.in_front (Ok reported) later)
+    ≡ put (event_given (told state) reported)
+    (chosen behind true (state_after (told state) reported) (left_after reported later))
 unfolding chosen
-fault_is choice behind begun first fault = refl
+put_is behind begun state (any.packet millis origin datagram) later = refl
+put_is behind begun state (any.fragment millis origin datagram part) later = refl
+put_is behind begun state (any.skipped millis origin why) later = refl
+put_is behind begun state any.untimed later = refl
+put_is behind begun state any.section later = refl
+put_is behind begun state (any.described name) later = refl
+put_is behind begun state any.passed later = refl
+put_is behind begun state any.ended later = refl
+
+left_same : (reported : any.EventSeen) (later : List pieces.Answer) → (reported ≡ any.ended → ⊥) →
+    left_after reported later ≡ later
+left_same (any.packet millis origin datagram) later more = refl
+left_same (any.fragment millis origin datagram part) later more = refl
+left_same (any.skipped millis origin why) later more = refl
+left_same any.untimed later more = refl
+left_same any.section later more = refl
+left_same (any.described name) later more = refl
+left_same any.passed later more = refl
+left_same any.ended later more = absurd (more refl)
+
+fault_is : (behind : TakerState → List Answer) (begun : Bool) (state : TakerState) (fault : ContainerFault) →
+    chosen behind begun (told state) (Err fault ∷ []) ≡ put (Some (fault_given begun fault)) (behind (told state))
+unfolding chosen
+fault_is behind begun state fault = refl
 
 -- a fault that was given, or memory was refused
-given_fault : (n n' : ℕ) (all later : List Answer) (given : Option Answer) (bytes : List ℕ) (f : CaptureFault) →
+given_fault : (n n' : ℕ) (all later other : List Answer) (given : Option Answer) (bytes : List ℕ) (f : CaptureFault) →
     all ≡ put given later → IsGiven given bytes (Err f) →
-    IsRefusal {A = ⊤} n n' (Err f) ⊎ IsNext (Some all) (Err f) (Some later)
-given_fault n n' all later given bytes fault.Memory is gives = inl tt
-given_fault n n' all later given bytes fault.Magic is gives = inr (is ∙ ap (λ g. put g later) gives)
-given_fault n n' all later given bytes fault.LinkType is gives = inr (is ∙ ap (λ g. put g later) gives)
-given_fault n n' all later given bytes fault.Truncated is gives = inr (is ∙ ap (λ g. put g later) gives)
-given_fault n n' all later given bytes fault.TooLong is gives = inr (is ∙ ap (λ g. put g later) gives)
-given_fault n n' all later given bytes fault.Read is gives = inr (is ∙ ap (λ g. put g later) gives)
-given_fault n n' all later given bytes fault.Failed is gives = inr (is ∙ ap (λ g. put g later) gives)
-given_fault n n' all later given bytes fault.Block is gives = inr (is ∙ ap (λ g. put g later) gives)
-given_fault n n' all later given bytes fault.Time is gives = inr (is ∙ ap (λ g. put g later) gives)
-given_fault n n' all later given bytes (fault.Vlans one other) is gives = inr (is ∙ ap (λ g. put g later) gives)
-given_fault n n' all later given bytes (fault.Interfaces one other) is gives = inr (is ∙ ap (λ g. put g later) gives)
-given_fault n n' all later given bytes (fault.InterfaceNames one other) is gives = inr (is ∙ ap (λ g. put g later) gives)
-given_fault n n' all later given bytes (fault.LinkNumber number) is gives = inr (is ∙ ap (λ g. put g later) gives)
+    IsRefusal {A = ⊤} n n' (Err f) ⊎ IsNext (Some all) (Err f) (Some other)
+given_fault n n' all later other given bytes fault.Magic is gives = inr (is ∙ ap (λ g. put g later) gives)
+given_fault n n' all later other given bytes fault.LinkType is gives = inr (is ∙ ap (λ g. put g later) gives)
+given_fault n n' all later other given bytes fault.Truncated is gives = inr (is ∙ ap (λ g. put g later) gives)
+given_fault n n' all later other given bytes fault.TooLong is gives = inr (is ∙ ap (λ g. put g later) gives)
+given_fault n n' all later other given bytes fault.Read is gives = inr (is ∙ ap (λ g. put g later) gives)
+given_fault n n' all later other given bytes fault.Failed is gives = inr (is ∙ ap (λ g. put g later) gives)
+given_fault n n' all later other given bytes fault.Block is gives = inr (is ∙ ap (λ g. put g later) gives)
+given_fault n n' all later other given bytes fault.Time is gives = inr (is ∙ ap (λ g. put g later) gives)
+given_fault n n' all later other given bytes (fault.Vlans one two) is gives = inr (is ∙ ap (λ g. put g later) gives)
+given_fault n n' all later other given bytes (fault.Interfaces one two) is gives = inr (is
+    ∙ ap (λ g. put g later) gives)
+given_fault n n' all later other given bytes (fault.InterfaceNames one two) is gives = inr (is
+    ∙ ap (λ g. put g later) gives)
+given_fault n n' all later other given bytes (fault.LinkNumber number) is gives = inr (is ∙ ap (λ g. put g later) gives)
+given_fault n n' all later other given bytes fault.Gzip is gives = inr (is ∙ ap (λ g. put g later) gives)
+given_fault n n' all later other given bytes fault.Memory is gives = inl tt
 
 -- one piece was read, and gave this
-one_step : (n n' : ℕ) (choice : Choice) (begun : Bool) (first first' : Option Origin)
-    (old new : Option (List pieces.Answer)) (files : Option (List (List ℕ))) (reported : any.EventSeen) (bytes : List ℕ)
-    (result : Result (Option Event) CaptureFault) → (reported ≡ any.ended → ⊥) →
-    next.IsNext old (Ok reported) new → first' ≡ first_then choice first (Ok reported) →
-    IsGiven (event_given choice first reported) bytes result →
-    Steps n n' (chosen_known choice begun first old files) (chosen_known choice true first' new files) bytes result
-one_step n n' choice begun first first' None new files reported bytes (Ok None) more is after gives = tt
-one_step n n' choice begun first first' None new files reported bytes (Ok (Some event)) more is after gives = tt
-one_step n n' choice begun first first' None new files reported bytes (Err f) more is after gives = inr tt
-one_step n n' choice begun first first' (Some xs) None files reported bytes result more is after gives = absurd is
-one_step n n' choice begun first first' (Some xs) (Some ys) None reported bytes (Ok None) more is after gives = tt
-one_step n n' choice begun first first' (Some xs) (Some ys) None reported bytes (Ok (Some event)) more is after gives = tt
-one_step n n' choice begun first first' (Some xs) (Some ys) None reported bytes (Err f) more is after gives = inr tt
-one_step n n' choice begun first first' (Some xs) (Some ys) (Some files) reported bytes result more is after gives =
-    let behind = next_files choice files in
-    by result gives
-    (ap (chosen choice behind begun first) is ∙ put_is choice behind begun first reported ys more
-    ∙ ap (λ f. put (event_given choice first reported) (chosen choice behind true f ys)) (sym after))
+one_step : (n n' : ℕ) (begun : Bool) (state state' : TakerState) (old new : Option (List pieces.Answer))
+    (files : Option (List (List ℕ))) (reported : any.EventSeen) (bytes : List ℕ) (it : Option Event) →
+    (reported ≡ any.ended → ⊥) → next.IsNext old (Ok reported) new → state' ≡ state_after (told state) reported →
+    IsGiven (event_given (told state) reported) bytes (Ok it) →
+    Steps n n' (chosen_known begun (told state) old files) (chosen_known true state' new files) bytes (Ok it)
+one_step n n' begun state state' None new files reported bytes None more is after gives = tt
+one_step n n' begun state state' None new files reported bytes (Some event) more is after gives = tt
+one_step n n' begun state state' (Some xs) None files reported bytes it more is after gives = absurd is
+one_step n n' begun state state' (Some xs) (Some ys) None reported bytes None more is after gives = tt
+one_step n n' begun state state' (Some xs) (Some ys) None reported bytes (Some event) more is after gives = tt
+one_step n n' begun state state' (Some xs) (Some ys) (Some files) reported bytes it more is after gives =
+    let behind = next_files files in
+    by it gives
+    (ap (chosen behind begun (told state)) is ∙ put_is behind begun state reported ys
+    ∙ ap (λ l. put (event_given (told state) reported) (chosen behind true (state_after (told state) reported) l))
+    (left_same reported ys more)
+    ∙ ap (λ s. put (event_given (told state) reported) (chosen behind true s ys)) (sym after))
   where
-    by : (result : Result (Option Event) CaptureFault) → IsGiven (event_given choice first reported) bytes result →
-        chosen choice (next_files choice files) begun first xs
-        ≡ put (event_given choice first reported) (chosen choice (next_files choice files) true first' ys) →
-        Steps n n' (Some (chosen choice (next_files choice files) begun first xs))
-        (Some (chosen choice (next_files choice files) true first' ys)) bytes result
-    by (Ok None) gives all =
-        ap Some (sym (all ∙ ap (λ g. put g (chosen choice (next_files choice files) true first' ys)) gives))
-    by (Ok (Some event)) gives all = all ∙ ap (λ g. put g (chosen choice (next_files choice files) true first' ys)) gives
-    by (Err f) gives all =
-        given_fault n n' (chosen choice (next_files choice files) begun first xs)
-        (chosen choice (next_files choice files) true first' ys) (event_given choice first reported) bytes f all gives
+    by : (it : Option Event) → IsGiven (event_given (told state) reported) bytes (Ok it) →
+        chosen (next_files files) begun (told state) xs
+        ≡ put (event_given (told state) reported) (chosen (next_files files) true state' ys) →
+        Steps n n' (Some (chosen (next_files files) begun (told state) xs))
+        (Some (chosen (next_files files) true state' ys)) bytes (Ok it)
+    by None gives all = ap Some (sym (all ∙ ap (λ g. put g (chosen (next_files files) true state' ys)) gives))
+    by (Some event) gives all = all ∙ ap (λ g. put g (chosen (next_files files) true state' ys)) gives
+
+-- one piece was read, and gave a fault
+one_fault : (n n' : ℕ) (begun : Bool) (state state' : TakerState) (old new : Option (List pieces.Answer))
+    (files : Option (List (List ℕ))) (reported : any.EventSeen) (bytes : List ℕ) (f : CaptureFault) →
+    next.IsNext old (Ok reported) new → IsGiven (event_given (told state) reported) bytes (Err f) →
+    IsRefusal {A = ⊤} n n' (Err f)
+    ⊎ IsNext (chosen_known begun (told state) old files) (Err f) (chosen_known true state' new files)
+one_fault n n' begun state state' None new files reported bytes f is gives = inr tt
+one_fault n n' begun state state' (Some xs) None files reported bytes f is gives = absurd is
+one_fault n n' begun state state' (Some xs) (Some ys) None reported bytes f is gives = inr tt
+one_fault n n' begun state state' (Some xs) (Some ys) (Some files) reported bytes f is gives =
+    let behind = next_files files in
+    given_fault n n' (chosen behind begun (told state) xs)
+    (chosen behind true (state_after (told state) reported) (left_after reported ys)) (chosen behind true state' ys)
+    (event_given (told state) reported) bytes f
+    (ap (chosen behind begun (told state)) is ∙ put_is behind begun state reported ys) gives
 
 pub not_end : (event : piece.ContainerEvent) (bytes : List ℕ) → is_end event ≡ false → any.event_seen bytes event ≡ any.ended → ⊥
 not_end (piece_kind.Packet millis origin ip) bytes is same = cc
-not_end (piece_kind.Skipped millis why) bytes is same = cc
+not_end (piece_kind.Fragment millis origin ip part) bytes is same = cc
+not_end (piece_kind.Skipped millis origin why) bytes is same = cc
 not_end piece_kind.Untimed bytes is same = cc
 not_end piece_kind.Section bytes is same = cc
 not_end (piece_kind.Interface name) bytes is same = cc
 not_end piece_kind.Passed bytes is same = cc
 not_end piece_kind.End bytes is same = false≢true (sym is)
 
-pub stepped : (n n' : ℕ) (cut begun : Bool) (choice choice' : Choice) (first first' : Option Origin)
-    (old new : Option (List pieces.Answer)) (files : Option (List (List ℕ))) (event : piece.ContainerEvent) (seen bytes : List ℕ)
-    (result : Result (Option Event) CaptureFault) → cut ≡ false → is_end event ≡ false →
-    ⊥ ⊎ next.IsNext old (Ok (any.event_seen seen event)) new → choice' ≡ choice →
-    first' ≡ first_then choice first (Ok (any.event_seen seen event)) →
-    IsGiven (event_given choice first (any.event_seen seen event)) bytes result →
-    Steps n n' (chosen_known choice begun first (unless_cut cut old) files)
-    (chosen_known choice' true first' (unless_cut cut new) files) bytes result
-stepped n n' cut begun choice choice' first first' old new files event seen bytes result uncut more (inl never) same after
-    gives = absurd never
-stepped n n' cut begun choice choice' first first' old new files event seen bytes result uncut more (inr is) same after
-    gives =
-    subst (λ c. Steps n n' (chosen_known choice begun first (unless_cut c old) files)
-    (chosen_known choice' true first' (unless_cut c new) files) bytes result) (sym uncut)
-    (subst (λ it. Steps n n' (chosen_known choice begun first old files) (chosen_known it true first' new files) bytes result)
-    (sym same) (one_step n n' choice begun first first' old new files (any.event_seen seen event) bytes result
-    (not_end event seen more) is after gives))
+module _ (n n' : ℕ) (cut begun : Bool) (state state' state'' : TakerState) (old new : Option (List pieces.Answer))
+    (files : Option (List (List ℕ))) (event : piece.ContainerEvent) (seen bytes : List ℕ) (uncut : cut ≡ false)
+    (none : news state ≡ None) (same : state' ≡ told state)
+    (is : ⊥ ⊎ next.IsNext old (Ok (any.event_seen seen event)) new) where
+  coming_told : chosen_known begun state (unless_cut cut old) files ≡ chosen_known begun (told state) old files
+  coming_told = ap (λ c. chosen_known begun state (unless_cut c old) files) uncut
+      ∙ known_told begun state old files none
+
+  next_is : next.IsNext old (Ok (any.event_seen seen event)) new
+  next_is = by is
+    where
+      by : ⊥ ⊎ next.IsNext old (Ok (any.event_seen seen event)) new →
+          next.IsNext old (Ok (any.event_seen seen event)) new
+      by (inl never) = absurd never
+      by (inr is) = is
+
+  later_is : chosen_known true state'' (unless_cut cut new) files ≡ chosen_known true state'' new files
+  later_is = ap (λ c. chosen_known true state'' (unless_cut c new) files) uncut
+
+  pub stepped : (it : Option Event) → is_end event ≡ false → state'' ≡ state_after state' (any.event_seen seen event) →
+      IsGiven (event_given state' (any.event_seen seen event)) bytes (Ok it) →
+      Steps n n' (chosen_known begun state (unless_cut cut old) files)
+      (chosen_known true state'' (unless_cut cut new) files) bytes (Ok it)
+  stepped it more after gives =
+      subst (λ all. Steps n n' all (chosen_known true state'' (unless_cut cut new) files) bytes (Ok it)) (sym
+      coming_told)
+      (subst (λ later. Steps n n' (chosen_known begun (told state) old files) later bytes (Ok it)) (sym later_is)
+      (one_step n n' begun state state'' old new files (any.event_seen seen event) bytes it (not_end event seen
+      more) next_is
+      (after ∙ ap (λ s. state_after s (any.event_seen seen event)) same)
+      (subst (λ s. IsGiven (event_given s (any.event_seen seen event)) bytes (Ok it)) same gives)))
+
+  pub stepped_fault : (f : CaptureFault) → IsGiven (event_given state' (any.event_seen seen event)) bytes (Err f) →
+      IsRefusal {A = ⊤} n n' (Err f)
+      ⊎ IsNext (chosen_known begun state (unless_cut cut old) files) (Err f)
+      (chosen_known true state'' (unless_cut cut new) files)
+  stepped_fault f gives =
+      subst (λ all. IsRefusal {A = ⊤} n n' (Err f) ⊎ IsNext all (Err f) (chosen_known true state'' (unless_cut cut
+      new) files))
+      (sym coming_told)
+      (subst (λ later. IsRefusal {A = ⊤} n n' (Err f) ⊎ IsNext (chosen_known begun (told state) old files) (Err f)
+      later)
+      (sym later_is)
+      (one_fault n n' begun state state'' old new files (any.event_seen seen event) bytes f next_is
+      (subst (λ s. IsGiven (event_given s (any.event_seen seen event)) bytes (Err f)) same gives)))
 
 -- ---- the end of a file
 
 -- the file was cut before
-pub after_cut : (choice : Choice) (begun cut : Bool) (first : Option Origin) (left : Option (List pieces.Answer))
-    (files : Option (List (List ℕ))) (answer : Answer) (later : Option (List Answer)) → cut ≡ true →
-    IsNext (chosen_known choice begun first (none_left (unless_cut cut left)) files) answer later →
-    IsNext (chosen_known choice begun first (unless_cut cut left) files) answer later
-after_cut choice begun true first left files answer later is goes = goes
-after_cut choice begun false first left files answer later is goes = absurd (false≢true is)
+pub after_cut : (begun cut : Bool) (state state' : TakerState) (left : Option (List pieces.Answer))
+    (files : Option (List (List ℕ))) (answer : Answer) (later : Option (List Answer)) → cut ≡ true → news state ≡ None →
+    state' ≡ told state →
+    IsNext (chosen_known begun state' (none_left (unless_cut cut left)) files) answer later →
+    IsNext (chosen_known begun state (unless_cut cut left) files) answer later
+after_cut begun true state state' left files answer later is none same goes =
+    subst (λ all. IsNext all answer later)
+    (ap (λ s. chosen_known begun s (Some []) files) same ∙ sym (known_told begun state (Some []) files none)) goes
+after_cut begun false state state' left files answer later is none same goes = absurd (false≢true is)
 
-at_last : (choice : Choice) (begun : Bool) (first : Option Origin) (old new : Option (List pieces.Answer))
+at_last : (begun : Bool) (state : TakerState) (old new : Option (List pieces.Answer))
     (files : Option (List (List ℕ))) (reported : any.EventSeen) (answer : Answer) (later : Option (List Answer)) →
-    reported ≡ any.ended → next.IsNext old (Ok reported) new →
-    IsNext (chosen_known choice true first (none_left new) files) answer later →
-    IsNext (chosen_known choice begun first old files) answer later
-unfolding chosen
-at_last choice begun first None new files reported answer later ends is goes = tt
-at_last choice begun first (Some xs) None files reported answer later ends is goes = absurd is
-at_last choice begun first (Some xs) (Some ys) None reported answer later ends is goes = tt
-at_last choice begun first (Some xs) (Some ys) (Some files) reported answer later ends is goes =
-    let all : xs ≡ Ok any.ended ∷ [] = is ∙ ap (λ t. next.in_front (Ok t) ys) ends in
-    subst (λ l. IsNext (Some (chosen choice (next_files choice files) begun first l)) answer later) (sym all) goes
+    reported ≡ any.ended → next.IsNext old (Ok reported) new → ending_given state.link ≡ None →
+    IsNext (chosen_known true (told state) (none_left new) files) answer later →
+    IsNext (chosen_known begun (told state) old files) answer later
+at_last begun state None new files reported answer later ends is gives goes = tt
+at_last begun state (Some xs) None files reported answer later ends is gives goes = absurd is
+at_last begun state (Some xs) (Some ys) None reported answer later ends is gives goes = tt
+at_last begun state (Some xs) (Some ys) (Some files) reported answer later ends is gives goes =
+    let behind = next_files files in
+    subst (λ l. IsNext (Some l) answer later)
+    (sym (ap (chosen behind begun (told state)) (is ∙ ap (λ t. next.in_front (Ok t) ys) ends)
+    ∙ put_is behind begun state any.ended ys ∙ ap (λ g. put g (chosen behind true (told state) [])) gives)) goes
 
 end_seen : (event : piece.ContainerEvent) (bytes : List ℕ) → is_end event ≡ true → any.event_seen bytes event ≡ any.ended
 end_seen (piece_kind.Packet millis origin ip) bytes is = absurd (false≢true is)
-end_seen (piece_kind.Skipped millis why) bytes is = absurd (false≢true is)
+end_seen (piece_kind.Fragment millis origin ip part) bytes is = absurd (false≢true is)
+end_seen (piece_kind.Skipped millis origin why) bytes is = absurd (false≢true is)
 end_seen piece_kind.Untimed bytes is = absurd (false≢true is)
 end_seen piece_kind.Section bytes is = absurd (false≢true is)
 end_seen (piece_kind.Interface name) bytes is = absurd (false≢true is)
 end_seen piece_kind.Passed bytes is = absurd (false≢true is)
 end_seen piece_kind.End bytes is = refl
 
+-- the end of a file gives a fault or nothing
+ends_given : (link : FileLink) (bytes : List ℕ) (it : Option Event) → IsGiven (ending_given link) bytes (Ok it) →
+    ending_given link ≡ None
+ends_given Unmet bytes it gives = refl
+ends_given Met bytes it gives = refl
+ends_given (Unread number) bytes None gives = gives
+ends_given (Unread number) bytes (Some event) gives = absurd cc
+
+-- the state at the end of a file
+pub ended_state : (state state' state'' : TakerState) (event : piece.ContainerEvent) (seen : List ℕ) →
+    is_end event ≡ true → state' ≡ told state →
+    state'' ≡ state_after state' (any.event_seen seen event) → state'' ≡ told state
+ended_state state state' state'' event seen ends same after = after
+    ∙ ap (state_after state') (end_seen event seen ends) ∙ same
+
 -- the end of the file was read
-pub after_end : (choice : Choice) (begun cut : Bool) (first : Option Origin) (old new : Option (List pieces.Answer))
-    (files : Option (List (List ℕ))) (event : piece.ContainerEvent) (seen : List ℕ) (answer : Answer)
-    (later : Option (List Answer)) → cut ≡ false → is_end event ≡ true →
-    ⊥ ⊎ next.IsNext old (Ok (any.event_seen seen event)) new →
-    IsNext (chosen_known choice true first (none_left (unless_cut cut new)) files) answer later →
-    IsNext (chosen_known choice begun first (unless_cut cut old) files) answer later
-after_end choice begun cut first old new files event seen answer later uncut ends (inl never) goes = absurd never
-after_end choice begun true first old new files event seen answer later uncut ends (inr is) goes =
-    absurd (false≢true (sym uncut))
-after_end choice begun false first old new files event seen answer later uncut ends (inr is) goes =
-    at_last choice begun first old new files (any.event_seen seen event) answer later (end_seen event seen ends) is goes
+pub after_end : (begun cut : Bool) (state state' state'' : TakerState) (old new : Option (List pieces.Answer))
+    (files : Option (List (List ℕ))) (event : piece.ContainerEvent) (seen bytes : List ℕ) (it : Option Event)
+    (answer : Answer) (later : Option (List Answer)) → cut ≡ false → is_end event ≡ true → news state ≡ None →
+    state' ≡ told state → ⊥ ⊎ next.IsNext old (Ok (any.event_seen seen event)) new →
+    state'' ≡ state_after state' (any.event_seen seen event) →
+    IsGiven (event_given state' (any.event_seen seen event)) bytes (Ok it) →
+    IsNext (chosen_known true state'' (none_left (unless_cut cut new)) files) answer later →
+    IsNext (chosen_known begun state (unless_cut cut old) files) answer later
+after_end begun cut state state' state'' old new files event seen bytes it answer later uncut ends none same (inl never)
+    after gives goes = absurd never
+after_end begun true state state' state'' old new files event seen bytes it answer later uncut ends none same (inr is)
+    after gives goes = absurd (false≢true (sym uncut))
+after_end begun false state state' state'' old new files event seen bytes it answer later uncut ends none same (inr is)
+    after gives goes =
+    subst (λ all. IsNext all answer later) (sym (known_told begun state old files none))
+    (at_last begun state old new files (any.event_seen seen event) answer later (end_seen event seen ends) is
+    (ends_given state.link bytes it
+    (subst (λ s. IsGiven (event_given s any.ended) bytes (Ok it)) same
+    (subst (λ r. IsGiven (event_given state' r) bytes (Ok it)) (end_seen event seen ends) gives)))
+    (subst (λ s. IsNext (chosen_known true s (none_left new) files) answer later)
+    (ended_state state state' state'' event seen ends same after) goes))
 
 -- no file follows
-pub no_file : (choice : Choice) (begun : Bool) (first : Option Origin) (left : Option (List pieces.Answer))
-    (files : Option (List (List ℕ))) → files ≡ Some [] →
-    IsNext (chosen_known choice begun first (none_left left) files) (Ok ended) (chosen_known choice begun first left files)
+pub no_file : (begun : Bool) (state : TakerState) (left : Option (List pieces.Answer)) (files : Option (List (List
+    ℕ))) →
+    files ≡ Some [] → state.is_told ≡ true →
+    IsNext (chosen_known begun state (none_left left) files) (Ok ended) (chosen_known begun state left files)
 unfolding chosen next_files
-no_file choice begun first left None is = absurd cc
-no_file choice begun first None (Some files) is = tt
-no_file choice begun first (Some left) (Some []) is = refl
-no_file choice begun first (Some left) (Some (file ∷ files)) is = absurd cc
+no_file begun state left None is told = absurd cc
+no_file begun state None (Some files) is told = tt
+no_file begun state (Some left) (Some []) is told = ap (λ n. put (of_news n) (Ok ended ∷ [])) (no_news state told)
+no_file begun state (Some left) (Some (file ∷ files)) is told = absurd cc
 
 -- the next file follows
-next_known : (choice : Choice) (begun : Bool) (first : Option Origin) (left : Option (List pieces.Answer))
-    (file : Option (List ℕ)) (files : Option (List (List ℕ))) →
-    IsNext (chosen_known choice begun first (none_left left) (known_too file files)) (Ok (skipped 0 NextFile))
-    (chosen_known choice false first (option_map pieces.answers file) files)
+next_known : (begun : Bool) (state : TakerState) (left : Option (List pieces.Answer)) (file : Option (List ℕ))
+    (files : Option (List (List ℕ))) → state.is_told ≡ true →
+    IsNext (chosen_known begun state (none_left left) (known_too file files)) (Ok (skipped 0 NextFile))
+    (chosen_known true (in_next_file state) (option_map pieces.answers file) files)
 unfolding chosen next_files
-next_known choice begun first None file files = tt
-next_known choice begun first (Some left) None files = tt
-next_known choice begun first (Some left) (Some file) None = tt
-next_known choice begun first (Some left) (Some file) (Some files) = refl
+next_known begun state None file files is = tt
+next_known begun state (Some left) None files is = tt
+next_known begun state (Some left) (Some file) None is = tt
+next_known begun state (Some left) (Some file) (Some files) is =
+    ap (λ n. put (of_news n) (next_files (file ∷ files) (told state))) (no_news state is)
+    ∙ ap (λ s. Ok (skipped 0 NextFile) ∷ chosen (next_files files) true (in_next_file s) (pieces.answers file))
+    (same_told state is)
 
-pub next_file : (choice : Choice) (begun : Bool) (first : Option Origin) (left begins_now : Option (List pieces.Answer))
+pub next_file : (begun : Bool) (state state' : TakerState) (left begins_now : Option (List pieces.Answer))
     (file : Option (List ℕ)) (files files' all : Option (List (List ℕ))) → begins_now ≡ option_map pieces.answers file →
-    files' ≡ files → all ≡ known_too file files →
-    IsNext (chosen_known choice begun first (none_left left) all) (Ok (skipped 0 NextFile))
-    (chosen_known choice false first begins_now files')
-next_file choice begun first left begins_now file files files' all begins same are =
-    subst (λ (a : Option (List (List ℕ))). IsNext (chosen_known choice begun first (none_left left) a)
-    (Ok (skipped 0 NextFile)) (chosen_known choice false first begins_now files')) (sym are)
-    (subst (λ (f : Option (List (List ℕ))). IsNext (chosen_known choice begun first (none_left left) (known_too file files))
-    (Ok (skipped 0 NextFile)) (chosen_known choice false first begins_now f)) (sym same)
+    files' ≡ files → all ≡ known_too file files → state.is_told ≡ true → state' ≡ in_next_file state →
+    IsNext (chosen_known begun state (none_left left) all) (Ok (skipped 0 NextFile))
+    (chosen_known true state' begins_now files')
+next_file begun state state' left begins_now file files files' all begins same are is goes =
+    subst (λ (a : Option (List (List ℕ))). IsNext (chosen_known begun state (none_left left) a)
+    (Ok (skipped 0 NextFile)) (chosen_known true state' begins_now files')) (sym are)
+    (subst (λ (f : Option (List (List ℕ))). IsNext (chosen_known begun state (none_left left) (known_too file files))
+    (Ok (skipped 0 NextFile)) (chosen_known true state' begins_now f)) (sym same)
     (subst (λ (n : Option (List pieces.Answer)). IsNext
-    (chosen_known choice begun first (none_left left) (known_too file files)) (Ok (skipped 0 NextFile))
-    (chosen_known choice false first n files)) (sym begins) (next_known choice begun first left file files)))
+    (chosen_known begun state (none_left left) (known_too file files)) (Ok (skipped 0 NextFile))
+    (chosen_known true state' n files)) (sym begins)
+    (subst (λ s. IsNext (chosen_known begun state (none_left left) (known_too file files)) (Ok (skipped 0 NextFile))
+    (chosen_known true s (option_map pieces.answers file) files)) (sym goes)
+    (next_known begun state left file files is))))
 
 -- the container has a fault
 refused : (n n' m m' : ℕ) (f : ContainerFault) → Moves n n' m m' → next.IsRefusal {A = piece.ContainerEvent} n n' (Err f) →
     IsRefusal {A = ⊤} m m' (Err (fault_of f))
 refused n n' m m' of_any.Magic moves is = absurd is
+refused n n' m m' of_any.Gzip moves is = absurd is
 refused n n' m m' (of_any.LinkType number) moves is = absurd is
 refused n n' m m' of_any.Truncated moves is = absurd is
 refused n n' m m' of_any.TooLong moves is = absurd is
@@ -210,6 +371,7 @@ refused n n' m m' of_any.Failed moves is = absurd is
 cut_is_read : (n n' : ℕ) (begun : Bool) (f : ContainerFault) → is_cut begun f ≡ true →
     next.IsRefusal {A = piece.ContainerEvent} n n' (Err f) → ⊥
 cut_is_read n n' begun of_any.Magic cut is = is
+cut_is_read n n' begun of_any.Gzip cut is = is
 cut_is_read n n' begun (of_any.LinkType number) cut is = is
 cut_is_read n n' begun of_any.Truncated cut is = is
 cut_is_read n n' begun of_any.TooLong cut is = is
@@ -219,42 +381,46 @@ cut_is_read n n' begun of_any.Read cut is = false≢true cut
 cut_is_read n n' begun of_any.Memory cut is = false≢true cut
 cut_is_read n n' begun of_any.Failed cut is = is
 
-fails_by : (n n' m m' : ℕ) (b begun : Bool) (choice : Choice) (first : Option Origin) (old new : Option (List pieces.Answer))
+fails_by : (n n' m m' : ℕ) (b begun : Bool) (state : TakerState) (old new : Option (List pieces.Answer))
     (files : Option (List (List ℕ))) (f : ContainerFault) (bytes : List ℕ) → is_cut begun f ≡ b → Moves n n' m m' →
     next.IsRefusal {A = piece.ContainerEvent} n n' (Err f) ⊎ next.IsNext old (Err f) new →
-    Steps m m' (chosen_known choice begun first old files) (chosen_known choice begun first (unless_cut b new) files)
+    Steps m m' (chosen_known begun (told state) old files) (chosen_known begun (told state) (unless_cut b new) files)
     bytes (failed b f)
 unfolding chosen
-fails_by n n' m m' false begun choice first old new files f bytes cut moves (inl is) = inl (refused n n' m m' f moves is)
-fails_by n n' m m' false begun choice first None new files f bytes cut moves (inr is) = inr tt
-fails_by n n' m m' false begun choice first (Some xs) None files f bytes cut moves (inr is) = absurd is
-fails_by n n' m m' false begun choice first (Some xs) (Some ys) None f bytes cut moves (inr is) = inr tt
-fails_by n n' m m' false begun choice first (Some xs) (Some ys) (Some files) f bytes cut moves (inr is) =
-    let behind = next_files choice files in
-    inr (ap (chosen choice behind begun first) is ∙ fault_is choice behind begun first f
-    ∙ ap (λ (c : Bool). put (Some (if c then Ok (skipped 0 CutShort) else Err (fault_of f))) (behind first)) cut)
-fails_by n n' m m' true begun choice first old new files f bytes cut moves (inl is) = absurd (cut_is_read n n' begun f cut is)
-fails_by n n' m m' true begun choice first None new files f bytes cut moves (inr is) = tt
-fails_by n n' m m' true begun choice first (Some xs) None files f bytes cut moves (inr is) = absurd is
-fails_by n n' m m' true begun choice first (Some xs) (Some ys) None f bytes cut moves (inr is) = tt
-fails_by n n' m m' true begun choice first (Some xs) (Some ys) (Some files) f bytes cut moves (inr is) =
-    let behind = next_files choice files in
-    ap (chosen choice behind begun first) is ∙ fault_is choice behind begun first f
-    ∙ ap (λ (c : Bool). put (Some (if c then Ok (skipped 0 CutShort) else Err (fault_of f))) (behind first)) cut
+fails_by n n' m m' false begun state old new files f bytes cut moves (inl is) = inl (refused n n' m m' f moves is)
+fails_by n n' m m' false begun state None new files f bytes cut moves (inr is) = inr tt
+fails_by n n' m m' false begun state (Some xs) None files f bytes cut moves (inr is) = absurd is
+fails_by n n' m m' false begun state (Some xs) (Some ys) None f bytes cut moves (inr is) = inr tt
+fails_by n n' m m' false begun state (Some xs) (Some ys) (Some files) f bytes cut moves (inr is) =
+    let behind = next_files files in
+    inr (ap (chosen behind begun (told state)) is ∙ fault_is behind begun state f
+    ∙ ap (λ (c : Bool). put (Some (if c then Ok (skipped 0 CutShort) else Err (fault_of f))) (behind (told state))) cut)
+fails_by n n' m m' true begun state old new files f bytes cut moves (inl is) = absurd (cut_is_read n n' begun f cut is)
+fails_by n n' m m' true begun state None new files f bytes cut moves (inr is) = tt
+fails_by n n' m m' true begun state (Some xs) None files f bytes cut moves (inr is) = absurd is
+fails_by n n' m m' true begun state (Some xs) (Some ys) None f bytes cut moves (inr is) = tt
+fails_by n n' m m' true begun state (Some xs) (Some ys) (Some files) f bytes cut moves (inr is) =
+    let behind = next_files files in
+    ap (chosen behind begun (told state)) is ∙ fault_is behind begun state f
+    ∙ ap (λ (c : Bool). put (Some (if c then Ok (skipped 0 CutShort) else Err (fault_of f))) (behind (told state))) cut
 
-pub fails : (n n' m m' : ℕ) (cut b begun : Bool) (choice : Choice) (first : Option Origin) (old new : Option (List pieces.Answer))
-    (files : Option (List (List ℕ))) (f : ContainerFault) (bytes : List ℕ) → cut ≡ false → is_cut begun f ≡ b → Moves n n' m m' →
+pub fails : (n n' m m' : ℕ) (cut b begun : Bool) (state state' : TakerState) (old new : Option (List pieces.Answer))
+    (files : Option (List (List ℕ))) (f : ContainerFault) (bytes : List ℕ) → cut ≡ false → is_cut begun f ≡ b →
+    news state ≡ None → state' ≡ told state → Moves n n' m m' →
     next.IsRefusal {A = piece.ContainerEvent} n n' (Err f) ⊎ next.IsNext old (Err f) new →
-    Steps m m' (chosen_known choice begun first (unless_cut cut old) files)
-    (chosen_known choice begun first (unless_cut b new) files) bytes (failed b f)
-fails n n' m m' cut b begun choice first old new files f bytes uncut is moves answer =
-    subst (λ c. Steps m m' (chosen_known choice begun first (unless_cut c old) files)
-    (chosen_known choice begun first (unless_cut b new) files) bytes (failed b f)) (sym uncut)
-    (fails_by n n' m m' b begun choice first old new files f bytes is moves answer)
+    Steps m m' (chosen_known begun state (unless_cut cut old) files)
+    (chosen_known begun state' (unless_cut b new) files) bytes (failed b f)
+fails n n' m m' cut b begun state state' old new files f bytes uncut is none same moves answer =
+    subst (λ all. Steps m m' all (chosen_known begun state' (unless_cut b new) files) bytes (failed b f))
+    (sym (ap (λ c. chosen_known begun state (unless_cut c old) files) uncut ∙ known_told begun state old files none))
+    (subst (λ s. Steps m m' (chosen_known begun (told state) old files) (chosen_known begun s (unless_cut b new)
+    files) bytes
+    (failed b f)) (sym same) (fails_by n n' m m' b begun state old new files f bytes is moves answer))
 
 fault_reads : (P : Type 0) (n n' m m' : ℕ) (f : ContainerFault) → Moves n n' m m' → next.CountsReads {A = piece.ContainerEvent} P n n' (Err f) →
     CountsReads {A = Option Event} ⊤ m m' (Err (fault_of f))
 fault_reads P n n' m m' of_any.Magic moves reads = moves.stays reads
+fault_reads P n n' m m' of_any.Gzip moves reads = moves.stays reads
 fault_reads P n n' m m' (of_any.LinkType number) moves reads = moves.stays reads
 fault_reads P n n' m m' of_any.Truncated moves reads = moves.stays reads
 fault_reads P n n' m m' of_any.TooLong moves reads = moves.stays reads
@@ -268,6 +434,7 @@ fault_reads P n n' m m' of_any.Failed moves reads = moves.stays reads
 cut_reads : (P : Type 0) (n n' : ℕ) (begun : Bool) (f : ContainerFault) → is_cut begun f ≡ true →
     next.CountsReads {A = piece.ContainerEvent} P n n' (Err f) → n' ≡ n
 cut_reads P n n' begun of_any.Magic is reads = reads
+cut_reads P n n' begun of_any.Gzip is reads = reads
 cut_reads P n n' begun (of_any.LinkType number) is reads = reads
 cut_reads P n n' begun of_any.Truncated is reads = reads
 cut_reads P n n' begun of_any.TooLong is reads = reads
@@ -298,19 +465,26 @@ no_reads m m' (Err (fault.Vlans one other)) same = same
 no_reads m m' (Err (fault.Interfaces one other)) same = same
 no_reads m m' (Err (fault.InterfaceNames one other)) same = same
 no_reads m m' (Err (fault.LinkNumber number)) same = same
+no_reads m m' (Err fault.Gzip) same = same
 
-pub fails_left : (old new more : ℕ) (cut b : Bool) (f : ContainerFault) → cut ≡ false → new ≡ 0 →
-    (new + cut_left b + more) + step_count (failed b f) ≤ old + cut_left cut + more
-fails_left old new more cut true f uncut over = let one : cut_left cut ≡ 1 = ap cut_left uncut in omega (arith, one, over)
-fails_left old new more cut false f uncut over = let one : cut_left cut ≡ 1 = ap cut_left uncut in omega (arith, one, over)
+bit_most : (b : Bool) → (if b then 0 else 1) ≤ 1
+bit_most true = omega arith
+bit_most false = omega arith
 
-pub fails_payload : (b : Bool) (f : ContainerFault) (bytes : List ℕ) → IfOk (failed b f) (λ it. IfSome it (PayloadLiesIn bytes))
-fails_payload true f bytes = tt
-fails_payload false f bytes = tt
+told_none : (state state' : TakerState) → state' ≡ told state → telling_left state' ≡ 0
+told_none state state' same = ap telling_left same
 
-pub fails_moment : (b : Bool) (f : ContainerFault) → IfOk (failed b f) (λ it. IfSome it (IsBy latest_moment))
-fails_moment true f = omega arith
-fails_moment false f = tt
+pub fails_left : (old new more : ℕ) (cut b : Bool) (state state' : TakerState) (f : ContainerFault) → cut ≡ false →
+    new ≡ 0 →
+    state' ≡ told state →
+    (new * 2 + cut_left b + telling_left state' + more) + step_count (failed b f) ≤ old * 2 + cut_left cut +
+    telling_left state + more
+fails_left old new more cut true state state' f uncut over same =
+    let one : cut_left cut ≡ 1 = ap cut_left uncut in
+    let none = told_none state state' same in omega (arith, one, over, none)
+fails_left old new more cut false state state' f uncut over same =
+    let one : cut_left cut ≡ 1 = ap cut_left uncut in
+    let none = told_none state state' same in omega (arith, one, over, none)
 
 step_one : (result : Result (Option Event) CaptureFault) → step_count result ≤ 1
 step_one (Ok None) = omega arith
@@ -319,29 +493,66 @@ step_one (Ok (Some (event.Packet millis ip))) = omega arith
 step_one (Ok (Some (event.Skipped millis why))) = omega arith
 step_one (Err f) = omega arith
 
+-- it was told
+pub told_left : (left more : ℕ) (state state' : TakerState) (event : Event) (reported : EventSeen) →
+    Some reported ≡ news state →
+    state' ≡ told state →
+    (left + telling_left state' + more) + step_count (Ok (Some event)) ≤ left + telling_left state + more
+told_left left more state state' event reported is same =
+    let none = told_none state state' same in
+    let one : telling_left state ≡ 1 = by state.is_told is in
+    let most = step_one (Ok (Some event)) in
+    omega (arith, none, one, most)
+  where
+    by : (b : Bool) → Some reported ≡ (if b then None else Some (skipped 0 (Incomplete (incomplete_of state)))) →
+        ◌≡◌ {A = ℕ} (if b then 0 else 1) 1
+    by true is = absurd cc
+    by false is = refl
+
+pub fails_payload : (b : Bool) (f : ContainerFault) (bytes : List ℕ) →
+    IfOk (failed b f) (λ it. IfSome it (PayloadLiesIn bytes))
+fails_payload true f bytes = tt
+fails_payload false f bytes = tt
+
+pub fails_moment : (b : Bool) (f : ContainerFault) → IfOk (failed b f) (λ it. IfSome it (IsBy latest_moment))
+fails_moment true f = omega arith
+fails_moment false f = tt
+
 fewer_by : (event : piece.ContainerEvent) (old new : ℕ) → is_end event ≡ false → (event ≡ piece_kind.End) ⊎ (new < old) → new < old
 fewer_by event old new more (inl ends) = absurd (false≢true (sym more ∙ ap is_end ends))
 fewer_by event old new more (inr less) = less
 
 -- a piece that isn't the end was read
-pub stepped_left : (old new more : ℕ) (cut : Bool) (event : piece.ContainerEvent) (result : Result (Option Event) CaptureFault) →
-    is_end event ≡ false → (event ≡ piece_kind.End) ⊎ (new < old) →
-    (new + cut_left cut + more) + step_count result ≤ old + cut_left cut + more
-stepped_left old new more cut event result is fewer =
+pub stepped_left : (old new more : ℕ) (cut : Bool) (state state' : TakerState) (event : piece.ContainerEvent)
+    (result : Result (Option Event) CaptureFault) → is_end event ≡ false → (event ≡ piece_kind.End) ⊎ (new < old) →
+    (new * 2 + cut_left cut + telling_left state' + more) + step_count result
+    ≤ old * 2 + cut_left cut + telling_left state + more
+stepped_left old new more cut state state' event result is fewer =
     let less = fewer_by event old new is fewer in
     let one = step_one result in
-    omega (arith, less, one)
+    let telling = bit_most state'.is_told in
+    omega (arith, less, one, telling)
 
 -- the end of the file was read
-pub ended_left : (state : ReaderState) (event : piece.ContainerEvent) (old : ℕ) → is_end event ≡ true → next.StaysOver (Ok event) state →
-    next.pieces_left state ≤ old
-ended_left state piece_kind.End old is over = let none : next.pieces_left state ≡ 0 = ap next.pieces_left over in omega (arith, none)
-ended_left state (piece_kind.Packet millis origin ip) old is over = absurd (false≢true is)
-ended_left state (piece_kind.Skipped millis why) old is over = absurd (false≢true is)
-ended_left state piece_kind.Untimed old is over = absurd (false≢true is)
-ended_left state piece_kind.Section old is over = absurd (false≢true is)
-ended_left state (piece_kind.Interface name) old is over = absurd (false≢true is)
-ended_left state piece_kind.Passed old is over = absurd (false≢true is)
+pub ended_left : (reader : ReaderState) (event : piece.ContainerEvent) (old : ℕ) → is_end event ≡ true →
+    next.StaysOver (Ok event) reader →
+    next.pieces_left reader ≤ old
+ended_left reader piece_kind.End old is over = let none : next.pieces_left reader ≡ 0 = ap next.pieces_left over in
+    omega (arith, none)
+ended_left reader (piece_kind.Packet millis origin ip) old is over = absurd (false≢true is)
+ended_left reader (piece_kind.Fragment millis origin ip part) old is over = absurd (false≢true is)
+ended_left reader (piece_kind.Skipped millis origin why) old is over = absurd (false≢true is)
+ended_left reader piece_kind.Untimed old is over = absurd (false≢true is)
+ended_left reader piece_kind.Section old is over = absurd (false≢true is)
+ended_left reader (piece_kind.Interface name) old is over = absurd (false≢true is)
+ended_left reader piece_kind.Passed old is over = absurd (false≢true is)
+
+-- the end of the file was read, and gave a fault
+pub ended_fault : (old new more : ℕ) (cut : Bool) (state state' state'' : TakerState) → new ≤ old →
+    state' ≡ told state → state'' ≡ state' →
+    (new * 2 + cut_left cut + telling_left state'' + more) + 0 ≤ old * 2 + cut_left cut + telling_left state + more
+ended_fault old new more cut state state' state'' less same after =
+    let none = told_none state state'' (after ∙ same) in omega (arith, less, none)
 
 -- ---- piece after piece
 

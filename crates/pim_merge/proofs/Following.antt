@@ -2,7 +2,6 @@
 use Rattle.pim_merge.proofs.Words.{◌≡◌, ◌≤◌, ◌<◌, ◌+◌, ℕ, List, [], ◌∷◌, length, get_or, set, drop, Option, None, Some}
 use Rattle.pim_merge.proofs.Words.{refl, ap, arith, option_map, drop_all, drop_more, drop-set-lt, Choice, known_too}
 use Rattle.pim_merge.proofs.Words.{all_known, answers_by, answers_of_files}
-use Rattle.pim_container.specs.Pieces as pieces
 
 module _ {R : Type 0} (remaining : R → Option (List ℕ)) (others : List R) (read : ℕ) where
   pub none_follow : length others ≤ read → all_known remaining (drop read others) ≡ Some []

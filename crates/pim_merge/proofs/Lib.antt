@@ -6,6 +6,7 @@ pub mod OneLink
 pub mod Sooner
 pub mod Stopped
 pub mod Taking
+pub mod Takers
 pub mod Tallies
 pub mod Turning
 pub mod Until

@@ -2,10 +2,10 @@
 use Rattle.pim_merge.proofs.Words.{◌≡◌, ◌∙◌, ◌⊎◌, ◌≤◌, ◌<◌, max, ℕ, zero, suc, Bool, true, false, nat_lt, if◌then◌else◌, IfOk}
 use Rattle.pim_merge.proofs.Words.{IfSome, List, [], ◌∷◌, drop, length, Option, None, Some, Result, Ok, Err, unwrap_or, refl, sym}
 use Rattle.pim_merge.proofs.Words.{ap, subst, arith, inl, inr, false≢true, common_steps, option_map, CaptureFault, Event, Answer}
-use Rattle.pim_merge.proofs.Words.{packet, skipped, ended, most_records, OnMemory, IsNext, IsRefusal, ContainerFault, Origin}
-use Rattle.pim_merge.proofs.Words.{Choice, ReaderState, is_section, event_given, first_then, put, chosen, next_files, IsGiven}
+use Rattle.pim_merge.proofs.Words.{packet, skipped, ended, most_records, OnMemory, IsNext, IsRefusal, ContainerFault}
+use Rattle.pim_merge.proofs.Words.{ReaderState, is_section, TakerState, event_given, state_after, is_fragment, news, told, put, chosen, next_files, IsGiven}
 use Rattle.pim_merge.proofs.Words.{is_end, failed, SomeExceeds, PassesNeeds, GrowsWithin, longest, Allocates, IsLonger}
-use Rattle.pim_merge.proofs.Words.{first_answer, needs_unless, StaysComing, chosen_known, unless_cut}
+use Rattle.pim_merge.proofs.Words.{first_answer, needs_unless, StaysComing, StaysFragment, begins_with_fragment, chosen_known, unless_cut}
 use Rattle.pim_capture.specs.declared.fault.CaptureFault.TheVariants as fault
 use Rattle.pim_container.specs.declared.link.BlockEndianness.TheVariants.{Big}
 use Rattle.pim_container.specs.declared.fault.ContainerFault.TheVariants as of_any
@@ -19,7 +19,7 @@ use Rattle.pim_container.specs.EventSeen as any
 use Rattle.pim_container.specs.Pieces as pieces
 use Rattle.pim_container.specs.Next as next
 use Rattle.pim_container.specs.Room.{Need, LacksRoom, GrowsBy, GrowsFor, GrowsList, length_in, first_length, next_length, count_in, DescribesFirst, DescribesNext, PassesNeed, describes, first_need, needs, needs_in, header_need, classic_needs}
-use Rattle.pim_merge.proofs.Choosing.{put_is, not_end, next_after}
+use Rattle.pim_merge.proofs.Choosing.{put_is, left_after, known_told, next_after}
 
 -- ---- a fault that isn't refused memory
 
@@ -37,6 +37,7 @@ memory_weaker A B (fault.Vlans one other) P Q h p = tt
 memory_weaker A B (fault.Interfaces one other) P Q h p = tt
 memory_weaker A B (fault.InterfaceNames one other) P Q h p = tt
 memory_weaker A B (fault.LinkNumber number) P Q h p = tt
+memory_weaker A B fault.Gzip P Q h p = tt
 
 pub memory_of : {A : Type 0} (r : Result A CaptureFault) (P Q : Type 0) → (P → Q) → OnMemory r P → OnMemory r Q
 memory_of (Ok value) P Q h p = tt
@@ -46,6 +47,7 @@ pub fails_memory : (b : Bool) (f : ContainerFault) (P Q : Type 0) → (P → Q) 
 fails_memory true f P Q h p = tt
 fails_memory false of_any.Memory P Q h p = h p
 fails_memory false of_any.Magic P Q h p = tt
+fails_memory false of_any.Gzip P Q h p = tt
 fails_memory false (of_any.LinkType n) P Q h p = tt
 fails_memory false of_any.Truncated P Q h p = tt
 fails_memory false of_any.TooLong P Q h p = tt
@@ -68,6 +70,7 @@ refused_as A B (fault.Vlans one other) n n' h = absurd h
 refused_as A B (fault.Interfaces one other) n n' h = absurd h
 refused_as A B (fault.InterfaceNames one other) n n' h = absurd h
 refused_as A B (fault.LinkNumber number) n n' h = absurd h
+refused_as A B fault.Gzip n n' h = absurd h
 
 -- a fault after some pieces that gave no record
 pub failed_after : (A B : Type 0) (f : CaptureFault) (n n' n'' : ℕ) (all now later : Option (List Answer)) → n' ≡ n → StaysComing all now → IsRefusal {A = A} n' n'' (Err f) ⊎ IsNext now (Err f) later
@@ -165,15 +168,50 @@ within_same room (Some all) = omega arith
 
 -- ---- a piece that gives no record
 
-pub passes_given : (choice : Choice) (first : Option Origin) (e : piece.ContainerEvent) (bytes : List ℕ) (old new : Option (List Need)) → event_given choice first (any.event_seen bytes e) ≡ None → is_end e ≡ false
+pub passes_given : (state : TakerState) (e : piece.ContainerEvent) (bytes : List ℕ) (old new : Option (List Need)) →
+    event_given state (any.event_seen bytes e) ≡ None → is_end e ≡ false
     → PassesNeed e old new → PassesNeeds old new
-passes_given choice first (piece_kind.Packet millis origin ip) bytes old new none more h = absurd cc
-passes_given choice first (piece_kind.Skipped millis why) bytes old new none more h = absurd cc
-passes_given choice first piece_kind.Untimed bytes old new none more h = absurd cc
-passes_given choice first piece_kind.Section bytes old new none more h = h
-passes_given choice first (piece_kind.Interface name) bytes old new none more h = h
-passes_given choice first piece_kind.Passed bytes old new none more h = h
-passes_given choice first piece_kind.End bytes old new none more h = absurd (false≢true (sym more))
+passes_given state (piece_kind.Packet millis origin ip) bytes old new none more h = absurd cc
+passes_given state (piece_kind.Fragment millis origin ip part) bytes old new none more h = absurd cc
+passes_given state (piece_kind.Skipped millis origin why) bytes old new none more h = absurd cc
+passes_given state piece_kind.Untimed bytes old new none more h = absurd cc
+passes_given state piece_kind.Section bytes old new none more h = h
+passes_given state (piece_kind.Interface name) bytes old new none more h = h
+passes_given state piece_kind.Passed bytes old new none more h = h
+passes_given state piece_kind.End bytes old new none more h = absurd (false≢true (sym more))
+
+-- what follows such a piece begins with a fragment as before
+fragment_passes : (state : TakerState) (e : piece.ContainerEvent) (bytes : List ℕ) (later : List pieces.Answer) →
+    event_given state (any.event_seen bytes e) ≡ None → is_end e ≡ false
+    → begins_with_fragment (next.in_front (Ok (any.event_seen bytes e)) later) ≡ begins_with_fragment later
+unfolding begins_with_fragment
+fragment_passes state (piece_kind.Packet millis origin ip) bytes later none more = absurd cc
+fragment_passes state (piece_kind.Fragment millis origin ip part) bytes later none more = absurd cc
+fragment_passes state (piece_kind.Skipped millis origin why) bytes later none more = absurd cc
+fragment_passes state piece_kind.Untimed bytes later none more = absurd cc
+fragment_passes state piece_kind.Section bytes later none more = refl
+fragment_passes state (piece_kind.Interface name) bytes later none more = refl
+fragment_passes state piece_kind.Passed bytes later none more = refl
+fragment_passes state piece_kind.End bytes later none more = absurd (false≢true (sym more))
+
+fragment_stays : (state : TakerState) (old new : Option (List pieces.Answer)) (e : piece.ContainerEvent) (bytes :
+    List ℕ) → event_given state (any.event_seen bytes e) ≡ None → is_end e ≡ false
+    → next.IsNext old (Ok (any.event_seen bytes e)) new → StaysFragment (option_map begins_with_fragment old)
+    (option_map begins_with_fragment new)
+fragment_stays state None new e bytes none more is = tt
+fragment_stays state (Some xs) None e bytes none more is = absurd is
+fragment_stays state (Some xs) (Some ys) e bytes none more is = ap Some (sym (ap begins_with_fragment is
+    ∙ fragment_passes state e bytes ys none more))
+
+pub stays_fragment : (cut : Bool) (state : TakerState) (old new : Option (List pieces.Answer)) (e :
+    piece.ContainerEvent) (bytes : List ℕ) → cut ≡ false → event_given state (any.event_seen bytes e) ≡ None →
+    is_end e ≡ false
+    → ⊥ ⊎ next.IsNext old (Ok (any.event_seen bytes e)) new → StaysFragment (option_map begins_with_fragment
+    (unless_cut cut old)) (option_map begins_with_fragment (unless_cut cut new))
+stays_fragment cut state old new e bytes uncut none more (inl never) = absurd never
+stays_fragment cut state old new e bytes uncut none more (inr is) =
+    subst (λ c. StaysFragment (option_map begins_with_fragment (unless_cut c old)) (option_map begins_with_fragment
+    (unless_cut c new))) (sym uncut) (fragment_stays state old new e bytes none more is)
 
 lacks_less : (p p' : ℕ) (size : Option ℕ) → p ≤ p' → LacksRoom p' (Some size) → LacksRoom p (Some size)
 lacks_less p p' None le h = h
@@ -204,15 +242,19 @@ longer_less r r' (Some (Ok (packet millis bytes datagram))) le h = let less : r'
 longer_less r r' (Some (Ok (skipped millis why))) le h = h
 longer_less r r' (Some (Ok ended)) le h = h
 
-asks_back : (r r' p p' l l' : ℕ) (all later : Option (List Answer)) (needs needs' : Option (List Need)) → r ≤ r' → p ≤ p' → l ≤ l' → StaysComing all later → PassesNeeds needs needs'
-    → Allocates r' p' l' later needs' → Allocates r p l all needs
-asks_back r r' p p' l l' None later ns ns' a b c stays passes h = inl tt
-asks_back r r' p p' l l' (Some xs) later ns ns' a b c stays passes (inl h) =
+asks_back : (r r' p p' l l' : ℕ) (all later : Option (List Answer)) (needs needs' : Option (List Need)) (fragment
+    fragment' : Option Bool) → r ≤ r' → p ≤ p' → l ≤ l' → StaysComing all later → PassesNeeds needs needs'
+    → StaysFragment fragment fragment' → Allocates r' p' l' later needs' fragment' → Allocates r p l all needs fragment
+asks_back r r' p p' l l' None later ns ns' f f' a b c stays passes keeps h = inl tt
+asks_back r r' p p' l l' (Some xs) later ns ns' f f' a b c stays passes keeps (inl h) =
     inl (longer_less r r' (first_answer xs) a (subst (λ (it : Option (List Answer)). IfSome it (λ answers. IsLonger r' (first_answer answers))) stays h))
-asks_back r r' p p' l l' (Some xs) later None ns' a b c stays passes (inr h) = inr tt
-asks_back r r' p p' l l' (Some xs) later (Some ns) ns' a b c stays passes (inr h) =
+asks_back r r' p p' l l' (Some xs) later None ns' f f' a b c stays passes keeps (inr (inl h)) = inr (inl tt)
+asks_back r r' p p' l l' (Some xs) later (Some ns) ns' f f' a b c stays passes keeps (inr (inl h)) =
     let left : SomeExceeds p' l' (drop 1 ns) = subst (λ (it : Option (List Need)). IfSome it (SomeExceeds p' l')) passes h in
-    inr (exceeds_less p p' l l' ns b c (exceeds_later p' l' ns left))
+    inr (inl (exceeds_less p p' l l' ns b c (exceeds_later p' l' ns left)))
+asks_back r r' p p' l l' (Some xs) later ns ns' None f' a b c stays passes keeps (inr (inr h)) = inr (inr tt)
+asks_back r r' p p' l l' (Some xs) later ns ns' (Some f) f' a b c stays passes keeps (inr (inr h)) =
+    inr (inr (subst (λ (it : Option Bool). IfSome it (λ (is : Bool). is ≡ true)) keeps h))
 
 within_back : (p p' p'' : ℕ) (needs needs' : Option (List Need)) → GrowsWithin p p' needs → PassesNeeds needs needs' → GrowsWithin p' p'' needs' → GrowsWithin p p'' needs
 within_back p p' p'' None needs' g passes g' = tt
@@ -225,21 +267,29 @@ within_back p p' p'' (Some ns) needs' g passes g' =
 -- ---- piece after piece
 
 -- Some pieces were read that gave no record. What is asked for from here on was so from the start.
-pub record HasHeld (r r' p p' l l' : ℕ) (all later : Option (List Answer)) (needs needs' : Option (List Need)) : Type 0 where
-  pub asks : Allocates r' p' l' later needs' → Allocates r p l all needs
+pub record HasHeld (r r' p p' l l' : ℕ) (all later : Option (List Answer)) (needs needs' : Option (List Need))
+    (fragment fragment' : Option Bool) : Type 0 where
+  pub asks : Allocates r' p' l' later needs' fragment' → Allocates r p l all needs fragment
   pub grown : GrowsWithin p p' needs
   pub within : (top : ℕ) → GrowsWithin p' top needs' → GrowsWithin p top needs
 
-pub begin_holding : (r p l : ℕ) (all : Option (List Answer)) (needs : Option (List Need)) → HasHeld r r p p l l all all needs needs
-begin_holding r p l all needs = record { asks = λ h. h; grown = within_same p needs; within = λ top g. g }
+pub begin_holding : (r p l : ℕ) (all : Option (List Answer)) (needs : Option (List Need)) (fragment : Option Bool) →
+    HasHeld r r p p l l all all needs needs fragment fragment
+begin_holding r p l all needs fragment = record { asks = λ h. h; grown = within_same p needs; within = λ top g. g }
 
-pub hold_more : (r r' r'' p p' p'' l l' l'' : ℕ) (all now later : Option (List Answer)) (needs needs' needs'' : Option (List Need)) → HasHeld r r' p p' l l' all now needs needs'
-    → StaysComing now later → PassesNeeds needs' needs'' → GrowsWithin p' p'' needs' → (p' ≤ p'') × (l' ≤ l'') × (r' ≤ r'') → HasHeld r r'' p p'' l l'' all later needs needs''
-hold_more r r' r'' p p' p'' l l' l'' all now later needs needs' needs'' has stays passes grown le = record {
-  asks = λ h. has.asks (asks_back r' r'' p' p'' l' l'' now later needs' needs'' le.2 le.0 le.1 stays passes h);
-  grown = has.within p'' grown;
-  within = λ top g. has.within top (within_back p' p'' top needs' needs'' grown passes g);
-}
+pub hold_more : (r r' r'' p p' p'' l l' l'' : ℕ) (all now later : Option (List Answer)) (needs needs' needs'' :
+    Option (List Need)) (fragment fragment' fragment'' : Option Bool)
+    → HasHeld r r' p p' l l' all now needs needs' fragment fragment'
+    → StaysComing now later → PassesNeeds needs' needs'' → StaysFragment fragment' fragment'' →
+    GrowsWithin p' p'' needs' → (p' ≤ p'') × (l' ≤ l'') × (r' ≤ r'')
+    → HasHeld r r'' p p'' l l'' all later needs needs'' fragment fragment''
+hold_more r r' r'' p p' p'' l l' l'' all now later needs needs' needs'' fragment fragment' fragment'' has stays
+    passes keeps grown le = record {
+      asks = λ h. has.asks (asks_back r' r'' p' p'' l' l'' now later needs' needs'' fragment' fragment'' le.2 le.0 le.1
+          stays passes keeps h);
+      grown = has.within p'' grown;
+      within = λ top g. has.within top (within_back p' p'' top needs' needs'' grown passes g);
+    }
 
 -- ---- the bytes of a record
 
@@ -250,24 +300,60 @@ longer_given r (Some (Ok (packet millis bytes datagram))) later h = h
 longer_given r (Some (Ok (skipped millis why))) later h = absurd h
 longer_given r (Some (Ok ended)) later h = absurd h
 
-longer_known : (r p l : ℕ) (choice : Choice) (begun : Bool) (first : Option Origin) (old new : Option (List pieces.Answer)) (files : Option (List (List ℕ))) (reported : any.EventSeen) (needs : Option (List Need))
-    → (reported ≡ any.ended → ⊥) → next.IsNext old (Ok reported) new → IsLonger r (event_given choice first reported) → Allocates r p l (chosen_known choice begun first old files) needs
-longer_known r p l choice begun first None new files reported needs more is h = inl tt
-longer_known r p l choice begun first (Some xs) None files reported needs more is h = absurd is
-longer_known r p l choice begun first (Some xs) (Some ys) None reported needs more is h = inl tt
-longer_known r p l choice begun first (Some xs) (Some ys) (Some files) reported needs more is h =
-    let behind = next_files choice files in
-    let all = ap (chosen choice behind begun first) is ∙ put_is choice behind begun first reported ys more in
+longer_known : (r p l : ℕ) (begun : Bool) (state : TakerState) (old new : Option (List pieces.Answer)) (files :
+    Option (List (List ℕ))) (reported : any.EventSeen) (needs : Option (List Need)) (fragment : Option Bool)
+    → next.IsNext old (Ok reported) new → IsLonger r (event_given (told state) reported) →
+    Allocates r p l (chosen_known begun (told state) old files) needs fragment
+longer_known r p l begun state None new files reported needs fragment is h = inl tt
+longer_known r p l begun state (Some xs) None files reported needs fragment is h = absurd is
+longer_known r p l begun state (Some xs) (Some ys) None reported needs fragment is h = inl tt
+longer_known r p l begun state (Some xs) (Some ys) (Some files) reported needs fragment is h =
+    let behind = next_files files in
+    let all = ap (chosen behind begun (told state)) is ∙ put_is behind begun state reported ys in
     inl (subst (λ it. IsLonger r (first_answer it)) (sym all)
-    (longer_given r (event_given choice first reported) (chosen choice behind true (first_then choice first (Ok reported)) ys) h))
+    (longer_given r (event_given (told state) reported) (chosen behind true (state_after (told state) reported)
+    (left_after reported ys)) h))
 
-pub asks_record : (r p l : ℕ) (cut begun : Bool) (choice : Choice) (first : Option Origin) (old new : Option (List pieces.Answer)) (files : Option (List (List ℕ))) (e : piece.ContainerEvent) (seen : List ℕ)
-    (needs : Option (List Need)) → cut ≡ false → is_end e ≡ false → ⊥ ⊎ next.IsNext old (Ok (any.event_seen seen e)) new → IsLonger r (event_given choice first (any.event_seen seen e))
-    → Allocates r p l (chosen_known choice begun first (unless_cut cut old) files) needs
-asks_record r p l cut begun choice first old new files e seen needs uncut more (inl never) h = absurd never
-asks_record r p l cut begun choice first old new files e seen needs uncut more (inr is) h =
-    subst (λ c. Allocates r p l (chosen_known choice begun first (unless_cut c old) files) needs) (sym uncut)
-    (longer_known r p l choice begun first old new files (any.event_seen seen e) needs (not_end e seen more) is h)
+fragment_begins : (reported : any.EventSeen) (later : List pieces.Answer) → is_fragment reported ≡ true →
+    begins_with_fragment (next.in_front (Ok reported) later) ≡ true
+unfolding begins_with_fragment
+fragment_begins (any.packet millis origin datagram) later is = absurd (false≢true is)
+fragment_begins (any.fragment millis origin datagram part) later is = refl
+fragment_begins (any.skipped millis origin why) later is = absurd (false≢true is)
+fragment_begins any.untimed later is = absurd (false≢true is)
+fragment_begins any.section later is = absurd (false≢true is)
+fragment_begins (any.described name) later is = absurd (false≢true is)
+fragment_begins any.passed later is = absurd (false≢true is)
+fragment_begins any.ended later is = absurd (false≢true is)
+
+fragment_known : (old new : Option (List pieces.Answer)) (reported : any.EventSeen) →
+    next.IsNext old (Ok reported) new → is_fragment reported ≡ true →
+    IfSome (option_map begins_with_fragment old) (λ (it : Bool). it ≡ true)
+fragment_known None new reported is h = tt
+fragment_known (Some xs) None reported is h = absurd is
+fragment_known (Some xs) (Some ys) reported is h = ap begins_with_fragment is ∙ fragment_begins reported ys h
+
+pub asks_record : (r p l : ℕ) (cut begun : Bool) (state state' : TakerState) (old new : Option (List pieces.Answer))
+    (files : Option (List (List ℕ))) (e : piece.ContainerEvent) (seen : List ℕ)
+    (needs : Option (List Need)) → cut ≡ false → news state ≡ None → state' ≡ told state →
+    ⊥ ⊎ next.IsNext old (Ok (any.event_seen seen e)) new
+    → IsLonger r (event_given state' (any.event_seen seen e)) ⊎ (is_fragment (any.event_seen seen e) ≡ true)
+    → Allocates r p l (chosen_known begun state (unless_cut cut old) files) needs (option_map begins_with_fragment
+    (unless_cut cut old))
+asks_record r p l cut begun state state' old new files e seen needs uncut none same (inl never) h = absurd never
+asks_record r p l cut begun state state' old new files e seen needs uncut none same (inr is) h =
+    subst (λ c. Allocates r p l (chosen_known begun state (unless_cut c old) files) needs (option_map
+    begins_with_fragment (unless_cut c old))) (sym uncut) (by h)
+  where
+    by : IsLonger r (event_given state' (any.event_seen seen e)) ⊎ (is_fragment (any.event_seen seen e) ≡ true) →
+        Allocates r p l (chosen_known begun state old files) needs (option_map begins_with_fragment old)
+    by (inl longer) =
+        subst (λ all. Allocates r p l all needs (option_map begins_with_fragment old)) (sym (known_told begun state
+        old files none))
+        (longer_known r p l begun state old new files (any.event_seen seen e) needs (option_map begins_with_fragment
+        old) is
+        (subst (λ s. IsLonger r (event_given s (any.event_seen seen e))) same longer))
+    by (inr part) = inr (inr (fragment_known old new (any.event_seen seen e) is part))
 
 -- ---- the needs of a file that isn't cut
 
@@ -279,10 +365,10 @@ passes_uncut cut old new uncut h = subst (λ c. PassesNeeds (needs_unless c old)
 
 -- ---- the result of a step
 
-pub given_none : (given : Option Answer) (bytes : List ℕ) (result : Result (Option Event) CaptureFault) → IsGiven given bytes result → IfOk result (λ it. it ≡ None → given ≡ None)
-given_none given bytes (Ok None) h = λ none. h
-given_none given bytes (Ok (Some event)) h = λ none. absurd cc
-given_none given bytes (Err f) h = tt
+pub given_none : (given : Option Answer) (bytes : List ℕ) (it : Option Event) → IsGiven given bytes (Ok it) →
+    it ≡ None → given ≡ None
+given_none given bytes None h none = h
+given_none given bytes (Some event) h none = absurd cc
 
 pub if_ok : {A : Type 0} (r : Result A CaptureFault) (P : A → Type 0) → ((a : A) → P a) → IfOk r P
 if_ok (Ok a) P h = h a
@@ -296,7 +382,8 @@ grows_up (Some (Some size)) old new (inr g) = omega (arith, g)
 
 pub list_up : (e : piece.ContainerEvent) (count old new : ℕ) → GrowsList e count old new → old ≤ new
 list_up (piece_kind.Packet millis origin ip) count old new g = omega (arith, g)
-list_up (piece_kind.Skipped millis why) count old new g = omega (arith, g)
+list_up (piece_kind.Fragment millis origin ip part) count old new g = omega (arith, g)
+list_up (piece_kind.Skipped millis origin why) count old new g = omega (arith, g)
 list_up piece_kind.Untimed count old new g = omega (arith, g)
 list_up piece_kind.Section count old new g = omega (arith, g)
 list_up (piece_kind.Interface name) count old new (inl g) = omega (arith, g.1)

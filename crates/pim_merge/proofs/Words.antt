@@ -15,10 +15,11 @@ pub use Rattle.pim_capture.specs.Next.{stated_length}
 pub use Rattle.pim_capture.specs.declared.event.Event.{Event}
 pub use Rattle.pim_capture.specs.declared.event.Event.TheVariants.{End, Packet, Skipped}
 pub use Rattle.pim_capture.specs.declared.event.Why.{Why}
-pub use Rattle.pim_capture.specs.declared.event.Why.TheVariants.{BadHeader, Cut, CutShort, Fragment, LinkType}
-pub use Rattle.pim_capture.specs.declared.event.Why.TheVariants.{NextFile, NoTime, NotChosen, NotIp, NotPim}
+pub use Rattle.pim_capture.specs.declared.event.Why.TheVariants.{BadHeader, Copy, Cut, CutShort, Fragment, Incomplete, LinkType}
+pub use Rattle.pim_capture.specs.declared.event.Why.TheVariants.{NextFile, NoTime, NotChosen, NotIp, NotPim, Part}
 pub use Rattle.pim_capture.specs.declared.fault.CaptureFault.{CaptureFault}
 pub use Rattle.pim_capture.specs.declared.header.Format.{Format}
+pub use Rattle.pim_capture.specs.declared.incomplete.RecordPlace.{RecordPlace}
 pub use Rattle.pim_container.specs.Block.{is_section}
 pub use Rattle.pim_container.specs.Choice.{choice_of, first_after, first_of, is_same_vlan, judge_origin}
 pub use Rattle.pim_container.specs.Next.{coming}
@@ -53,8 +54,8 @@ unfoldable pub use Rattle.pim_merge.specs.Census.{stars_with}
 unfoldable pub use Rattle.pim_merge.specs.CensusPlaces.{place_of}
 pub use Rattle.pim_merge.specs.CensusSlots.{field_of, same_star}
 unfoldable pub use Rattle.pim_merge.specs.CensusSlots.{added}
-pub use Rattle.pim_merge.specs.Chosen.{all_failures, all_known, answers_by, answers_of_files, event_given}
-pub use Rattle.pim_merge.specs.Chosen.{fault_given, fault_of, first_then, is_cut, known_too, packet_given, put}
+pub use Rattle.pim_merge.specs.Chosen.{all_failures, all_known, answers_by, answers_of_files}
+pub use Rattle.pim_merge.specs.Chosen.{fault_given, fault_of, given, is_cut, known_too, put, state_then}
 unfoldable pub use Rattle.pim_merge.specs.Chosen.{chosen, next_files}
 pub use Rattle.pim_merge.specs.Content.{content_in, datagram_in, ends_in, ends_seen, holds, of_other_family}
 pub use Rattle.pim_merge.specs.Lane.{FailsAt, HadAll, HasFailed, IsComing, IsFailedHead, IsLooked, KeepRooms}
@@ -66,8 +67,8 @@ pub use Rattle.pim_merge.specs.Looks.{IsReadOrRefused, StillComes}
 pub use Rattle.pim_merge.specs.Merge.{Outcome, Taken, after_turn, behind_head, clock_after, clock_by, ending, ends}
 pub use Rattle.pim_merge.specs.Merge.{event_rank, event_time, fails, head_of, is_past, moment_of, numbered}
 pub use Rattle.pim_merge.specs.Merge.{or_fault, rank_of, sooner, taken, takes, time_by, turn_at, turn_by, turn_or}
-pub use Rattle.pim_merge.specs.Merge.{until}
-unfoldable pub use Rattle.pim_merge.specs.Merge.{IsMerge, IsMergeBy, earliest_from, fault_from, turn}
+pub use Rattle.pim_merge.specs.Merge.{never, past_at, turn, until}
+unfoldable pub use Rattle.pim_merge.specs.Merge.{IsMerge, IsMergeBy, earliest_from, fault_from, turn_ranked}
 pub use Rattle.pim_merge.specs.Missing.{has}
 unfoldable pub use Rattle.pim_merge.specs.Missing.{first_without_rp}
 pub use Rattle.pim_merge.specs.Next.{CountsFailures, GivesTurn, GivesTurnBy, IsCause, IsFailed, IsNumbered}
@@ -78,8 +79,11 @@ unfoldable pub use Rattle.pim_merge.specs.OneLink.{all_as_any}
 pub use Rattle.pim_merge.specs.Source.{Allocates, GrowsWithin, IsGiven, IsLonger, PassesNeeds, StaysComing, Steps}
 pub use Rattle.pim_merge.specs.Source.{chosen_failures, chosen_known, chosen_left, cut_left, failed, first_answer}
 pub use Rattle.pim_merge.specs.Source.{is_end, later_of, left_of_file, needs_unless, none_left, piece_capacity}
-pub use Rattle.pim_merge.specs.Source.{places, read_coming, read_needs, step_count, unless_cut}
-unfoldable pub use Rattle.pim_merge.specs.Source.{SomeExceeds, longest}
+pub use Rattle.pim_merge.specs.Source.{places, read_coming, read_needs, step_count, telling_left, unless_cut}
+pub use Rattle.pim_merge.specs.Source.{StaysFragment, read_fragment}
+unfoldable pub use Rattle.pim_merge.specs.Source.{SomeExceeds, begins_with_fragment, longest}
+pub use Rattle.pim_merge.specs.Taker.{TakerState, ending_given, event_given, in_next_file, incomplete_of, news}
+pub use Rattle.pim_merge.specs.Taker.{is_fragment, state_after, told}
 pub use Rattle.pim_merge.specs.Tally.{next_place, no_tally, place_next, tallies_with, tally_after, tally_at}
 pub use Rattle.pim_merge.specs.Tally.{tally_taken}
 unfoldable pub use Rattle.pim_merge.specs.Tally.{tallies_after}
@@ -87,4 +91,3 @@ pub use Rattle.pim_merge.specs.declared.census.StarJoin.{StarJoin}
 pub use Rattle.pim_merge.specs.declared.clock.Clock.{Clock}
 pub use Rattle.pim_merge.specs.declared.merge.MergeFault.{MergeFault}
 pub use Rattle.pim_merge.specs.declared.merge.Turn.{Turn}
-pub use Rattle.pim_merge.specs.declared.tally.RecordPlace.{RecordPlace}

@@ -117,7 +117,7 @@ HadAll lane = HadAllIf lane.passes lane.left
 
 -- The head of the capture wasn't read, and its buffer has less room than that record needs. Any
 -- container has less room for the record, for a piece up to it, or for an interface described
--- there.
+-- there; or the record is a fragment, for which it asks for room.
 abbrev pub LacksHeadRoom : LaneState → Type 0
 LacksHeadRoom lane =
     (lane.head ≡ None) × LacksRoom lane.room lane.size × AllocatesIf lane.passes lane.behind lane.store
@@ -129,14 +129,15 @@ KeepsRoom old new =
     ((new.room ≡ old.room) ⊎ (new.room ≡ max old.room (length new.bytes)))
     × GrowsWithin old.store.piece_room new.store.piece_room old.store.needs
 
--- The time by which a head is taken, if it was read and is a record.
-abbrev pub rank_at : Option EventSeen → Option ℕ
-rank_at None = None
-rank_at (Some reported) = event_rank reported
+-- The rank by which a head is taken, if it was read and is a record, where `past` says which times
+-- are later than the end.
+abbrev pub rank_at : (ℕ → Bool) → Option EventSeen → Option ℕ
+rank_at past None = None
+rank_at past (Some reported) = event_rank past reported
 
--- The time by which the head of a capture is taken, if it was read and is a record.
-abbrev pub head_rank : LaneState → Option ℕ
-head_rank lane = rank_at lane.head
+-- The same of the head of a capture.
+abbrev pub head_rank : (ℕ → Bool) → LaneState → Option ℕ
+head_rank past lane = rank_at past lane.head
 
 -- The time of a head, if it was read and has one.
 abbrev pub time_at : Option EventSeen → Option ℕ
@@ -179,7 +180,7 @@ no_lane = record {
   room = 0;
   is_over = false;
   size = Some None;
-  store = begun_store (Some []);
+  store = begun_store (Some []) (Some false);
   tally = no_tally;
 }
 

@@ -1,5 +1,6 @@
 pub mod Merge
 pub mod Tally
+pub mod Taker
 pub mod Chosen
 pub mod Source
 pub mod Lane

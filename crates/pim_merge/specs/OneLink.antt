@@ -11,7 +11,7 @@ use Rattle.pim_capture.specs.Capture.{EventSeen, packet, skipped, ended, Answer,
 use Rattle.pim_capture.specs.Header.{judge_header}
 use Rattle.pim_capture.specs.Next.{in_front}
 use Rattle.pim_container.specs.declared.choice.Choice.{Choice}
-use Rattle.pim_container.specs.Agreement.{lacks_further_tags}
+use Rattle.pim_container.specs.Agreement.{has_plain_frames}
 use Rattle.pim_container.specs.Block.{is_section}
 use Rattle.pim_container.specs.EventSeen as any
 use Rattle.pim_container.specs.Pieces as pieces
@@ -52,7 +52,7 @@ all_as_any (answer ∷ later) = in_front (as_any answer) (all_as_any later)
 abbrev pub OneLinkIsReadAlike : Type 0
 OneLinkIsReadAlike = (bytes : List ℕ) (format : Format) (vlan : Vlan) → is_section bytes ≡ false
     → judge_header (take 24 bytes) ≡ Ok format
-    → lacks_further_tags most_records format (drop 24 bytes) ≡ true
+    → has_plain_frames most_records format (drop 24 bytes) ≡ true
     → AllByRecursion (IsOfVlan vlan) (pieces.answers bytes)
     → answers_by no_choice bytes ≡ all_as_any (answers bytes)
 

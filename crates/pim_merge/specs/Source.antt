@@ -1,7 +1,7 @@
 -- What contracts see of the source of a lane: a classic capture, or any container with a choice.
 use Rattle.std.specs.Prelude.{◌≡◌, ◌+◌, ◌*◌, ◌⊎◌, ⊤, ℕ, Bool, true, false, List, [], ◌∷◌, Option, None, Some, Result, Ok}
-use Rattle.std.specs.Prelude.{Err, drop, length, ◌<◌, ◌≤◌, max, unwrap_or, vec_capacity}
-use Rattle.std.specs.Option.{IfSome}
+use Rattle.std.specs.Prelude.{Err, drop, length, ◌<◌, ◌≤◌, max, unwrap_or, vec_capacity, if◌then◌else◌}
+use Rattle.std.specs.Option.{IfSome, option_map}
 use Rattle.pim_capture.specs.declared.fault.CaptureFault.{CaptureFault}
 use Rattle.pim_capture.specs.declared.fault.CaptureFault.TheVariants as fault
 use Rattle.pim_capture.specs.declared.event.Event.{Event}
@@ -11,7 +11,6 @@ use Rattle.pim_capture.specs.declared.event.Event.TheVariants.{Packet, Skipped, 
 use Rattle.pim_capture.specs.declared.event.Why.TheVariants.{CutShort}
 use Rattle.pim_capture.specs.Capture.{Answer, packet}
 use Rattle.pim_capture.specs.Next as classic
-use Rattle.pim_container.specs.Choice.{choice_of, first_of}
 use Rattle.pim_container.specs.Next as any
 use Rattle.pim_container.specs.Room as pieces_room
 use Rattle.pim_container.specs.Room.{Need, Exceeds}
@@ -22,8 +21,8 @@ use Rattle.pim_merge.specs.declared.source.Source.TheVariants.{Classic, Any}
 use Rattle.pim_container.specs.Pieces as pieces
 use Rattle.pim_container.specs.declared.event.ContainerEvent as piece
 use Rattle.pim_container.specs.declared.event.ContainerEvent.TheVariants as piece_kind
-use Rattle.pim_container.specs.declared.event.Origin.{Origin}
-use Rattle.pim_container.specs.declared.choice.Choice.{Choice}
+use Rattle.pim_container.specs.EventSeen as of_any
+use Rattle.pim_merge.specs.Taker.{TakerState}
 use Rattle.pim_merge.specs.Chosen.{chosen, next_files, all_known, all_failures, fault_of}
 
 -- The results of the container that are left of the file that is read: these, or none if it ended
@@ -41,18 +40,17 @@ abbrev pub later_of : {R : Type 0} → Chosen R → List R
 later_of it = drop it.files_read it.others.items
 
 -- The results for what is left of a file, and for the files after it, if both are known.
-abbrev pub chosen_known : Choice → Bool → Option Origin → Option (List pieces.Answer) → Option (List (List ℕ)) →
+abbrev pub chosen_known : Bool → TakerState → Option (List pieces.Answer) → Option (List (List ℕ)) →
     Option (List Answer)
-chosen_known choice begun first None files = None
-chosen_known choice begun first (Some left) None = None
-chosen_known choice begun first (Some left) (Some files) =
-    Some (chosen choice (next_files choice files) begun first left)
+chosen_known begun state None files = None
+chosen_known begun state (Some left) None = None
+chosen_known begun state (Some left) (Some files) = Some (chosen (next_files files) begun state left)
 
 -- The results that a container has to return for its choice, as long as it returned no fault, if
 -- the bytes of its devices are known.
 abbrev pub read_coming : {R : Type 0} → (R → Option (List ℕ)) → Chosen R → Option (List Answer)
-read_coming remaining it = chosen_known (choice_of it.chooser) it.is_begun (first_of it.chooser)
-    (left_of_file remaining it) (all_known remaining (later_of it))
+read_coming remaining it =
+    chosen_known it.is_begun it.taker (left_of_file remaining it) (all_known remaining (later_of it))
 
 -- Nothing is left, where that is known.
 abbrev pub none_left : Option (List pieces.Answer) → Option (List pieces.Answer)
@@ -61,8 +59,8 @@ none_left (Some left) = Some []
 
 -- The same at the end of the file that is read.
 abbrev pub coming_at_end : {R : Type 0} → (R → Option (List ℕ)) → Chosen R → Option (List Answer)
-coming_at_end remaining it = chosen_known (choice_of it.chooser) it.is_begun (first_of it.chooser)
-    (none_left (left_of_file remaining it)) (all_known remaining (later_of it))
+coming_at_end remaining it =
+    chosen_known it.is_begun it.taker (none_left (left_of_file remaining it)) (all_known remaining (later_of it))
 
 -- A call returned a fault.
 abbrev pub chosen_is_over : {R : Type 0} → Chosen R → Bool
@@ -86,10 +84,16 @@ abbrev pub cut_left : Bool → ℕ
 cut_left false = 1
 cut_left true = 0
 
--- The number of pieces that may still be read. A further file has 4294967297, one for a record
--- inside which it ends, and one for its beginning.
+-- 1 for what isn't told of incomplete packets.
+abbrev pub telling_left : TakerState → ℕ
+telling_left state = if state.is_told then 0 else 1
+
+-- The number of results that may still come: two for each piece that may still be read. A further
+-- file has 4294967296 pieces, one result for a record inside which it ends, and one for its
+-- beginning.
 abbrev pub chosen_left : {R : Type 0} → Chosen R → ℕ
-chosen_left it = any.pieces_left (any.state_of it.reader) + cut_left it.is_cut + length (later_of it) * 4294967298
+chosen_left it = any.pieces_left (any.state_of it.reader) * 2 + cut_left it.is_cut + telling_left it.taker
+    + length (later_of it) * 8589934594
 
 -- ---- either
 
@@ -172,21 +176,54 @@ abbrev pub first_answer : List Answer → Option Answer
 first_answer [] = None
 first_answer (answer ∷ later) = Some answer
 
+-- The first record of a container is a fragment, where this is its first result, and this says so of
+-- the others.
+abbrev pub fragment_first : pieces.Answer → Bool → Bool
+fragment_first (Ok (of_any.fragment millis origin datagram part)) later = true
+fragment_first (Ok of_any.section) later = later
+fragment_first (Ok (of_any.described name)) later = later
+fragment_first (Ok of_any.passed) later = later
+fragment_first _ later = false
+
+-- The first record among these results of a container is a fragment.
+unfoldable pub begins_with_fragment : List pieces.Answer → Bool
+begins_with_fragment [] = false
+begins_with_fragment (answer ∷ later) = fragment_first answer (begins_with_fragment later)
+
+-- The next record is a fragment, if that is known, as long as no call returned a fault.
+abbrev pub read_fragment : {R : Type 0} → (R → Option (List ℕ)) → Chosen R → Option Bool
+read_fragment remaining it = option_map begins_with_fragment (left_of_file remaining it)
+
+-- This, unless a call returned a fault.
+abbrev pub fragment_unless : Bool → Option Bool → Option Bool
+fragment_unless false fragment = fragment
+fragment_unless true fragment = Some false
+
+-- The next record is a fragment, if that is known.
+abbrev pub chosen_fragment : {R : Type 0} → (R → Option (List ℕ)) → Chosen R → Option Bool
+chosen_fragment remaining it = fragment_unless (chosen_is_over it) (read_fragment remaining it)
+
+-- It stays known whether the next record is a fragment.
+abbrev pub StaysFragment : Option Bool → Option Bool → Type 0
+StaysFragment old new = IfSome old (λ it. new ≡ Some it)
+
 -- What memory is asked for up to the next record: room for the bytes of the record, room for a
--- piece, or a place for an interface. It says nothing if the bytes of the devices aren't known.
-abbrev pub Allocates : ℕ → ℕ → ℕ → Option (List Answer) → Option (List Need) → Type 0
-Allocates bytes capacity room all needs =
+-- piece, a place for an interface, or room for a fragment. It says nothing if the bytes of the
+-- devices aren't known.
+abbrev pub Allocates : ℕ → ℕ → ℕ → Option (List Answer) → Option (List Need) → Option Bool → Type 0
+Allocates bytes capacity room all needs fragment =
     IfSome all (λ answers. IsLonger bytes (first_answer answers)) ⊎ IfSome needs (SomeExceeds capacity room)
+    ⊎ IfSome fragment (λ it. it ≡ true)
 
 -- The same of any container.
 abbrev pub ChosenAllocates : {R : Type 0} → (R → Option (List ℕ)) → ℕ → Chosen R → Type 0
-ChosenAllocates remaining room it =
-    Allocates room (piece_capacity it) (places it) (chosen_coming remaining it) (chosen_needs remaining it)
+ChosenAllocates remaining room it = Allocates room (piece_capacity it) (places it) (chosen_coming remaining it)
+    (chosen_needs remaining it) (chosen_fragment remaining it)
 
 -- The same, as long as no call returned a fault.
 abbrev pub ReadAllocates : {R : Type 0} → (R → Option (List ℕ)) → ℕ → Chosen R → Type 0
-ReadAllocates remaining room it =
-    Allocates room (piece_capacity it) (places it) (read_coming remaining it) (read_needs remaining it)
+ReadAllocates remaining room it = Allocates room (piece_capacity it) (places it) (read_coming remaining it)
+    (read_needs remaining it) (read_fragment remaining it)
 
 -- The needs of the pieces after the first are left.
 abbrev pub PassesNeeds : Option (List Need) → Option (List Need) → Type 0
@@ -216,27 +253,36 @@ pub record Store : Type 0 where
   pub list_room : ℕ
   -- what the pieces up to the next record need, if the bytes of the devices are known
   pub needs : Option (List Need)
+  -- whether the next record is a fragment, if the bytes of the devices are known
+  pub fragment : Option Bool
 
--- The same before anything was read, with these needs.
-abbrev pub begun_store : Option (List Need) → Store
-begun_store needs = record { record_room = 0; piece_room = 0; list_room = 0; needs = needs }
+-- The same before anything was read, with these needs and this first record.
+abbrev pub begun_store : Option (List Need) → Option Bool → Store
+begun_store needs fragment =
+    record { record_room = 0; piece_room = 0; list_room = 0; needs = needs; fragment = fragment }
+
+-- Whether the first record of a file with these bytes is a fragment.
+abbrev pub first_fragment : Option (List ℕ) → Option Bool
+first_fragment bytes = option_map (λ it. begins_with_fragment (pieces.answers it)) bytes
 
 -- The same of a source whose buffer of records has this capacity. A classic capture has no pieces.
 abbrev pub store_in : {R : Type 0} → (R → Option (List ℕ)) → Source R → ℕ → Store
 store_in remaining (Classic capture) capacity =
-    record { record_room = capacity; piece_room = 0; list_room = 0; needs = Some [] }
+    record { record_room = capacity; piece_room = 0; list_room = 0; needs = Some []; fragment = Some false }
 store_in remaining (Any it) capacity = record {
   record_room = capacity;
   piece_room = piece_capacity it;
   list_room = places it;
   needs = chosen_needs remaining it;
+  fragment = chosen_fragment remaining it;
 }
 
 -- Any container that has these results to return asks for memory up to its next record. Of a
 -- classic capture nothing is said.
 abbrev pub AllocatesIf : Bool → Option (List Answer) → Store → Type 0
 AllocatesIf false all store = ⊤
-AllocatesIf true all store = Allocates store.record_room store.piece_room store.list_room all store.needs
+AllocatesIf true all store =
+    Allocates store.record_room store.piece_room store.list_room all store.needs store.fragment
 
 -- All records that are read of a capture were read before. Of one that passes over pieces nothing
 -- is said.

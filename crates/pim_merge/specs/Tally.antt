@@ -5,12 +5,12 @@ use Rattle.std.specs.Prelude.{Option, None, Some}
 use Rattle.std.specs.Option.{option_map}
 use Rattle.pim_addr.specs.declared.family.AddressFamily.{AddressFamily}
 use Rattle.pim_capture.specs.declared.event.Why.{Why}
-use Rattle.pim_capture.specs.declared.event.Why.TheVariants.{Fragment, Cut, CutShort, NextFile}
+use Rattle.pim_capture.specs.declared.event.Why.TheVariants.{Fragment, Cut, CutShort, NextFile, Incomplete}
 use Rattle.pim_capture.specs.Capture.{EventSeen, packet, skipped, ended}
 use Rattle.pim_capture.specs.Frame.{Datagram}
 use Rattle.pim_merge.specs.declared.census.Census.{Census}
 use Rattle.pim_merge.specs.Census.{no_names, census_after}
-use Rattle.pim_merge.specs.declared.tally.RecordPlace.{RecordPlace}
+use Rattle.pim_capture.specs.declared.incomplete.RecordPlace.{RecordPlace}
 use Rattle.pim_merge.specs.declared.tally.Tally.{Tally}
 use Rattle.pim_merge.specs.Merge.{Taken, event_time}
 
@@ -20,6 +20,7 @@ no_tally = record {
   file = 0;
   records = 0;
   fragments = 0;
+  incomplete = None;
   cut_frames = 0;
   cut_short = None;
   last = None;
@@ -86,6 +87,7 @@ tally_by tally why time = record {
   file = tally.file;
   records = one_more tally.records;
   fragments = counted_if (is_fragment why) tally.fragments;
+  incomplete = tally.incomplete;
   cut_frames = counted_if (is_cut_frame why) tally.cut_frames;
   cut_short = first_place tally.cut_short (is_cut_short why) (next_place tally);
   last = last_time tally.last time;
@@ -108,6 +110,7 @@ in_next_file tally = record {
   file = one_more tally.file;
   records = 0;
   fragments = tally.fragments;
+  incomplete = tally.incomplete;
   cut_frames = tally.cut_frames;
   cut_short = tally.cut_short;
   last = tally.last;
@@ -117,9 +120,10 @@ in_next_file tally = record {
 }
 
 -- The tally after one more result of this time that is skipped for this reason. The beginning of
--- the next file is no record.
+-- the next file is no record, nor is what is told of incomplete packets.
 abbrev pub tally_skipped : Tally → Why → Option ℕ → Tally
 tally_skipped tally NextFile time = in_next_file tally
+tally_skipped tally (Incomplete packets) time = record tally { incomplete = packets }
 tally_skipped tally why time = tally_by tally (Some why) time
 
 -- The tally after one more result of the capture. The end leaves it.

@@ -3,7 +3,7 @@
 //! such messages. It has a fixed size, so no function here allocates.
 
 mod counting;
-mod slots;
+pub(crate) mod slots;
 
 ghost use Rattle.std.specs.Prelude.{◌≡◌, ◌≤◌, length, option_map};
 ghost use Rattle.pim_capture.specs.Capture.{most_captured};

@@ -12,20 +12,23 @@ ghost use Rattle.pim_capture.specs.declared.capture.CaptureState.TheVariants.{Un
 ghost use Rattle.pim_merge.specs.Lane.{coming_on, without_head, IsLooked, head_time, lane_left};
 ghost use Rattle.pim_merge.specs.Lane.{LacksHeadRoom, KeepsRoom, HadAll, HasFailed};
 ghost use Rattle.pim_merge.specs.Lane.{IsFailedHead, head_rank, with_census};
-ghost use Rattle.pim_merge.specs.Source.{begun_store};
+ghost use Rattle.pim_merge.specs.Source.{begun_store, first_fragment};
 ghost use Rattle.pim_container.specs.Room.{needs_in};
 ghost use Rattle.pim_container.specs.declared.reader.ReaderState.TheVariants as any;
-ghost use Rattle.pim_merge.specs.Merge.{event_time, time_by};
+ghost use Rattle.pim_merge.specs.Merge.{event_time, time_by, unchosen_rank, skipped_rank};
+ghost use Rattle.pim_merge.specs.Merge.{past_at};
 ghost use Rattle.pim_merge.specs.Chosen.{answers_by, answers_of_files, all_known, all_failures};
 ghost use Rattle.pim_merge.specs.Looks.{StillComes, IsReadOrRefused};
 ghost use Rattle.pim_merge.specs.Tally.{no_tally, next_place};
 
 use crate::chosen::Chosen;
+use crate::clock::Clock;
 use crate::source::Source;
-use crate::tally::{RecordPlace, Tally, count_head};
+use crate::tally::{Tally, count_head};
 use pim_addr::{AddressFamily, Feed};
-use pim_capture::{Capture, CaptureFault, Event, Why};
+use pim_capture::{Capture, CaptureFault, Event, RecordPlace, Why};
 use pim_container::Choice;
+use pim_time::Time;
 use std::alloc::Global;
 use std::marker::Model;
 
@@ -63,13 +66,35 @@ impl<R: Feed + Drop> Model for Lane<R> {
 }
 
 /// The time of a record that is skipped for this reason. One that isn't chosen has none, so that a
-/// run over chosen packets begins and ends with these.
+/// run over chosen records begins and ends with these.
 fn time_by(why: Why, millis: u64) -> Option<u64>
     ensures { result ≡ time_by why millis }
 {
     match why {
-        Why::NoTime | Why::NotChosen | Why::CutShort | Why::NextFile => None,
+        Why::NoTime | Why::NotChosen | Why::Copy | Why::CutShort | Why::NextFile => None,
+        Why::Incomplete(_) => None,
         _ => Some(millis),
+    }
+}
+
+/// The rank of a record that isn't chosen, in a merge with this clock that ends at the time `last`.
+fn unchosen_rank(millis: u64, last: Option<Time>, clock: Option<Clock>) -> Option<u64>
+    ensures { result ≡ unchosen_rank (past_at last clock) millis }
+{
+    if Clock::by(clock, millis).is_past(last) {
+        return None;
+    }
+    Some(0)
+}
+
+/// The rank of a record that is skipped for this reason.
+fn skipped_rank(why: Why, millis: u64, last: Option<Time>, clock: Option<Clock>) -> Option<u64>
+    requires { millis ≤ latest_moment }
+    ensures { result ≡ skipped_rank (past_at last clock) why millis }
+{
+    match why {
+        Why::NotChosen | Why::Copy => unchosen_rank(millis, last, clock),
+        _ => Some(millis + 1),
     }
 }
 
@@ -95,7 +120,7 @@ impl<R: Feed + Drop> Lane<R> {
         ensures passes { result.passes ≡ false }
         ensures room { result.room ≡ 0 }
         ensures size { result.size ≡ option_map (length_in Unbegun) (R.remaining reader) }
-        ensures store { result.store ≡ begun_store (Some []) }
+        ensures store { result.store ≡ begun_store (Some []) (Some false) }
         ensures tally { result.tally ≡ no_tally }
     {
         Lane {
@@ -115,7 +140,8 @@ impl<R: Feed + Drop> Lane<R> {
         ensures room { result.room ≡ 0 }
         ensures size { result.size ≡ None }
         ensures store { result.store
-            ≡ begun_store (option_map (needs_in any.Unbegun 0 []) (R.remaining reader)) }
+            ≡ begun_store (option_map (needs_in any.Unbegun 0 []) (R.remaining reader))
+            (first_fragment (R.remaining reader)) }
         ensures tally { result.tally ≡ no_tally }
     {
         Lane::of_files(alloc, reader, Vec::new(alloc), choice)
@@ -132,7 +158,8 @@ impl<R: Feed + Drop> Lane<R> {
         ensures room { result.room ≡ 0 }
         ensures size { result.size ≡ None }
         ensures store { result.store
-            ≡ begun_store (option_map (needs_in any.Unbegun 0 []) (R.remaining reader)) }
+            ≡ begun_store (option_map (needs_in any.Unbegun 0 []) (R.remaining reader))
+            (first_fragment (R.remaining reader)) }
         ensures tally { result.tally ≡ no_tally }
     {
         Lane {
@@ -169,14 +196,14 @@ impl<R: Feed + Drop> Lane<R> {
         Ok(())
     }
 
-    /// The time by which the head is taken, in milliseconds since 1970; `None` at the end, and if
-    /// no head was read.
-    pub(crate) fn rank(&self) -> Option<u64>
-        ensures { result ≡ head_rank self.now }
+    /// The rank by which the head is taken, in a merge with this clock that ends at the time
+    /// `last`, if there is one; `None` if it isn't taken, at the end, and if no head was read.
+    pub(crate) fn rank(&self, last: Option<Time>, clock: Option<Clock>) -> Option<u64>
+        ensures { result ≡ head_rank (past_at last clock) self.now }
     {
         match &self.head {
-            Some(Event::Packet { millis, .. }) => Some(*millis),
-            Some(Event::Skipped { millis, .. }) => Some(*millis),
+            Some(Event::Packet { millis, .. }) => Some(*millis + 1),
+            Some(Event::Skipped { millis, why }) => skipped_rank(*why, *millis, last, clock),
             _ => None,
         }
     }

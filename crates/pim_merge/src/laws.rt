@@ -16,8 +16,8 @@ pub fn merge_by_has_one_end()
     ensures { MergeByHasOneEnd }
 {}
 
-/// A classic file of one link without further tags gives the same records whether `add` or
-/// `add_any` appends it, up to a record inside which the file ends.
+/// A classic file of one link without further tags, fragments and headers before PIM gives the same
+/// records whether `add` or `add_any` appends it, up to a record inside which the file ends.
 pub fn one_link_is_read_alike()
     ensures { OneLinkIsReadAlike }
 {

@@ -24,6 +24,7 @@ mod merge;
 mod run;
 mod search;
 mod source;
+mod taker;
 mod tally;
 
 pub use census::{Census, StarJoin};
@@ -31,4 +32,5 @@ pub use clock::Clock;
 pub use content::{Content, Datagram};
 pub use end::End;
 pub use merge::{Merge, MergeFault, Turn};
-pub use tally::{RecordPlace, Tally};
+pub use pim_capture::{Incomplete, RecordPlace};
+pub use tally::Tally;

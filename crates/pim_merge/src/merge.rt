@@ -23,10 +23,11 @@ ghost use Rattle.pim_merge.specs.Next.{bytes_at, with_fault, LacksMemory};
 ghost use Rattle.pim_merge.specs.Next.{KeepsTallies, IsNumbered};
 ghost use Rattle.pim_merge.specs.Chosen.{answers_by, answers_of_files, all_known, all_failures};
 ghost use Rattle.pim_merge.specs.Lane.{tallies_of, stores_of, with_census};
-ghost use Rattle.pim_merge.specs.Source.{begun_store};
+ghost use Rattle.pim_merge.specs.Source.{begun_store, first_fragment};
 ghost use Rattle.pim_container.specs.Room.{needs_in};
 ghost use Rattle.pim_container.specs.declared.reader.ReaderState.TheVariants as any;
 ghost use Rattle.pim_merge.specs.Tally.{no_tally, tally_at};
+ghost use Rattle.pim_merge.specs.Merge.{past_at};
 
 use crate::clock::{Clock, moment_at, moment_of};
 use crate::lane::{Lane, time_of};
@@ -132,7 +133,7 @@ impl<R: Feed + Drop> Merge<R> {
         ensures sizes { IfOk result (λ _. sizes_of self.new.lanes ≡
             sizes_of self.old.lanes ++ option_map (length_in Unbegun) (R.remaining reader) ∷ []) }
         ensures stores { IfOk result (λ _. stores_of self.new.lanes ≡
-            stores_of self.old.lanes ++ begun_store (Some []) ∷ []) }
+            stores_of self.old.lanes ++ begun_store (Some []) (Some false) ∷ []) }
         ensures tallies { IfOk result (λ _. tallies_of self.new.lanes ≡
             tallies_of self.old.lanes ++ no_tally ∷ []) }
         ensures clock { self.new.clock ≡ self.old.clock }
@@ -158,7 +159,8 @@ impl<R: Feed + Drop> Merge<R> {
             sizes_of self.old.lanes ++ None ∷ []) }
         ensures stores { IfOk result (λ _. stores_of self.new.lanes ≡
             stores_of self.old.lanes ++ begun_store
-            (option_map (needs_in any.Unbegun 0 []) (R.remaining reader)) ∷ []) }
+            (option_map (needs_in any.Unbegun 0 []) (R.remaining reader))
+            (first_fragment (R.remaining reader)) ∷ []) }
         ensures tallies { IfOk result (λ _. tallies_of self.new.lanes ≡
             tallies_of self.old.lanes ++ no_tally ∷ []) }
         ensures clock { self.new.clock ≡ self.old.clock }
@@ -240,11 +242,13 @@ impl<R: Feed + Drop> Merge<R> {
         look_at_all(&mut self.lanes)
     }
 
-    /// The number of the first capture whose head has the least rank, with that rank.
-    fn earliest(&self) -> Option<(usize, u64)>
-        ensures { result ≡ earliest_from 0 (map head_rank self.now.lanes) }
+    /// The number of the first capture whose head has the least rank, with that rank, in a merge
+    /// that ends at the time `last`.
+    fn earliest(&self, last: Option<Time>) -> Option<(usize, u64)>
+        ensures { result
+            ≡ earliest_from 0 (map (head_rank (past_at last self.now.clock)) self.now.lanes) }
     {
-        earliest(&self.lanes)
+        earliest(&self.lanes, last, self.clock)
     }
 
     /// Takes the head of a capture, if it was read.
@@ -290,9 +294,9 @@ impl<R: Feed + Drop> Merge<R> {
     }
 
     /// Takes the next turn: the first of the records that have the least time among the heads of
-    /// the captures. A record without a time comes before all others, and has the moment of the
-    /// record before it. `None` means that all captures are at their ends. Each head that wasn't
-    /// read is read, so after the first call one record a call.
+    /// the captures. A record without a time comes before these, and has the moment of the record
+    /// before it. One that isn't chosen comes first of all. `None` means that all captures are at
+    /// their ends. Each head that wasn't read is read, so after the first call one record a call.
     ///
     /// # Errors
     /// The fault at the head of a capture, before any record is taken; of several faults the one of
@@ -304,7 +308,7 @@ impl<R: Feed + Drop> Merge<R> {
         ensures reads { CountsFailures self.old.lanes result self.new.lanes }
         // Memory is refused only if a head wasn't read and its buffer had less room than it needs.
         // Of any container, if a piece up to the next record needs more room, or describes an
-        // interface for which the list has none.
+        // interface for which the list has none, or if that record is a fragment.
         ensures memory { IfErr result (LacksMemory self.old.lanes) }
         ensures rooms { KeepRooms self.old.lanes self.new.lanes }
         ensures clock { KeepsTime self.old.clock result self.new }
@@ -327,7 +331,8 @@ impl<R: Feed + Drop> Merge<R> {
     /// Takes the next turn, as `next` does, unless its moment is later than `last`. Then the result
     /// is `None`: its record isn't taken, and stays the head of its capture. So the next call
     /// returns `None` again, and reads nothing more. With an epoch time before the first record
-    /// nothing is taken. Without a time this is `next`.
+    /// nothing is taken. A record that isn't chosen and is later ends its capture. Without a time
+    /// this is `next`.
     ///
     /// # Errors
     /// As in `next`. A fault that is the head of a capture comes before all records, whatever their
@@ -340,7 +345,7 @@ impl<R: Feed + Drop> Merge<R> {
         ensures reads { CountsFailures self.old.lanes result self.new.lanes }
         // Memory is refused only if a head wasn't read and its buffer had less room than it needs.
         // Of any container, if a piece up to the next record needs more room, or describes an
-        // interface for which the list has none.
+        // interface for which the list has none, or if that record is a fragment.
         ensures memory { IfErr result (LacksMemory self.old.lanes) }
         ensures rooms { KeepRooms self.old.lanes self.new.lanes }
         ensures clock { KeepsTime self.old.clock result self.new }
@@ -358,7 +363,7 @@ impl<R: Feed + Drop> Merge<R> {
         ensures record { IfErr result (IsNumbered (tallies_of self.old.lanes)) }
     {
         self.look()?;
-        let Some((capture, _rank)) = self.earliest() else {
+        let Some((capture, _rank)) = self.earliest(last) else {
             return Ok(None);
         };
         if self.is_past(capture, last) {

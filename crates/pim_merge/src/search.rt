@@ -4,16 +4,18 @@ ghost use Rattle.std.specs.Prelude.{◌≡◌, ◌<◌, ◌≤◌, ℕ, List, ma
 ghost use Rattle.std.specs.Option.{IfSome};
 ghost use Rattle.std.specs.List.{AllByRecursion};
 ghost use Rattle.pim_capture.specs.Capture.{Answer};
-ghost use Rattle.pim_merge.specs.Merge.{turn, fails, sooner, numbered, earliest_from};
+ghost use Rattle.pim_merge.specs.Merge.{turn, fails, sooner, numbered, earliest_from, past_at};
 ghost use Rattle.pim_merge.specs.Lane.{IsComing, IsLooked, head_rank, lane_at, records_to_come};
 ghost use Rattle.pim_merge.specs.Lane.{KeepRooms, FailsAt};
 ghost use Rattle.pim_merge.specs.Lane.{tallies_of};
 ghost use Rattle.pim_merge.specs.Next.{with_fault, IsCause, CountsFailures, LacksMemory, IsFailed};
 ghost use Rattle.pim_merge.specs.Next.{IsNumbered};
 
+use crate::clock::Clock;
 use crate::lane::Lane;
 use crate::merge::MergeFault;
 use pim_addr::Feed;
+use pim_time::Time;
 
 /// Reads the heads that weren't read, in the order of the captures.
 ///
@@ -74,14 +76,18 @@ fn sooner(one: Option<(usize, u64)>, other: Option<(usize, u64)>) -> Option<(usi
 }
 
 #[tactic(auto, using(crate::proofs::Sooner::one_head_more, crate::proofs::Sooner::no_head_more))]
-/// The number of the first capture whose head has the least rank, with that rank; `None` if all
-/// captures are at their ends.
-pub(crate) fn earliest<R: Feed + Drop>(lanes: &[Lane<R>]) -> Option<(usize, u64)>
-    ensures { result ≡ earliest_from 0 (map head_rank lanes.now) }
+/// The number of the first capture whose head has the least rank, with that rank, in a merge with
+/// this clock that ends at the time `last`; `None` if no head is taken.
+pub(crate) fn earliest<R: Feed + Drop>(
+    lanes: &[Lane<R>],
+    last: Option<Time>,
+    clock: Option<Clock>,
+) -> Option<(usize, u64)>
+    ensures { result ≡ earliest_from 0 (map (head_rank (past_at last clock)) lanes.now) }
 {
     let mut found = None;
     for (number, lane) in lanes.iter().enumerate() {
-        found = sooner(found, numbered(number, lane.rank()));
+        found = sooner(found, numbered(number, lane.rank(last, clock)));
     }
     found
 }

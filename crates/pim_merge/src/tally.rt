@@ -14,16 +14,7 @@ ghost use Rattle.pim_merge.specs.Tally.{census_begun};
 use crate::census::Census;
 use crate::lane::time_of;
 use pim_addr::AddressFamily;
-use pim_capture::{Event, Ip, Why};
-
-/// The place of a record in a capture.
-#[derive(Clone, Copy, Debug, PartialEq, Eq)]
-pub struct RecordPlace {
-    /// The number of its file, counted from 0.
-    pub file: u64,
-    /// Its number in this file, counted from 1.
-    pub record: u64,
-}
+use pim_capture::{Event, Incomplete, Ip, RecordPlace, Why};
 
 /// What was taken of a capture. Each count stops at 2^64 - 1.
 #[derive(Clone, Copy, Debug, PartialEq, Eq)]
@@ -32,8 +23,10 @@ pub struct Tally {
     pub file: u64,
     /// The number of records of this file, also of those that are skipped.
     pub records: u64,
-    /// The number of records that are skipped as fragments.
+    /// The number of records that are skipped as fragments, where these aren't put together.
     pub fragments: u64,
+    /// The packets whose fragments are incomplete, where these are put together.
+    pub incomplete: Option<Incomplete>,
     /// The number of records that are skipped because fewer bytes were captured than their headers
     /// name.
     pub cut_frames: u64,
@@ -168,12 +161,13 @@ fn go_on(tally: &mut Tally)
 }
 
 /// Counts a record of this time that is skipped for this reason. The beginning of a file is no
-/// record.
+/// record, nor is what is told of incomplete packets.
 fn count_skipped(tally: &mut Tally, why: Why, time: Option<u64>)
     ensures { tally.new ≡ tally_skipped tally.old why time }
 {
     match why {
         Why::NextFile => go_on(tally),
+        Why::Incomplete(packets) => tally.incomplete = packets,
         _ => count_record(tally, Some(why), time),
     }
 }
@@ -222,6 +216,7 @@ impl Tally {
             file: 0,
             records: 0,
             fragments: 0,
+            incomplete: None,
             cut_frames: 0,
             cut_short: None,
             last: None,

@@ -2,7 +2,7 @@
 use Rattle.std.proofs.Common.{◌≡◌, ◌≢◌, ℕ, Bool, true, false, List, [], ◌∷◌, ◌++◌, Option, None, Some, Ok, Err, refl, sym, ap, subst, inl, inr}
 use Rattle.pim_capture.specs.declared.fault.CaptureFault.{CaptureFault}
 use Rattle.pim_capture.specs.declared.fault.CaptureFault.TheVariants.{Magic, LinkType, Truncated, TooLong, Read, Memory, Failed}
-use Rattle.pim_capture.specs.declared.fault.CaptureFault.TheVariants.{Block, Time, Vlans, Interfaces, InterfaceNames, LinkNumber}
+use Rattle.pim_capture.specs.declared.fault.CaptureFault.TheVariants.{Block, Time, Vlans, Interfaces, InterfaceNames, LinkNumber, Gzip}
 use Rattle.pim_merge.specs.declared.end.End.{End}
 use Rattle.pim_merge.specs.declared.merge.Turn.{Turn}
 use Rattle.pim_merge.specs.declared.merge.MergeFault.{MergeFault}
@@ -75,6 +75,7 @@ module _ {K : Type 0} (By : Taken → K → RouterState → Option (List ℕ) �
         by_fault (Interfaces one other) is = stopped (λ e. cc)
         by_fault (InterfaceNames one other) is = stopped (λ e. cc)
         by_fault (LinkNumber number) is = stopped (λ e. cc)
+        by_fault Gzip is = stopped (λ e. cc)
 
         pub failed : (answer : RunFault) → answer ≡ stopped_by reported → Stops answer
         failed answer is = subst Stops (sym is) (by_fault reported.fault refl)

@@ -1,5 +1,5 @@
 use Rattle.std.proofs.Common.{Bool, sym, subst, vec_capacity}
-use Rattle.pim_merge.specs.Source.{Allocates, GrowsWithin, coming_unless, needs_unless, read_coming, read_needs, chosen_needs, piece_capacity, places}
+use Rattle.pim_merge.specs.Source.{Allocates, GrowsWithin, coming_unless, fragment_unless, needs_unless, read_coming, read_fragment, read_needs, chosen_needs, piece_capacity, places}
 use Rattle.pim_merge.proofs.Needing.{memory_of, within_same}
 use Rattle.pim_merge.proofs.chosen.Chosen.next.Goals as goal
 
@@ -10,7 +10,10 @@ pub returns-clause-memory : goal.returns-clause-memory
 returns-clause-memory g c =
     let self = c.args.self.now in
     memory_of c.read_on-result.result _ _
-    (subst (λ (over : Bool). Allocates (vec_capacity c.args.buffer.now) (piece_capacity self) (places self) (coming_unless over (read_coming g.R.Feed.remaining self)) (needs_unless over (read_needs g.R.Feed.remaining self)))
+    (subst (λ (over : Bool). Allocates (vec_capacity c.args.buffer.now) (piece_capacity self) (places self)
+    (coming_unless over (read_coming g.R.Feed.remaining self)) (needs_unless over (read_needs g.R.Feed.remaining
+    self))
+    (fragment_unless over (read_fragment g.R.Feed.remaining self)))
     (sym c.if-self.false))
     c.read_on-result.ensures.memory
 

@@ -15,7 +15,7 @@ returns-in-Some-clause-answer g c =
     (subst P c.in-Some.is c.in_ok-event.ensures.answer))
 
 pub loop-event-init : goal.loop-event-init
-loop-event-init g c = (begin_passing _ _ _, c.requires.length, begin_holding _ _ _ _ _)
+loop-event-init g c = (begin_passing _ _ _, c.requires.length, begin_holding _ _ _ _ _ _)
 
 pub returns-in_err-event-clause-memory : goal.returns-in_err-event-clause-memory
 returns-in_err-event-clause-memory g c =
@@ -40,7 +40,9 @@ loop-event-preserved g c =
     let less : chosen_left now + 1 ≤ chosen_left was = subst left c.in_default.is c.in_ok-event.ensures.left in (
       pass_more _ _ _ _ _ _ _ _ _ c.loop-event.invariant.0 stays less c.in_ok-event.ensures.reads,
       c.step.ensures.length,
-      hold_more _ _ _ _ _ _ _ _ _ _ _ _ _ _ _ c.loop-event.invariant.2 stays (c.in_ok-event.ensures.needs c.in_default.is) c.step.ensures.piece
+      hold_more _ _ _ _ _ _ _ _ _ _ _ _ _ _ _ _ _ _ c.loop-event.invariant.2 stays (c.in_ok-event.ensures.needs
+          c.in_default.is)
+          (c.in_ok-event.ensures.fragment c.in_default.is) c.step.ensures.piece
           (c.in_ok-event.ensures.rooms c.in_default.is),
     )
 

@@ -1,0 +1,2 @@
+-- The definitions of `pim_choice_laws`.
+pub mod Choices
