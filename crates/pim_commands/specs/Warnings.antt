@@ -6,13 +6,14 @@ use Rattle.pim_addr.specs.Routes.{RouteTable}
 use Rattle.pim_merge.specs.declared.census.Census.{Census}
 use Rattle.pim_merge.specs.Missing.{misses, without_rp}
 use Rattle.pim_files.specs.Captures.{PortFiles}
-use Rattle.pim_merge.specs.declared.tally.RecordPlace.{RecordPlace}
+use Rattle.pim_capture.specs.declared.incomplete.Incomplete.{Incomplete as Lacking}
+use Rattle.pim_capture.specs.declared.incomplete.RecordPlace.{RecordPlace}
 use Rattle.pim_merge.specs.declared.tally.Tally.{Tally}
 use Rattle.pim_merge.specs.Lane.{tallies_of}
 use Rattle.pim_merge.specs.Next.{MergeState}
 use Rattle.pim_merge.specs.Tally.{tally_at}
 use Rattle.pim_faults.specs.declared.warning.Warning.{Warning}
-use Rattle.pim_faults.specs.declared.warning.Warning.TheVariants.{CutShort, Fragments, CutFrames, RunsBack, Jumps}
+use Rattle.pim_faults.specs.declared.warning.Warning.TheVariants.{CutShort, Fragments, Incomplete, CutFrames, RunsBack, Jumps}
 use Rattle.pim_faults.specs.Missing.{missed_text, unserved_text}
 use Rattle.pim_faults.specs.Words.{warning_text}
 use Rattle.pim_commands.specs.Naming.{name_at}
@@ -22,11 +23,17 @@ use Rattle.pim_commands.specs.Naming.{name_at}
 abbrev pub counted : ℕ → Option RecordPlace
 counted count = cond (nat_lt 0 count) (Some (record { file = 0; «record» = count })) None
 
+-- The warning on packets whose fragments are incomplete, if there are any.
+abbrev pub incomplete_row : Option Lacking → Warning × Option RecordPlace
+incomplete_row None = (Incomplete 0, None)
+incomplete_row (Some packets) = (Incomplete packets.packets, Some packets.first)
+
 -- The warnings on records, in order, each with what it names, if it is there: a file of the port
 -- and a number.
 abbrev pub rows_of : Tally → List (Warning × Option RecordPlace)
 rows_of tally = (CutShort, tally.cut_short)
     ∷ (Fragments, counted tally.fragments)
+    ∷ incomplete_row tally.incomplete
     ∷ (CutFrames, counted tally.cut_frames)
     ∷ (RunsBack, tally.ran_back)
     ∷ (Jumps, tally.jumped)

@@ -9,6 +9,7 @@ ghost use Rattle.pim_files.specs.Opening.{port_files};
 ghost use Rattle.pim_faults.specs.Ending.{IsReported};
 ghost use Rattle.pim_commands.specs.Naming.{are_in, ports_of};
 ghost use Rattle.pim_commands.specs.Warnings.{counted, rows_of, warned, record_warnings};
+ghost use Rattle.pim_commands.specs.Warnings.{incomplete_row};
 ghost use Rattle.pim_commands.specs.Warnings.{missed_warning, unserved_warning, census_warnings};
 ghost use Rattle.pim_commands.specs.Warnings.{port_warnings, warnings_from, warnings_text};
 
@@ -16,7 +17,7 @@ use crate::naming::{is_in, name_at};
 use pim_addr::{Drain, Failed, Family, Feed, Routes};
 use pim_faults::{Warning, missed_line, unserved_line, warning_line};
 use pim_files::Pair;
-use pim_merge::{Census, Merge, RecordPlace, Tally};
+use pim_merge::{Census, Incomplete, Merge, RecordPlace, Tally};
 use pim_words::{Captures, More, Port, RouterSide};
 
 /// A count that isn't 0, as the place that its warning names: the port's own file.
@@ -32,14 +33,25 @@ fn counted(count: u64) -> Option<RecordPlace>
     None
 }
 
+/// The warning on packets whose fragments are incomplete, if there are any.
+fn incomplete_row(packets: Option<Incomplete>) -> (Warning, Option<RecordPlace>)
+    ensures { result ≡ incomplete_row packets }
+{
+    match packets {
+        Some(packets) => (Warning::Incomplete(packets.packets), Some(packets.first)),
+        None => (Warning::Incomplete(0), None),
+    }
+}
+
 /// The warnings on records, in order, each with what it names, if it is there: a file of the port
 /// and a number.
-fn rows_of(tally: &Tally) -> [(Warning, Option<RecordPlace>); 5]
+fn rows_of(tally: &Tally) -> [(Warning, Option<RecordPlace>); 6]
     ensures { result ≡ rows_of tally.now }
 {
     [
         (Warning::CutShort, tally.cut_short),
         (Warning::Fragments, counted(tally.fragments)),
+        incomplete_row(tally.incomplete),
         (Warning::CutFrames, counted(tally.cut_frames)),
         (Warning::RunsBack, tally.ran_back),
         (Warning::Jumps, tally.jumped),

@@ -3,7 +3,7 @@
 use Rattle.std.specs.Prelude.{ℕ, Bool, true, false, List, ◌++◌, Option, None, Some, codes, decimal}
 use Rattle.pim_addr.specs.declared.family.AddressFamily.{AddressFamily}
 use Rattle.pim_capture.specs.declared.event.Why.TheVariants.{Cut, NotIp, BadHeader, NotPim, Fragment}
-use Rattle.pim_capture.specs.declared.event.Why.TheVariants.{NoTime, LinkType, NotChosen, CutShort, NextFile}
+use Rattle.pim_capture.specs.declared.event.Why.TheVariants.{Part, NoTime, LinkType, NotChosen, Copy, CutShort, NextFile, Incomplete}
 use Rattle.pim_down.specs.declared.machines.key.What.{What}
 use Rattle.pim_down.specs.declared.machines.key.What.TheVariants.{Star, Source, Rpt}
 use Rattle.pim_down.specs.declared.machines.machine.Machine.{Machine}
@@ -125,11 +125,14 @@ skip_word (NoPacket NotIp) = codes "not-ip"
 skip_word (NoPacket BadHeader) = codes "bad-header"
 skip_word (NoPacket NotPim) = codes "not-pim"
 skip_word (NoPacket Fragment) = codes "fragment"
+skip_word (NoPacket Part) = codes "fragment"
 skip_word (NoPacket NoTime) = codes "no-time"
-skip_word (NoPacket LinkType) = codes "link-type"
+skip_word (NoPacket (LinkType number)) = codes "link-type"
 skip_word (NoPacket NotChosen) = codes "not-chosen"
+skip_word (NoPacket Copy) = codes "copy"
 skip_word (NoPacket CutShort) = codes "cut-short"
 skip_word (NoPacket NextFile) = codes "next-file"
+skip_word (NoPacket (Incomplete packets)) = codes "incomplete"
 skip_word OtherFamily = codes "family"
 
 -- A timer.

@@ -3,7 +3,7 @@ use Rattle.std.specs.Prelude.{ℕ, ◌-◌, ◌==◌, if◌then◌else◌, Bool,
 use Rattle.std.specs.Prelude.{slice_index_or, codes, decimal}
 use Rattle.pim_addr.specs.declared.family.AddressFamily.{AddressFamily}
 use Rattle.pim_capture.specs.declared.event.Why.TheVariants.{Cut, NotIp, BadHeader, NotPim, Fragment}
-use Rattle.pim_capture.specs.declared.event.Why.TheVariants.{NoTime, LinkType, NotChosen, CutShort, NextFile}
+use Rattle.pim_capture.specs.declared.event.Why.TheVariants.{Part, NoTime, LinkType, NotChosen, Copy, CutShort, NextFile, Incomplete}
 use Rattle.pim_down.specs.declared.machines.key.What.{What}
 use Rattle.pim_down.specs.declared.machines.key.What.TheVariants.{Star, Source, Rpt}
 use Rattle.pim_down.specs.declared.machines.machine.Machine.{Machine}
@@ -69,11 +69,14 @@ by_words by.End = codes " no longer prunes "
 -- Why a record is skipped.
 abbrev pub skip_words : Skip → List ℕ
 skip_words (NoPacket Fragment) = codes "a fragment of a PIM message"
+skip_words (NoPacket Part) = codes "a fragment of a PIM message"
 skip_words (NoPacket NoTime) = codes "without a time"
-skip_words (NoPacket LinkType) = codes "a link type that is not read"
+skip_words (NoPacket (LinkType number)) = codes "a link type that is not read"
 skip_words (NoPacket NotChosen) = codes "of another link than the chosen one"
+skip_words (NoPacket Copy) = codes "a copy of another packet"
 skip_words (NoPacket CutShort) = codes "cut short by the end of its file"
 skip_words (NoPacket NextFile) = codes "the capture goes on with its next file"
+skip_words (NoPacket (Incomplete packets)) = codes "what is told of incomplete packets"
 skip_words (NoPacket Cut) = codes "fewer bytes captured than its lengths say"
 skip_words (NoPacket NotIp) = codes "not IPv4 or IPv6"
 skip_words (NoPacket BadHeader) = codes "a bad IP header"

@@ -76,12 +76,14 @@ fn reason_words(why: &Why) -> &[u8]
         Why::NotIp => b"not IPv4 or IPv6",
         Why::BadHeader => b"a bad IP header",
         Why::NotPim => b"not PIM",
-        Why::Fragment => b"a fragment of a PIM message",
+        Why::Fragment | Why::Part => b"a fragment of a PIM message",
         Why::NoTime => b"without a time",
-        Why::LinkType => b"a link type that is not read",
+        Why::LinkType(_) => b"a link type that is not read",
         Why::NotChosen => b"of another link than the chosen one",
+        Why::Copy => b"a copy of another packet",
         Why::CutShort => b"cut short by the end of its file",
         Why::NextFile => b"the capture goes on with its next file",
+        Why::Incomplete(_) => b"what is told of incomplete packets",
     }
 }
 
@@ -104,12 +106,14 @@ fn reason_word(why: &Why) -> &[u8]
         Why::NotIp => b"not-ip",
         Why::BadHeader => b"bad-header",
         Why::NotPim => b"not-pim",
-        Why::Fragment => b"fragment",
+        Why::Fragment | Why::Part => b"fragment",
         Why::NoTime => b"no-time",
-        Why::LinkType => b"link-type",
+        Why::LinkType(_) => b"link-type",
         Why::NotChosen => b"not-chosen",
+        Why::Copy => b"copy",
         Why::CutShort => b"cut-short",
         Why::NextFile => b"next-file",
+        Why::Incomplete(_) => b"incomplete",
     }
 }
 

@@ -1,5 +1,5 @@
 -- The line of a fault.
-use Rattle.std.specs.Prelude.{◌==◌, ℕ, Bool, true, false, if◌then◌else◌, List, ◌++◌, codes, decimal, unwrap_or}
+use Rattle.std.specs.Prelude.{◌==◌, ℕ, Bool, true, false, if◌then◌else◌, List, [], ◌++◌, codes, decimal, unwrap_or}
 use Rattle.clap.specs.declared.error.kind.ErrorKind.{ErrorKind}
 use Rattle.clap.specs.Values.{kind_text}
 use Rattle.pim_report.specs.Malformed.{frame_words, hello_words, join_prune_words}
@@ -31,7 +31,7 @@ use Rattle.pim_faults.specs.declared.fault.Fault.TheVariants.{LocalTooLong, Loca
 use Rattle.pim_faults.specs.declared.fault.Fault.TheVariants.{Frame, Hello, JoinPrune, TooBig, Full, InputTooLong}
 use Rattle.pim_faults.specs.declared.fault.Fault.TheVariants.{TextTooLong, TextLine, TextFamily, InputRead, Output, Memory}
 use Rattle.pim_faults.specs.declared.warning.Warning.{Warning}
-use Rattle.pim_faults.specs.declared.warning.Warning.TheVariants.{CutShort, Fragments, CutFrames, RunsBack, Jumps}
+use Rattle.pim_faults.specs.declared.warning.Warning.TheVariants.{CutShort, Fragments, Incomplete, CutFrames, RunsBack, Jumps}
 use Rattle.pim_lines.specs.Pieces.{line}
 
 -- The short text that `clap` has for a kind of error. It has none for a request for help.
@@ -49,19 +49,21 @@ config_words config.Ports = codes "config ports"
 config_words config.Address = codes "config address"
 config_words config.Rp = codes "config rp"
 
--- The number of the tag in which a VLAN differs from another one.
-abbrev pub tag_of : Vlan → Vlan → ℕ
-tag_of vlan other = if vlan.outer == other.outer then vlan.inner else vlan.outer
+-- A VLAN as `--vlan` takes it: its tag, or two tags with a point between them.
+unfoldable pub vlan_words : Vlan → List ℕ
+vlan_words vlan =
+    decimal vlan.outer ++ (if vlan.inner == 0 then [] else codes "." ++ decimal vlan.inner)
 
 -- The words of two VLANs in one capture.
 abbrev pub vlans_words : Vlan → Vlan → List ℕ
-vlans_words first other = codes "capture vlans " ++ decimal (tag_of first other) ++ codes "," ++ decimal (tag_of other first)
+vlans_words first other = codes "capture vlans " ++ vlan_words first ++ codes "," ++ vlan_words other
 
 -- The words of a fault of a capture.
 abbrev pub capture_words : CaptureFault → List ℕ
 capture_words capture.Magic = codes "capture magic"
 capture_words capture.LinkType = codes "capture link-type"
 capture_words (capture.LinkNumber number) = codes "capture link-type " ++ decimal number
+capture_words capture.Gzip = codes "capture gzip"
 capture_words capture.Truncated = codes "capture truncated"
 capture_words capture.TooLong = codes "capture too-long"
 capture_words capture.Read = codes "capture read"
@@ -175,6 +177,8 @@ abbrev pub warning_words : Warning → List ℕ → ℕ → List ℕ
 warning_words CutShort file number = file ++ codes " ends inside record " ++ decimal number
 warning_words Fragments file number =
     file ++ codes " has " ++ decimal number ++ codes " fragments, which are skipped"
+warning_words (Incomplete packets) file number = file ++ codes " has " ++ decimal packets
+    ++ codes " packets whose fragments are incomplete, first in record " ++ decimal number
 warning_words CutFrames file number =
     file ++ codes " has " ++ decimal number ++ codes " frames that are cut by the snapshot length"
 warning_words RunsBack file number = codes "time runs back in " ++ file ++ codes " at record " ++ decimal number

@@ -2,22 +2,10 @@
 
 ghost use Rattle.std.specs.Prelude.{◌≡◌};
 ghost use Rattle.pim_faults.specs.Words.{config_words, file_words, is_of_record, no_port_words};
-ghost use Rattle.pim_faults.specs.Words.{tag_of};
 
-use pim_capture::{CaptureFault, Vlan};
+use pim_capture::CaptureFault;
 use pim_files::FileCause;
 use pim_words::{ConfigCause, RouterSide};
-
-/// The number of the tag in which a VLAN differs from another one.
-pub fn tag_of(vlan: Vlan, other: Vlan) -> u16
-    ensures { result ≡ tag_of vlan other }
-{
-    if vlan.outer == other.outer {
-        vlan.inner
-    } else {
-        vlan.outer
-    }
-}
 
 /// The words of a router of two without a port.
 pub fn no_port_words(side: RouterSide) -> &'static [u8]

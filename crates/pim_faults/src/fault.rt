@@ -9,10 +9,11 @@ ghost use Rattle.pim_faults.specs.declared.fault.Fault.TheVariants.{Words};
 ghost use Rattle.pim_faults.specs.Words.{refusal_words, address_words, plan_words, fault_words};
 ghost use Rattle.pim_faults.specs.Words.{fault_text, ending_text, routes_fault, local_fault};
 ghost use Rattle.pim_faults.specs.Words.{capture_words};
-ghost use Rattle.pim_faults.specs.Words.{file_words, is_of_record, build_fault, vlans_words};
+ghost use Rattle.pim_faults.specs.Words.{file_words, is_of_record, build_fault};
+ghost use Rattle.pim_faults.specs.Words.{vlan_words};
 ghost use Rattle.pim_faults.specs.Words.{place_words};
 
-use crate::causes::{config_words, file_words, is_of_record, no_port_words, tag_of};
+use crate::causes::{config_words, file_words, is_of_record, no_port_words};
 use clap::error::ErrorKind;
 use itoa::Buffer;
 use pim_addr::{Drain, Failed, V4, V6, write_all, write_text};
@@ -165,7 +166,7 @@ fn write_numbered<W: Drain>(writer: &mut W, words: &[u8], number: usize) -> Resu
 }
 
 /// Writes the words and a number.
-fn put_number<W: Drain>(writer: &mut W, words: &[u8], number: u64) -> Result<(), Failed>
+pub(crate) fn put_number<W: Drain>(writer: &mut W, words: &[u8], number: u64) -> Result<(), Failed>
     ensures bytes { AppendsAll (W.contents writer.old) (W.contents writer.new) result
         (words.now ++ decimal number) }
     ensures count { W.failures writer.new ≡ failures_after (W.failures writer.old) result }
@@ -184,15 +185,28 @@ fn put_two<W: Drain>(writer: &mut W, words: &[u8], first: u32, other: u32) -> Re
     put_number(writer, b",", u64::from(other))
 }
 
-/// Writes the words of two VLANs.
-fn put_vlans<W: Drain>(writer: &mut W, first: Vlan, other: Vlan) -> Result<(), Failed>
+/// Writes the words and a VLAN.
+#[tactic(auto, unfolding(crate::specs::Words::vlan_words))]
+fn put_vlan<W: Drain>(writer: &mut W, words: &[u8], vlan: Vlan) -> Result<(), Failed>
     ensures bytes { AppendsAll (W.contents writer.old) (W.contents writer.new) result
-        (vlans_words first other) }
+        (words.now ++ vlan_words vlan) }
     ensures count { W.failures writer.new ≡ failures_after (W.failures writer.old) result }
 {
-    let first_tag = u32::from(tag_of(first, other));
-    let other_tag = u32::from(tag_of(other, first));
-    put_two(writer, b"capture vlans ", first_tag, other_tag)
+    put_number(writer, words, u64::from(vlan.outer))?;
+    if vlan.inner == 0 {
+        return Ok(());
+    }
+    put_number(writer, b".", u64::from(vlan.inner))
+}
+
+/// Writes the words and two VLANs, with a comma between them.
+fn put_vlans<W: Drain>(writer: &mut W, words: &[u8], first: Vlan, other: Vlan) -> Result<(), Failed>
+    ensures bytes { AppendsAll (W.contents writer.old) (W.contents writer.new) result
+        (words.now ++ vlan_words first ++ codes "," ++ vlan_words other) }
+    ensures count { W.failures writer.new ≡ failures_after (W.failures writer.old) result }
+{
+    put_vlan(writer, words, first)?;
+    put_vlan(writer, b",", other)
 }
 
 /// Writes the words and a name.
@@ -232,13 +246,16 @@ fn put_capture<W: Drain>(writer: &mut W, cause: CaptureFault) -> Result<(), Fail
         CaptureFault::LinkNumber(number) => {
             put_number(writer, b"capture link-type ", u64::from(number))
         }
+        CaptureFault::Gzip => write_all(writer, b"capture gzip"),
         CaptureFault::Truncated => write_all(writer, b"capture truncated"),
         CaptureFault::TooLong => write_all(writer, b"capture too-long"),
         CaptureFault::Read | CaptureFault::Failed => write_all(writer, b"capture read"),
         CaptureFault::Memory => write_all(writer, b"memory"),
         CaptureFault::Block => write_all(writer, b"capture block"),
         CaptureFault::Time => write_all(writer, b"capture time"),
-        CaptureFault::Vlans { first, other } => put_vlans(writer, first, other),
+        CaptureFault::Vlans { first, other } => {
+            put_vlans(writer, b"capture vlans ", first, other)
+        }
         CaptureFault::Interfaces { first, other } => {
             put_two(writer, b"capture interfaces ", first, other)
         }

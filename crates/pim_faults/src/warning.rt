@@ -5,7 +5,7 @@ ghost use Rattle.pim_device.specs.Device.{AppendsAll, failures_after};
 ghost use Rattle.pim_lines.specs.Pieces.{line};
 ghost use Rattle.pim_faults.specs.Words.{warning_text, warning_words};
 
-use crate::fault::{put_about, write_about, write_plain};
+use crate::fault::{put_about, put_number, write_about, write_plain};
 use pim_addr::{Drain, Failed, write_all};
 
 /// What a warning says of the capture in a file. Each has a number.
@@ -15,6 +15,9 @@ pub enum Warning {
     CutShort,
     /// This number of packets are fragments.
     Fragments,
+    /// Of this number of packets the fragments are incomplete. The record with the number of the
+    /// warning has the first of them.
+    Incomplete(u64),
     /// Of this number of frames, fewer bytes were captured than they have.
     CutFrames,
     /// The time of the record with this number is before that of an earlier one.
@@ -38,6 +41,39 @@ fn write_count<W: Drain>(
     write_plain(writer, words)
 }
 
+/// Writes the name of a file, words and a count, more words and a number.
+fn put_counts<W: Drain>(
+    writer: &mut W,
+    file: &str,
+    words: &[u8],
+    count: u64,
+    more: &[u8],
+    number: u64,
+) -> Result<(), Failed>
+    ensures bytes { AppendsAll (W.contents writer.old) (W.contents writer.new) result
+        (file.now ++ words.now ++ decimal count ++ more.now ++ decimal number) }
+    ensures count { W.failures writer.new ≡ failures_after (W.failures writer.old) result }
+{
+    put_about(writer, b"", file, words, count)?;
+    put_number(writer, more, number)
+}
+
+/// Writes the name of a file, how many of something it has, and a number, and ends the line.
+fn write_counts<W: Drain>(
+    writer: &mut W,
+    file: &str,
+    count: u64,
+    words: &[u8],
+    number: u64,
+) -> Result<(), Failed>
+    ensures bytes { AppendsAll (W.contents writer.old) (W.contents writer.new) result
+        (line (file.now ++ codes " has " ++ decimal count ++ words.now ++ decimal number)) }
+    ensures count { W.failures writer.new ≡ failures_after (W.failures writer.old) result }
+{
+    put_counts(writer, file, b" has ", count, words, number)?;
+    write_all(writer, b"\n")
+}
+
 /// Writes the words of a warning, and ends the line.
 fn write_warning<W: Drain>(
     writer: &mut W,
@@ -52,6 +88,13 @@ fn write_warning<W: Drain>(
     match warning {
         Warning::CutShort => write_about(writer, b"", file, b" ends inside record ", number),
         Warning::Fragments => write_count(writer, file, number, b" fragments, which are skipped"),
+        Warning::Incomplete(packets) => write_counts(
+            writer,
+            file,
+            packets,
+            b" packets whose fragments are incomplete, first in record ",
+            number,
+        ),
         Warning::CutFrames => write_count(
             writer,
             file,

@@ -7,7 +7,7 @@ use Rattle.std.specs.Cmp.Lexicographic.{pointwise}
 use Rattle.pim_device.specs.Device.{top_count}
 use Rattle.pim_capture.specs.declared.event.Why.{Why}
 use Rattle.pim_capture.specs.declared.event.Why.TheVariants.{Cut, NotIp, BadHeader, NotPim, Fragment}
-use Rattle.pim_capture.specs.declared.event.Why.TheVariants.{NoTime, LinkType, NotChosen, CutShort, NextFile}
+use Rattle.pim_capture.specs.declared.event.Why.TheVariants.{Part, NoTime, LinkType, NotChosen, Copy, CutShort, NextFile, Incomplete}
 use Rattle.pim_capture.specs.Capture as record_of
 use Rattle.pim_down.specs.declared.machines.key.Key.{Key}
 use Rattle.pim_down.specs.declared.machines.machine.Machine.{Machine}
@@ -117,9 +117,10 @@ abbrev pub frame_of : ℕ → Ledger → ℕ
 frame_of capture ledger = slice_index_or ledger.frames capture 0
 
 -- The number of the last record that was taken of a file, after what is skipped for this reason.
--- The beginning of the next file is no record.
+-- The beginning of the next file is no record, nor is what is told of incomplete packets.
 abbrev pub frame_by : Why → ℕ → ℕ
 frame_by NextFile frame = 0
+frame_by (Incomplete packets) frame = frame
 frame_by why frame = one_more frame
 
 -- The number of the last record that was taken of a file, after this result of its capture.
@@ -144,19 +145,22 @@ opened capture frame time ledger = record {
   skipped = ledger.skipped;
 }
 
--- The counts after one more record is skipped. Those without a time, those of other links and one
--- that the end of its file cuts short are not counted.
+-- The counts after one more record is skipped. Those without a time, those of other links, copies and
+-- one that the end of its file cuts short are not counted.
 abbrev pub counted : Skip → SkipCounts → SkipCounts
 counted (NoPacket Cut) counts = record (counts) { cut = one_more counts.cut }
 counted (NoPacket NotIp) counts = record (counts) { not_ip = one_more counts.not_ip }
 counted (NoPacket BadHeader) counts = record (counts) { bad_header = one_more counts.bad_header }
 counted (NoPacket NotPim) counts = record (counts) { not_pim = one_more counts.not_pim }
 counted (NoPacket Fragment) counts = record (counts) { fragment = one_more counts.fragment }
+counted (NoPacket Part) counts = record (counts) { fragment = one_more counts.fragment }
 counted (NoPacket NoTime) counts = counts
-counted (NoPacket LinkType) counts = counts
+counted (NoPacket (LinkType number)) counts = counts
 counted (NoPacket NotChosen) counts = counts
+counted (NoPacket Copy) counts = counts
 counted (NoPacket CutShort) counts = counts
 counted (NoPacket NextFile) counts = counts
+counted (NoPacket (Incomplete packets)) counts = counts
 counted OtherFamily counts = record (counts) { family = one_more counts.family }
 
 -- The ledger after a record is skipped.

@@ -149,11 +149,13 @@ fn frame_by(why: Why, frame: u64) -> u64
 {
     match why {
         Why::NextFile => 0,
+        Why::Incomplete(_) => frame,
         _ => one_more(frame),
     }
 }
 
-/// The number of the last record of a file, after this one. The beginning of a file is no record.
+/// The number of the last record of a file, after this one. The beginning of a file is no record, nor
+/// is what is told of incomplete packets.
 pub fn frame_after(event: &Event, frame: u64) -> u64
     ensures { (bytes : List ℕ) → result ≡ frame_after (event_seen bytes event.now) frame }
 {
@@ -173,8 +175,9 @@ fn without_packet(why: Why, counts: SkipCounts) -> SkipCounts
         Why::NotIp => counts.not_ip = one_more(counts.not_ip),
         Why::BadHeader => counts.bad_header = one_more(counts.bad_header),
         Why::NotPim => counts.not_pim = one_more(counts.not_pim),
-        Why::Fragment => counts.fragment = one_more(counts.fragment),
-        Why::NoTime | Why::LinkType | Why::NotChosen | Why::CutShort | Why::NextFile => {}
+        Why::Fragment | Why::Part => counts.fragment = one_more(counts.fragment),
+        Why::NoTime | Why::LinkType(_) | Why::NotChosen | Why::Copy => {}
+        Why::CutShort | Why::NextFile | Why::Incomplete(_) => {}
     }
     counts
 }
