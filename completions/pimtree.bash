@@ -8,8 +8,8 @@ _pimtree_options() {
         check) echo --src --dst --partial --help ;;
         build) echo --src --dst --help ;;
         replay) echo "$run" --input --help ;;
-        trace) echo "$run" --from --group --source --time --all --state --json --help ;;
-        audit) echo "$run" --upstream --local --grace --from --group --time --json --help ;;
+        trace) echo "$run" --input --from --group --source --time --all --state --json --help ;;
+        audit) echo "$run" --input --upstream --local --grace --from --group --time --json --help ;;
         same | mirror | emit | change) echo "$run" "$messages" --input --help ;;
         session) echo --help ;;
     esac
@@ -56,7 +56,12 @@ _pimtree() {
     fi
     case $before in
         --time) _pimtree_words 'ms epoch utc' "$2" ;;
-        --input) _pimtree_words 'classic any' "$2" ;;
+        --input)
+            case $command in
+                trace | audit) _pimtree_words any "$2" ;;
+                *) _pimtree_words 'classic any' "$2" ;;
+            esac
+            ;;
         --routes | --local | [\<\>]*) _pimtree_files '' "$2" ;;
         --all | --state | --json | --partial) _pimtree_argument "$command" "$2" ;;
         --*) ;;

@@ -55,6 +55,7 @@ complete -c pimtree -n $of_run -l at -x -d 'Time at which the run ends'
 complete -c pimtree -n $of_run -l vlan -x -d 'Only packets of this VLAN'
 complete -c pimtree -n $of_run -l interface -x -d 'Only packets of this interface'
 complete -c pimtree -n $of_input -l input -x -a 'classic any' -d 'Kind of each file'
+complete -c pimtree -n $of_shown -l input -x -a any -d 'Kind of each file'
 
 complete -c pimtree -n $of_upstream -l upstream -x -d 'Upstream neighbour'
 complete -c pimtree -n $of_demand -l own -x -d 'Address the messages come from'

@@ -112,6 +112,7 @@ class Bash(unittest.TestCase):
         self.assertEqual(self.offers("trace", "--time", ""), {"ms", "epoch", "utc"})
         self.assertEqual(self.offers("trace", "--time", "=", "u"), {"utc"})
         self.assertEqual(self.offers("replay", "--input", ""), {"classic", "any"})
+        self.assertEqual(self.offers("trace", "--input", ""), {"any"})
         for words in (("trace", "--routes"), ("audit", "--local")):
             self.assertEqual(self.offers(*words, "exampl"), {"examples/"})
         self.assertEqual(self.offers("check", "<", "examples/join-s"), {"examples/join-star.pim"})

@@ -47,10 +47,6 @@ abbrev pub with_run_options : App → App
 with_run_options command =
     with_rule (with_links (with_rule (with_ends command) (text_option (codes "input")))) (words_rule (codes "words"))
 
--- The same of a trace, which reads any container.
-abbrev pub with_trace_options : App → App
-with_trace_options command = with_rule (with_links (with_ends command)) (words_rule (codes "words"))
-
 -- The addresses of a command that writes messages: `--rp A --upstream A --own A`.
 abbrev pub with_addresses : App → App
 with_addresses command =
@@ -102,14 +98,14 @@ replay = (with_run_options (with_rule (with_rule (new_app (codes "replay")) (tex
 
 -- `trace [--rp A] [--routes FILE]`, the options of a run, and what is shown.
 abbrev pub trace : Shape
-trace = (with_shown (with_trace_options (with_rule (with_rule (new_app (codes "trace")) (text_option (codes "rp")))
+trace = (with_shown (with_run_options (with_rule (with_rule (new_app (codes "trace")) (text_option (codes "rp")))
     (text_option (codes "routes"))))).top
 
 -- `audit --upstream A [--rp A] [--routes FILE] [--local FILE] [--grace MS]`, a run's options, and
 -- what is shown.
 abbrev pub audit : Shape
 audit =
-    (with_audit_shown (with_trace_options (with_rule (with_rule (with_rule (with_rule (with_rule
+    (with_audit_shown (with_run_options (with_rule (with_rule (with_rule (with_rule (with_rule
     (new_app (codes "audit")) (required_option (codes "upstream"))) (text_option (codes "rp")))
     (text_option (codes "routes"))) (text_option (codes "local"))) (number_option (codes "grace") 0 1000000000)))).top
 

@@ -226,17 +226,35 @@ abbrev pub IsWrongInput : Text → CommandFault → Type 0
 IsWrongInput text (cause.Word reported) = (reported.now ≡ text) × IsNoInput text
 IsWrongInput text fault = ⊥
 
+-- The text of `--input` of a command that reads any container, or its default.
+abbrev pub any_text : List Row → Text
+any_text rows = option_or (input_name true) (codes "input") rows
+
+-- The fault of such a text that isn't this input.
+abbrev pub IsOtherInput : Text → CommandFault → Type 0
+IsOtherInput text (cause.Word reported) = (reported.now ≡ text) × (text ≢ input_name true)
+IsOtherInput text fault = ⊥
+
+-- The options of a command that reads any container give these links.
+abbrev pub AreAnyLinks : List Row → Links → Type 0
+AreAnyLinks rows links = (any_text rows ≡ input_name true) × AreLinks true rows links
+
 -- The options give these links. A trace and an audit read any container.
 abbrev pub AreChosenLinks : CommandKind → List Row → Links → Type 0
-AreChosenLinks Trace rows links = AreLinks true rows links
-AreChosenLinks Audit rows links = AreLinks true rows links
+AreChosenLinks Trace rows links = AreAnyLinks rows links
+AreChosenLinks Audit rows links = AreAnyLinks rows links
 AreChosenLinks command rows links = (input_text rows ≡ input_name links.is_any) × AreLinks links.is_any rows links
 
--- The fault of the first wrong value: of `--input`, otherwise of `--vlan`, otherwise of
--- `--interface`.
+-- The fault of the first wrong value of a command that reads any container: of `--input`, otherwise
+-- of `--vlan`, otherwise of `--interface`.
+abbrev pub AreWrongAny : List Row → CommandFault → Type 0
+AreWrongAny rows fault = IsOtherInput (any_text rows) fault
+    ⊎ ((any_text rows ≡ input_name true) × IsWrongLinks true rows fault)
+
+-- The same of each command.
 abbrev pub AreWrongChoices : CommandKind → List Row → CommandFault → Type 0
-AreWrongChoices Trace rows fault = IsWrongLinks true rows fault
-AreWrongChoices Audit rows fault = IsWrongLinks true rows fault
+AreWrongChoices Trace rows fault = AreWrongAny rows fault
+AreWrongChoices Audit rows fault = AreWrongAny rows fault
 AreWrongChoices command rows fault =
     IsWrongInput (input_text rows) fault
     ⊎ ((is_any : Bool) × (input_text rows ≡ input_name is_any) × IsWrongLinks is_any rows fault)

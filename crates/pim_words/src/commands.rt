@@ -234,6 +234,14 @@ const INPUT: OptionRow<'static> = OptionRow {
 [default: classic]",
 };
 
+/// `--input` of `trace` and `audit`.
+const TRACE_INPUT: OptionRow<'static> = OptionRow {
+    name: "input",
+    form: Form::Text,
+    value: "KIND",
+    help: "Kind of each FILE: any, which is read in any case",
+};
+
 /// `--vlan` of a command that reads classic captures unless `--input any` is given.
 const VLAN: OptionRow<'static> = OptionRow {
     name: "vlan",
@@ -365,12 +373,13 @@ const OF_REPLAY: [OptionRow<'static>; 9] = [
 ];
 
 /// The options and words of `trace`.
-const OF_TRACE: [OptionRow<'static>; 15] = [
+const OF_TRACE: [OptionRow<'static>; 16] = [
     TRACE_RP,
     ROUTES,
     LIMIT,
     AFTER,
     AT,
+    TRACE_INPUT,
     TRACE_VLAN,
     TRACE_INTERFACE,
     LABELLED_PORTS,
@@ -384,7 +393,7 @@ const OF_TRACE: [OptionRow<'static>; 15] = [
 ];
 
 /// The options and words of `audit`.
-const OF_AUDIT: [OptionRow<'static>; 15] = [
+const OF_AUDIT: [OptionRow<'static>; 16] = [
     AUDIT_UPSTREAM,
     TRACE_RP,
     ROUTES,
@@ -393,6 +402,7 @@ const OF_AUDIT: [OptionRow<'static>; 15] = [
     LIMIT,
     AFTER,
     AT,
+    TRACE_INPUT,
     TRACE_VLAN,
     TRACE_INTERFACE,
     LABELLED_PORTS,
@@ -528,7 +538,7 @@ FILE is pcapng or classic pcap: Ethernet, raw IP, Linux cooked as by
 `tcpdump -i any`, or BSD loopback, with up to two VLAN tags. `-` is standard
 input, for one FILE, that of --routes included; a FIFO and <(zcat x.pcap.gz)
 work, too. A port is one link, so these are faults:
-  capture vlans 5,7       PIM packets of two VLANs, here 5 and 7
+  capture vlans 5,5.7     PIM packets of two VLANs, here 5 and 5.7
   capture interfaces 0,1  PIM packets of two interfaces
 --vlan and --interface choose one. P is the place of a port's word, from 0.
 A word +FILE goes on with the port of the word before it; P doesn't count it.
@@ -560,7 +570,7 @@ Other packets:
                            the Join names another RP than --rp or --routes do
   #N own Hello, ..: this router restarted
                            a capture can't show that it lost what it held
-  #N skipped: a fragment of a PIM message
+  #N skipped: cut short by the end of its file
 
 The last line is `end:`, with the machines and the neighbours that are held, and
 the skipped records by cause.

@@ -6,6 +6,7 @@ ghost use Rattle.pim_words.specs.Given.{values_of};
 ghost use Rattle.pim_words.specs.Links.{ArePicks, IsFirstWrongPick, AreLinks, IsWrongLinks};
 ghost use Rattle.pim_words.specs.Links.{link_at, word_count, input_name, IsNoInput};
 ghost use Rattle.pim_words.specs.Links.{AreChosenLinks, AreWrongChoices};
+ghost use Rattle.pim_words.specs.Links.{AreAnyLinks, AreWrongAny};
 ghost use Rattle.pim_words.specs.Seen.{OrMemory, with_link, with_links};
 ghost use Rattle.pim_words.specs.declared.fault.CommandFault.TheVariants.{Memory};
 
@@ -77,6 +78,18 @@ fn read_input(text: &str) -> Option<bool>
     }
 }
 
+/// The links that the words of a trace or an audit pick, which read any container.
+fn read_any_links<'a>(alloc: Global, options: &ArgMatches<'a>) -> Result<Links, CommandFault<'a>>
+    ensures { MatchResult result (AreAnyLinks (rows_of (found_of options.now)))
+        (OrMemory (AreWrongAny (rows_of (found_of options.now)))) }
+{
+    let text = option_or(options, "input", "any");
+    if text != "any" {
+        return Err(CommandFault::Word(text));
+    }
+    read_links(alloc, true, options)
+}
+
 /// The links that the words pick. A trace and an audit read any container; otherwise `--input` says
 /// whether a command does.
 pub(crate) fn read_chosen_links<'a>(
@@ -88,7 +101,7 @@ pub(crate) fn read_chosen_links<'a>(
         (OrMemory (AreWrongChoices kind (rows_of (found_of options.now)))) }
 {
     if let CommandKind::Trace | CommandKind::Audit = kind {
-        return read_links(alloc, true, options);
+        return read_any_links(alloc, options);
     }
     let text = option_or(options, "input", "classic");
     let Some(is_any) = read_input(text) else {
