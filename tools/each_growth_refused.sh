@@ -81,6 +81,7 @@ pim_router_tests router::memory::refusals_change_nothing Router::new, take_packe
 pim_router_tests router::refused::calls_are_made_again Router::canonical, same_wants
 pim_router_tests mirror::mirrored::messages_make_mirrors mirror
 pim_down_tests capture::refused_growth Capture::next
+pim_down_tests fragments::refusals_change_nothing Fragments::take
 pimtree_tests refused::replay_leaves_a_front replay
 pimtree_tests refused::trace_leaves_a_front trace
 pimtree_tests refused::trace_as_json_leaves_a_front trace

@@ -112,7 +112,8 @@ def missing_modules(crate):
         with open(path, encoding="utf-8") as file:
             named = USED.findall(file.read())
         files = [f"{TOP}/crates/{owner}/{kind}/{module.replace('.', '/')}" for owner, kind, module in named
-                 if owner in crates() and not module.startswith("declared.") and not module.endswith((".Goals", ".Given"))]
+                 if owner in crates() and not module.startswith(("declared.", "contracts."))
+                 and not module.endswith((".Goals", ".Given"))]
         wrong += [f"{os.path.relpath(path, TOP)}: no {os.path.relpath(it, TOP)}.antt" for it in files
                   if not any(map(os.path.exists, (f"{it}.antt", f"{it}/Lib.antt", f"{os.path.dirname(it)}.antt")))]
     return wrong

@@ -25,7 +25,7 @@ ETHERNET, RAW = (1,), (101, 12, 14)
 NAMES = [b"eth0", b"eth0.5", b"0", b"12x", b"a,b", b"a=b", b"a+b", b"a b", b"\x1b[2J", b"\x7f", b"!~", b"", b"x" * 16, b"x" * 17]
 
 
-def packet_of(link, order, frame):
+def packet_of(link, frame):
     """(address bytes before the packet, VLANs, index, copy) or None where there is no IP."""
     vlans, index, copy = [], 0, False
     if link in RAW:
@@ -35,9 +35,7 @@ def packet_of(link, order, frame):
     if link in (0, 108):
         if len(frame) < 4:
             return None
-        words = [int.from_bytes(frame[:4], "big")]
-        if link == 0 and order == "<":
-            words.insert(0, int.from_bytes(frame[:4], "little"))
+        words = [int.from_bytes(frame[:4], it) for it in ("little", "big")]
         return (4, vlans, index, copy) if any(it in (2, 10, 24, 28, 30) for it in words) else None
     at = {1: 14, 113: 16, 276: 20}[link]
     if len(frame) < at:
@@ -59,20 +57,23 @@ def packet_of(link, order, frame):
     return (at, [it for it in vlans if it], index, copy) if kind in (0x800, 0x86DD) else None
 
 
-def told(link, order, millis, interface, frame, name="-"):
-    place = packet_of(link, order, frame)
+def told(link, millis, interface, frame, name="-"):
+    place = packet_of(link, frame)
     if place is None:
         return "skipped"
     at, vlans, index, copy = place
     ip = frame[at:]
-    if len(ip) < 20 or ip[0] >> 4 != 4 or ip[9] != 103 or ip[6] & 0x3F or ip[7]:
+    if len(ip) < 20 or ip[0] >> 4 != 4 or ip[9] != 103:
         return "skipped"
     head, size = 4 * (ip[0] & 15), int.from_bytes(ip[2:4], "big")
     if head < 20 or size < head or len(ip) < size:
         return "skipped"
     outer, inner = (vlans + [0, 0])[:2]
-    return (f"packet {millis} interface {interface} index {index} name {name} vlan {outer}.{inner} copy {int(copy)} "
-            f"payload {size - head} {'.'.join(map(str, ip[12:16]))} {'.'.join(map(str, ip[16:20]))}")
+    number, flags = struct.unpack(">HH", ip[4:8])
+    part = flags & 0x3FFF
+    which = f"protocol 103 identification {number} offset {8 * (part & 0x1FFF)} more {part >> 13} " if part else ""
+    return (f"{'fragment' if part else 'packet'} {millis} interface {interface} index {index} name {name} "
+            f"vlan {outer}.{inner} copy {int(copy)} {which}payload {size - head} {'.'.join(map(str, ip[12:16]))} {'.'.join(map(str, ip[16:20]))}")
 
 
 def options(order, data):
@@ -121,6 +122,8 @@ def blocks(data):
         if block[-4:] != block[4:8]:
             return (yield "fault block")
         if kind == 0x0A0D0D0A:
+            if struct.unpack(order + "H", block[12:14])[0] != 1:
+                return (yield "fault block")
             interfaces = []
             yield "section"
         elif kind == 1:
@@ -139,7 +142,7 @@ def blocks(data):
             if not 0 <= millis <= LATEST:
                 return (yield "fault time")
             known = link in made_links
-            yield told(link, order, millis, number, block[28:28 + length], name) if known else "skipped"
+            yield told(link, millis, number, block[28:28 + length], name) if known else "skipped"
         else:
             yield "untimed" if kind in (3, 9, 0x204, 0x216, 0x221, 0xBAD, 0x40000BAD) else "passed"
     yield "end"
@@ -151,6 +154,8 @@ made_links = {link for link, _ in made.FRAMES.values() if link != 147} | {12, 14
 def records(data):
     if len(data) < 24:
         return (yield "fault truncated")
+    if data[:2] == b"\x1f\x8b":
+        return (yield "fault gzip")
     order = next((it for it in "<>" if struct.unpack(it + "I", data[:4])[0] in (0xA1B2C3D4, 0xA1B23C4D)), None)
     if order is None:
         return (yield "fault magic")
@@ -168,7 +173,7 @@ def records(data):
             return (yield "fault too-long")
         if len(data) < 16 + length:
             return (yield "fault truncated")
-        yield told(link, order, seconds * 1000 + fraction // per, 0, data[16:16 + length])
+        yield told(link, seconds * 1000 + fraction // per, 0, data[16:16 + length])
         data = data[16 + length:]
     yield "end"
 
@@ -182,7 +187,16 @@ def found(program, data):
         file.write(data)
         file.flush()
         lines = subprocess.run([program, file.name], check=True, capture_output=True, text=True).stdout.splitlines()
-    return [it if it.split()[0] in ("packet", "fault") else it.split()[0] for it in lines]
+    return [it if it.split()[0] in ("packet", "fragment", "fault") else it.split()[0] for it in lines]
+
+
+def fragment_of(link, frame, source):
+    """The frame, whose packet is a fragment now if it is one of IPv4."""
+    place = packet_of(link, frame) if link in made_links else None
+    if place is None or len(frame) < place[0] + 20:
+        return frame
+    at = place[0] + 4
+    return frame[:at] + struct.pack(">HH", source.randrange(65536), source.choice([0x2000, 1, 0x3FFF, 0x4000])) + frame[at + 4:]
 
 
 def some_file(source):
@@ -192,6 +206,7 @@ def some_file(source):
     for _ in range(source.randint(1, 2)):
         order = source.choice("<>")
         chosen = [source.choice(frames) for _ in range(source.randint(1, 3))]
+        chosen = [(link, fragment_of(link, it, source) if source.random() < 0.3 else it) for link, it in chosen]
         listed = []
         for link, _ in chosen:
             given = [(9, bytes([source.choice([0, 3, 6, 9, 30, 0x80, 0x94, 0xFF])]))] if source.random() < 0.5 else []

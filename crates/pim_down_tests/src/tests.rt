@@ -15,6 +15,7 @@ mod bodies;
 mod capture;
 mod courses;
 mod device;
+mod fragments;
 mod hello;
 mod items;
 mod jp;

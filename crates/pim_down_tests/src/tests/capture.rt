@@ -1,6 +1,7 @@
 //! Captures that end or fail at any byte, and why records are passed over.
 
 mod merging;
+mod parts;
 mod passing;
 
 use pim_addr::ScriptedFeed;

@@ -8,7 +8,7 @@ use pim_merge::{Merge, MergeFault, RecordPlace, Tally, Turn};
 use std::alloc::Global;
 
 /// All packets.
-const EACH: Choice = Choice {
+pub(super) const EACH: Choice = Choice {
     vlan: None,
     interface: None,
 };
@@ -141,6 +141,7 @@ fn tally_of_two_records(rt: HostRuntime) {
         file: 0,
         records: 2,
         fragments: 0,
+        incomplete: None,
         cut_frames: 0,
         cut_short: None,
         last: Some(100_005),
@@ -176,6 +177,7 @@ fn tally_of_two_files(rt: HostRuntime) {
         file: 1,
         records: 2,
         fragments: 0,
+        incomplete: None,
         cut_frames: 0,
         cut_short: Some(RecordPlace { file: 0, record: 2 }),
         last: Some(100_005),
