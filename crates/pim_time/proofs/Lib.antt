@@ -4,6 +4,8 @@ pub mod Days
 pub mod Numbers
 pub mod Points
 pub mod Seconds
+pub mod Zones
 pub mod Forms
 pub mod Texts
+pub mod Plains
 pub mod OneTimes

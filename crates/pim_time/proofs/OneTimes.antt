@@ -1,12 +1,14 @@
 -- A text names one time.
-use Rattle.pim_time.proofs.Words.{◌≡◌, ◌∙◌, sym, ap, refl, ℕ, suc, ◌+◌, ◌-◌, ◌*◌, ◌/◌, ◌%◌, ◌^◌, ◌<◌, inl, inr, List}
-use Rattle.pim_time.proofs.Words.{[], ◌∷◌, ◌++◌, length, get_or, drop, arith, digits_value, append_cancel_right}
-use Rattle.pim_time.proofs.Words.{date_of, IsCivil, day_text, clock_text, second_text, IsNumber, IsPart, IsEnd}
-use Rattle.pim_time.proofs.Words.{IsSeconds, IsDate, IsTime, Date, Time, Moment, Epoch}
+use Rattle.pim_time.proofs.Words.{◌≡◌, ◌∙◌, sym, ap, subst, refl, ℕ, suc, ◌+◌, ◌*◌, ◌/◌, ◌%◌, ◌^◌, ◌<◌, inl, inr, List}
+use Rattle.pim_time.proofs.Words.{[], ◌∷◌, ◌++◌, length, drop, arith, digits_value}
+use Rattle.pim_time.proofs.Words.{date_of, IsCivil, day_text, clock_text, marked_text, IsNumber, IsPart, IsEnd, IsUnit}
+use Rattle.pim_time.proofs.Words.{IsSeconds, IsSpan, IsZone, IsDate, IsTime, Date, Time, Moment, Epoch}
 use Rattle.pim_time.proofs.Walks.{day_of, month_high}
 use Rattle.pim_time.proofs.Days.{is_civil, one_day}
 use Rattle.pim_time.proofs.Points.{point_is_found, cut_there, same_some}
-use Rattle.pim_time.proofs.Forms.{spelled_by_point, number_or_seconds, number_or_date, seconds_or_date}
+use Rattle.pim_time.proofs.Zones.{same_cut, byte_at, zones_cut, zone_long, one_zone}
+use Rattle.pim_time.proofs.Forms.{spelled_by_point, seconds_or_date, number_or_span, IsMoment}
+use Rattle.pim_time.proofs.Forms.{moment_or_seconds, moment_or_date}
 
 one_number : (most most_other n m : ℕ) (text other : List ℕ) → text ≡ other → IsNumber most text n → IsNumber most_other other m → n ≡ m
 one_number most most_other n m text other same is also = is.value ∙ (ap (digits_value 10) same ∙ sym also.value)
@@ -14,8 +16,8 @@ one_number most most_other n m text other same is also = is.value ∙ (ap (digit
 one_part : (text other : List ℕ) (n m : ℕ) → text ≡ other → IsPart text n → IsPart other m → n ≡ m
 one_part text other n m same is also =
     let tails = ap (drop 1) (sym is.spelled ∙ (same ∙ also.spelled)) in
-    let number = one_number 3 3 is.number also.number _ _ tails is.digits also.digits in
-    is.value ∙ (ap (λ k. k * 10 ^ (3 - length is.tail)) number ∙ (ap (λ t. also.number * 10 ^ (3 - length t)) tails ∙ sym also.value))
+    let number = one_number 9 9 is.number also.number _ _ tails is.digits also.digits in
+    is.value ∙ (ap (λ k. k * 1000 / 10 ^ length is.tail) number ∙ (ap (λ t. also.number * 1000 / 10 ^ length t) tails ∙ sym also.value))
 
 one_seconds : (text : List ℕ) (n m : ℕ) → IsSeconds text n → IsSeconds text m → n ≡ m
 one_seconds text n m is also =
@@ -29,9 +31,6 @@ one_seconds text n m is also =
     omega (arith, is.value, also.value, seconds, part)
 
 -- ---- dates
-
-byte_at : (k : ℕ) (xs ys : List ℕ) → xs ≡ ys → get_or xs k 0 ≡ get_or ys k 0
-byte_at k xs ys same = ap (λ t. get_or t k 0) same
 
 same_date : (one other : Date) (xs ys : List ℕ) → IsCivil one → IsCivil other → one.year < 10000 → other.year < 10000 → day_text one ++ xs ≡ day_text other ++ ys → one ≡ other
 same_date one other xs ys civil also year other_year same =
@@ -71,9 +70,9 @@ record SameSecond (n m : ℕ) (xs ys : List ℕ) : Type 0 where
   pub seconds : n ≡ m
   pub behind : xs ≡ ys
 
-same_second : (n m : ℕ) (xs ys : List ℕ) → (date_of (n / 86400)).year < 10000 → (date_of (m / 86400)).year < 10000 → second_text n ++ xs ≡ second_text m ++ ys → SameSecond n m xs ys
-unfolding second_text
-same_second n m xs ys year other_year same =
+same_second : (mark other n m : ℕ) (xs ys : List ℕ) → (date_of (n / 86400)).year < 10000 → (date_of (m / 86400)).year < 10000 → marked_text mark n ++ xs ≡ marked_text other m ++ ys → SameSecond n m xs ys
+unfolding marked_text
+same_second mark other n m xs ys year other_year same =
     let days = one_day _ _ (same_date (date_of (n / 86400)) (date_of (m / 86400)) _ _ (is_civil (n / 86400)) (is_civil (m / 86400)) year other_year same) in
     let clock = same_clock (n % 86400) (m % 86400) xs ys (omega arith) (omega arith) (ap (drop 11) same) in
     record { seconds = omega (arith, days, clock); behind = ap (drop 19) same }
@@ -86,17 +85,46 @@ one_end text other n m same (inr is) (inr also) = one_part text other n m same i
 
 one_date : (text : List ℕ) (n m : ℕ) → IsDate text n → IsDate text m → n ≡ m
 one_date text n m is also =
-    let fronts = append_cancel_right _ _ (90 ∷ []) (sym is.spelled ∙ also.spelled) in
-    let second = same_second is.seconds also.seconds is.behind also.behind is.year also.year fronts in
+    let cut = zones_cut _ _ is.zone also.zone (zone_long is.zone is.clock is.seconds is.named) (zone_long also.zone also.clock also.seconds also.named) (sym is.spelled ∙ also.spelled) in
+    let second = same_second is.mark also.mark is.clock also.clock is.behind also.behind is.year also.year cut.0 in
     let part = one_end is.behind also.behind is.part also.part second.behind is.end also.end in
-    omega (arith, is.value, also.value, second.seconds, part)
+    let there = subst (λ zone. IsZone zone also.clock also.seconds) (sym cut.1) also.named in
+    let then = subst (λ clock. IsZone is.zone clock also.seconds) (sym second.seconds) there in
+    let seconds = one_zone is.zone is.clock is.seconds also.seconds is.named then in
+    omega (arith, is.value, also.value, seconds, part)
+
+-- ---- moments
+
+one_unit : (byte other unit also_unit : ℕ) → byte ≡ other → IsUnit byte unit → IsUnit other also_unit → unit ≡ also_unit
+one_unit byte other unit also_unit same (inl is) (inl also) = omega (arith, same, is.0, is.1, also.0, also.1)
+one_unit byte other unit also_unit same (inl is) (inr (inl also)) = omega (arith, same, is.0, is.1, also.0, also.1)
+one_unit byte other unit also_unit same (inl is) (inr (inr also)) = omega (arith, same, is.0, is.1, also.0, also.1)
+one_unit byte other unit also_unit same (inr (inl is)) (inl also) = omega (arith, same, is.0, is.1, also.0, also.1)
+one_unit byte other unit also_unit same (inr (inl is)) (inr (inl also)) = omega (arith, same, is.0, is.1, also.0, also.1)
+one_unit byte other unit also_unit same (inr (inl is)) (inr (inr also)) = omega (arith, same, is.0, is.1, also.0, also.1)
+one_unit byte other unit also_unit same (inr (inr is)) (inl also) = omega (arith, same, is.0, is.1, also.0, also.1)
+one_unit byte other unit also_unit same (inr (inr is)) (inr (inl also)) = omega (arith, same, is.0, is.1, also.0, also.1)
+one_unit byte other unit also_unit same (inr (inr is)) (inr (inr also)) = omega (arith, same, is.0, is.1, also.0, also.1)
+
+one_span : (text : List ℕ) (n m : ℕ) → IsSpan text n → IsSpan text m → n ≡ m
+one_span text n m is also =
+    let cut = same_cut is.front also.front (is.byte ∷ []) (also.byte ∷ []) refl (sym is.spelled ∙ also.spelled) in
+    let unit = one_unit is.byte also.byte is.unit also.unit (byte_at 0 _ _ cut.1) is.named also.named in
+    let number = one_number 10 10 is.number also.number _ _ cut.0 is.digits also.digits in
+    is.value ∙ (ap (λ k. k * is.unit) number ∙ (ap (λ k. also.number * k) unit ∙ sym also.value))
+
+one_moment : (text : List ℕ) (n m : ℕ) → IsMoment text n → IsMoment text m → n ≡ m
+one_moment text n m (inl is) (inl also) = one_number 13 13 n m text text refl is also
+one_moment text n m (inl is) (inr also) = absurd (number_or_span 13 n m text is also)
+one_moment text n m (inr is) (inl also) = absurd (number_or_span 13 m n text also is)
+one_moment text n m (inr is) (inr also) = one_span text n m is also
 
 pub one_time : (text : List ℕ) (one other : Time) → IsTime text one → IsTime text other → one ≡ other
-one_time text (Moment n) (Moment m) is also = ap (λ k. Moment k) (one_number 13 13 n m text text refl is also)
-one_time text (Moment n) (Epoch m) is (inl also) = absurd (number_or_seconds 13 n m text is also)
-one_time text (Moment n) (Epoch m) is (inr also) = absurd (number_or_date 13 n m text is also)
-one_time text (Epoch n) (Moment m) (inl is) also = absurd (number_or_seconds 13 m n text also is)
-one_time text (Epoch n) (Moment m) (inr is) also = absurd (number_or_date 13 m n text also is)
+one_time text (Moment n) (Moment m) is also = ap (λ k. Moment k) (one_moment text n m is also)
+one_time text (Moment n) (Epoch m) is (inl also) = absurd (moment_or_seconds n m text is also)
+one_time text (Moment n) (Epoch m) is (inr also) = absurd (moment_or_date n m text is also)
+one_time text (Epoch n) (Moment m) (inl is) also = absurd (moment_or_seconds m n text also is)
+one_time text (Epoch n) (Moment m) (inr is) also = absurd (moment_or_date m n text also is)
 one_time text (Epoch n) (Epoch m) (inl is) (inl also) = ap (λ k. Epoch k) (one_seconds text n m is also)
 one_time text (Epoch n) (Epoch m) (inl is) (inr also) = absurd (seconds_or_date n m text is also)
 one_time text (Epoch n) (Epoch m) (inr is) (inl also) = absurd (seconds_or_date m n text also is)

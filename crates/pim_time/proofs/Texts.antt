@@ -2,14 +2,14 @@
 use Rattle.pim_time.proofs.Words.{◌≡◌, sym, refl, ℕ, ◌+◌, ◌/◌, ◌%◌, ◌<◌, inl, inr, List, [], ◌∷◌, ◌++◌, length}
 use Rattle.pim_time.proofs.Words.{length-append, drop, drop-drop, append_assoc, decimal, arith, digit_value, nat_tests}
 use Rattle.pim_time.proofs.Words.{date_of, Date, two_digits, day_text, clock_text, millis_text, seconds_text}
-use Rattle.pim_time.proofs.Words.{second_text, date_text, IsNumber, IsPart, IsTime, Epoch}
+use Rattle.pim_time.proofs.Words.{second_text, marked_text, date_text, IsNumber, IsPart, IsTime, Epoch}
 use Rattle.std.proofs.lemmas.Fmt.{decimal_is_IsNumeral, length-decimal-le}
 use Rattle.pim_time.proofs.Days.{year_below}
 
 digit_of : (n : ℕ) → n < 10 → digit_value (48 + n) ≡ n
 digit_of n small = grind (arith, nat_tests)
 
-three_digits : (millis : ℕ) → millis < 1000 → IsNumber 3 ((48 + millis / 100) ∷ two_digits (millis % 100)) millis
+three_digits : (millis : ℕ) → millis < 1000 → IsNumber 9 ((48 + millis / 100) ∷ two_digits (millis % 100)) millis
 three_digits millis small =
     let first = digit_of (millis / 100) (omega arith) in
     let second = digit_of (millis % 100 / 10) (omega arith) in
@@ -45,14 +45,19 @@ seconds_name millis small =
     })
 
 pub date_names : (millis : ℕ) → millis < 253402300800000 → IsTime (date_text millis) (Epoch millis)
-unfolding date_text
+unfolding date_text second_text marked_text
 date_names millis small =
     inr (record {
-      seconds = millis / 1000;
+      mark = 84;
+      clock = millis / 1000;
       behind = millis_text (millis % 1000);
       part = millis % 1000;
+      zone = 90 ∷ [];
+      seconds = millis / 1000;
+      between = inl refl;
       year = year_below (millis / 1000 / 86400) (omega arith);
       end = inr (millis_part (millis % 1000) (omega arith));
+      named = inl (refl, refl);
       spelled = refl;
       value = omega arith;
     })

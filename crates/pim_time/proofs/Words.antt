@@ -6,7 +6,8 @@ pub use Rattle.std.proofs.Common.{◌^◌, ◌∙◌, ◌∷◌, ◌≡◌, ◌�
 pub use Rattle.std.proofs.lemmas.Bool.{cases_lt, cases_order, cond_both, false≢true, le-ltb, lt-ltb, ltb-false}
 pub use Rattle.std.proofs.lemmas.Bool.{ltb-true, ne_eqb}
 pub use Rattle.std.proofs.lemmas.Bool.Decides.{nat_tests}
-pub use Rattle.std.proofs.lemmas.List.{append_cancel_right}
+pub use Rattle.std.proofs.lemmas.List.{get_or-append-add}
+pub use Rattle.std.proofs.Math.Nat.{div-lt_iff_lt-mul, one-le-pow}
 pub use Rattle.std.proofs.lemmas.Str.Parse.{IsNumeralModel, digit_at, digit_from_value, digits_value_short}
 pub use Rattle.std.proofs.lemmas.Str.Parse.{numerals_by_value, tells_digits}
 pub use Rattle.std.specs.Char.{digit_value}
@@ -15,9 +16,11 @@ pub use Rattle.std.specs.Str.Parse.{AllDigits, digits_value}
 pub use Rattle.pim_time.specs.Calendar.{days_in_month}
 unfoldable pub use Rattle.pim_time.specs.Calendar.{date_of, next_day, next_month}
 pub use Rattle.pim_time.specs.Dates.{IsCivil, first_day}
-pub use Rattle.pim_time.specs.Text.{IsDate, IsEnd, IsNumber, IsPart, IsSeconds, IsTime, clock_text, day_text}
-pub use Rattle.pim_time.specs.Text.{millis_text, two_digits}
-unfoldable pub use Rattle.pim_time.specs.Text.{date_text, second_text, seconds_text}
+pub use Rattle.pim_time.specs.Pieces.{IsZoneLong}
+pub use Rattle.pim_time.specs.Plain.{IsPlainDate, IsPlainPart, IsPlainSeconds, IsPlainTime}
+pub use Rattle.pim_time.specs.Text.{IsDate, IsEnd, IsMark, IsNumber, IsOffset, IsPart, IsSeconds, IsSpan, IsTime}
+pub use Rattle.pim_time.specs.Text.{IsUnit, IsZone, clock_text, day_text, millis_text, two_digits}
+unfoldable pub use Rattle.pim_time.specs.Text.{date_text, marked_text, second_text, seconds_text}
 pub use Rattle.pim_time.specs.declared.calendar.Date.{Date}
 pub use Rattle.pim_time.specs.declared.reading.Time.{Time}
 pub use Rattle.pim_time.specs.declared.reading.Time.TheVariants.{Epoch, Moment}

@@ -1,6 +1,7 @@
 -- The laws of times and their texts.
 use Rattle.std.specs.Prelude.{◌≡◌, ℕ, ◌<◌, List}
 use Rattle.pim_time.specs.Text.{IsTime, date_text, seconds_text}
+use Rattle.pim_time.specs.Plain.{IsPlainTime}
 use Rattle.pim_time.specs.declared.reading.Time.{Time}
 use Rattle.pim_time.specs.declared.reading.Time.TheVariants.{Epoch}
 
@@ -16,3 +17,7 @@ DateNamesItsTime = (millis : ℕ) → millis < 253402300800000 → IsTime (date_
 -- the point.
 abbrev pub SecondsNameTheirTime : Type 0
 SecondsNameTheirTime = (millis : ℕ) → millis < 10000000000000 → IsTime (seconds_text millis) (Epoch millis)
+
+-- What a plain form names, it names among all forms.
+abbrev pub PlainNamesItsTime : Type 0
+PlainNamesItsTime = (text : List ℕ) (time : Time) → IsPlainTime text time → IsTime text time

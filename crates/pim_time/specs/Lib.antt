@@ -2,5 +2,6 @@
 pub mod Calendar
 pub mod Dates
 pub mod Text
+pub mod Plain
 pub mod Pieces
 pub mod Laws

@@ -1,7 +1,8 @@
 -- What the clauses of private functions say of the pieces of a text.
-use Rattle.std.specs.Prelude.{◌≡◌, ℕ, ◌/◌, ◌%◌, ◌<◌, List, ◌∷◌, ◌++◌}
+use Rattle.std.specs.Prelude.{◌≡◌, ◌≢◌, ℕ, ◌/◌, ◌%◌, ◌<◌, ◌⊎◌, List, ◌∷◌, ◌++◌}
+use Rattle.std.specs.Prelude.{length, get_or, codes}
 use Rattle.pim_time.specs.Calendar.{date_of}
-use Rattle.pim_time.specs.Text.{two_digits, day_text, clock_text, second_text}
+use Rattle.pim_time.specs.Text.{two_digits, day_text, clock_text, marked_text, IsMark}
 
 -- The text is the two digits of a number and the text `behind`.
 abbrev pub IsTwo : List ℕ → ℕ → List ℕ → Type 0
@@ -24,6 +25,17 @@ abbrev pub IsClock : List ℕ → ℕ → List ℕ → Type 0
 IsClock text seconds behind = (seconds < 86400) × (text ≡ clock_text seconds ++ behind)
 
 -- The text is the date and the time of day this many seconds since 1970 and the text `behind`.
-abbrev pub IsSecond : List ℕ → ℕ → List ℕ → Type 0
-IsSecond text seconds behind =
-    ((date_of (seconds / 86400)).year < 10000) × (text ≡ second_text seconds ++ behind)
+pub record IsSecond (text : List ℕ) (seconds : ℕ) (behind : List ℕ) : Type 0 where
+  pub mark : ℕ
+  pub between : IsMark mark
+  pub year : (date_of (seconds / 86400)).year < 10000
+  pub spelled : text ≡ marked_text mark seconds ++ behind
+
+-- The text is `HH:MM`, of minutes below 24 hours.
+abbrev pub IsHours : List ℕ → ℕ → Type 0
+IsHours text minutes =
+    (minutes < 1440) × (text ≡ two_digits (minutes / 60) ++ codes ":" ++ two_digits (minutes % 60))
+
+-- The text is `Z`, or six bytes of which the last one is another.
+abbrev pub IsZoneLong : List ℕ → Type 0
+IsZoneLong text = (text ≡ codes "Z") ⊎ ((length text ≡ 6) × (get_or text 5 90 ≢ 90))

@@ -1,8 +1,10 @@
 //! Cuts of a text at a byte.
 
-ghost use Rattle.std.specs.Prelude.{◌≡◌, ◌==◌, ℕ, List, [], ◌∷◌, ◌++◌, IfSome, MatchOption};
+ghost use Rattle.std.specs.Prelude.{◌≡◌, ◌==◌, ℕ, List, ◌∷◌, ◌++◌, IfSome, MatchOption};
 ghost use Rattle.std.specs.List.{position};
 ghost use Rattle.std.specs.Str.Parse.{AllDigits};
+ghost use Rattle.pim_time.specs.Text.{IsMark};
+ghost use Rattle.pim_time.specs.Pieces.{IsZoneLong};
 
 /// The two parts of a text.
 #[derive(Clone, Copy)]
@@ -11,22 +13,31 @@ pub(crate) struct Parts<'a> {
     pub(crate) behind: &'a [u8],
 }
 
-/// Returns the text after this byte, if it begins with it.
-pub(crate) fn strip(mark: u8, text: &[u8]) -> Option<&[u8]>
-    ensures { MatchOption result ((rest : List ℕ) → text.now ≡ mark ∷ rest → ⊥)
-        (λ rest. text.now ≡ mark ∷ rest.now) }
+/// Returns the text after a `T` or a space, if it begins with one.
+pub(crate) fn strip_mark(text: &[u8]) -> Option<&[u8]>
+    ensures { MatchOption result
+        ((mark : ℕ) (rest : List ℕ) → IsMark mark → text.now ≡ mark ∷ rest → ⊥)
+        (λ rest. (mark : ℕ) × (IsMark mark × (text.now ≡ mark ∷ rest.now))) }
 {
     let (first, rest) = text.split_first()?;
-    if *first == mark { Some(rest) } else { None }
+    if *first == b'T' || *first == b' ' {
+        Some(rest)
+    } else {
+        None
+    }
 }
 
-/// Returns the text before this byte, if it ends with it.
-pub(crate) fn strip_end(mark: u8, text: &[u8]) -> Option<&[u8]>
-    ensures { MatchOption result ((front : List ℕ) → text.now ≡ front ++ (mark ∷ []) → ⊥)
-        (λ front. text.now ≡ front.now ++ (mark ∷ [])) }
+/// Cuts a text before the zone at its end: one byte if the last one is `Z`, else six.
+pub(crate) fn cut_at_zone(text: &[u8]) -> Option<Parts<'_>>
+    ensures whole { IfSome result (λ parts. text.now ≡ parts.front.now ++ parts.behind.now) }
+    ensures only { (front zone : List ℕ) → IsZoneLong zone → text.now ≡ front ++ zone →
+        MatchOption result ⊥ (λ parts. (parts.front.now ≡ front) × (parts.behind.now ≡ zone)) }
 {
-    let (last, front) = text.split_last()?;
-    if *last == mark { Some(front) } else { None }
+    let last = text.last()?;
+    let long = if *last == b'Z' { 1 } else { 6 };
+    let place = text.len().checked_sub(long)?;
+    let (front, behind) = text.split_at(place);
+    Some(Parts { front, behind })
 }
 
 /// Returns the place of the first point.

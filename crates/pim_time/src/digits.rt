@@ -31,19 +31,17 @@ pub(crate) fn read_number(text: &[u8], most: usize) -> Option<u64>
     Some(number)
 }
 
-/// Returns the milliseconds that a point and one to three digits write.
+/// Returns the milliseconds that a point and one to nine digits write. What is beyond milliseconds
+/// is cut.
 pub(crate) fn read_part(text: &[u8]) -> Option<u64>
     ensures read { IfSome result (λ millis. IsPart text.now millis) }
     ensures only { (millis : ℕ) → IsPart text.now millis → result ≡ Some millis }
     ensures below { IfSome result (λ millis. millis < 1000) }
 {
     let tail = text.strip_prefix(b".")?;
-    let number = read_number(tail, 3)?;
-    match tail.len() {
-        1 => Some(number * 100),
-        2 => Some(number * 10),
-        _ => Some(number),
-    }
+    let number = read_number(tail, 9)?;
+    let scale = 10_u64.pow(tail.len() as u32);
+    Some(number * 1000 / scale)
 }
 
 /// Returns the number that the two digits at the front of a text write.

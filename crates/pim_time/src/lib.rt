@@ -1,8 +1,9 @@
 //! Times as users write and read them.
 //!
-//! - `read_time` reads a text of one of three forms: milliseconds since the first record, seconds
-//!   since 1970, or a UTC date (RFC 3339, 5.6). It returns `None` exactly if the text has none of
-//!   these forms, and a text names at most one time.
+//! - `read_time` reads a text of one of four forms: milliseconds since the first record, a number
+//!   of seconds, minutes or hours since it, seconds since 1970, or a date with its zone (RFC 3339,
+//!   5.6). It returns `None` exactly if the text has none of these forms, and a text names at most
+//!   one time. The plain forms, which were the only ones at first, name what they always named.
 //! - `write_seconds` and `write_date` write milliseconds since 1970 in one spelling, which
 //!   `read_time` reads as the same time.
 //! - `TimeForm` says in which of these forms a user wants moments.

@@ -1,12 +1,14 @@
 //! The reader of times.
 
-ghost use Rattle.std.specs.Prelude.{◌≡◌, ℕ, ◌*◌, ◌<◌, ◌^◌, List, ◌∷◌, Some, IfSome, MatchOption};
-ghost use Rattle.pim_time.specs.Text.{IsEnd, IsSeconds, IsDate, IsTime, millis_of};
-ghost use Rattle.pim_time.specs.Pieces.{IsDay, IsClock, IsSecond};
+ghost use Rattle.std.specs.Prelude.{◌≡◌, ℕ, ◌*◌, ◌<◌, ◌≤◌, ◌^◌, ◌⊎◌, List, ◌∷◌};
+ghost use Rattle.std.specs.Prelude.{Some, IfSome, MatchOption};
+ghost use Rattle.pim_time.specs.Text.{IsNumber, IsUnit, IsSpan, IsZone, IsEnd, IsSeconds, IsDate};
+ghost use Rattle.pim_time.specs.Text.{IsTime, millis_of};
+ghost use Rattle.pim_time.specs.Pieces.{IsDay, IsClock, IsSecond, IsHours};
 ghost use Rattle.pim_time.specs.declared.reading.Time.{Time as TheTime};
 
 use crate::calendar::{Date, days_of};
-use crate::cuts::{cut_at_point, strip, strip_end};
+use crate::cuts::{cut_at_point, cut_at_zone, strip_mark};
 use crate::digits::{Cut, read_number, read_part, read_two, read_two_after, read_year};
 
 /// A time that a user names.
@@ -16,6 +18,50 @@ pub enum Time {
     Moment(u64),
     /// Milliseconds since 1970-01-01T00:00:00Z.
     Epoch(u64),
+}
+
+/// Returns the milliseconds of a unit of time.
+fn unit_of(byte: u8) -> Option<u64>
+    ensures read { IfSome result (λ millis. IsUnit byte millis) }
+    ensures only { (millis : ℕ) → IsUnit byte millis → result ≡ Some millis }
+    ensures most { IfSome result (λ millis. millis ≤ 3_600_000) }
+{
+    match byte {
+        b's' => Some(1000),
+        b'm' => Some(60_000),
+        b'h' => Some(3_600_000),
+        _ => None,
+    }
+}
+
+/// Returns the milliseconds of a whole number of a unit.
+fn read_span(text: &[u8]) -> Option<u64>
+    ensures read { IfSome result (λ millis. IsSpan text.now millis) }
+    ensures only { (millis : ℕ) → IsSpan text.now millis → result ≡ Some millis }
+    ensures below { IfSome result (λ millis. millis < 10 ^ 15) }
+{
+    let (last, front) = text.split_last()?;
+    let unit = unit_of(*last)?;
+    let number = read_number(front, 10)?;
+    let millis = number * unit;
+    if millis < 1_000_000_000_000_000 {
+        Some(millis)
+    } else {
+        None
+    }
+}
+
+/// Returns the milliseconds since the first record that a text names.
+fn read_moment(text: &[u8]) -> Option<u64>
+    ensures read { IfSome result (λ millis. IsNumber 13 text.now millis ⊎ IsSpan text.now millis) }
+    ensures only { (millis : ℕ) → IsNumber 13 text.now millis ⊎ IsSpan text.now millis →
+        result ≡ Some millis }
+    ensures below { IfSome result (λ millis. millis < 10 ^ 15) }
+{
+    match read_number(text, 13) {
+        Some(millis) => Some(millis),
+        None => read_span(text),
+    }
 }
 
 /// Returns the milliseconds since 1970 of seconds with a point.
@@ -77,7 +123,7 @@ fn read_second(text: &[u8]) -> Option<Cut<'_>>
     ensures below { IfSome result (λ cut. cut.number < 3_000_000 * 86_400) }
 {
     let day = read_day(text)?;
-    let behind = strip(b'T', day.behind)?;
+    let behind = strip_mark(day.behind)?;
     let clock = read_clock(behind)?;
     Some(Cut {
         number: day.number * 86_400 + clock.number,
@@ -98,32 +144,69 @@ fn read_end(text: &[u8]) -> Option<u64>
     }
 }
 
+/// Returns the minutes that `HH:MM` writes, below 24 hours.
+fn read_hours(text: &[u8]) -> Option<u64>
+    ensures read { IfSome result (λ minutes. IsHours text.now minutes) }
+    ensures only { (minutes : ℕ) → IsHours text.now minutes → result ≡ Some minutes }
+{
+    let hour = read_two(text)?;
+    let minute = read_two_after(b':', hour.behind)?;
+    if !minute.behind.is_empty() || hour.number >= 24 || minute.number >= 60 {
+        return None;
+    }
+    Some(hour.number * 60 + minute.number)
+}
+
+/// Returns the seconds since 1970-01-01T00:00:00Z at which the clocks of a zone show `clock`, which
+/// is in seconds since 1970-01-01T00:00:00.
+fn read_zone(text: &[u8], clock: u64) -> Option<u64>
+    requires { clock < 3_000_000 * 86_400 }
+    ensures read { IfSome result (λ seconds. IsZone text.now clock seconds) }
+    ensures only { (seconds : ℕ) → IsZone text.now clock seconds → result ≡ Some seconds }
+    ensures below { IfSome result (λ seconds. seconds < 3_000_001 * 86_400) }
+{
+    let (sign, tail) = text.split_first()?;
+    if *sign == b'Z' && tail.is_empty() {
+        return Some(clock);
+    }
+    let minutes = read_hours(tail)?;
+    match *sign {
+        b'+' => clock.checked_sub(minutes * 60),
+        b'-' => Some(clock + minutes * 60),
+        _ => None,
+    }
+}
+
 /// Returns the milliseconds since 1970 of a date.
 fn read_date(text: &[u8]) -> Option<u64>
     ensures read { IfSome result (λ millis. IsDate text.now millis) }
     ensures only { (millis : ℕ) → IsDate text.now millis → result ≡ Some millis }
     ensures below { IfSome result (λ millis. millis < 10 ^ 15) }
 {
-    let front = strip_end(b'Z', text)?;
-    let second = read_second(front)?;
-    let part = read_end(second.behind)?;
-    Some(second.number * 1000 + part)
+    let parts = cut_at_zone(text)?;
+    let clock = read_second(parts.front)?;
+    let part = read_end(clock.behind)?;
+    let seconds = read_zone(parts.behind, clock.number)?;
+    Some(seconds * 1000 + part)
 }
 
 /// Returns the time that a text names, or `None` where it names none. The forms:
 /// - one to 13 digits: milliseconds since the first record, as `42239`;
-/// - one to 10 digits, a point, one to 3 digits: seconds since 1970, as `1795329744.5`;
-/// - a UTC date from 1970 to 9999, as `2026-11-22T06:42:24.5Z` (RFC 3339, 5.6, in capitals). The
-///   point with its one to 3 digits may lack. There is no second 60.
+/// - one to 10 digits and `s`, `m` or `h`: seconds, minutes or hours since the first record, as
+///   `90s`;
+/// - one to 10 digits, a point, one to 9 digits: seconds since 1970, as `1795329744.5`;
+/// - a date from 1970 to 9999, as `2026-11-22T06:42:24.5Z` (RFC 3339, 5.6, in capitals). A space
+///   may stand in place of `T`, and an offset from UTC in place of `Z`, as `+01:00`. The point with
+///   its one to 9 digits may lack. There is no second 60, and no time before 1970.
 ///
-/// Each is below 10^15 milliseconds.
+/// What the digits write beyond milliseconds is cut. Each time is below 10^15 milliseconds.
 pub fn read_time(text: &str) -> Option<Time>
     ensures read { IfSome result (λ time. IsTime text.now time) }
     ensures only { (time : TheTime) → IsTime text.now time → result ≡ Some time }
     ensures below { IfSome result (λ time. millis_of time < 10 ^ 15) }
 {
     let text = text.as_bytes();
-    if let Some(millis) = read_number(text, 13) {
+    if let Some(millis) = read_moment(text) {
         return Some(Time::Moment(millis));
     }
     if let Some(millis) = read_seconds(text) {
