@@ -4,6 +4,7 @@ ghost use Rattle.std.specs.Prelude.{◌≡◌};
 ghost use Rattle.pim_capture.specs.Seen.{ip_seen, LiesIn};
 
 use crate::incomplete::Incomplete;
+use crate::link::Link;
 use std::ops::Range;
 
 /// An IP packet that carries PIM, with its message in the caller's buffer.
@@ -65,8 +66,9 @@ pub enum Why {
     NoTime,
     /// Its link type has this number, which isn't read. `Capture` never returns it.
     LinkType(u16),
-    /// The reader of the file wants records of other links. `Capture` never returns it.
-    NotChosen,
+    /// The reader of the file wants records of other links. Of a PIM packet or its fragment the
+    /// link is named; `None` of another frame. `Capture` never returns it.
+    NotChosen(Option<Link>),
     /// It is a copy of another packet, which is captured too. `Capture` never returns it.
     Copy,
     /// Its file ends inside it. Its time counts as 0. `Capture` never returns it.
@@ -74,6 +76,9 @@ pub enum Why {
     /// The capture goes on with its next file. It is no record of a file. Its time counts as 0.
     /// `Capture` never returns it.
     NextFile,
+    /// The PIM packet before this is of this link. It is no record of a file. Its time counts as 0.
+    /// `Capture` never returns it.
+    OfLink(Link),
     /// From here on the fragments of these packets are incomplete; `None` of no packet. It is no
     /// record of a file. Its time counts as 0. `Capture` never returns it.
     Incomplete(Option<Incomplete>),

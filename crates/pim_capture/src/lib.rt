@@ -20,6 +20,7 @@ mod frame;
 mod header;
 mod incomplete;
 mod interface;
+mod link;
 mod record;
 mod vlan;
 
@@ -29,4 +30,5 @@ pub use fault::CaptureFault;
 pub use frame::judge_packet;
 pub use incomplete::{Incomplete, RecordPlace};
 pub use interface::{InterfaceChoice, InterfaceName};
+pub use link::Link;
 pub use vlan::Vlan;

@@ -113,7 +113,7 @@ record FirstUnchosen (start : ℕ) (captures : Captures) : Type 0 where
   unchosen : is_unchosen (head_at captures at) ≡ true
 
 unchosen_rank : (answer : Answer) → is_unchosen answer ≡ true → rank_of never answer ≡ Some 0
-unchosen_rank (Ok (skipped millis NotChosen)) e = refl
+unchosen_rank (Ok (skipped millis (NotChosen link))) e = refl
 unchosen_rank (Ok (skipped millis Copy)) e = refl
 unchosen_rank (Ok (skipped millis _)) e = absurd (false≢true e)
 unchosen_rank (Ok (packet millis frame datagram)) e = absurd (false≢true e)
@@ -135,7 +135,7 @@ less_is_first number other time = ap (λ it. if it then Some (other, 0) else Som
 
 later_is_first : (number other : ℕ) (answer : Answer) → is_unchosen answer ≡ false
     → sooner (numbered number (rank_of never answer)) (Some (other, 0)) ≡ Some (other, 0)
-later_is_first number other (Ok (skipped millis NotChosen)) e = absurd (false≢true (sym e))
+later_is_first number other (Ok (skipped millis (NotChosen link))) e = absurd (false≢true (sym e))
 later_is_first number other (Ok (skipped millis Copy)) e = absurd (false≢true (sym e))
 later_is_first number other (Ok (skipped millis _)) e = less_is_first number other millis
 later_is_first number other (Ok (packet millis frame datagram)) e = less_is_first number other millis
@@ -257,7 +257,7 @@ after_unchosen (capture ∷ captures) (suc number) e =
     ap (λ it. only_chosen capture ∷ it) (after_unchosen captures number e)
 
 unchosen_time : (reported : EventSeen) → is_unchosen_event reported ≡ true → event_time reported ≡ None
-unchosen_time (skipped millis NotChosen) e = refl
+unchosen_time (skipped millis (NotChosen link)) e = refl
 unchosen_time (skipped millis Copy) e = refl
 unchosen_time (skipped millis _) e = absurd (false≢true e)
 unchosen_time (packet millis frame datagram) e = absurd (false≢true e)

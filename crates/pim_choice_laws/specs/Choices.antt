@@ -9,7 +9,7 @@ use Rattle.pim_merge.specs.Merge.{Taken, IsMergeBy}
 
 -- The record isn't chosen, or is a copy of one that is.
 abbrev pub is_unchosen_event : EventSeen → Bool
-is_unchosen_event (skipped millis NotChosen) = true
+is_unchosen_event (skipped millis (NotChosen link)) = true
 is_unchosen_event (skipped millis Copy) = true
 is_unchosen_event _ = false
 

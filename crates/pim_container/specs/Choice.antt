@@ -52,6 +52,10 @@ is_of_link choice origin = fits_vlan choice.vlan origin.vlan && fits choice.inte
 abbrev pub is_chosen : Choice → Origin → Bool
 is_chosen choice origin = not origin.is_copy && is_of_link choice origin
 
+-- A packet of this origin is taken, and so may be packets of other links.
+abbrev pub mixes : Choice → Origin → Bool
+mixes choice origin = choice.mixes_links && is_chosen choice origin
+
 -- The packets of these origins are of interfaces with two names.
 abbrev pub mixed_names : Option InterfaceName → Option InterfaceName → List Mixed
 mixed_names (Some first) (Some other) = fault_if (not (is_same_name first other)) (Names first other)
@@ -94,10 +98,10 @@ abbrev pub mixed_vlans : Origin → Origin → List Mixed
 mixed_vlans first origin = fault_if (not (is_same_vlan first.vlan origin.vlan)) (Vlans first.vlan origin.vlan)
 
 -- What is mixed in two packets of these origins, where none is chosen: first interfaces, then
--- VLANs.
+-- VLANs. Nothing is where links may be mixed.
 abbrev pub mixed : Choice → Origin → Origin → List Mixed
 mixed choice first origin =
-    mixed_interfaces choice.interface first origin
+    if choice.mixes_links then [] else mixed_interfaces choice.interface first origin
     ++ (if is_none choice.vlan then mixed_vlans first origin else [])
 
 -- A chosen packet is taken if it is of one link with the first one.
@@ -132,3 +136,8 @@ abbrev pub OneLinkIsAFilter : Type 0
 OneLinkIsAFilter = (choice : Choice) (first : Option Origin) (origin : Origin) (vlan : Vlan) (number : ℕ)
     → choice.vlan ≡ Some vlan → choice.interface ≡ Some (Number number) → MeansOneName first origin
     → judge_origin choice first origin ≡ Ok (is_chosen choice origin)
+
+-- Where links may be mixed, packets are never mixed, and those that are taken are those of the choice.
+abbrev pub MixedLinksAreAFilter : Type 0
+MixedLinksAreAFilter = (choice : Choice) (first : Option Origin) (origin : Origin)
+    → choice.mixes_links ≡ true → judge_origin choice first origin ≡ Ok (is_chosen choice origin)

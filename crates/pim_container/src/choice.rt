@@ -6,7 +6,7 @@ ghost use Rattle.pim_container.specs.Choice.{choice_of, first_of, fits, is_same_
 ghost use Rattle.pim_container.specs.Choice.{is_chosen, number_of, has_name, mixed_names};
 ghost use Rattle.pim_container.specs.Choice.{mixed_indexes, mixed_numbers, mixed_interfaces};
 ghost use Rattle.pim_container.specs.Choice.{first_after, judge_origin, judge_second};
-ghost use Rattle.pim_container.specs.Choice.{is_of_link, are_named_alike, mixed_unchosen};
+ghost use Rattle.pim_container.specs.Choice.{is_of_link, are_named_alike, mixed_unchosen, mixes};
 
 use crate::event::Origin;
 use pim_capture::{InterfaceChoice, InterfaceName, Vlan};
@@ -18,6 +18,8 @@ pub struct Choice {
     pub vlan: Option<Vlan>,
     /// The interface. `None` is each, as long as the packets have one.
     pub interface: Option<InterfaceChoice>,
+    /// Packets of more than one link are taken.
+    pub mixes_links: bool,
 }
 
 /// The packets have more than one link, and none is chosen; or the chosen number of an interface
@@ -205,6 +207,9 @@ fn judge_interfaces(
 fn judge_second(choice: Choice, first: Origin, origin: Origin) -> Result<bool, Mixed>
     ensures { Answers (λ it. it) result (judge_second choice first origin) }
 {
+    if choice.mixes_links {
+        return Ok(true);
+    }
     judge_interfaces(choice.interface, first, origin)?;
     if choice.vlan.is_none() && !is_same_vlan(first.vlan, origin.vlan) {
         return Err(Mixed::Vlans {
@@ -234,7 +239,14 @@ impl Chooser {
         is_of_link(self.choice, origin)
     }
 
-    /// Whether the packet of this origin is taken.
+    /// Whether a packet of this origin is taken, and so may be packets of other links.
+    pub fn mixes(&self, origin: Origin) -> bool
+        ensures { result ≡ mixes (choice_of self.now) origin }
+    {
+        self.choice.mixes_links && is_chosen(self.choice, origin)
+    }
+
+    /// Whether the packet of this origin is taken. Where links are mixed there is no error.
     ///
     /// # Errors
     /// It is chosen, and of another interface or VLAN than the first packet that was taken, where

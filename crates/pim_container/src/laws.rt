@@ -1,7 +1,7 @@
 //! Laws of the definitions. Nothing in this module is to be called.
 
 ghost use Rattle.pim_container.specs.Agreement.{AgreesOnClassic, AgreesExactly};
-ghost use Rattle.pim_container.specs.Choice.{OneLinkIsAFilter};
+ghost use Rattle.pim_container.specs.Choice.{OneLinkIsAFilter, MixedLinksAreAFilter};
 
 /// For a classic file whose header `pim_capture` accepts, this crate returns the same after the
 /// beginning of the section, but for frames with further tags, fragments and headers of IPv6 before
@@ -20,4 +20,9 @@ pub fn classic_agrees_exactly()
 /// filter, packet by packet.
 pub fn one_link_is_a_filter()
     ensures { OneLinkIsAFilter }
+{}
+
+/// Where links may be mixed, a choice is a filter, packet by packet.
+pub fn mixed_links_are_a_filter()
+    ensures { MixedLinksAreAFilter }
 {}

@@ -1,49 +1,79 @@
--- An item goes into the slot with the number of its place.
-use Rattle.pim_merge.proofs.Words.{◌≡◌, ◌∙◌, ◌≤◌, ◌&&◌, ℕ, zero, suc, Bool, true, false, List, [], ◌∷◌, Option, None}
-use Rattle.pim_merge.proofs.Words.{Some, length, ap, sym, refl, bytes_eq, slice_set, if◌then◌else◌, arith, false≢true}
-use Rattle.pim_merge.proofs.Words.{bytes_eq-Decides, StarJoin, added, same_star, place_of}
+-- An item goes into the slot with the number of its place, if that is free.
+use Rattle.pim_merge.proofs.Words.{◌≡◌, ◌∙◌, ◌≤◌, ◌<◌, ◌||◌, ℕ, suc, Bool, true, false, List, [], ◌∷◌, Option, None}
+use Rattle.pim_merge.proofs.Words.{Some, length, ap, sym, refl, slice_set, get_or, if◌then◌else◌, arith, false≢true}
+use Rattle.pim_merge.proofs.Words.{added, place_of, fits, is_some}
 
-set_or_later : {A : Type 0} (b : Bool) (item held : A) (slots : List (Option A)) (place : ℕ) (later : List (Option A)) → (b ≡ true → item ≡ held) → slice_set slots place (Some item) ≡ later
-    → slice_set (Some held ∷ slots) (if b then 0 else suc place) (Some item) ≡ Some held ∷ (if b then slots else later)
-set_or_later true item held slots place later same e = ap (λ it. Some it ∷ slots) (same refl)
-set_or_later false item held slots place later same e = ap (λ it. Some held ∷ it) e
+module _ {A : Type 0} (same : A → A → Bool) (item : A) (d : Option A) where
+  free_later : (b : Bool) (held : A) (slots later : List (Option A)) (place : ℕ) → (is_some (get_or slots place d) ≡ false → slice_set slots place (Some item) ≡ later)
+      → is_some (get_or (Some held ∷ slots) (if b then 0 else suc place) d) ≡ false → slice_set (Some held ∷ slots) (if b then 0 else suc place) (Some item) ≡ Some held ∷ (if b then slots else later)
+  free_later true held slots later place k e = absurd (false≢true (sym e))
+  free_later false held slots later place k e = ap (λ it. Some held ∷ it) (k e)
 
-set_at_place : {A : Type 0} (same : A → A → Bool) (item : A) (slots : List (Option A)) → ((held : A) → same item held ≡ true → item ≡ held) → slice_set slots (place_of (same item) slots) (Some item) ≡ added same item slots
-unfolding place_of added
-set_at_place same item [] is = refl
-set_at_place same item (None ∷ slots) is = refl
-set_at_place same item (Some held ∷ slots) is =
-    set_or_later (same item held) item held slots (place_of (same item) slots) (added same item slots) (is held) (set_at_place same item slots is)
+  free_at : (slots : List (Option A)) → is_some (get_or slots (place_of (same item) slots) d) ≡ false → slice_set slots (place_of (same item) slots) (Some item) ≡ added same item slots
+  unfolding place_of added
+  free_at [] e = refl
+  free_at (None ∷ slots) e = refl
+  free_at (Some held ∷ slots) e = free_later (same item held) held slots (added same item slots) (place_of (same item) slots) (free_at slots) e
 
-past : {A : Type 0} (slots : List A) (place : ℕ) (item : A) → length slots ≤ place → slice_set slots place item ≡ slots
-past [] place item over = refl
-past (slot ∷ slots) zero item over = absurd (omega (arith, over))
-past (slot ∷ slots) (suc place) item over = ap (λ it. slot ∷ it) (past slots place item (omega (arith, over)))
+  held_later : (b : Bool) (held : A) (slots later : List (Option A)) (place : ℕ) → (is_some (get_or slots place d) ≡ true → slots ≡ later)
+      → is_some (get_or (Some held ∷ slots) (if b then 0 else suc place) d) ≡ true → Some held ∷ slots ≡ Some held ∷ (if b then slots else later)
+  held_later true held slots later place k e = refl
+  held_later false held slots later place k e = ap (λ it. Some held ∷ it) (k e)
 
-made : List ℕ → List ℕ → StarJoin
-made upstream group = record { upstream = upstream; group = group }
+  held_at : (slots : List (Option A)) → is_some (get_or slots (place_of (same item) slots) d) ≡ true → slots ≡ added same item slots
+  unfolding place_of added
+  held_at [] e = refl
+  held_at (None ∷ slots) e = absurd (false≢true e)
+  held_at (Some held ∷ slots) e = held_later (same item held) held slots (added same item slots) (place_of (same item) slots) (held_at slots) e
 
-both_are : (b c : Bool) → (b && c) ≡ true → (b ≡ true) × (c ≡ true)
-both_are true c e = (refl, e)
-both_are false c e = absurd (false≢true e)
+  -- the slot with the number of the item's place was free, and now has the item
+  pub add_free : (slots new : List (Option A)) (place : ℕ) → place ≡ place_of (same item) slots → is_some (get_or slots place d) ≡ false → new ≡ slice_set slots place (Some item) → new ≡ added same item slots
+  add_free slots new place at free is =
+      is ∙ ap (λ it. slice_set slots it (Some item)) at ∙ free_at slots (ap (λ it. is_some (get_or slots it d)) (sym at) ∙ free)
 
-star_is : (star held : StarJoin) → same_star star held ≡ true → star ≡ held
-unfolding made
-star_is star held e =
-    let p = both_are (bytes_eq star.group held.group) (bytes_eq star.upstream held.upstream) e in
-    ap (made star.upstream) ((bytes_eq-Decides star.group held.group).0 p.0) ∙ ap (λ it. made it held.group) ((bytes_eq-Decides star.upstream held.upstream).0 p.1)
+  -- it has the item already
+  pub add_held : (slots : List (Option A)) (place : ℕ) → place ≡ place_of (same item) slots → is_some (get_or slots place d) ≡ true → slots ≡ added same item slots
+  add_held slots place at held = held_at slots (ap (λ it. is_some (get_or slots it d)) (sym at) ∙ held)
 
--- the slots with an address in its place, and those without a place for it
-pub address_set : (address : List ℕ) (slots new : List (Option (List ℕ))) (place : ℕ) → place ≡ place_of (bytes_eq address) slots → new ≡ slice_set slots place (Some address) → new ≡ added bytes_eq address slots
-address_set address slots new place at is =
-    is ∙ ap (λ it. slice_set slots it (Some address)) at ∙ set_at_place bytes_eq address slots (λ held. (bytes_eq-Decides address held).0)
+module _ {A : Type 0} (same : A → A → Bool) (item : A) where
+  past_later : (b : Bool) (held : A) (slots later : List (Option A)) (place : ℕ) → (length slots ≤ place → slots ≡ later) → length (Some held ∷ slots) ≤ (if b then 0 else suc place)
+      → Some held ∷ slots ≡ Some held ∷ (if b then slots else later)
+  past_later true held slots later place k over = refl
+  past_later false held slots later place k over = ap (λ it. Some held ∷ it) (k (omega (arith, over)))
 
-pub address_past : (address : List ℕ) (slots : List (Option (List ℕ))) (place : ℕ) → place ≡ place_of (bytes_eq address) slots → length slots ≤ place → slots ≡ added bytes_eq address slots
-address_past address slots place at over = address_set address slots slots place at (sym (past slots place (Some address) over))
+  past : (slots : List (Option A)) → length slots ≤ place_of (same item) slots → slots ≡ added same item slots
+  unfolding place_of added
+  past [] over = refl
+  past (None ∷ slots) over = absurd (omega (arith, over))
+  past (Some held ∷ slots) over = past_later (same item held) held slots (added same item slots) (place_of (same item) slots) (past slots) over
 
--- the same for a Join(*,G)
-pub star_set : (star : StarJoin) (slots new : List (Option StarJoin)) (place : ℕ) → place ≡ place_of (same_star star) slots → new ≡ slice_set slots place (Some star) → new ≡ added same_star star slots
-star_set star slots new place at is = is ∙ ap (λ it. slice_set slots it (Some star)) at ∙ set_at_place same_star star slots (star_is star)
+  unfit_later : (b rest : Bool) (count place : ℕ) → (count ≤ place → rest ≡ false) → suc count ≤ (if b then 0 else suc place) → (b || rest) ≡ false
+  unfit_later true rest count place k over = absurd (omega (arith, over))
+  unfit_later false rest count place k over = k (omega (arith, over))
 
-pub star_past : (star : StarJoin) (slots : List (Option StarJoin)) (place : ℕ) → place ≡ place_of (same_star star) slots → length slots ≤ place → slots ≡ added same_star star slots
-star_past star slots place at over = star_set star slots slots place at (sym (past slots place (Some star) over))
+  unfit : (slots : List (Option A)) → length slots ≤ place_of (same item) slots → fits same item slots ≡ false
+  unfolding place_of
+  unfit [] over = refl
+  unfit (None ∷ slots) over = absurd (omega (arith, over))
+  unfit (Some held ∷ slots) over = unfit_later (same item held) (fits same item slots) (length slots) (place_of (same item) slots) (unfit slots) over
+
+  fit_later : (b rest : Bool) (count place : ℕ) → (place < count → rest ≡ true) → (if b then 0 else suc place) < suc count → (b || rest) ≡ true
+  fit_later true rest count place k within = refl
+  fit_later false rest count place k within = k (omega (arith, within))
+
+  fit : (slots : List (Option A)) → place_of (same item) slots < length slots → fits same item slots ≡ true
+  unfolding place_of
+  fit [] within = absurd (omega (arith, within))
+  fit (None ∷ slots) within = refl
+  fit (Some held ∷ slots) within = fit_later (same item held) (fits same item slots) (length slots) (place_of (same item) slots) (fit slots) within
+
+  -- no slot takes the item
+  pub add_past : (slots : List (Option A)) (place : ℕ) → place ≡ place_of (same item) slots → length slots ≤ place → slots ≡ added same item slots
+  add_past slots place at over = past slots (omega (arith, at, over))
+
+  pub fits_not : (slots : List (Option A)) (place : ℕ) → place ≡ place_of (same item) slots → length slots ≤ place → false ≡ fits same item slots
+  fits_not slots place at over = sym (unfit slots (omega (arith, at, over)))
+
+  -- one does
+  pub fits_there : (slots : List (Option A)) (place : ℕ) → place ≡ place_of (same item) slots → place < length slots → true ≡ fits same item slots
+  fits_there slots place at within = sym (fit slots (omega (arith, at, within)))

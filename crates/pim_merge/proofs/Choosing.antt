@@ -1,13 +1,13 @@
 -- The records of any container: what one piece gives, and what pieces give one after the other.
 use Rattle.pim_merge.proofs.Words.{◌≡◌, ◌∙◌, ◌⊎◌, ◌≤◌, ◌<◌, ◌+◌, ◌*◌, ℕ, Bool, true, false, if◌then◌else◌, IfOk, IfSome}
 use Rattle.pim_merge.proofs.Words.{List, [], ◌∷◌, Option, None, Some, Result, Ok, Err, refl, sym, ap, subst, arith, inl}
-use Rattle.pim_merge.proofs.Words.{inr, ⊤, false≢true, option_map, CaptureFault, Event, CutShort, NextFile, Incomplete}
+use Rattle.pim_merge.proofs.Words.{inr, ⊤, false≢true, option_map, CaptureFault, Event, CutShort, NextFile}
 use Rattle.pim_merge.proofs.Words.{Answer, EventSeen, skipped, ended, in_front, IsNext, IsRefusal, CountsReads}
 use Rattle.pim_merge.proofs.Words.{PayloadLiesIn, IsBy, latest_moment, ContainerFault, ReaderState, fault_of, is_cut}
 use Rattle.pim_merge.proofs.Words.{fault_given, given, state_then, put, chosen, next_files, known_too, IsGiven, StaysComing}
 use Rattle.pim_merge.proofs.Words.{Steps, unless_cut, none_left, chosen_known, is_end, cut_left, step_count, failed}
-use Rattle.pim_merge.proofs.Words.{telling_left, TakerState, event_given, state_after, in_next_file, ending_given, news, told}
-use Rattle.pim_merge.proofs.Words.{incomplete_of}
+use Rattle.pim_merge.proofs.Words.{reports_left, TakerState, event_given, state_after, in_next_file, ending_given}
+use Rattle.pim_merge.proofs.Words.{report_of, reported, reports_first, Link}
 use Rattle.pim_merge.specs.declared.taker.FileLink.{FileLink}
 use Rattle.pim_merge.specs.declared.taker.FileLink.TheVariants.{Unmet, Unread, Met}
 use Rattle.pim_capture.specs.declared.fault.CaptureFault.TheVariants as fault
@@ -20,64 +20,75 @@ use Rattle.pim_container.specs.Pieces as pieces
 use Rattle.pim_container.specs.Next as next
 use Rattle.pim_merge.proofs.Failures.{Moves}
 
--- ---- what is told of incomplete packets comes first
+-- ---- what is reported comes first
 
-abbrev with_told : TakerState → Bool → TakerState
-with_told state told = record {
-  choice = state.choice;
-  first = state.first;
-  kept = state.kept;
-  link = state.link;
-  place = state.place;
-  is_told = told;
-}
+-- the state where nothing is left to report
+abbrev pub all_reported : TakerState → TakerState
+all_reported state = record state { link_of_packet = None; is_reported = true }
 
--- nothing is to tell
-same_told : (state : TakerState) → state.is_told ≡ true → told state ≡ state
-same_told state is = ap (with_told state) (sym is)
+abbrev with_reports : TakerState → Option Link → Bool → TakerState
+with_reports state link done = record state { link_of_packet = link; is_reported = done }
 
-no_news : (state : TakerState) → state.is_told ≡ true → news state ≡ None
-no_news state is =
-    ap (λ (b : Bool). if b then None else Some (skipped 0 (Incomplete (incomplete_of state)))) is
+abbrev as_given : Option EventSeen → Option Answer
+as_given it = option_map (λ (report : EventSeen). Ok report) it
 
-abbrev of_news : Option EventSeen → Option Answer
-of_news it = option_map (λ (reported : EventSeen). Ok reported) it
+-- nothing is to report
+pub none_to_report : (state : TakerState) → report_of state ≡ None → state ≡ all_reported state
+none_to_report state none = by state.link_of_packet state.is_reported none
+  where
+    by : (link : Option Link) (done : Bool) → report_of (with_reports state link done) ≡ None →
+        with_reports state link done ≡ all_reported state
+    by (Some link) done is = absurd cc
+    by None true is = refl
+    by None false is = absurd cc
 
-tells_all : (behind : TakerState → List Answer) (begun : Bool) (state : TakerState) (left : List pieces.Answer)
-    (reported : EventSeen) → Some reported ≡ news state →
-    chosen behind begun state left ≡ in_front (Ok reported) (chosen behind begun (told state) left)
+pub now_reported : (state state' : TakerState) → report_of state ≡ None → state' ≡ reported state →
+    state' ≡ all_reported state
+now_reported state state' none same = same ∙ ap reported (none_to_report state none)
+
+pub is_done : (state state' : TakerState) → report_of state ≡ None → state' ≡ reported state →
+    state'.is_reported ≡ true
+is_done state state' none same = ap (λ (s : TakerState). s.is_reported) (now_reported state state' none same)
+
+-- nothing is to report at the end of a file
+done_by : (state : TakerState) → state.link_of_packet ≡ None → state.is_reported ≡ true → state ≡ all_reported state
+done_by state none is = λ i. with_reports state (none i) (is i)
+
+first_report : (state : TakerState) (report : EventSeen) (later : TakerState → List Answer) →
+    Some report ≡ report_of state →
+    reports_first state later ≡ in_front (Ok report) (reports_first (reported state) later)
+first_report state report later is = by state.link_of_packet state.is_reported is
+  where
+    by : (link : Option Link) (done : Bool) → Some report ≡ report_of (with_reports state link done) →
+        reports_first (with_reports state link done) later
+        ≡ in_front (Ok report) (reports_first (reported (with_reports state link done)) later)
+    by (Some link) done is =
+        ap (λ n. put (as_given n) (reports_first (with_reports state None done) later)) (sym is)
+    by None true is = absurd cc
+    by None false is = ap (λ n. put (as_given n) (later (all_reported state))) (sym is)
+
+reports_all : (behind : TakerState → List Answer) (begun : Bool) (state : TakerState) (left : List pieces.Answer)
+    (report : EventSeen) → Some report ≡ report_of state →
+    chosen behind begun state left ≡ in_front (Ok report) (chosen behind begun (reported state) left)
 unfolding chosen
-tells_all behind begun state [] reported is = ap (λ n. put (of_news n) (behind (told state))) (sym is)
-tells_all behind begun state (answer ∷ later) reported is =
-    ap (λ n. put (of_news n) (put (given begun (told state) answer) (chosen behind true (state_then (told state)
-    answer) later)))
-    (sym is)
+reports_all behind begun state [] report is = first_report state report behind is
+reports_all behind begun state (answer ∷ later) report is = first_report state report
+    (λ state'. put (given begun state' answer) (chosen behind true (state_then state' answer) later)) is
 
-untold : (behind : TakerState → List Answer) (begun : Bool) (state : TakerState) (left : List pieces.Answer) →
-    news state ≡ None → chosen behind begun state left ≡ chosen behind begun (told state) left
-unfolding chosen
-untold behind begun state [] none = ap (λ n. put (of_news n) (behind (told state))) none
-untold behind begun state (answer ∷ later) none =
-    ap (λ n. put (of_news n) (put (given begun (told state) answer) (chosen behind true (state_then (told state)
-    answer) later)))
-    none
+-- this is reported
+pub reports : (begun : Bool) (state state' : TakerState) (left : Option (List pieces.Answer))
+    (files : Option (List (List ℕ))) (report : EventSeen) → Some report ≡ report_of state → state' ≡ reported state →
+    IsNext (chosen_known begun state left files) (Ok report) (chosen_known begun state' left files)
+reports begun state state' None files report is same = tt
+reports begun state state' (Some left) None report is same = tt
+reports begun state state' (Some left) (Some files) report is same =
+    reports_all (next_files files) begun state left report is
+    ∙ ap (λ s. in_front (Ok report) (chosen (next_files files) begun s left)) (sym same)
 
--- this is told
-pub tells : (begun : Bool) (state state' : TakerState) (left : Option (List pieces.Answer))
-    (files : Option (List (List ℕ))) (reported : EventSeen) → Some reported ≡ news state → state' ≡ told state →
-    IsNext (chosen_known begun state left files) (Ok reported) (chosen_known begun state' left files)
-tells begun state state' None files reported is same = tt
-tells begun state state' (Some left) None reported is same = tt
-tells begun state state' (Some left) (Some files) reported is same =
-    tells_all (next_files files) begun state left reported is
-    ∙ ap (λ s. in_front (Ok reported) (chosen (next_files files) begun s left)) (sym same)
-
-pub known_told : (begun : Bool) (state : TakerState) (left : Option (List pieces.Answer)) (files : Option (List
-    (List ℕ))) →
-    news state ≡ None → chosen_known begun state left files ≡ chosen_known begun (told state) left files
-known_told begun state None files none = refl
-known_told begun state (Some left) None none = refl
-known_told begun state (Some left) (Some files) none = ap Some (untold (next_files files) begun state left none)
+pub known_reported : (begun : Bool) (state : TakerState) (left : Option (List pieces.Answer))
+    (files : Option (List (List ℕ))) → report_of state ≡ None →
+    chosen_known begun state left files ≡ chosen_known begun (all_reported state) left files
+known_reported begun state left files none = ap (λ s. chosen_known begun s left files) (none_to_report state none)
 
 -- ---- the results of a container
 
@@ -87,9 +98,9 @@ left_after any.ended later = []
 left_after _ later = later
 
 pub put_is : (behind : TakerState → List Answer) (begun : Bool) (state : TakerState) (reported : any.EventSeen)
-    (later : List pieces.Answer) → chosen behind begun (told state) (next.in_front (Ok reported) later)
-    ≡ put (event_given (told state) reported)
-    (chosen behind true (state_after (told state) reported) (left_after reported later))
+    (later : List pieces.Answer) → chosen behind begun (all_reported state) (next.in_front (Ok reported) later)
+    ≡ put (event_given (all_reported state) reported)
+    (chosen behind true (state_after (all_reported state) reported) (left_after reported later))
 unfolding chosen
 put_is behind begun state (any.packet millis origin datagram) later = refl
 put_is behind begun state (any.fragment millis origin datagram part) later = refl
@@ -112,7 +123,7 @@ left_same any.passed later more = refl
 left_same any.ended later more = absurd (more refl)
 
 fault_is : (behind : TakerState → List Answer) (begun : Bool) (state : TakerState) (fault : ContainerFault) →
-    chosen behind begun (told state) (Err fault ∷ []) ≡ put (Some (fault_given begun fault)) (behind (told state))
+    chosen behind begun (all_reported state) (Err fault ∷ []) ≡ put (Some (fault_given begun fault)) (behind (all_reported state))
 unfolding chosen
 fault_is behind begun state fault = refl
 
@@ -140,9 +151,9 @@ given_fault n n' all later other given bytes fault.Memory is gives = inl tt
 -- one piece was read, and gave this
 one_step : (n n' : ℕ) (begun : Bool) (state state' : TakerState) (old new : Option (List pieces.Answer))
     (files : Option (List (List ℕ))) (reported : any.EventSeen) (bytes : List ℕ) (it : Option Event) →
-    (reported ≡ any.ended → ⊥) → next.IsNext old (Ok reported) new → state' ≡ state_after (told state) reported →
-    IsGiven (event_given (told state) reported) bytes (Ok it) →
-    Steps n n' (chosen_known begun (told state) old files) (chosen_known true state' new files) bytes (Ok it)
+    (reported ≡ any.ended → ⊥) → next.IsNext old (Ok reported) new → state' ≡ state_after (all_reported state) reported →
+    IsGiven (event_given (all_reported state) reported) bytes (Ok it) →
+    Steps n n' (chosen_known begun (all_reported state) old files) (chosen_known true state' new files) bytes (Ok it)
 one_step n n' begun state state' None new files reported bytes None more is after gives = tt
 one_step n n' begun state state' None new files reported bytes (Some event) more is after gives = tt
 one_step n n' begun state state' (Some xs) None files reported bytes it more is after gives = absurd is
@@ -151,15 +162,15 @@ one_step n n' begun state state' (Some xs) (Some ys) None reported bytes (Some e
 one_step n n' begun state state' (Some xs) (Some ys) (Some files) reported bytes it more is after gives =
     let behind = next_files files in
     by it gives
-    (ap (chosen behind begun (told state)) is ∙ put_is behind begun state reported ys
-    ∙ ap (λ l. put (event_given (told state) reported) (chosen behind true (state_after (told state) reported) l))
+    (ap (chosen behind begun (all_reported state)) is ∙ put_is behind begun state reported ys
+    ∙ ap (λ l. put (event_given (all_reported state) reported) (chosen behind true (state_after (all_reported state) reported) l))
     (left_same reported ys more)
-    ∙ ap (λ s. put (event_given (told state) reported) (chosen behind true s ys)) (sym after))
+    ∙ ap (λ s. put (event_given (all_reported state) reported) (chosen behind true s ys)) (sym after))
   where
-    by : (it : Option Event) → IsGiven (event_given (told state) reported) bytes (Ok it) →
-        chosen (next_files files) begun (told state) xs
-        ≡ put (event_given (told state) reported) (chosen (next_files files) true state' ys) →
-        Steps n n' (Some (chosen (next_files files) begun (told state) xs))
+    by : (it : Option Event) → IsGiven (event_given (all_reported state) reported) bytes (Ok it) →
+        chosen (next_files files) begun (all_reported state) xs
+        ≡ put (event_given (all_reported state) reported) (chosen (next_files files) true state' ys) →
+        Steps n n' (Some (chosen (next_files files) begun (all_reported state) xs))
         (Some (chosen (next_files files) true state' ys)) bytes (Ok it)
     by None gives all = ap Some (sym (all ∙ ap (λ g. put g (chosen (next_files files) true state' ys)) gives))
     by (Some event) gives all = all ∙ ap (λ g. put g (chosen (next_files files) true state' ys)) gives
@@ -167,18 +178,18 @@ one_step n n' begun state state' (Some xs) (Some ys) (Some files) reported bytes
 -- one piece was read, and gave a fault
 one_fault : (n n' : ℕ) (begun : Bool) (state state' : TakerState) (old new : Option (List pieces.Answer))
     (files : Option (List (List ℕ))) (reported : any.EventSeen) (bytes : List ℕ) (f : CaptureFault) →
-    next.IsNext old (Ok reported) new → IsGiven (event_given (told state) reported) bytes (Err f) →
+    next.IsNext old (Ok reported) new → IsGiven (event_given (all_reported state) reported) bytes (Err f) →
     IsRefusal {A = ⊤} n n' (Err f)
-    ⊎ IsNext (chosen_known begun (told state) old files) (Err f) (chosen_known true state' new files)
+    ⊎ IsNext (chosen_known begun (all_reported state) old files) (Err f) (chosen_known true state' new files)
 one_fault n n' begun state state' None new files reported bytes f is gives = inr tt
 one_fault n n' begun state state' (Some xs) None files reported bytes f is gives = absurd is
 one_fault n n' begun state state' (Some xs) (Some ys) None reported bytes f is gives = inr tt
 one_fault n n' begun state state' (Some xs) (Some ys) (Some files) reported bytes f is gives =
     let behind = next_files files in
-    given_fault n n' (chosen behind begun (told state) xs)
-    (chosen behind true (state_after (told state) reported) (left_after reported ys)) (chosen behind true state' ys)
-    (event_given (told state) reported) bytes f
-    (ap (chosen behind begun (told state)) is ∙ put_is behind begun state reported ys) gives
+    given_fault n n' (chosen behind begun (all_reported state) xs)
+    (chosen behind true (state_after (all_reported state) reported) (left_after reported ys)) (chosen behind true state' ys)
+    (event_given (all_reported state) reported) bytes f
+    (ap (chosen behind begun (all_reported state)) is ∙ put_is behind begun state reported ys) gives
 
 pub not_end : (event : piece.ContainerEvent) (bytes : List ℕ) → is_end event ≡ false → any.event_seen bytes event ≡ any.ended → ⊥
 not_end (piece_kind.Packet millis origin ip) bytes is same = cc
@@ -192,11 +203,11 @@ not_end piece_kind.End bytes is same = false≢true (sym is)
 
 module _ (n n' : ℕ) (cut begun : Bool) (state state' state'' : TakerState) (old new : Option (List pieces.Answer))
     (files : Option (List (List ℕ))) (event : piece.ContainerEvent) (seen bytes : List ℕ) (uncut : cut ≡ false)
-    (none : news state ≡ None) (same : state' ≡ told state)
+    (none : report_of state ≡ None) (same : state' ≡ all_reported state)
     (is : ⊥ ⊎ next.IsNext old (Ok (any.event_seen seen event)) new) where
-  coming_told : chosen_known begun state (unless_cut cut old) files ≡ chosen_known begun (told state) old files
-  coming_told = ap (λ c. chosen_known begun state (unless_cut c old) files) uncut
-      ∙ known_told begun state old files none
+  coming_reported : chosen_known begun state (unless_cut cut old) files ≡ chosen_known begun (all_reported state) old files
+  coming_reported = ap (λ c. chosen_known begun state (unless_cut c old) files) uncut
+      ∙ known_reported begun state old files none
 
   next_is : next.IsNext old (Ok (any.event_seen seen event)) new
   next_is = by is
@@ -215,8 +226,8 @@ module _ (n n' : ℕ) (cut begun : Bool) (state state' state'' : TakerState) (ol
       (chosen_known true state'' (unless_cut cut new) files) bytes (Ok it)
   stepped it more after gives =
       subst (λ all. Steps n n' all (chosen_known true state'' (unless_cut cut new) files) bytes (Ok it)) (sym
-      coming_told)
-      (subst (λ later. Steps n n' (chosen_known begun (told state) old files) later bytes (Ok it)) (sym later_is)
+      coming_reported)
+      (subst (λ later. Steps n n' (chosen_known begun (all_reported state) old files) later bytes (Ok it)) (sym later_is)
       (one_step n n' begun state state'' old new files (any.event_seen seen event) bytes it (not_end event seen
       more) next_is
       (after ∙ ap (λ s. state_after s (any.event_seen seen event)) same)
@@ -229,8 +240,8 @@ module _ (n n' : ℕ) (cut begun : Bool) (state state' state'' : TakerState) (ol
   stepped_fault f gives =
       subst (λ all. IsRefusal {A = ⊤} n n' (Err f) ⊎ IsNext all (Err f) (chosen_known true state'' (unless_cut cut
       new) files))
-      (sym coming_told)
-      (subst (λ later. IsRefusal {A = ⊤} n n' (Err f) ⊎ IsNext (chosen_known begun (told state) old files) (Err f)
+      (sym coming_reported)
+      (subst (λ later. IsRefusal {A = ⊤} n n' (Err f) ⊎ IsNext (chosen_known begun (all_reported state) old files) (Err f)
       later)
       (sym later_is)
       (one_fault n n' begun state state'' old new files (any.event_seen seen event) bytes f next_is
@@ -240,28 +251,28 @@ module _ (n n' : ℕ) (cut begun : Bool) (state state' state'' : TakerState) (ol
 
 -- the file was cut before
 pub after_cut : (begun cut : Bool) (state state' : TakerState) (left : Option (List pieces.Answer))
-    (files : Option (List (List ℕ))) (answer : Answer) (later : Option (List Answer)) → cut ≡ true → news state ≡ None →
-    state' ≡ told state →
+    (files : Option (List (List ℕ))) (answer : Answer) (later : Option (List Answer)) → cut ≡ true → report_of state ≡ None →
+    state' ≡ all_reported state →
     IsNext (chosen_known begun state' (none_left (unless_cut cut left)) files) answer later →
     IsNext (chosen_known begun state (unless_cut cut left) files) answer later
 after_cut begun true state state' left files answer later is none same goes =
     subst (λ all. IsNext all answer later)
-    (ap (λ s. chosen_known begun s (Some []) files) same ∙ sym (known_told begun state (Some []) files none)) goes
+    (ap (λ s. chosen_known begun s (Some []) files) same ∙ sym (known_reported begun state (Some []) files none)) goes
 after_cut begun false state state' left files answer later is none same goes = absurd (false≢true is)
 
 at_last : (begun : Bool) (state : TakerState) (old new : Option (List pieces.Answer))
     (files : Option (List (List ℕ))) (reported : any.EventSeen) (answer : Answer) (later : Option (List Answer)) →
     reported ≡ any.ended → next.IsNext old (Ok reported) new → ending_given state.link ≡ None →
-    IsNext (chosen_known true (told state) (none_left new) files) answer later →
-    IsNext (chosen_known begun (told state) old files) answer later
+    IsNext (chosen_known true (all_reported state) (none_left new) files) answer later →
+    IsNext (chosen_known begun (all_reported state) old files) answer later
 at_last begun state None new files reported answer later ends is gives goes = tt
 at_last begun state (Some xs) None files reported answer later ends is gives goes = absurd is
 at_last begun state (Some xs) (Some ys) None reported answer later ends is gives goes = tt
 at_last begun state (Some xs) (Some ys) (Some files) reported answer later ends is gives goes =
     let behind = next_files files in
     subst (λ l. IsNext (Some l) answer later)
-    (sym (ap (chosen behind begun (told state)) (is ∙ ap (λ t. next.in_front (Ok t) ys) ends)
-    ∙ put_is behind begun state any.ended ys ∙ ap (λ g. put g (chosen behind true (told state) [])) gives)) goes
+    (sym (ap (chosen behind begun (all_reported state)) (is ∙ ap (λ t. next.in_front (Ok t) ys) ends)
+    ∙ put_is behind begun state any.ended ys ∙ ap (λ g. put g (chosen behind true (all_reported state) [])) gives)) goes
 
 end_seen : (event : piece.ContainerEvent) (bytes : List ℕ) → is_end event ≡ true → any.event_seen bytes event ≡ any.ended
 end_seen (piece_kind.Packet millis origin ip) bytes is = absurd (false≢true is)
@@ -283,16 +294,16 @@ ends_given (Unread number) bytes (Some event) gives = absurd cc
 
 -- the state at the end of a file
 pub ended_state : (state state' state'' : TakerState) (event : piece.ContainerEvent) (seen : List ℕ) →
-    is_end event ≡ true → state' ≡ told state →
-    state'' ≡ state_after state' (any.event_seen seen event) → state'' ≡ told state
+    is_end event ≡ true → state' ≡ all_reported state →
+    state'' ≡ state_after state' (any.event_seen seen event) → state'' ≡ all_reported state
 ended_state state state' state'' event seen ends same after = after
     ∙ ap (state_after state') (end_seen event seen ends) ∙ same
 
 -- the end of the file was read
 pub after_end : (begun cut : Bool) (state state' state'' : TakerState) (old new : Option (List pieces.Answer))
     (files : Option (List (List ℕ))) (event : piece.ContainerEvent) (seen bytes : List ℕ) (it : Option Event)
-    (answer : Answer) (later : Option (List Answer)) → cut ≡ false → is_end event ≡ true → news state ≡ None →
-    state' ≡ told state → ⊥ ⊎ next.IsNext old (Ok (any.event_seen seen event)) new →
+    (answer : Answer) (later : Option (List Answer)) → cut ≡ false → is_end event ≡ true → report_of state ≡ None →
+    state' ≡ all_reported state → ⊥ ⊎ next.IsNext old (Ok (any.event_seen seen event)) new →
     state'' ≡ state_after state' (any.event_seen seen event) →
     IsGiven (event_given state' (any.event_seen seen event)) bytes (Ok it) →
     IsNext (chosen_known true state'' (none_left (unless_cut cut new)) files) answer later →
@@ -303,7 +314,7 @@ after_end begun true state state' state'' old new files event seen bytes it answ
     after gives goes = absurd (false≢true (sym uncut))
 after_end begun false state state' state'' old new files event seen bytes it answer later uncut ends none same (inr is)
     after gives goes =
-    subst (λ all. IsNext all answer later) (sym (known_told begun state old files none))
+    subst (λ all. IsNext all answer later) (sym (known_reported begun state old files none))
     (at_last begun state old new files (any.event_seen seen event) answer later (end_seen event seen ends) is
     (ends_given state.link bytes it
     (subst (λ s. IsGiven (event_given s any.ended) bytes (Ok it)) same
@@ -313,35 +324,37 @@ after_end begun false state state' state'' old new files event seen bytes it ans
 
 -- no file follows
 pub no_file : (begun : Bool) (state : TakerState) (left : Option (List pieces.Answer)) (files : Option (List (List
-    ℕ))) →
-    files ≡ Some [] → state.is_told ≡ true →
+    ℕ))) → files ≡ Some [] → state.link_of_packet ≡ None → state.is_reported ≡ true →
     IsNext (chosen_known begun state (none_left left) files) (Ok ended) (chosen_known begun state left files)
 unfolding chosen next_files
-no_file begun state left None is told = absurd cc
-no_file begun state None (Some files) is told = tt
-no_file begun state (Some left) (Some []) is told = ap (λ n. put (of_news n) (Ok ended ∷ [])) (no_news state told)
-no_file begun state (Some left) (Some (file ∷ files)) is told = absurd cc
+no_file begun state left None is none done = absurd cc
+no_file begun state None (Some files) is none done = tt
+no_file begun state (Some left) (Some []) is none done =
+    ap (λ s. reports_first s (next_files [])) (done_by state none done)
+no_file begun state (Some left) (Some (file ∷ files)) is none done = absurd cc
 
 -- the next file follows
 next_known : (begun : Bool) (state : TakerState) (left : Option (List pieces.Answer)) (file : Option (List ℕ))
-    (files : Option (List (List ℕ))) → state.is_told ≡ true →
+    (files : Option (List (List ℕ))) → state.link_of_packet ≡ None → state.is_reported ≡ true →
     IsNext (chosen_known begun state (none_left left) (known_too file files)) (Ok (skipped 0 NextFile))
     (chosen_known true (in_next_file state) (option_map pieces.answers file) files)
 unfolding chosen next_files
-next_known begun state None file files is = tt
-next_known begun state (Some left) None files is = tt
-next_known begun state (Some left) (Some file) None is = tt
-next_known begun state (Some left) (Some file) (Some files) is =
-    ap (λ n. put (of_news n) (next_files (file ∷ files) (told state))) (no_news state is)
+next_known begun state None file files none done = tt
+next_known begun state (Some left) None files none done = tt
+next_known begun state (Some left) (Some file) None none done = tt
+next_known begun state (Some left) (Some file) (Some files) none done =
+    let same = done_by state none done in
+    ap (λ s. reports_first s (next_files (file ∷ files))) same
     ∙ ap (λ s. Ok (skipped 0 NextFile) ∷ chosen (next_files files) true (in_next_file s) (pieces.answers file))
-    (same_told state is)
+    (sym same)
 
 pub next_file : (begun : Bool) (state state' : TakerState) (left begins_now : Option (List pieces.Answer))
     (file : Option (List ℕ)) (files files' all : Option (List (List ℕ))) → begins_now ≡ option_map pieces.answers file →
-    files' ≡ files → all ≡ known_too file files → state.is_told ≡ true → state' ≡ in_next_file state →
+    files' ≡ files → all ≡ known_too file files → state.link_of_packet ≡ None → state.is_reported ≡ true →
+    state' ≡ in_next_file state →
     IsNext (chosen_known begun state (none_left left) all) (Ok (skipped 0 NextFile))
     (chosen_known true state' begins_now files')
-next_file begun state state' left begins_now file files files' all begins same are is goes =
+next_file begun state state' left begins_now file files files' all begins same are none done goes =
     subst (λ (a : Option (List (List ℕ))). IsNext (chosen_known begun state (none_left left) a)
     (Ok (skipped 0 NextFile)) (chosen_known true state' begins_now files')) (sym are)
     (subst (λ (f : Option (List (List ℕ))). IsNext (chosen_known begun state (none_left left) (known_too file files))
@@ -351,7 +364,7 @@ next_file begun state state' left begins_now file files files' all begins same a
     (chosen_known true state' n files)) (sym begins)
     (subst (λ s. IsNext (chosen_known begun state (none_left left) (known_too file files)) (Ok (skipped 0 NextFile))
     (chosen_known true s (option_map pieces.answers file) files)) (sym goes)
-    (next_known begun state left file files is))))
+    (next_known begun state left file files none done))))
 
 -- the container has a fault
 refused : (n n' m m' : ℕ) (f : ContainerFault) → Moves n n' m m' → next.IsRefusal {A = piece.ContainerEvent} n n' (Err f) →
@@ -384,7 +397,7 @@ cut_is_read n n' begun of_any.Failed cut is = is
 fails_by : (n n' m m' : ℕ) (b begun : Bool) (state : TakerState) (old new : Option (List pieces.Answer))
     (files : Option (List (List ℕ))) (f : ContainerFault) (bytes : List ℕ) → is_cut begun f ≡ b → Moves n n' m m' →
     next.IsRefusal {A = piece.ContainerEvent} n n' (Err f) ⊎ next.IsNext old (Err f) new →
-    Steps m m' (chosen_known begun (told state) old files) (chosen_known begun (told state) (unless_cut b new) files)
+    Steps m m' (chosen_known begun (all_reported state) old files) (chosen_known begun (all_reported state) (unless_cut b new) files)
     bytes (failed b f)
 unfolding chosen
 fails_by n n' m m' false begun state old new files f bytes cut moves (inl is) = inl (refused n n' m m' f moves is)
@@ -393,27 +406,27 @@ fails_by n n' m m' false begun state (Some xs) None files f bytes cut moves (inr
 fails_by n n' m m' false begun state (Some xs) (Some ys) None f bytes cut moves (inr is) = inr tt
 fails_by n n' m m' false begun state (Some xs) (Some ys) (Some files) f bytes cut moves (inr is) =
     let behind = next_files files in
-    inr (ap (chosen behind begun (told state)) is ∙ fault_is behind begun state f
-    ∙ ap (λ (c : Bool). put (Some (if c then Ok (skipped 0 CutShort) else Err (fault_of f))) (behind (told state))) cut)
+    inr (ap (chosen behind begun (all_reported state)) is ∙ fault_is behind begun state f
+    ∙ ap (λ (c : Bool). put (Some (if c then Ok (skipped 0 CutShort) else Err (fault_of f))) (behind (all_reported state))) cut)
 fails_by n n' m m' true begun state old new files f bytes cut moves (inl is) = absurd (cut_is_read n n' begun f cut is)
 fails_by n n' m m' true begun state None new files f bytes cut moves (inr is) = tt
 fails_by n n' m m' true begun state (Some xs) None files f bytes cut moves (inr is) = absurd is
 fails_by n n' m m' true begun state (Some xs) (Some ys) None f bytes cut moves (inr is) = tt
 fails_by n n' m m' true begun state (Some xs) (Some ys) (Some files) f bytes cut moves (inr is) =
     let behind = next_files files in
-    ap (chosen behind begun (told state)) is ∙ fault_is behind begun state f
-    ∙ ap (λ (c : Bool). put (Some (if c then Ok (skipped 0 CutShort) else Err (fault_of f))) (behind (told state))) cut
+    ap (chosen behind begun (all_reported state)) is ∙ fault_is behind begun state f
+    ∙ ap (λ (c : Bool). put (Some (if c then Ok (skipped 0 CutShort) else Err (fault_of f))) (behind (all_reported state))) cut
 
 pub fails : (n n' m m' : ℕ) (cut b begun : Bool) (state state' : TakerState) (old new : Option (List pieces.Answer))
     (files : Option (List (List ℕ))) (f : ContainerFault) (bytes : List ℕ) → cut ≡ false → is_cut begun f ≡ b →
-    news state ≡ None → state' ≡ told state → Moves n n' m m' →
+    report_of state ≡ None → state' ≡ all_reported state → Moves n n' m m' →
     next.IsRefusal {A = piece.ContainerEvent} n n' (Err f) ⊎ next.IsNext old (Err f) new →
     Steps m m' (chosen_known begun state (unless_cut cut old) files)
     (chosen_known begun state' (unless_cut b new) files) bytes (failed b f)
 fails n n' m m' cut b begun state state' old new files f bytes uncut is none same moves answer =
     subst (λ all. Steps m m' all (chosen_known begun state' (unless_cut b new) files) bytes (failed b f))
-    (sym (ap (λ c. chosen_known begun state (unless_cut c old) files) uncut ∙ known_told begun state old files none))
-    (subst (λ s. Steps m m' (chosen_known begun (told state) old files) (chosen_known begun s (unless_cut b new)
+    (sym (ap (λ c. chosen_known begun state (unless_cut c old) files) uncut ∙ known_reported begun state old files none))
+    (subst (λ s. Steps m m' (chosen_known begun (all_reported state) old files) (chosen_known begun s (unless_cut b new)
     files) bytes
     (failed b f)) (sym same) (fails_by n n' m m' b begun state old new files f bytes is moves answer))
 
@@ -467,24 +480,30 @@ no_reads m m' (Err (fault.InterfaceNames one other)) same = same
 no_reads m m' (Err (fault.LinkNumber number)) same = same
 no_reads m m' (Err fault.Gzip) same = same
 
-bit_most : (b : Bool) → (if b then 0 else 1) ≤ 1
-bit_most true = omega arith
-bit_most false = omega arith
+-- at most two reports aren't made
+reports_most : (state : TakerState) → reports_left state ≤ 2
+reports_most state = by state.link_of_packet state.is_reported
+  where
+    by : (link : Option Link) (done : Bool) → reports_left (with_reports state link done) ≤ 2
+    by None true = omega arith
+    by None false = omega arith
+    by (Some link) true = omega arith
+    by (Some link) false = omega arith
 
-told_none : (state state' : TakerState) → state' ≡ told state → telling_left state' ≡ 0
-told_none state state' same = ap telling_left same
+none_reported : (state state' : TakerState) → state' ≡ all_reported state → reports_left state' ≡ 0
+none_reported state state' same = ap reports_left same
 
 pub fails_left : (old new more : ℕ) (cut b : Bool) (state state' : TakerState) (f : ContainerFault) → cut ≡ false →
     new ≡ 0 →
-    state' ≡ told state →
-    (new * 2 + cut_left b + telling_left state' + more) + step_count (failed b f) ≤ old * 2 + cut_left cut +
-    telling_left state + more
+    state' ≡ all_reported state →
+    (new * 3 + cut_left b + reports_left state' + more) + step_count (failed b f) ≤ old * 3 + cut_left cut +
+    reports_left state + more
 fails_left old new more cut true state state' f uncut over same =
     let one : cut_left cut ≡ 1 = ap cut_left uncut in
-    let none = told_none state state' same in omega (arith, one, over, none)
+    let none = none_reported state state' same in omega (arith, one, over, none)
 fails_left old new more cut false state state' f uncut over same =
     let one : cut_left cut ≡ 1 = ap cut_left uncut in
-    let none = told_none state state' same in omega (arith, one, over, none)
+    let none = none_reported state state' same in omega (arith, one, over, none)
 
 step_one : (result : Result (Option Event) CaptureFault) → step_count result ≤ 1
 step_one (Ok None) = omega arith
@@ -493,21 +512,22 @@ step_one (Ok (Some (event.Packet millis ip))) = omega arith
 step_one (Ok (Some (event.Skipped millis why))) = omega arith
 step_one (Err f) = omega arith
 
--- it was told
-pub told_left : (left more : ℕ) (state state' : TakerState) (event : Event) (reported : EventSeen) →
-    Some reported ≡ news state →
-    state' ≡ told state →
-    (left + telling_left state' + more) + step_count (Ok (Some event)) ≤ left + telling_left state + more
-told_left left more state state' event reported is same =
-    let none = told_none state state' same in
-    let one : telling_left state ≡ 1 = by state.is_told is in
+-- a report was made
+pub report_left : (left more : ℕ) (state state' : TakerState) (event : Event) (report : EventSeen) →
+    Some report ≡ report_of state → state' ≡ reported state →
+    (left + reports_left state' + more) + step_count (Ok (Some event)) ≤ left + reports_left state + more
+report_left left more state state' event report is same =
+    let fewer : reports_left state' ≡ reports_left (reported state) = ap reports_left same in
+    let one : reports_left (reported state) + 1 ≡ reports_left state = by state.link_of_packet state.is_reported is in
     let most = step_one (Ok (Some event)) in
-    omega (arith, none, one, most)
+    omega (arith, fewer, one, most)
   where
-    by : (b : Bool) → Some reported ≡ (if b then None else Some (skipped 0 (Incomplete (incomplete_of state)))) →
-        ◌≡◌ {A = ℕ} (if b then 0 else 1) 1
-    by true is = absurd cc
-    by false is = refl
+    by : (link : Option Link) (done : Bool) → Some report ≡ report_of (with_reports state link done) →
+        reports_left (reported (with_reports state link done)) + 1 ≡ reports_left (with_reports state link done)
+    by (Some link) true is = refl
+    by (Some link) false is = refl
+    by None true is = absurd cc
+    by None false is = refl
 
 pub fails_payload : (b : Bool) (f : ContainerFault) (bytes : List ℕ) →
     IfOk (failed b f) (λ it. IfSome it (PayloadLiesIn bytes))
@@ -525,13 +545,13 @@ fewer_by event old new more (inr less) = less
 -- a piece that isn't the end was read
 pub stepped_left : (old new more : ℕ) (cut : Bool) (state state' : TakerState) (event : piece.ContainerEvent)
     (result : Result (Option Event) CaptureFault) → is_end event ≡ false → (event ≡ piece_kind.End) ⊎ (new < old) →
-    (new * 2 + cut_left cut + telling_left state' + more) + step_count result
-    ≤ old * 2 + cut_left cut + telling_left state + more
+    (new * 3 + cut_left cut + reports_left state' + more) + step_count result
+    ≤ old * 3 + cut_left cut + reports_left state + more
 stepped_left old new more cut state state' event result is fewer =
     let less = fewer_by event old new is fewer in
     let one = step_one result in
-    let telling = bit_most state'.is_told in
-    omega (arith, less, one, telling)
+    let two = reports_most state' in
+    omega (arith, less, one, two)
 
 -- the end of the file was read
 pub ended_left : (reader : ReaderState) (event : piece.ContainerEvent) (old : ℕ) → is_end event ≡ true →
@@ -549,10 +569,10 @@ ended_left reader piece_kind.Passed old is over = absurd (false≢true is)
 
 -- the end of the file was read, and gave a fault
 pub ended_fault : (old new more : ℕ) (cut : Bool) (state state' state'' : TakerState) → new ≤ old →
-    state' ≡ told state → state'' ≡ state' →
-    (new * 2 + cut_left cut + telling_left state'' + more) + 0 ≤ old * 2 + cut_left cut + telling_left state + more
+    state' ≡ all_reported state → state'' ≡ state' →
+    (new * 3 + cut_left cut + reports_left state'' + more) + 0 ≤ old * 3 + cut_left cut + reports_left state + more
 ended_fault old new more cut state state' state'' less same after =
-    let none = told_none state state'' (after ∙ same) in omega (arith, less, none)
+    let none = none_reported state state'' (after ∙ same) in omega (arith, less, none)
 
 -- ---- piece after piece
 

@@ -1,141 +1,141 @@
 -- What a census holds of the messages that it counted.
-use Rattle.pim_merge.proofs.Words.{◌≡◌, ◌∙◌, ◌<◌, ◌+◌, ℕ, zero, suc, Bool, true, false, ◌&&◌, ◌||◌, not, cond, List, []}
+use Rattle.pim_merge.proofs.Words.{◌≡◌, ◌∙◌, ◌<◌, ◌+◌, ℕ, Bool, true, false, ◌&&◌, ◌||◌, not, cond, List, []}
 use Rattle.pim_merge.proofs.Words.{◌∷◌, length, take, drop, Option, None, Some, ap, sym, refl, subst, bytes_eq}
-use Rattle.pim_merge.proofs.Words.{if◌then◌else◌, arith, get_or-drop, replicate, ◌==◌, list_any, cons_option}
+use Rattle.pim_merge.proofs.Words.{if◌then◌else◌, get_or-drop, replicate, ◌==◌, list_any, cons_option}
 use Rattle.pim_merge.proofs.Words.{AllByRecursion, false≢true, take_at, bytes_eq-Decides, AddressFamily, is_same}
-use Rattle.pim_merge.proofs.Words.{judged, RouteTable, rp_of, GroupSet, Message, message_of, Spells, Datagram, StarJoin}
-use Rattle.pim_merge.proofs.Words.{added, field_of, same_star, no_names, sound, content_message, opened_message}
-use Rattle.pim_merge.proofs.Words.{message_in, joins_star, star_of, stars_with, stars_after, with_message}
+use Rattle.pim_merge.proofs.Words.{judged, RouteTable, rp_of, GroupSet, Message, message_of, Spells, Datagram}
+use Rattle.pim_merge.proofs.Words.{added, field_of, no_names, sound, content_message, opened_message}
+use Rattle.pim_merge.proofs.Words.{message_in, message_of_others, joins_star, groups_with, groups_after, with_message}
+use Rattle.pim_merge.proofs.Words.{first_without_rp}
 use Rattle.std.specs.Prelude.{⊤}
 use Rattle.pim_addr.specs.declared.family.AddressFamily.TheVariants.{Ipv4, Ipv6}
-use Rattle.pim_addr.specs.Address.{address_length, IsAddress, AreBytes}
+use Rattle.pim_addr.specs.Address.{address_length, AreBytes}
 use Rattle.pim_frame.specs.declared.frame.FrameFault.{FrameFault}
 use Rattle.pim_frame.specs.Frame.{Content, hello, join_prune, other, content, frame_faults, message_type}
 use Rattle.pim_jp.specs.declared.fault.JpFault.{JpFault}
 use Rattle.pim_jp.specs.Faults.{faults}
 use Rattle.pim_jp.specs.Canonical.{IsMessage, IsMessageSet}
 use Rattle.pim_merge.specs.declared.census.Census.{Census}
-use Rattle.pim_merge.specs.Missing.{has, is_taken, misses, unless_served, group_without_rp, first_of, first_without_rp, without_rp}
-use Rattle.pim_merge.specs.CensusLaws.{census_over, census_of, message_counted, messages_counted, is_for, joins_group}
+use Rattle.pim_merge.specs.Census.{with_own, with_other}
+use Rattle.pim_merge.specs.Missing.{is_taken, misses, unless_served, group_without_rp, first_of, without_rp}
+use Rattle.pim_merge.specs.CensusLaws.{census_over, census_of, message_counted, messages_counted, is_for, joins_group, are_for_others}
 
 -- ---- the messages that count
 
--- the census after these messages
-unfoldable over : Census → List Message → Census
-over census [] = census
-over census (message ∷ messages) = over (with_message census (Some message)) messages
+-- the census after a message that is for the own address, or isn't
+abbrev after : Bool → Census → Message → Census
+after b census message = cond b (with_own census message) (with_other census (field_of message.upstream))
 
-one_packet : (b : Bool) (counts : Option Message) (census : Census) (packets : List Datagram) → ((c : Census) → census_over c packets ≡ over c (messages_counted c.family packets))
-    → census_over (cond b (with_message census counts) census) packets ≡ over census (cons_option (if b then counts else None) (messages_counted census.family packets))
+-- the census after these messages, for a router with this address
+unfoldable over : List ℕ → Census → List Message → Census
+over own census [] = census
+over own census (message ∷ messages) = over own (after (is_for own message) census message) messages
+
+same_family_after : (b : Bool) (census : Census) (message : Message) → (after b census message).family ≡ census.family
+same_family_after true census message = refl
+same_family_after false census message = refl
+
+same_own_after : (b : Bool) (census : Census) (message : Message) → (after b census message).own ≡ census.own
+same_own_after true census message = refl
+same_own_after false census message = refl
+
+module _ (family : AddressFamily) (own : List ℕ) where
+  -- what is left to count
+  abbrev Counts : List Datagram → List Message → Type 0
+  Counts packets messages = (c : Census) → c.family ≡ family → c.own ≡ field_of own → census_over c packets ≡ over own c messages
+
+  one_message : (b : Bool) (census : Census) (message : Message) (packets : List Datagram) (messages : List Message) → b ≡ is_for own message → census.family ≡ family → census.own ≡ field_of own → Counts packets messages
+      → census_over (after b census message) packets ≡ over own census (message ∷ messages)
+  unfolding over
+  one_message b census message packets messages is f o k =
+      k (after b census message) (same_family_after b census message ∙ f) (same_own_after b census message ∙ o) ∙ ap (λ it. over own (after it census message) messages) is
+
+  one_packet : (b : Bool) (counts : Option Message) (census : Census) (packets : List Datagram) (messages : List Message) → census.family ≡ family → census.own ≡ field_of own → Counts packets messages
+      → census_over (cond b (with_message census counts) census) packets ≡ over own census (cons_option (if b then counts else None) messages)
+  one_packet true None census packets messages f o k = k census f o
+  one_packet true (Some message) census packets messages f o k =
+      one_message (bytes_eq census.own (field_of message.upstream)) census message packets messages (ap (λ it. bytes_eq it (field_of message.upstream)) o) f o k
+  one_packet false counts census packets messages f o k = k census f o
+
+  as_messages : (packets : List Datagram) → Counts packets (messages_counted family own packets)
+  unfolding census_over over
+  as_messages [] census f o = refl
+  as_messages (packet ∷ packets) census f o =
+      let rest = messages_counted family own packets in
+      one_packet (is_same census.family packet.family) (message_of_others census.own packet.family packet.source packet.destination packet.payload) census packets rest f o (as_messages packets)
+      ∙ ap (λ (it : AddressFamily). over own census (cons_option (if is_same it packet.family then message_of_others census.own packet.family packet.source packet.destination packet.payload else None) rest)) f
+      ∙ ap (λ (it : List ℕ). over own census (cons_option (if is_same family packet.family then message_of_others it packet.family packet.source packet.destination packet.payload else None) rest)) o
+
+-- ---- whether a message names the own address
+
+or_false : (a : Bool) → a ≡ (a || false)
+or_false true = refl
+or_false false = refl
+
+or_later : (a b c : Bool) → ((a || b) || c) ≡ (a || (b || c))
+or_later true b c = refl
+or_later false b c = refl
+
+or_true : (a : Bool) → true ≡ (a || true)
+or_true true = refl
+or_true false = refl
+
+named_after : (b : Bool) (census : Census) (message : Message) → (after b census message).is_named ≡ (census.is_named || b)
+named_after true census message = or_true census.is_named
+named_after false census message = or_false census.is_named
+
+named_over : (own : List ℕ) (messages : List Message) (census : Census) → (over own census messages).is_named ≡ (census.is_named || list_any (is_for own) messages)
 unfolding over
-one_packet true None census packets k = k census
-one_packet true (Some message) census packets k = k (with_message census (Some message))
-one_packet false counts census packets k = k census
+named_over own [] census = or_false census.is_named
+named_over own (message ∷ messages) census =
+    named_over own messages (after (is_for own message) census message)
+    ∙ ap (λ b. b || list_any (is_for own) messages) (named_after (is_for own message) census message)
+    ∙ or_later census.is_named (is_for own message) (list_any (is_for own) messages)
 
-as_messages : (packets : List Datagram) (census : Census) → census_over census packets ≡ over census (messages_counted census.family packets)
-unfolding census_over over
-as_messages [] census = refl
-as_messages (packet ∷ packets) census =
-    one_packet (is_same census.family packet.family) (message_in packet.family packet.source packet.destination packet.payload) census packets (as_messages packets)
+-- ---- whether a message names another upstream neighbour
 
--- ---- upstream neighbours
-
--- the field is in a slot, or no slot is free
-unfoldable covers : List ℕ → List (Option (List ℕ)) → Bool
-covers field [] = true
-covers field (None ∷ slots) = false
-covers field (Some held ∷ slots) = bytes_eq field held || covers field slots
-
-there_or_added : (b : Bool) (field : List ℕ) (slots : List (Option (List ℕ))) → covers field (added bytes_eq field slots) ≡ true → (b || covers field (if b then slots else added bytes_eq field slots)) ≡ true
-there_or_added true field slots e = refl
-there_or_added false field slots e = e
-
-covers_added : (field : List ℕ) (slots : List (Option (List ℕ))) → covers field (added bytes_eq field slots) ≡ true
-unfolding covers added
-covers_added field [] = refl
-covers_added field (None ∷ slots) = ap (λ b. b || covers field slots) ((bytes_eq-Decides field field).1 refl)
-covers_added field (Some held ∷ slots) = there_or_added (bytes_eq field held) field slots (covers_added field slots)
-
-there_or_kept : (b c : Bool) (field item : List ℕ) (slots : List (Option (List ℕ))) → (covers field slots ≡ true → covers field (added bytes_eq item slots) ≡ true) → (b || covers field slots) ≡ true
-    → (b || covers field (if c then slots else added bytes_eq item slots)) ≡ true
-there_or_kept true c field item slots k e = refl
-there_or_kept false true field item slots k e = e
-there_or_kept false false field item slots k e = k e
-
-covers_kept : (field item : List ℕ) (slots : List (Option (List ℕ))) → covers field slots ≡ true → covers field (added bytes_eq item slots) ≡ true
-unfolding covers added
-covers_kept field item [] e = refl
-covers_kept field item (None ∷ slots) e = absurd (false≢true e)
-covers_kept field item (Some held ∷ slots) e = there_or_kept (bytes_eq field held) (bytes_eq item held) field item slots (covers_kept field item slots) e
-
-covers_over : (messages : List Message) (census : Census) (field : List ℕ) → covers field census.upstreams ≡ true → covers field (over census messages).upstreams ≡ true
-unfolding over
-covers_over [] census field e = e
-covers_over (message ∷ messages) census field e = covers_over messages (with_message census (Some message)) field (covers_kept field (field_of message.upstream) census.upstreams e)
-
-length_if : {A : Type 0} (b : Bool) (xs ys : List A) (n : ℕ) → length xs ≡ n → length ys ≡ n → length (if b then xs else ys) ≡ n
-length_if true xs ys n e f = e
-length_if false xs ys n e f = f
-
-length_added : (item : List ℕ) (slots : List (Option (List ℕ))) → length (added bytes_eq item slots) ≡ length slots
+taken_added : (item : List ℕ) (slots : List (Option (List ℕ))) → is_taken 0 slots ≡ true → is_taken 0 (added bytes_eq item slots) ≡ true
 unfolding added
-length_added item [] = refl
-length_added item (None ∷ slots) = refl
-length_added item (Some held ∷ slots) = ap suc (length_if (bytes_eq item held) slots (added bytes_eq item slots) (length slots) refl (length_added item slots))
+taken_added item [] e = e
+taken_added item (None ∷ slots) e = refl
+taken_added item (Some held ∷ slots) e = refl
 
-length_over : (messages : List Message) (census : Census) → length (over census messages).upstreams ≡ length census.upstreams
+taken_after : (b : Bool) (census : Census) (message : Message) → is_taken 0 census.upstreams ≡ true → is_taken 0 (after b census message).upstreams ≡ true
+taken_after true census message e = e
+taken_after false census message e = taken_added (field_of message.upstream) census.upstreams e
+
+taken_over : (own : List ℕ) (messages : List Message) (census : Census) → is_taken 0 census.upstreams ≡ true → is_taken 0 (over own census messages).upstreams ≡ true
 unfolding over
-length_over [] census = refl
-length_over (message ∷ messages) census = length_over messages (with_message census (Some message)) ∙ length_added (field_of message.upstream) census.upstreams
+taken_over own [] census e = e
+taken_over own (message ∷ messages) census e = taken_over own messages (after (is_for own message) census message) (taken_after (is_for own message) census message e)
 
-or_by : (b c d : Bool) → (c ≡ true → d ≡ true) → (b || c) ≡ true → (b || d) ≡ true
-or_by true c d k e = refl
-or_by false c d k e = k e
+first_taken : (family : AddressFamily) (own : List ℕ) (b : Bool) (message : Message) → b ≡ false → is_taken 0 (after b (no_names family own) message).upstreams ≡ true
+unfolding added
+first_taken family own true message e = absurd (false≢true (sym e))
+first_taken family own false message e = refl
 
--- where a slot is free, the field is in one before it
-has_covered : (field : List ℕ) (slots : List (Option (List ℕ))) (n : ℕ) → covers field slots ≡ true → n < length slots → is_taken n slots ≡ false → has field slots ≡ true
-unfolding covers
-has_covered field [] n e within free = absurd (omega (arith, within))
-has_covered field (None ∷ slots) n e within free = absurd (false≢true e)
-has_covered field (Some held ∷ slots) zero e within free = absurd (false≢true (sym free))
-has_covered field (Some held ∷ slots) (suc n) e within free =
-    or_by (bytes_eq field held) (covers field slots) (has field slots) (λ c. has_covered field slots n c (omega (arith, within)) free) e
+neither : (b c : Bool) → (b || c) ≡ false → b ≡ false
+neither true c e = absurd (false≢true (sym e))
+neither false c e = refl
 
-neither : (b c : Bool) → (b ≡ true → ⊥) → c ≡ false → (b || c) ≡ false
-neither true c k e = absurd (k refl)
-neither false c k e = e
+unless_named : (taken named : Bool) → (named ≡ false → taken ≡ true) → (taken && not named) ≡ not named
+unless_named true named k = refl
+unless_named false true k = refl
+unless_named false false k = k refl
 
-for_none : (messages : List Message) (census : Census) (own : List ℕ) → length census.upstreams ≡ 8 → is_taken 7 (over census messages).upstreams ≡ false → has (field_of own) (over census messages).upstreams ≡ false
-    → list_any (is_for own) messages ≡ false
+for_others : (family : AddressFamily) (own : List ℕ) (messages : List Message) → misses (over own (no_names family own) messages) ≡ are_for_others own messages
 unfolding over
-for_none [] census own size free missing = refl
-for_none (message ∷ messages) census own size free missing =
-    let after = with_message census (Some message) in
-    let size' : length after.upstreams ≡ 8 = length_added (field_of message.upstream) census.upstreams ∙ size in
-    let long : 7 < length (over after messages).upstreams = omega (arith, length_over messages after, size') in
-    let there : has (field_of message.upstream) (over after messages).upstreams ≡ true =
-    has_covered (field_of message.upstream) (over after messages).upstreams 7 (covers_over messages after (field_of message.upstream) (covers_added (field_of message.upstream) census.upstreams)) long free in
-    neither (bytes_eq own message.upstream) (list_any (is_for own) messages)
-    (λ same. false≢true (sym missing ∙ ap (λ it. has (field_of it) (over after messages).upstreams) ((bytes_eq-Decides own message.upstream).0 same) ∙ there))
-    (for_none messages after own size' free missing)
+for_others family own [] = refl
+for_others family own (message ∷ messages) =
+    let census = over own (no_names family own) (message ∷ messages) in
+    ap (λ b. is_taken 0 census.upstreams && not b) (named_over own (message ∷ messages) (no_names family own))
+    ∙ unless_named (is_taken 0 census.upstreams) (list_any (is_for own) (message ∷ messages))
+    (λ none. taken_over own messages (after (is_for own message) (no_names family own) message)
+    (first_taken family own (is_for own message) message (neither (is_for own message) (list_any (is_for own) messages) none)))
 
-some_count : (family : AddressFamily) (messages : List Message) → is_taken 0 (over (no_names family) messages).upstreams ≡ true → 0 < length messages
-unfolding over
-some_count family [] e = absurd (false≢true e)
-some_count family (message ∷ messages) e = omega arith
-
-parts : (a b c : Bool) → (a && not b && not c) ≡ true → (a ≡ true) × (b ≡ false) × (c ≡ false)
-parts false b c e = absurd (false≢true e)
-parts true true c e = absurd (false≢true e)
-parts true false true e = absurd (false≢true e)
-parts true false false e = (refl, refl, refl)
-
-pub missed : (family : AddressFamily) (packets : List Datagram) (own : List ℕ) → misses own (census_of family packets).upstreams ≡ true
-    → (0 < length (messages_counted family packets)) × (list_any (is_for own) (messages_counted family packets) ≡ false)
-missed family packets own e =
-    let slots = (over (no_names family) (messages_counted family packets)).upstreams in
-    let p = parts (is_taken 0 slots) (is_taken 7 slots) (has (field_of own) slots) (subst (λ (c : Census). misses own c.upstreams ≡ true) (as_messages packets (no_names family)) e) in
-    (some_count family (messages_counted family packets) p.0, for_none (messages_counted family packets) (no_names family) own refl p.1 p.2)
+pub missed : (family : AddressFamily) (packets : List Datagram) (own : List ℕ) → misses (census_of family own packets) ≡ are_for_others own (messages_counted family own packets)
+missed family packets own =
+    ap misses (as_messages family own packets (no_names family own) refl refl) ∙ for_others family own (messages_counted family own packets)
 
 -- ---- Joins(*,G)
 
@@ -145,7 +145,7 @@ AllHeld P [] = ⊤
 AllHeld P (None ∷ slots) = AllHeld P slots
 AllHeld P (Some held ∷ slots) = P held × AllHeld P slots
 
-none_held : (P : StarJoin → Type 0) → AllHeld P (replicate 16 None)
+none_held : (P : List ℕ → Type 0) → AllHeld P (replicate 64 None)
 unfolding AllHeld
 none_held P = tt
 
@@ -153,31 +153,36 @@ held_if : {A : Type 0} (P : A → Type 0) (b : Bool) (xs ys : List (Option A)) �
 held_if P true xs ys h k = h
 held_if P false xs ys h k = k
 
-held_added : (P : StarJoin → Type 0) (item : StarJoin) (slots : List (Option StarJoin)) → P item → AllHeld P slots → AllHeld P (added same_star item slots)
+held_added : (P : List ℕ → Type 0) (item : List ℕ) (slots : List (Option (List ℕ))) → P item → AllHeld P slots → AllHeld P (added bytes_eq item slots)
 unfolding added AllHeld
 held_added P item [] p h = tt
 held_added P item (None ∷ slots) p h = (p, h)
-held_added P item (Some held ∷ slots) p h = (h.0, held_if P (same_star item held) slots (added same_star item slots) h.1 (held_added P item slots p h.1))
+held_added P item (Some held ∷ slots) p h = (h.0, held_if P (bytes_eq item held) slots (added bytes_eq item slots) h.1 (held_added P item slots p h.1))
 
-held_after : (P : StarJoin → Type 0) (b : Bool) (item : StarJoin) (slots : List (Option StarJoin)) → (b ≡ true → P item) → AllHeld P slots → AllHeld P (cond b (added same_star item slots) slots)
-held_after P true item slots k h = held_added P item slots (k refl) h
-held_after P false item slots k h = h
+held_joined : (P : List ℕ → Type 0) (b : Bool) (item : List ℕ) (slots : List (Option (List ℕ))) → (b ≡ true → P item) → AllHeld P slots → AllHeld P (cond b (added bytes_eq item slots) slots)
+held_joined P true item slots k h = held_added P item slots (k refl) h
+held_joined P false item slots k h = h
 
--- what holds of the Join(*,G) of each set that has one
-abbrev OfSets : (StarJoin → Type 0) → List ℕ → List GroupSet → Type 0
-OfSets P upstream sets = AllByRecursion (λ (set : GroupSet). joins_star set ≡ true → P (star_of upstream set.group)) sets
+-- what holds of the group of each set that joins (*,G)
+abbrev OfSets : (List ℕ → Type 0) → List GroupSet → Type 0
+OfSets P sets = AllByRecursion (λ (set : GroupSet). joins_star set ≡ true → P (field_of set.group)) sets
 
-held_with : (P : StarJoin → Type 0) (upstream : List ℕ) (sets : List GroupSet) (slots : List (Option StarJoin)) → OfSets P upstream sets → AllHeld P slots → AllHeld P (stars_with upstream sets slots)
-unfolding stars_with
-held_with P upstream [] slots each h = h
-held_with P upstream (set ∷ sets) slots each h =
-    held_with P upstream sets (stars_after upstream slots set) each.1 (held_after P (joins_star set) (star_of upstream set.group) slots each.0 h)
+held_with : (P : List ℕ → Type 0) (sets : List GroupSet) (slots : List (Option (List ℕ))) → OfSets P sets → AllHeld P slots → AllHeld P (groups_with sets slots)
+unfolding groups_with
+held_with P [] slots each h = h
+held_with P (set ∷ sets) slots each h =
+    held_with P sets (groups_after slots set) each.1 (held_joined P (joins_star set) (field_of set.group) slots each.0 h)
 
-held_over : (P : StarJoin → Type 0) (messages : List Message) (census : Census) → AllByRecursion (λ (message : Message). OfSets P message.upstream message.sets) messages → AllHeld P census.stars
-    → AllHeld P (over census messages).stars
+held_after : (P : List ℕ → Type 0) (b : Bool) (census : Census) (message : Message) → (b ≡ true → OfSets P message.sets) → AllHeld P census.groups → AllHeld P (after b census message).groups
+held_after P true census message k h = held_with P message.sets census.groups (k refl) h
+held_after P false census message k h = h
+
+held_over : (P : List ℕ → Type 0) (own : List ℕ) (messages : List Message) (census : Census) → AllByRecursion (λ (message : Message). is_for own message ≡ true → OfSets P message.sets) messages → AllHeld P census.groups
+    → AllHeld P (over own census messages).groups
 unfolding over
-held_over P [] census each h = h
-held_over P (message ∷ messages) census each h = held_over P messages (with_message census (Some message)) each.1 (held_with P message.upstream message.sets census.stars each.0 h)
+held_over P own [] census each h = h
+held_over P own (message ∷ messages) census each h =
+    held_over P own messages (after (is_for own message) census message) each.1 (held_after P (is_for own message) census message each.0 h)
 
 some_is : (x y : List ℕ) → Some x ≡ Some y → x ≡ y
 some_is x y e = cc
@@ -186,10 +191,9 @@ none_is : {A : Type 0} (x : A) → None ≡ Some x → ⊥
 none_is x e = cc
 
 -- the conditions of a group without an RP
-split : (b : Bool) (x group : List ℕ) (rp : Option (List ℕ)) → cond b (unless_served x rp) None ≡ Some group → (b ≡ true) × (rp ≡ None) × (x ≡ group)
-split true x group None e = (refl, refl, some_is x group e)
-split true x group (Some rp) e = absurd (none_is group e)
-split false x group rp e = absurd (none_is group e)
+split : (x group : List ℕ) (rp : Option (List ℕ)) → unless_served x rp ≡ Some group → (rp ≡ None) × (x ≡ group)
+split x group None e = (refl, some_is x group e)
+split x group (Some rp) e = absurd (none_is group e)
 
 either_of : (G : Type 0) (group : List ℕ) (one later : Option (List ℕ)) → (one ≡ Some group → G) → (later ≡ Some group → G) → first_of one later ≡ Some group → G
 either_of G group None later k l e = l e
@@ -206,48 +210,42 @@ both : (b c : Bool) → b ≡ true → c ≡ true → (b && c) ≡ true
 both true c e f = f
 both false c e f = absurd (false≢true e)
 
-module _ (family : AddressFamily) (table : RouteTable) (own group : List ℕ) (address : IsAddress family own) (G : Type 0) where
-  -- what a Join(*,G) that is named gives
-  abbrev Named : StarJoin → Type 0
-  Named star = group_without_rp family table (field_of own) (Some star) ≡ Some group → G
+module _ (family : AddressFamily) (table : RouteTable) (own group : List ℕ) (G : Type 0) where
+  -- what a group that is named gives
+  abbrev Named : List ℕ → Type 0
+  Named field = group_without_rp family table (Some field) ≡ Some group → G
 
-  named : (stars : List (Option StarJoin)) → AllHeld Named stars → first_without_rp family table (field_of own) stars ≡ Some group → G
+  named : (groups : List (Option (List ℕ))) → AllHeld Named groups → first_without_rp family table groups ≡ Some group → G
   unfolding AllHeld first_without_rp
   named [] h e = absurd (none_is group e)
-  named (None ∷ stars) h e = named stars h e
-  named (Some star ∷ stars) h e =
-      either_of G group (group_without_rp family table (field_of own) (Some star)) (first_without_rp family table (field_of own) stars) h.0 (named stars h.1) e
+  named (None ∷ groups) h e = named groups h e
+  named (Some field ∷ groups) h e =
+      either_of G group (group_without_rp family table (Some field)) (first_without_rp family table groups) h.0 (named groups h.1) e
 
-  field_is : (address' : List ℕ) → length address' ≡ address_length family → take (address_length family) (field_of address') ≡ address'
-  field_is address' size = take_at address' _ (address_length family) size
+  served : (it : List ℕ) → length it ≡ address_length family → group_without_rp family table (Some (field_of it)) ≡ Some group → (group ≡ it) × (rp_of family table group ≡ None)
+  served it wide e =
+      let p = split (take (address_length family) (field_of it)) group (rp_of family table (take (address_length family) (field_of it))) e in
+      (sym p.1 ∙ take_at it _ (address_length family) wide, ap (λ x. rp_of family table x) (sym p.1) ∙ p.0)
 
-  served : (upstream it : List ℕ) → length upstream ≡ address_length family → length it ≡ address_length family → group_without_rp family table (field_of own) (Some (star_of upstream it)) ≡ Some group
-      → (own ≡ upstream) × (group ≡ it) × (rp_of family table group ≡ None)
-  served upstream it long wide e =
-      let p = split (bytes_eq (field_of own) (field_of upstream)) (take (address_length family) (field_of it)) group (rp_of family table (take (address_length family) (field_of it))) e in
-      let same : own ≡ upstream = sym (field_is own address.0) ∙ ap (take (address_length family)) ((bytes_eq-Decides (field_of own) (field_of upstream)).0 p.0) ∙ field_is upstream long in
-      (same, sym p.2 ∙ field_is it wide, ap (λ x. rp_of family table x) (sym p.2) ∙ p.1)
-
-  of_sets : (upstream : List ℕ) (sets : List GroupSet) → IsAddress family upstream → AllByRecursion (IsMessageSet family) sets
-      → (own ≡ upstream → list_any (λ (set : GroupSet). bytes_eq group set.group && joins_star set) sets ≡ true → rp_of family table group ≡ None → G) → OfSets Named upstream sets
-  of_sets upstream [] to are k = tt
-  of_sets upstream (set ∷ sets) to are k =
+  of_sets : (sets : List GroupSet) → AllByRecursion (IsMessageSet family) sets
+      → (list_any (λ (set : GroupSet). bytes_eq group set.group && joins_star set) sets ≡ true → rp_of family table group ≡ None → G) → OfSets Named sets
+  of_sets [] are k = tt
+  of_sets (set ∷ sets) are k =
       let later = list_any (λ (s : GroupSet). bytes_eq group s.group && joins_star s) sets in
       let test = bytes_eq group set.group && joins_star set in (
-        (λ joins e. let p = served upstream set.group to.0 are.0.0.0 e in
-            k p.0 (left test later (both (bytes_eq group set.group) (joins_star set) ((bytes_eq-Decides group set.group).1 p.1) joins)) p.2),
-        of_sets upstream sets to are.1 (λ same there none. k same (right test later there) none),
+        (λ joins e. let p = served set.group are.0.0.0 e in
+            k (left test later (both (bytes_eq group set.group) (joins_star set) ((bytes_eq-Decides group set.group).1 p.0) joins)) p.1),
+        of_sets sets are.1 (λ there none. k (right test later there) none),
       )
 
   of_messages : (messages : List Message) → AllByRecursion (IsMessage family) messages → (list_any (joins_group own group) messages ≡ true → rp_of family table group ≡ None → G)
-      → AllByRecursion (λ (message : Message). OfSets Named message.upstream message.sets) messages
+      → AllByRecursion (λ (message : Message). is_for own message ≡ true → OfSets Named message.sets) messages
   of_messages [] are k = tt
   of_messages (message ∷ messages) are k =
       let later = list_any (joins_group own group) messages in
       let test = joins_group own group message in (
-        of_sets message.upstream message.sets are.0.0 are.0.3
-            (λ same there none. k (left test later (both (bytes_eq own message.upstream) (list_any (λ (set : GroupSet). bytes_eq group set.group && joins_star set) message.sets)
-            ((bytes_eq-Decides own message.upstream).1 same) there)) none),
+        (λ for. of_sets message.sets are.0.3
+            (λ there none. k (left test later (both (is_for own message) (list_any (λ (set : GroupSet). bytes_eq group set.group && joins_star set) message.sets) for there)) none)),
         of_messages messages are.1 (λ there none. k (right test later there) none),
       )
 
@@ -276,6 +274,10 @@ if_some : (b : Bool) (counts : Option Message) (message : Message) → (if b the
 if_some true counts message e = (refl, e)
 if_some false counts message e = absurd (none_is message e)
 
+not_own : (b : Bool) (counts : Option Message) (message : Message) → cond b None counts ≡ Some message → counts ≡ Some message
+not_own true counts message e = absurd (none_is message e)
+not_own false counts message e = e
+
 bytes_after : (bytes : List ℕ) (n : ℕ) → AreBytes bytes → AreBytes (drop n bytes)
 bytes_after bytes n are i = subst (λ b. b < 256) (sym (get_or-drop n bytes i 0)) (are (n + i))
 
@@ -288,10 +290,11 @@ module _ (legal : (family : AddressFamily) (body : List ℕ) → AreBytes body �
       let p = sound_is (faults family body) (message_of family body) message e in
       subst (IsMessage family) p.1 (ranged family (message_of family body) body (are body refl) (legal family body (are body refl) p.0))
 
-  in_packet : (family : AddressFamily) (packet : Datagram) (message : Message) → AreBytes packet.payload → message_counted family packet ≡ Some message → IsMessage family message
-  in_packet family packet message are e =
-      let p = if_some (is_same family packet.family) (message_in packet.family packet.source packet.destination packet.payload) message e in
-      let held = opened_is packet.family (frame_faults packet.family packet.source packet.destination packet.payload) (content packet.payload) message p.1 in
+  in_packet : (family : AddressFamily) (own : List ℕ) (packet : Datagram) (message : Message) → AreBytes packet.payload → message_counted family own packet ≡ Some message → IsMessage family message
+  in_packet family own packet message are e =
+      let p = if_some (is_same family packet.family) (message_of_others (field_of own) packet.family packet.source packet.destination packet.payload) message e in
+      let counts = not_own (bytes_eq (field_of own) (field_of packet.source)) (message_in packet.family packet.source packet.destination packet.payload) message p.1 in
+      let held = opened_is packet.family (frame_faults packet.family packet.source packet.destination packet.payload) (content packet.payload) message counts in
       subst (λ it. IsMessage it message) (same_family family packet.family p.0)
       (in_content packet.family (content packet.payload) message
       (λ body is. subst AreBytes (body_is (message_type packet.payload == 0) (message_type packet.payload == 3) (drop 4 packet.payload) body (message_type packet.payload) is) (bytes_after packet.payload 4 are)) held)
@@ -301,17 +304,17 @@ module _ (legal : (family : AddressFamily) (body : List ℕ) → AreBytes body �
   add_one family None messages k are = are
   add_one family (Some message) messages k are = (k message refl, are)
 
-  are_messages : (family : AddressFamily) (packets : List Datagram) → AllByRecursion (λ (packet : Datagram). AreBytes packet.payload) packets → AllByRecursion (IsMessage family) (messages_counted family packets)
-  are_messages family [] are = tt
-  are_messages family (packet ∷ packets) are =
-      add_one family (message_counted family packet) (messages_counted family packets) (λ message e. in_packet family packet message are.0 e) (are_messages family packets are.1)
+  are_messages : (family : AddressFamily) (own : List ℕ) (packets : List Datagram) → AllByRecursion (λ (packet : Datagram). AreBytes packet.payload) packets → AllByRecursion (IsMessage family) (messages_counted family own packets)
+  are_messages family own [] are = tt
+  are_messages family own (packet ∷ packets) are =
+      add_one family (message_counted family own packet) (messages_counted family own packets) (λ message e. in_packet family own packet message are.0 e) (are_messages family own packets are.1)
 
-  pub unserved : (family : AddressFamily) (table : RouteTable) (packets : List Datagram) (own group : List ℕ) → IsAddress family own → AllByRecursion (λ (packet : Datagram). AreBytes packet.payload) packets
-      → without_rp family table own (census_of family packets).stars ≡ Some group
-      → (rp_of family table group ≡ None) × (list_any (joins_group own group) (messages_counted family packets) ≡ true)
-  unserved family table packets own group address are e =
-      let messages = messages_counted family packets in
+  pub unserved : (family : AddressFamily) (table : RouteTable) (packets : List Datagram) (own group : List ℕ) → AllByRecursion (λ (packet : Datagram). AreBytes packet.payload) packets
+      → without_rp family table (census_of family own packets) ≡ Some group
+      → (rp_of family table group ≡ None) × (list_any (joins_group own group) (messages_counted family own packets) ≡ true)
+  unserved family table packets own group are e =
+      let messages = messages_counted family own packets in
       let G = (rp_of family table group ≡ None) × (list_any (joins_group own group) messages ≡ true) in
-      let each = of_messages family table own group address G messages (are_messages family packets are) (λ there none. (none, there)) in
-      named family table own group address G (over (no_names family) messages).stars (held_over (Named family table own group address G) messages (no_names family) each (none_held (Named family table own group address G)))
-      (subst (λ (c : Census). without_rp family table own c.stars ≡ Some group) (as_messages packets (no_names family)) e)
+      let each = of_messages family table own group G messages (are_messages family own packets are) (λ there none. (none, there)) in
+      named family table own group G (over own (no_names family own) messages).groups (held_over (Named family table own group G) own messages (no_names family own) each (none_held (Named family table own group G)))
+      (subst (λ (c : Census). without_rp family table c ≡ Some group) (as_messages family own packets (no_names family own) refl refl) e)

@@ -19,7 +19,7 @@ pub mod Following
 pub mod Clocks
 pub mod Repeating
 pub mod Needing
-pub mod CensusPlaces
+pub mod Places
 pub mod CensusSteps
 pub mod Counted
 pub mod Adding

@@ -3,9 +3,9 @@ use Rattle.pim_merge.proofs.Words.{◌≡◌, ◌∙◌, ◌⊎◌, ◌≤◌, �
 use Rattle.pim_merge.proofs.Words.{IfSome, List, [], ◌∷◌, drop, length, Option, None, Some, Result, Ok, Err, unwrap_or, refl, sym}
 use Rattle.pim_merge.proofs.Words.{ap, subst, arith, inl, inr, false≢true, common_steps, option_map, CaptureFault, Event, Answer}
 use Rattle.pim_merge.proofs.Words.{packet, skipped, ended, most_records, OnMemory, IsNext, IsRefusal, ContainerFault}
-use Rattle.pim_merge.proofs.Words.{ReaderState, is_section, TakerState, event_given, state_after, is_fragment, news, told, put, chosen, next_files, IsGiven}
+use Rattle.pim_merge.proofs.Words.{ReaderState, is_section, TakerState, event_given, state_after, asks_to_hold, report_of, reported, put, chosen, next_files, IsGiven}
 use Rattle.pim_merge.proofs.Words.{is_end, failed, SomeExceeds, PassesNeeds, GrowsWithin, longest, Allocates, IsLonger}
-use Rattle.pim_merge.proofs.Words.{first_answer, needs_unless, StaysComing, StaysFragment, begins_with_fragment, chosen_known, unless_cut}
+use Rattle.pim_merge.proofs.Words.{first_answer, needs_unless, StaysComing, StaysHeld, begins_with_held, chosen_known, unless_cut}
 use Rattle.pim_capture.specs.declared.fault.CaptureFault.TheVariants as fault
 use Rattle.pim_container.specs.declared.link.BlockEndianness.TheVariants.{Big}
 use Rattle.pim_container.specs.declared.fault.ContainerFault.TheVariants as of_any
@@ -19,7 +19,7 @@ use Rattle.pim_container.specs.EventSeen as any
 use Rattle.pim_container.specs.Pieces as pieces
 use Rattle.pim_container.specs.Next as next
 use Rattle.pim_container.specs.Room.{Need, LacksRoom, GrowsBy, GrowsFor, GrowsList, length_in, first_length, next_length, count_in, DescribesFirst, DescribesNext, PassesNeed, describes, first_need, needs, needs_in, header_need, classic_needs}
-use Rattle.pim_merge.proofs.Choosing.{put_is, left_after, known_told, next_after}
+use Rattle.pim_merge.proofs.Choosing.{put_is, left_after, all_reported, none_to_report, now_reported, known_reported, next_after}
 
 -- ---- a fault that isn't refused memory
 
@@ -180,38 +180,56 @@ passes_given state (piece_kind.Interface name) bytes old new none more h = h
 passes_given state piece_kind.Passed bytes old new none more h = h
 passes_given state piece_kind.End bytes old new none more h = absurd (false≢true (sym more))
 
--- what follows such a piece begins with a fragment as before
-fragment_passes : (state : TakerState) (e : piece.ContainerEvent) (bytes : List ℕ) (later : List pieces.Answer) →
+-- what follows such a piece is held as before
+held_passes : (state state' : TakerState) (e : piece.ContainerEvent) (bytes : List ℕ) (later : List pieces.Answer) →
+    event_given state' (any.event_seen bytes e) ≡ None → is_end e ≡ false
+    → begins_with_held state (next.in_front (Ok (any.event_seen bytes e)) later) ≡ begins_with_held state later
+unfolding begins_with_held
+held_passes state state' (piece_kind.Packet millis origin ip) bytes later none more = absurd cc
+held_passes state state' (piece_kind.Fragment millis origin ip part) bytes later none more = absurd cc
+held_passes state state' (piece_kind.Skipped millis origin why) bytes later none more = absurd cc
+held_passes state state' piece_kind.Untimed bytes later none more = absurd cc
+held_passes state state' piece_kind.Section bytes later none more = refl
+held_passes state state' (piece_kind.Interface name) bytes later none more = refl
+held_passes state state' piece_kind.Passed bytes later none more = refl
+held_passes state state' piece_kind.End bytes later none more = absurd (false≢true (sym more))
+
+-- such a piece leaves what was taken
+state_stays : (state : TakerState) (e : piece.ContainerEvent) (bytes : List ℕ) →
     event_given state (any.event_seen bytes e) ≡ None → is_end e ≡ false
-    → begins_with_fragment (next.in_front (Ok (any.event_seen bytes e)) later) ≡ begins_with_fragment later
-unfolding begins_with_fragment
-fragment_passes state (piece_kind.Packet millis origin ip) bytes later none more = absurd cc
-fragment_passes state (piece_kind.Fragment millis origin ip part) bytes later none more = absurd cc
-fragment_passes state (piece_kind.Skipped millis origin why) bytes later none more = absurd cc
-fragment_passes state piece_kind.Untimed bytes later none more = absurd cc
-fragment_passes state piece_kind.Section bytes later none more = refl
-fragment_passes state (piece_kind.Interface name) bytes later none more = refl
-fragment_passes state piece_kind.Passed bytes later none more = refl
-fragment_passes state piece_kind.End bytes later none more = absurd (false≢true (sym more))
+    → state_after state (any.event_seen bytes e) ≡ state
+state_stays state (piece_kind.Packet millis origin ip) bytes none more = absurd cc
+state_stays state (piece_kind.Fragment millis origin ip part) bytes none more = absurd cc
+state_stays state (piece_kind.Skipped millis origin why) bytes none more = absurd cc
+state_stays state piece_kind.Untimed bytes none more = absurd cc
+state_stays state piece_kind.Section bytes none more = refl
+state_stays state (piece_kind.Interface name) bytes none more = refl
+state_stays state piece_kind.Passed bytes none more = refl
+state_stays state piece_kind.End bytes none more = absurd (false≢true (sym more))
 
-fragment_stays : (state : TakerState) (old new : Option (List pieces.Answer)) (e : piece.ContainerEvent) (bytes :
-    List ℕ) → event_given state (any.event_seen bytes e) ≡ None → is_end e ≡ false
-    → next.IsNext old (Ok (any.event_seen bytes e)) new → StaysFragment (option_map begins_with_fragment old)
-    (option_map begins_with_fragment new)
-fragment_stays state None new e bytes none more is = tt
-fragment_stays state (Some xs) None e bytes none more is = absurd is
-fragment_stays state (Some xs) (Some ys) e bytes none more is = ap Some (sym (ap begins_with_fragment is
-    ∙ fragment_passes state e bytes ys none more))
+held_stays : (state state' : TakerState) (old new : Option (List pieces.Answer)) (e : piece.ContainerEvent) (bytes :
+    List ℕ) → event_given state' (any.event_seen bytes e) ≡ None → is_end e ≡ false
+    → next.IsNext old (Ok (any.event_seen bytes e)) new → StaysHeld (option_map (begins_with_held state) old)
+    (option_map (begins_with_held state) new)
+held_stays state state' None new e bytes none more is = tt
+held_stays state state' (Some xs) None e bytes none more is = absurd is
+held_stays state state' (Some xs) (Some ys) e bytes none more is = ap Some (sym (ap (begins_with_held state) is
+    ∙ held_passes state state' e bytes ys none more))
 
-pub stays_fragment : (cut : Bool) (state : TakerState) (old new : Option (List pieces.Answer)) (e :
-    piece.ContainerEvent) (bytes : List ℕ) → cut ≡ false → event_given state (any.event_seen bytes e) ≡ None →
-    is_end e ≡ false
-    → ⊥ ⊎ next.IsNext old (Ok (any.event_seen bytes e)) new → StaysFragment (option_map begins_with_fragment
-    (unless_cut cut old)) (option_map begins_with_fragment (unless_cut cut new))
-stays_fragment cut state old new e bytes uncut none more (inl never) = absurd never
-stays_fragment cut state old new e bytes uncut none more (inr is) =
-    subst (λ c. StaysFragment (option_map begins_with_fragment (unless_cut c old)) (option_map begins_with_fragment
-    (unless_cut c new))) (sym uncut) (fragment_stays state old new e bytes none more is)
+pub stays_held : (cut : Bool) (state state' state'' : TakerState) (old new : Option (List pieces.Answer)) (e :
+    piece.ContainerEvent) (bytes : List ℕ) → cut ≡ false → report_of state ≡ None → state' ≡ reported state →
+    state'' ≡ state_after state' (any.event_seen bytes e) →
+    event_given state' (any.event_seen bytes e) ≡ None → is_end e ≡ false
+    → ⊥ ⊎ next.IsNext old (Ok (any.event_seen bytes e)) new → StaysHeld (option_map (begins_with_held state)
+    (unless_cut cut old)) (option_map (begins_with_held state'') (unless_cut cut new))
+stays_held cut state state' state'' old new e bytes uncut quiet same after none more (inl never) = absurd never
+stays_held cut state state' state'' old new e bytes uncut quiet same after none more (inr is) =
+    let stays : state'' ≡ state = after ∙ state_stays state' e bytes none more ∙ now_reported state state' quiet same
+    ∙ sym (none_to_report state quiet) in
+    subst (λ s. StaysHeld (option_map (begins_with_held state) (unless_cut cut old)) (option_map (begins_with_held s)
+    (unless_cut cut new))) (sym stays)
+    (subst (λ c. StaysHeld (option_map (begins_with_held state) (unless_cut c old)) (option_map (begins_with_held state)
+    (unless_cut c new))) (sym uncut) (held_stays state state' old new e bytes none more is))
 
 lacks_less : (p p' : ℕ) (size : Option ℕ) → p ≤ p' → LacksRoom p' (Some size) → LacksRoom p (Some size)
 lacks_less p p' None le h = h
@@ -244,7 +262,7 @@ longer_less r r' (Some (Ok ended)) le h = h
 
 asks_back : (r r' p p' l l' : ℕ) (all later : Option (List Answer)) (needs needs' : Option (List Need)) (fragment
     fragment' : Option Bool) → r ≤ r' → p ≤ p' → l ≤ l' → StaysComing all later → PassesNeeds needs needs'
-    → StaysFragment fragment fragment' → Allocates r' p' l' later needs' fragment' → Allocates r p l all needs fragment
+    → StaysHeld fragment fragment' → Allocates r' p' l' later needs' fragment' → Allocates r p l all needs fragment
 asks_back r r' p p' l l' None later ns ns' f f' a b c stays passes keeps h = inl tt
 asks_back r r' p p' l l' (Some xs) later ns ns' f f' a b c stays passes keeps (inl h) =
     inl (longer_less r r' (first_answer xs) a (subst (λ (it : Option (List Answer)). IfSome it (λ answers. IsLonger r' (first_answer answers))) stays h))
@@ -280,7 +298,7 @@ begin_holding r p l all needs fragment = record { asks = λ h. h; grown = within
 pub hold_more : (r r' r'' p p' p'' l l' l'' : ℕ) (all now later : Option (List Answer)) (needs needs' needs'' :
     Option (List Need)) (fragment fragment' fragment'' : Option Bool)
     → HasHeld r r' p p' l l' all now needs needs' fragment fragment'
-    → StaysComing now later → PassesNeeds needs' needs'' → StaysFragment fragment' fragment'' →
+    → StaysComing now later → PassesNeeds needs' needs'' → StaysHeld fragment' fragment'' →
     GrowsWithin p' p'' needs' → (p' ≤ p'') × (l' ≤ l'') × (r' ≤ r'')
     → HasHeld r r'' p p'' l l'' all later needs needs'' fragment fragment''
 hold_more r r' r'' p p' p'' l l' l'' all now later needs needs' needs'' fragment fragment' fragment'' has stays
@@ -302,58 +320,61 @@ longer_given r (Some (Ok ended)) later h = absurd h
 
 longer_known : (r p l : ℕ) (begun : Bool) (state : TakerState) (old new : Option (List pieces.Answer)) (files :
     Option (List (List ℕ))) (reported : any.EventSeen) (needs : Option (List Need)) (fragment : Option Bool)
-    → next.IsNext old (Ok reported) new → IsLonger r (event_given (told state) reported) →
-    Allocates r p l (chosen_known begun (told state) old files) needs fragment
+    → next.IsNext old (Ok reported) new → IsLonger r (event_given (all_reported state) reported) →
+    Allocates r p l (chosen_known begun (all_reported state) old files) needs fragment
 longer_known r p l begun state None new files reported needs fragment is h = inl tt
 longer_known r p l begun state (Some xs) None files reported needs fragment is h = absurd is
 longer_known r p l begun state (Some xs) (Some ys) None reported needs fragment is h = inl tt
 longer_known r p l begun state (Some xs) (Some ys) (Some files) reported needs fragment is h =
     let behind = next_files files in
-    let all = ap (chosen behind begun (told state)) is ∙ put_is behind begun state reported ys in
+    let all = ap (chosen behind begun (all_reported state)) is ∙ put_is behind begun state reported ys in
     inl (subst (λ it. IsLonger r (first_answer it)) (sym all)
-    (longer_given r (event_given (told state) reported) (chosen behind true (state_after (told state) reported)
+    (longer_given r (event_given (all_reported state) reported) (chosen behind true (state_after (all_reported state) reported)
     (left_after reported ys)) h))
 
-fragment_begins : (reported : any.EventSeen) (later : List pieces.Answer) → is_fragment reported ≡ true →
-    begins_with_fragment (next.in_front (Ok reported) later) ≡ true
-unfolding begins_with_fragment
-fragment_begins (any.packet millis origin datagram) later is = absurd (false≢true is)
-fragment_begins (any.fragment millis origin datagram part) later is = refl
-fragment_begins (any.skipped millis origin why) later is = absurd (false≢true is)
-fragment_begins any.untimed later is = absurd (false≢true is)
-fragment_begins any.section later is = absurd (false≢true is)
-fragment_begins (any.described name) later is = absurd (false≢true is)
-fragment_begins any.passed later is = absurd (false≢true is)
-fragment_begins any.ended later is = absurd (false≢true is)
+held_begins : (state : TakerState) (reported : any.EventSeen) (later : List pieces.Answer) →
+    asks_to_hold state reported ≡ true → begins_with_held state (next.in_front (Ok reported) later) ≡ true
+unfolding begins_with_held
+held_begins state (any.packet millis origin datagram) later is = absurd (false≢true is)
+held_begins state (any.fragment millis origin datagram part) later is = is
+held_begins state (any.skipped millis origin why) later is = absurd (false≢true is)
+held_begins state any.untimed later is = absurd (false≢true is)
+held_begins state any.section later is = absurd (false≢true is)
+held_begins state (any.described name) later is = absurd (false≢true is)
+held_begins state any.passed later is = absurd (false≢true is)
+held_begins state any.ended later is = absurd (false≢true is)
 
-fragment_known : (old new : Option (List pieces.Answer)) (reported : any.EventSeen) →
-    next.IsNext old (Ok reported) new → is_fragment reported ≡ true →
-    IfSome (option_map begins_with_fragment old) (λ (it : Bool). it ≡ true)
-fragment_known None new reported is h = tt
-fragment_known (Some xs) None reported is h = absurd is
-fragment_known (Some xs) (Some ys) reported is h = ap begins_with_fragment is ∙ fragment_begins reported ys h
+held_known : (state : TakerState) (old new : Option (List pieces.Answer)) (reported : any.EventSeen) →
+    next.IsNext old (Ok reported) new → asks_to_hold state reported ≡ true →
+    IfSome (option_map (begins_with_held state) old) (λ (it : Bool). it ≡ true)
+held_known state None new reported is h = tt
+held_known state (Some xs) None reported is h = absurd is
+held_known state (Some xs) (Some ys) reported is h =
+    ap (begins_with_held state) is ∙ held_begins state reported ys h
 
 pub asks_record : (r p l : ℕ) (cut begun : Bool) (state state' : TakerState) (old new : Option (List pieces.Answer))
     (files : Option (List (List ℕ))) (e : piece.ContainerEvent) (seen : List ℕ)
-    (needs : Option (List Need)) → cut ≡ false → news state ≡ None → state' ≡ told state →
+    (needs : Option (List Need)) → cut ≡ false → report_of state ≡ None → state' ≡ all_reported state →
     ⊥ ⊎ next.IsNext old (Ok (any.event_seen seen e)) new
-    → IsLonger r (event_given state' (any.event_seen seen e)) ⊎ (is_fragment (any.event_seen seen e) ≡ true)
-    → Allocates r p l (chosen_known begun state (unless_cut cut old) files) needs (option_map begins_with_fragment
+    → IsLonger r (event_given state' (any.event_seen seen e)) ⊎ (asks_to_hold state' (any.event_seen seen e) ≡ true)
+    → Allocates r p l (chosen_known begun state (unless_cut cut old) files) needs (option_map (begins_with_held state)
     (unless_cut cut old))
 asks_record r p l cut begun state state' old new files e seen needs uncut none same (inl never) h = absurd never
 asks_record r p l cut begun state state' old new files e seen needs uncut none same (inr is) h =
     subst (λ c. Allocates r p l (chosen_known begun state (unless_cut c old) files) needs (option_map
-    begins_with_fragment (unless_cut c old))) (sym uncut) (by h)
+    (begins_with_held state) (unless_cut c old))) (sym uncut) (by h)
   where
-    by : IsLonger r (event_given state' (any.event_seen seen e)) ⊎ (is_fragment (any.event_seen seen e) ≡ true) →
-        Allocates r p l (chosen_known begun state old files) needs (option_map begins_with_fragment old)
+    by : IsLonger r (event_given state' (any.event_seen seen e)) ⊎ (asks_to_hold state' (any.event_seen seen e)
+        ≡ true) →
+        Allocates r p l (chosen_known begun state old files) needs (option_map (begins_with_held state) old)
     by (inl longer) =
-        subst (λ all. Allocates r p l all needs (option_map begins_with_fragment old)) (sym (known_told begun state
-        old files none))
-        (longer_known r p l begun state old new files (any.event_seen seen e) needs (option_map begins_with_fragment
-        old) is
+        subst (λ all. Allocates r p l all needs (option_map (begins_with_held state) old)) (sym (known_reported begun
+        state old files none))
+        (longer_known r p l begun state old new files (any.event_seen seen e) needs (option_map (begins_with_held
+        state) old) is
         (subst (λ s. IsLonger r (event_given s (any.event_seen seen e))) same longer))
-    by (inr part) = inr (inr (fragment_known old new (any.event_seen seen e) is part))
+    by (inr asks) = inr (inr (held_known state old new (any.event_seen seen e) is
+        (subst (λ s. asks_to_hold s (any.event_seen seen e) ≡ true) (same ∙ sym (none_to_report state none)) asks)))
 
 -- ---- the needs of a file that isn't cut
 

@@ -3,7 +3,7 @@ use Rattle.pim_merge.proofs.Words.{◌≡◌, ◌∙◌, ℕ, zero, suc, Bool, t
 use Rattle.pim_merge.proofs.Words.{◌∷◌, take, drop, Option, None, Some, Result, Ok, Err, ap, sym, refl, subst, eq-eqb}
 use Rattle.pim_merge.proofs.Words.{false≢true, AllByRecursion, judged, fault_if, CaptureFault, Format, Datagram, judge_frame}
 use Rattle.pim_merge.proofs.Words.{AddressFamily, Why, Cut, NotIp, BadHeader, NotPim, Fragment, Part, NoTime, LinkType}
-use Rattle.pim_merge.proofs.Words.{NotChosen, Copy, CutShort, NextFile, Incomplete, RecordPlace, EventSeen, packet, skipped}
+use Rattle.pim_merge.proofs.Words.{NotChosen, Copy, CutShort, NextFile, OfLink, Incomplete, RecordPlace, EventSeen, packet, skipped}
 use Rattle.pim_merge.proofs.Words.{ended, Answer, answers, records, most_records, event_by, unless_fault, record_faults}
 use Rattle.pim_merge.proofs.Words.{record_event, millis_of, frame_of, after_record, judge_header, in_front, Origin}
 use Rattle.pim_merge.proofs.Words.{ContainerFault, is_section, judge_origin, first_after, is_same_vlan, chosen, next_files}
@@ -145,7 +145,8 @@ state_of first link place = record {
   kept = nothing;
   link = link;
   place = place;
-  is_told = true;
+  link_of_packet = None;
+  is_reported = true;
 }
 
 reads_link : (why : Why) (link : FileLink) → is_unread why ≡ false → ending_given (link_with why link) ≡ None
@@ -157,10 +158,11 @@ reads_link Fragment link is = refl
 reads_link Part link is = refl
 reads_link NoTime link is = refl
 reads_link (LinkType number) link is = absurd (false≢true (sym is))
-reads_link NotChosen link is = refl
+reads_link (NotChosen chosen_link) link is = refl
 reads_link Copy link is = refl
 reads_link CutShort link is = refl
 reads_link NextFile link is = refl
+reads_link (OfLink of) link is = refl
 reads_link (Incomplete packets) link is = refl
 
 alike : (vlan : Vlan) (ones : List Answer) (others : List pieces.Answer) (first : Option Origin) (link : FileLink)

@@ -2,11 +2,12 @@
 use Rattle.pim_merge.proofs.Words.{◌≡◌, ◌<◌, ◌≤◌, ◌∙◌, [], ℕ, List, Option, None, Some, Ok, length, get_or, set, map, refl, sym}
 use Rattle.pim_merge.proofs.Words.{ap, subst, arith, AllByRecursion, map-set, set-get_or, get_or-map, get_or-set_same}
 use Rattle.pim_merge.proofs.Words.{get_or_default, length-set, Bool, Event, Packet, Skipped, End, Why, Cut, NotIp, BadHeader, NotPim}
-use Rattle.pim_merge.proofs.Words.{Fragment, Part, NoTime, LinkType, NotChosen, Copy, CutShort, NextFile, Incomplete, EventSeen, packet, skipped, ended}
+use Rattle.pim_merge.proofs.Words.{Fragment, Part, NoTime, LinkType, NotChosen, Copy, CutShort, NextFile, OfLink, Incomplete, EventSeen, packet, skipped, ended}
 use Rattle.pim_merge.proofs.Words.{Answer, in_front, event_seen, IsBy, behind_head, event_time, time_by, event_rank}
 use Rattle.pim_merge.proofs.Words.{earliest_from, taken, rank_of, turn_ranked, takes, ends, after_turn, LaneState, with_head, IsComing, IsLooked}
 use Rattle.pim_merge.proofs.Words.{rank_at, head_rank, time_at, head_time, without_head, counted, records_to_come, no_lane}
-use Rattle.pim_merge.proofs.Words.{lane_at, failures_of, KeepRooms, tallies_of, tallies_with}
+use Rattle.pim_merge.proofs.Words.{lane_at, failures_of, KeepRooms, tallies_of, tallies_with, AddressFamily}
+use Rattle.pim_merge.specs.Lane.{with_census, census_at}
 use Rattle.std.specs.Option.{option_map, IfSome}
 use Rattle.pim_merge.proofs.Tallies.{tallies_moved}
 use Rattle.pim_merge.proofs.Looking.{one_comes, set_comes, total_with, set_keeps}
@@ -43,11 +44,12 @@ skipped_by NotPim millis latest by = by
 skipped_by Fragment millis latest by = by
 skipped_by NoTime millis latest by = tt
 skipped_by (LinkType number) millis latest by = by
-skipped_by NotChosen millis latest by = tt
+skipped_by (NotChosen link) millis latest by = tt
 skipped_by CutShort millis latest by = tt
 skipped_by Copy millis latest by = tt
 skipped_by Part millis latest by = by
 skipped_by NextFile millis latest by = tt
+skipped_by (OfLink link) millis latest by = tt
 skipped_by (Incomplete packets) millis latest by = tt
 
 -- the time of a record is within the bound of its event
@@ -128,6 +130,13 @@ pub lane_there : (inside lanes : List LaneState) (number : ℕ) (lane : LaneStat
     lane ≡ get_or inside number lane → inside ≡ lanes → lane ≡ lane_at number lanes
 lane_there inside lanes number lane below is same =
     is ∙ ap (λ l. get_or l number lane) same ∙ get_or_default lanes number lane no_lane below
+
+-- a census of the capture begins
+pub census_there : (inside lanes : List LaneState) (number : ℕ) (lane begun : LaneState) (family : AddressFamily) (own : List ℕ) → number < length lanes →
+    lane ≡ get_or inside number lane → inside ≡ lanes → begun ≡ with_census family own lane → set inside number begun ≡ census_at family own number lanes
+census_there inside lanes number lane begun family own below is same made =
+    ap (λ (l : List LaneState). set l number begun) same
+    ∙ ap (set lanes number) (made ∙ ap (with_census family own) (lane_there inside lanes number lane below is same))
 
 pub bytes_of_lane : (there lane taken : LaneState) → lane ≡ there → taken ≡ without_head lane → taken.bytes ≡ there.bytes
 bytes_of_lane there lane taken same rest =

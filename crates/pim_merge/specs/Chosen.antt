@@ -14,7 +14,7 @@ use Rattle.pim_container.specs.declared.fault.ContainerFault.{ContainerFault}
 use Rattle.pim_container.specs.declared.fault.ContainerFault.TheVariants as of_any
 use Rattle.pim_container.specs.declared.choice.Choice.{Choice}
 use Rattle.pim_container.specs.Pieces as pieces
-use Rattle.pim_merge.specs.Taker.{TakerState, taker_of, event_given, state_after, in_next_file, news, told}
+use Rattle.pim_merge.specs.Taker.{TakerState, taker_of, event_given, state_after, in_next_file, report_of, reported}
 
 -- A fault of a container, as one of a capture.
 abbrev pub fault_of : ContainerFault → CaptureFault
@@ -55,9 +55,15 @@ abbrev pub put : Option Answer → List Answer → List Answer
 put None later = later
 put (Some answer) later = in_front answer later
 
--- What is told of incomplete packets is no record, and comes before the next one.
-abbrev pub told_first : TakerState → (TakerState → List Answer) → List Answer
-told_first state later = put (option_map (λ (reported : EventSeen). Ok reported) (news state)) (later (told state))
+-- What is reported next, as a result.
+abbrev pub report_given : TakerState → Option Answer
+report_given state = option_map (λ (report : EventSeen). Ok report) (report_of state)
+
+-- What is reported of the packet before it and of incomplete packets is no record, and comes before
+-- the next one. There are at most two reports.
+abbrev pub reports_first : TakerState → (TakerState → List Answer) → List Answer
+reports_first state later = put (report_given state)
+    (put (report_given (reported state)) (later (reported (reported state))))
 
 -- ---- one file after the other
 
@@ -65,8 +71,8 @@ told_first state later = put (option_map (λ (reported : EventSeen). Ok reported
 -- is left, the file is at its end: after its last piece, or after a record inside which it ends.
 -- What follows it depends on what was taken and is held.
 unfoldable pub chosen : (TakerState → List Answer) → Bool → TakerState → List pieces.Answer → List Answer
-chosen behind begun state [] = told_first state behind
-chosen behind begun state (answer ∷ later) = told_first state
+chosen behind begun state [] = reports_first state behind
+chosen behind begun state (answer ∷ later) = reports_first state
     (λ state'. put (given begun state' answer) (chosen behind true (state_then state' answer) later))
 
 -- What follows a file after which these files come: that the capture goes on with the next one,

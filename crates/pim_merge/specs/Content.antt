@@ -3,7 +3,7 @@ use Rattle.std.specs.Prelude.{ℕ, if◌then◌else◌, List, Option, None, Some
 use Rattle.pim_addr.specs.declared.family.AddressFamily.{AddressFamily}
 use Rattle.pim_addr.specs.Families.{is_same}
 use Rattle.pim_capture.specs.declared.event.Why.{Why}
-use Rattle.pim_capture.specs.declared.event.Why.TheVariants.{NextFile, Incomplete}
+use Rattle.pim_capture.specs.declared.event.Why.TheVariants.{NextFile, OfLink, Incomplete}
 use Rattle.pim_capture.specs.Capture.{EventSeen, packet, skipped, ended}
 use Rattle.pim_capture.specs.Frame.{Datagram}
 use Rattle.pim_merge.specs.declared.content.Content.{Content as Given}
@@ -13,7 +13,7 @@ use Rattle.pim_merge.specs.declared.content.ContentEnds.{ContentEnds}
 
 -- A record holds a packet of the family with this source, destination and PIM message; one of the
 -- other family; no packet, for this reason; or it is no record, but the end of its capture, the
--- beginning of its next file, or what is told of incomplete packets.
+-- beginning of its next file, or a report of the packets before it.
 pub data Content : Type 0 where
   holds : List ℕ → List ℕ → List ℕ → Content
   of_other_family : Content
@@ -29,6 +29,7 @@ datagram_in family datagram =
 -- What a record holds that is skipped for this reason.
 abbrev pub skipped_in : Why → Content
 skipped_in NextFile = no_record
+skipped_in (OfLink link) = no_record
 skipped_in (Incomplete packets) = no_record
 skipped_in why = without_packet why
 

@@ -1,6 +1,6 @@
 -- What contracts see of the captures of a merge.
 use Rattle.std.specs.Prelude.{◌≡◌, ◌⊎◌, ℕ, ◌+◌, max, Bool, true, false, List, [], ◌∷◌, length, map, take}
-use Rattle.std.specs.Prelude.{Option, None, Some, Ok, IsSome, slice_index_or, Result, Err}
+use Rattle.std.specs.Prelude.{Option, None, Some, Ok, IsSome, slice_index_or, slice_set, Result, Err}
 use Rattle.std.specs.Option.{option_map}
 use Rattle.std.specs.List.{AllByRecursion}
 use Rattle.pim_addr.specs.declared.family.AddressFamily.{AddressFamily}
@@ -94,9 +94,10 @@ without_head lane = record {
   tally = tally_taken lane.tally lane.head;
 }
 
--- The capture with a census of messages of this family, in which nothing was counted.
-abbrev pub with_census : AddressFamily → LaneState → LaneState
-with_census family lane = record lane { tally = census_begun family lane.tally }
+-- The capture with a census of messages of this family for a router with this address, in which
+-- nothing was counted.
+abbrev pub with_census : AddressFamily → List ℕ → LaneState → LaneState
+with_census family own lane = record lane { tally = census_begun family own lane.tally }
 
 -- The head of the capture was read.
 abbrev pub IsLooked : LaneState → Type 0
@@ -117,7 +118,7 @@ HadAll lane = HadAllIf lane.passes lane.left
 
 -- The head of the capture wasn't read, and its buffer has less room than that record needs. Any
 -- container has less room for the record, for a piece up to it, or for an interface described
--- there; or the record is a fragment, for which it asks for room.
+-- there; or the record is a fragment that is taken, and it asks for room to hold that.
 abbrev pub LacksHeadRoom : LaneState → Type 0
 LacksHeadRoom lane =
     (lane.head ≡ None) × LacksRoom lane.room lane.size × AllocatesIf lane.passes lane.behind lane.store
@@ -187,6 +188,10 @@ no_lane = record {
 -- The capture with this number.
 abbrev pub lane_at : ℕ → List LaneState → LaneState
 lane_at number lanes = slice_index_or lanes number no_lane
+
+-- The captures where a census of the one with this number has begun.
+abbrev pub census_at : AddressFamily → List ℕ → ℕ → List LaneState → List LaneState
+census_at family own number lanes = slice_set lanes number (with_census family own (lane_at number lanes))
 
 -- The capture with this number returned a fault in place of its head, after the heads of those
 -- before it were read.

@@ -1,6 +1,7 @@
 pub mod Merge
 pub mod Tally
 pub mod Taker
+pub mod KeyLaws
 pub mod Chosen
 pub mod Source
 pub mod Lane
@@ -11,8 +12,9 @@ pub mod Laws
 pub mod Content
 pub mod Run
 pub mod OneLink
-pub mod CensusSlots
-pub mod CensusPlaces
+pub mod Slots
+pub mod Places
+pub mod Unchosen
 pub mod Census
 pub mod Missing
 pub mod CensusLaws

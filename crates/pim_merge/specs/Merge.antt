@@ -6,7 +6,7 @@ use Rattle.pim_time.specs.declared.reading.Time.{Time}
 use Rattle.pim_time.specs.declared.reading.Time.TheVariants.{Moment, Epoch}
 use Rattle.pim_capture.specs.declared.fault.CaptureFault.{CaptureFault}
 use Rattle.pim_capture.specs.declared.event.Why.{Why}
-use Rattle.pim_capture.specs.declared.event.Why.TheVariants.{NoTime, NotChosen, Copy, CutShort, NextFile, Incomplete}
+use Rattle.pim_capture.specs.declared.event.Why.TheVariants.{NoTime, NotChosen, Copy, CutShort, NextFile, OfLink, Incomplete}
 use Rattle.pim_capture.specs.Capture.{EventSeen, packet, skipped, ended, Answer}
 use Rattle.pim_merge.specs.declared.clock.Clock.{Clock}
 
@@ -27,10 +27,11 @@ behind_head (answer ∷ later) = later
 -- no record, as the beginning of the next file, has none.
 abbrev pub time_by : Why → ℕ → Option ℕ
 time_by NoTime millis = None
-time_by NotChosen millis = None
+time_by (NotChosen link) millis = None
 time_by Copy millis = None
 time_by CutShort millis = None
 time_by NextFile millis = None
+time_by (OfLink link) millis = None
 time_by (Incomplete packets) millis = None
 time_by _ millis = Some millis
 
@@ -89,7 +90,7 @@ unchosen_rank past millis = if past millis then None else Some 0
 
 -- The rank of a record that is skipped for this reason.
 abbrev pub skipped_rank : (ℕ → Bool) → Why → ℕ → Option ℕ
-skipped_rank past NotChosen millis = unchosen_rank past millis
+skipped_rank past (NotChosen link) millis = unchosen_rank past millis
 skipped_rank past Copy millis = unchosen_rank past millis
 skipped_rank past why millis = Some (suc millis)
 

@@ -64,7 +64,7 @@ IsCause old new reported =
 
 -- Memory is refused only where the head of the fault's capture wasn't read. Its buffer had less
 -- room than that record needs; or of any container, a piece up to the record or an interface lacked
--- it, or the record is a fragment.
+-- it, or room is asked for to hold the record as a fragment.
 abbrev pub LacksMemory : List LaneState → MergeFault → Type 0
 LacksMemory old reported = OnMemory {A = ⊤} (Err reported.fault) (LacksHeadRoom (lane_at reported.capture old))
 

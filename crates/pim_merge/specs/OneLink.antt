@@ -23,7 +23,7 @@ use Rattle.pim_merge.specs.Merge.{Taken, IsMergeBy, event_time}
 
 -- The choice of each packet.
 abbrev pub no_choice : Choice
-no_choice = record { vlan = None; interface = None }
+no_choice = record { vlan = None; interface = None; mixes_links = false }
 
 -- The result has this VLAN, if it is a packet.
 abbrev pub IsOfVlan : Vlan → pieces.Answer → Type 0

@@ -14,6 +14,7 @@ use Rattle.pim_capture.specs.Next as classic
 use Rattle.pim_container.specs.Next as any
 use Rattle.pim_container.specs.Room as pieces_room
 use Rattle.pim_container.specs.Room.{Need, Exceeds}
+use Rattle.pim_container.specs.declared.choice.Choice.{Choice}
 use Rattle.pim_container.specs.declared.fault.ContainerFault.{ContainerFault}
 use Rattle.pim_merge.specs.declared.chosen.Chosen.{Chosen}
 use Rattle.pim_merge.specs.declared.source.Source.{Source}
@@ -22,7 +23,8 @@ use Rattle.pim_container.specs.Pieces as pieces
 use Rattle.pim_container.specs.declared.event.ContainerEvent as piece
 use Rattle.pim_container.specs.declared.event.ContainerEvent.TheVariants as piece_kind
 use Rattle.pim_container.specs.EventSeen as of_any
-use Rattle.pim_merge.specs.Taker.{TakerState}
+use Rattle.pim_capture.specs.declared.link.Link.{Link}
+use Rattle.pim_merge.specs.Taker.{TakerState, taker_of, asks_to_hold}
 use Rattle.pim_merge.specs.Chosen.{chosen, next_files, all_known, all_failures, fault_of}
 
 -- The results of the container that are left of the file that is read: these, or none if it ended
@@ -84,16 +86,21 @@ abbrev pub cut_left : Bool → ℕ
 cut_left false = 1
 cut_left true = 0
 
--- 1 for what isn't told of incomplete packets.
-abbrev pub telling_left : TakerState → ℕ
-telling_left state = if state.is_told then 0 else 1
+-- 1 for a link that isn't reported.
+abbrev pub link_left : Option Link → ℕ
+link_left None = 0
+link_left (Some link) = 1
 
--- The number of results that may still come: two for each piece that may still be read. A further
+-- The number of reports that aren't made.
+abbrev pub reports_left : TakerState → ℕ
+reports_left state = link_left state.link_of_packet + (if state.is_reported then 0 else 1)
+
+-- The number of results that may still come: three for each piece that may still be read. A further
 -- file has 4294967296 pieces, one result for a record inside which it ends, and one for its
 -- beginning.
 abbrev pub chosen_left : {R : Type 0} → Chosen R → ℕ
-chosen_left it = any.pieces_left (any.state_of it.reader) * 2 + cut_left it.is_cut + telling_left it.taker
-    + length (later_of it) * 8589934594
+chosen_left it = any.pieces_left (any.state_of it.reader) * 3 + cut_left it.is_cut + reports_left it.taker
+    + length (later_of it) * 12884901890
 
 -- ---- either
 
@@ -176,54 +183,56 @@ abbrev pub first_answer : List Answer → Option Answer
 first_answer [] = None
 first_answer (answer ∷ later) = Some answer
 
--- The first record of a container is a fragment, where this is its first result, and this says so of
--- the others.
-abbrev pub fragment_first : pieces.Answer → Bool → Bool
-fragment_first (Ok (of_any.fragment millis origin datagram part)) later = true
-fragment_first (Ok of_any.section) later = later
-fragment_first (Ok (of_any.described name)) later = later
-fragment_first (Ok of_any.passed) later = later
-fragment_first _ later = false
+-- For the first record of a container room is asked for to hold it as a fragment, where this is the
+-- first result of the container, and this says so of the others.
+abbrev pub held_first : TakerState → pieces.Answer → Bool → Bool
+held_first state (Ok (of_any.fragment millis origin datagram part)) later =
+    asks_to_hold state (of_any.fragment millis origin datagram part)
+held_first state (Ok of_any.section) later = later
+held_first state (Ok (of_any.described name)) later = later
+held_first state (Ok of_any.passed) later = later
+held_first state _ later = false
 
--- The first record among these results of a container is a fragment.
-unfoldable pub begins_with_fragment : List pieces.Answer → Bool
-begins_with_fragment [] = false
-begins_with_fragment (answer ∷ later) = fragment_first answer (begins_with_fragment later)
+-- For the first record among these results of a container room is asked for to hold it.
+unfoldable pub begins_with_held : TakerState → List pieces.Answer → Bool
+begins_with_held state [] = false
+begins_with_held state (answer ∷ later) = held_first state answer (begins_with_held state later)
 
--- The next record is a fragment, if that is known, as long as no call returned a fault.
-abbrev pub read_fragment : {R : Type 0} → (R → Option (List ℕ)) → Chosen R → Option Bool
-read_fragment remaining it = option_map begins_with_fragment (left_of_file remaining it)
+-- For the next record room is asked for to hold it, if that is known, as long as no call returned a
+-- fault.
+abbrev pub read_held : {R : Type 0} → (R → Option (List ℕ)) → Chosen R → Option Bool
+read_held remaining it = option_map (begins_with_held it.taker) (left_of_file remaining it)
 
 -- This, unless a call returned a fault.
-abbrev pub fragment_unless : Bool → Option Bool → Option Bool
-fragment_unless false fragment = fragment
-fragment_unless true fragment = Some false
+abbrev pub held_unless : Bool → Option Bool → Option Bool
+held_unless false held = held
+held_unless true held = Some false
 
--- The next record is a fragment, if that is known.
-abbrev pub chosen_fragment : {R : Type 0} → (R → Option (List ℕ)) → Chosen R → Option Bool
-chosen_fragment remaining it = fragment_unless (chosen_is_over it) (read_fragment remaining it)
+-- For the next record room is asked for to hold it, if that is known.
+abbrev pub chosen_held : {R : Type 0} → (R → Option (List ℕ)) → Chosen R → Option Bool
+chosen_held remaining it = held_unless (chosen_is_over it) (read_held remaining it)
 
--- It stays known whether the next record is a fragment.
-abbrev pub StaysFragment : Option Bool → Option Bool → Type 0
-StaysFragment old new = IfSome old (λ it. new ≡ Some it)
+-- It stays known whether room is asked for to hold the next record.
+abbrev pub StaysHeld : Option Bool → Option Bool → Type 0
+StaysHeld old new = IfSome old (λ it. new ≡ Some it)
 
 -- What memory is asked for up to the next record: room for the bytes of the record, room for a
--- piece, a place for an interface, or room for a fragment. It says nothing if the bytes of the
+-- piece, a place for an interface, or room to hold a fragment that is taken. It says nothing if the bytes of the
 -- devices aren't known.
 abbrev pub Allocates : ℕ → ℕ → ℕ → Option (List Answer) → Option (List Need) → Option Bool → Type 0
-Allocates bytes capacity room all needs fragment =
+Allocates bytes capacity room all needs held =
     IfSome all (λ answers. IsLonger bytes (first_answer answers)) ⊎ IfSome needs (SomeExceeds capacity room)
-    ⊎ IfSome fragment (λ it. it ≡ true)
+    ⊎ IfSome held (λ it. it ≡ true)
 
 -- The same of any container.
 abbrev pub ChosenAllocates : {R : Type 0} → (R → Option (List ℕ)) → ℕ → Chosen R → Type 0
 ChosenAllocates remaining room it = Allocates room (piece_capacity it) (places it) (chosen_coming remaining it)
-    (chosen_needs remaining it) (chosen_fragment remaining it)
+    (chosen_needs remaining it) (chosen_held remaining it)
 
 -- The same, as long as no call returned a fault.
 abbrev pub ReadAllocates : {R : Type 0} → (R → Option (List ℕ)) → ℕ → Chosen R → Type 0
 ReadAllocates remaining room it = Allocates room (piece_capacity it) (places it) (read_coming remaining it)
-    (read_needs remaining it) (read_fragment remaining it)
+    (read_needs remaining it) (read_held remaining it)
 
 -- The needs of the pieces after the first are left.
 abbrev pub PassesNeeds : Option (List Need) → Option (List Need) → Type 0
@@ -253,28 +262,28 @@ pub record Store : Type 0 where
   pub list_room : ℕ
   -- what the pieces up to the next record need, if the bytes of the devices are known
   pub needs : Option (List Need)
-  -- whether the next record is a fragment, if the bytes of the devices are known
-  pub fragment : Option Bool
+  -- whether room is asked for to hold the next record, if the bytes of the devices are known
+  pub held : Option Bool
 
 -- The same before anything was read, with these needs and this first record.
 abbrev pub begun_store : Option (List Need) → Option Bool → Store
-begun_store needs fragment =
-    record { record_room = 0; piece_room = 0; list_room = 0; needs = needs; fragment = fragment }
+begun_store needs held =
+    record { record_room = 0; piece_room = 0; list_room = 0; needs = needs; held = held }
 
--- Whether the first record of a file with these bytes is a fragment.
-abbrev pub first_fragment : Option (List ℕ) → Option Bool
-first_fragment bytes = option_map (λ it. begins_with_fragment (pieces.answers it)) bytes
+-- Whether room is asked for to hold the first record of a file with these bytes, by this choice.
+abbrev pub first_held : Choice → Option (List ℕ) → Option Bool
+first_held choice bytes = option_map (λ it. begins_with_held (taker_of choice) (pieces.answers it)) bytes
 
 -- The same of a source whose buffer of records has this capacity. A classic capture has no pieces.
 abbrev pub store_in : {R : Type 0} → (R → Option (List ℕ)) → Source R → ℕ → Store
 store_in remaining (Classic capture) capacity =
-    record { record_room = capacity; piece_room = 0; list_room = 0; needs = Some []; fragment = Some false }
+    record { record_room = capacity; piece_room = 0; list_room = 0; needs = Some []; held = Some false }
 store_in remaining (Any it) capacity = record {
   record_room = capacity;
   piece_room = piece_capacity it;
   list_room = places it;
   needs = chosen_needs remaining it;
-  fragment = chosen_fragment remaining it;
+  held = chosen_held remaining it;
 }
 
 -- Any container that has these results to return asks for memory up to its next record. Of a
@@ -282,7 +291,7 @@ store_in remaining (Any it) capacity = record {
 abbrev pub AllocatesIf : Bool → Option (List Answer) → Store → Type 0
 AllocatesIf false all store = ⊤
 AllocatesIf true all store =
-    Allocates store.record_room store.piece_room store.list_room all store.needs store.fragment
+    Allocates store.record_room store.piece_room store.list_room all store.needs store.held
 
 -- All records that are read of a capture were read before. Of one that passes over pieces nothing
 -- is said.

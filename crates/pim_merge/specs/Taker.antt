@@ -9,23 +9,27 @@ use Rattle.pim_capture.specs.declared.incomplete.RecordPlace.{RecordPlace}
 use Rattle.pim_capture.specs.declared.fault.CaptureFault.{CaptureFault}
 use Rattle.pim_capture.specs.declared.fault.CaptureFault.TheVariants as fault
 use Rattle.pim_capture.specs.declared.event.Why.{Why}
-use Rattle.pim_capture.specs.declared.event.Why.TheVariants.{Part, LinkType, NoTime, NotChosen, Copy, Incomplete}
+use Rattle.pim_capture.specs.declared.event.Why.TheVariants.{Part, LinkType, NoTime, NotChosen, Copy, OfLink, Incomplete}
+use Rattle.pim_capture.specs.declared.interface.InterfaceChoice.{InterfaceChoice}
+use Rattle.pim_capture.specs.declared.interface.InterfaceChoice.TheVariants.{Number, Name}
+use Rattle.pim_capture.specs.declared.interface.InterfaceName.{InterfaceName}
+use Rattle.pim_capture.specs.declared.link.Link.{Link}
 use Rattle.pim_capture.specs.Frame.{Datagram}
 use Rattle.pim_capture.specs.Capture.{EventSeen, packet, skipped, Answer}
 use Rattle.pim_container.specs.declared.event.Origin.{Origin}
 use Rattle.pim_container.specs.declared.choice.Choice.{Choice}
 use Rattle.pim_container.specs.declared.choice.Mixed.{Mixed}
 use Rattle.pim_container.specs.declared.choice.Mixed.TheVariants.{Names, Numbers, Vlans}
-use Rattle.pim_container.specs.Choice.{judge_origin, first_after, is_of_link}
+use Rattle.pim_container.specs.Choice.{judge_origin, first_after, is_of_link, mixes}
 use Rattle.pim_container.specs.EventSeen as any
 use Rattle.pim_fragments.specs.declared.headers.Fragment.{Fragment}
 use Rattle.pim_fragments.specs.Parts.{pim_begins}
 use Rattle.pim_fragments.specs.Pieces.{piece_of}
-use Rattle.pim_fragments.specs.Packets.{Kept, nothing, with_all, kept_after, whole_after}
+use Rattle.pim_fragments.specs.Packets.{Kept, nothing, with_all, kept_after, whole_after, asks_after}
 use Rattle.pim_merge.specs.declared.taker.FragmentKey.{FragmentKey}
 use Rattle.pim_merge.specs.declared.taker.FileLink.{FileLink}
 use Rattle.pim_merge.specs.declared.taker.FileLink.TheVariants.{Unmet, Unread, Met}
-use Rattle.pim_merge.specs.CensusSlots.{field_of}
+use Rattle.pim_merge.specs.Slots.{field_of, same_link}
 use Rattle.pim_merge.specs.Tally.{one_more}
 
 -- What was taken of a capture, and what is held of it.
@@ -39,8 +43,10 @@ pub record TakerState : Type 0 where
   pub link : FileLink
   -- the place of the next record
   pub place : RecordPlace
-  -- it was told of which packets the fragments are incomplete
-  pub is_told : Bool
+  -- the link of the packet that was taken last, where links are mixed, until it is reported
+  pub link_of_packet : Option Link
+  -- it was reported of which packets the fragments are incomplete
+  pub is_reported : Bool
 
 -- Nothing was taken.
 abbrev pub taker_of : Choice → TakerState
@@ -50,7 +56,8 @@ taker_of choice = record {
   kept = nothing;
   link = Unmet;
   place = record { file = 0; «record» = 1 };
-  is_told = true;
+  link_of_packet = None;
+  is_reported = true;
 }
 
 -- The fault of packets of more than one link, where none is chosen.
@@ -58,6 +65,22 @@ abbrev pub mixed_fault : Mixed → CaptureFault
 mixed_fault (Names first other) = fault.InterfaceNames first other
 mixed_fault (Numbers first other) = fault.Interfaces first other
 mixed_fault (Vlans first other) = fault.Vlans first other
+
+-- ---- links
+
+-- The interface of this name, or of this number without a name, as a word chooses it.
+abbrev pub named_or : Option InterfaceName → ℕ → InterfaceChoice
+named_or (Some name) number = Name name
+named_or None number = Number number
+
+-- The interface of an origin, as a word chooses it: by the index in a cooked header, or by its name,
+-- or by its number.
+abbrev pub interface_of : Origin → InterfaceChoice
+interface_of origin = if origin.index == 0 then named_or origin.name origin.interface else Number origin.index
+
+-- The link of a packet of this origin.
+abbrev pub link_of : Origin → Link
+link_of origin = record { vlan = origin.vlan; interface = interface_of origin }
 
 -- ---- fragments
 
@@ -67,20 +90,22 @@ version_of Ipv4 = 4
 version_of Ipv6 = 6
 
 -- What the fragments of a packet have in common: source, destination, protocol and identification
--- (RFC 791, 3.2; RFC 8200, 4.5).
-abbrev pub key_of : Datagram → Fragment → FragmentKey
-key_of datagram part = record {
+-- (RFC 791, 3.2; RFC 8200, 4.5), and the link.
+abbrev pub key_of : Datagram → Fragment → Origin → FragmentKey
+key_of datagram part origin = record {
   version = version_of datagram.family;
   source = field_of datagram.source;
   destination = field_of datagram.destination;
   protocol = part.protocol;
   identification = part.identification;
+  link = link_of origin;
 }
 
 abbrev pub same_key : FragmentKey → FragmentKey → Bool
 same_key one other =
     one.version == other.version && bytes_eq one.source other.source && bytes_eq one.destination other.destination
     && one.protocol == other.protocol && one.identification == other.identification
+    && same_link one.link other.link
 
 -- A packet with these addresses that carries this message.
 abbrev pub carrying : List ℕ → Datagram → Datagram
@@ -104,14 +129,14 @@ whole_given millis datagram protocol (Some payload) =
     begun_given millis datagram payload (pim_begins protocol payload)
 
 -- What a fragment gives that is taken. The payload of its datagram is its bytes.
-abbrev pub fragment_given : TakerState → ℕ → Datagram → Fragment → EventSeen
-fragment_given state millis datagram part = whole_given millis datagram part.protocol
-    (whole_after same_key (key_of datagram part) state.place millis (piece_of part datagram.payload) state.kept)
+abbrev pub fragment_given : TakerState → ℕ → Origin → Datagram → Fragment → EventSeen
+fragment_given state millis origin datagram part = whole_given millis datagram part.protocol
+    (whole_after same_key (key_of datagram part origin) state.place millis (piece_of part datagram.payload) state.kept)
 
 -- What is held after a fragment that is taken.
-abbrev pub held_after : TakerState → ℕ → Datagram → Fragment → Kept FragmentKey
-held_after state millis datagram part =
-    kept_after same_key (key_of datagram part) state.place millis (piece_of part datagram.payload) state.kept
+abbrev pub held_after : TakerState → ℕ → Origin → Datagram → Fragment → Kept FragmentKey
+held_after state millis origin datagram part =
+    kept_after same_key (key_of datagram part origin) state.place millis (piece_of part datagram.payload) state.kept
 
 -- ---- what a record gives
 
@@ -129,7 +154,7 @@ origin_given (Err mixed) = Err (mixed_fault mixed)
 
 -- Why a packet or a fragment of this origin isn't taken: it is a copy, or of another link.
 abbrev pub untaken_why : Choice → Origin → Why
-untaken_why choice origin = if is_of_link choice origin then Copy else NotChosen
+untaken_why choice origin = if is_of_link choice origin then Copy else NotChosen (Some (link_of origin))
 
 abbrev pub untaken : TakerState → ℕ → Origin → EventSeen
 untaken state millis origin = skipped millis (untaken_why state.choice origin)
@@ -142,7 +167,7 @@ judged_by state origin = judge_origin state.choice state.first origin
 -- one.
 abbrev pub skipped_given : TakerState → ℕ → Origin → Why → EventSeen
 skipped_given state millis origin why =
-    if is_of_link state.choice origin then skipped millis why else skipped millis NotChosen
+    if is_of_link state.choice origin then skipped millis why else skipped millis (NotChosen None)
 
 -- The end of a file is a fault where frames of the chosen link are in it, and none of them is of a
 -- link type that is read.
@@ -157,16 +182,11 @@ abbrev pub event_given : TakerState → any.EventSeen → Option Answer
 event_given state (any.packet millis origin datagram) = Some
     (taken_given (judged_by state origin) (packet millis datagram.payload datagram) (untaken state millis origin))
 event_given state (any.fragment millis origin datagram part) = Some
-    (taken_given (judged_by state origin) (fragment_given state millis datagram part) (untaken state millis origin))
+    (taken_given (judged_by state origin) (fragment_given state millis origin datagram part) (untaken state millis origin))
 event_given state (any.skipped millis origin why) = Some (Ok (skipped_given state millis origin why))
 event_given state any.untimed = Some (Ok (skipped 0 NoTime))
 event_given state any.ended = ending_given state.link
 event_given state _ = None
-
--- It is a fragment.
-abbrev pub is_fragment : any.EventSeen → Bool
-is_fragment (any.fragment millis origin datagram part) = true
-is_fragment _ = false
 
 -- ---- what is taken and held after a record
 
@@ -189,54 +209,45 @@ abbrev pub is_taken : Result Bool Mixed → Bool
 is_taken (Ok true) = true
 is_taken _ = false
 
+-- It is a fragment that is taken, and room is asked for to hold it.
+abbrev pub asks_to_hold : TakerState → any.EventSeen → Bool
+asks_to_hold state (any.fragment millis origin datagram part) =
+    is_taken (judged_by state origin)
+    && asks_after same_key (key_of datagram part origin) state.place millis (piece_of part datagram.payload) state.kept
+asks_to_hold state _ = false
+
+-- The link of a packet of this origin, if that is taken and links may be mixed.
+abbrev pub link_met : Choice → Origin → Option Link
+link_met choice origin = if mixes choice origin then Some (link_of origin) else None
+
 -- The state after a packet of this origin.
 abbrev pub packet_after : TakerState → Origin → TakerState
-packet_after state origin = record {
-  choice = state.choice;
+packet_after state origin = record state {
   first = first_after state.choice state.first origin;
-  kept = state.kept;
   link = link_after state origin Met;
   place = next_record state.place;
-  is_told = state.is_told;
+  link_of_packet = link_met state.choice origin;
 }
 
--- The state where these are held. What is incomplete isn't told.
+-- The state where these are held. What is incomplete isn't reported.
 abbrev pub holding : Kept FragmentKey → TakerState → TakerState
-holding kept state = record {
-  choice = state.choice;
-  first = state.first;
-  kept = kept;
-  link = state.link;
-  place = state.place;
-  is_told = false;
-}
+holding kept state = record state { kept = kept; is_reported = false }
 
 -- The state after a fragment of this origin that is taken.
 abbrev pub fragment_after : TakerState → ℕ → Origin → Datagram → Fragment → TakerState
 fragment_after state millis origin datagram part =
-    holding (held_after state millis datagram part) (packet_after state origin)
+    holding (held_after state millis origin datagram part) (packet_after state origin)
 
 -- The state after a frame of this origin that is skipped for this reason.
 abbrev pub skipped_after : TakerState → Origin → Why → TakerState
-skipped_after state origin why = record {
-  choice = state.choice;
-  first = state.first;
-  kept = state.kept;
+skipped_after state origin why = record state {
   link = link_after state origin (link_with why state.link);
   place = next_record state.place;
-  is_told = state.is_told;
 }
 
 -- The state after a record without a time.
 abbrev pub untimed_after : TakerState → TakerState
-untimed_after state = record {
-  choice = state.choice;
-  first = state.first;
-  kept = state.kept;
-  link = state.link;
-  place = next_record state.place;
-  is_told = state.is_told;
-}
+untimed_after state = record state { place = next_record state.place }
 
 -- The state after a result of the container.
 abbrev pub state_after : TakerState → any.EventSeen → TakerState
@@ -250,32 +261,35 @@ state_after state _ = state
 
 -- The state when the capture goes on with its next file.
 abbrev pub in_next_file : TakerState → TakerState
-in_next_file state = record {
-  choice = state.choice;
-  first = state.first;
-  kept = state.kept;
+in_next_file state = record state {
   link = Unmet;
   place = record { file = one_more state.place.file; «record» = 1 };
-  is_told = state.is_told;
 }
 
--- ---- what is told of incomplete packets
+-- ---- what is reported of packets
 
 -- The packets whose fragments are incomplete.
 abbrev pub incomplete_of : TakerState → Option Lacking
 incomplete_of state = with_all state.kept.packets state.kept.gone
 
--- That, unless it was told.
-abbrev pub news : TakerState → Option EventSeen
-news state = if state.is_told then None else Some (skipped 0 (Incomplete (incomplete_of state)))
+-- The report of these, unless it was made.
+abbrev pub incomplete_report : TakerState → Option EventSeen
+incomplete_report state = if state.is_reported then None else Some (skipped 0 (Incomplete (incomplete_of state)))
 
--- The state after it was told.
-abbrev pub told : TakerState → TakerState
-told state = record {
-  choice = state.choice;
-  first = state.first;
-  kept = state.kept;
-  link = state.link;
-  place = state.place;
-  is_told = true;
-}
+-- The report of the link of the packet that was taken last, if that wasn't reported, or else of
+-- incomplete packets.
+abbrev pub report_by : Option Link → TakerState → Option EventSeen
+report_by (Some link) state = Some (skipped 0 (OfLink link))
+report_by None state = incomplete_report state
+
+-- What is reported next.
+abbrev pub report_of : TakerState → Option EventSeen
+report_of state = report_by state.link_of_packet state
+
+abbrev pub reported_by : Option Link → TakerState → TakerState
+reported_by (Some link) state = record state { link_of_packet = None }
+reported_by None state = record state { is_reported = true }
+
+-- The state after that.
+abbrev pub reported : TakerState → TakerState
+reported state = reported_by state.link_of_packet state

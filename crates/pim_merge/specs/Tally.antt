@@ -1,15 +1,18 @@
 -- What was taken of a capture, counted record by record. A record has a place: the number of its
 -- file, from 0, and its number in this file, from 1.
-use Rattle.std.specs.Prelude.{ℕ, ◌+◌, ◌-◌, min, nat_lt, Bool, true, false, List, [], ◌∷◌, slice_set, slice_index_or}
+use Rattle.std.specs.Prelude.{ℕ, ◌+◌, ◌-◌, min, nat_lt, Bool, true, false, not, replicate, List, [], ◌∷◌, slice_set, slice_index_or}
 use Rattle.std.specs.Prelude.{Option, None, Some}
 use Rattle.std.specs.Option.{option_map}
 use Rattle.pim_addr.specs.declared.family.AddressFamily.{AddressFamily}
 use Rattle.pim_capture.specs.declared.event.Why.{Why}
-use Rattle.pim_capture.specs.declared.event.Why.TheVariants.{Fragment, Cut, CutShort, NextFile, Incomplete}
+use Rattle.pim_capture.specs.declared.event.Why.TheVariants.{Fragment, Cut, NotChosen, CutShort, NextFile, OfLink, Incomplete}
 use Rattle.pim_capture.specs.Capture.{EventSeen, packet, skipped, ended}
 use Rattle.pim_capture.specs.Frame.{Datagram}
 use Rattle.pim_merge.specs.declared.census.Census.{Census}
 use Rattle.pim_merge.specs.Census.{no_names, census_after}
+use Rattle.pim_merge.specs.Slots.{added, fits, same_place}
+use Rattle.pim_merge.specs.Unchosen.{unchosen_after}
+use Rattle.pim_capture.specs.declared.link.Link.{Link}
 use Rattle.pim_capture.specs.declared.incomplete.RecordPlace.{RecordPlace}
 use Rattle.pim_merge.specs.declared.tally.Tally.{Tally}
 use Rattle.pim_merge.specs.Merge.{Taken, event_time}
@@ -22,16 +25,19 @@ no_tally = record {
   fragments = 0;
   incomplete = None;
   cut_frames = 0;
-  cut_short = None;
+  cut_short = replicate 16 None;
+  more_cut_short = 0;
+  unchosen = None;
   last = None;
   ran_back = None;
   jumped = None;
   census = None;
 }
 
--- The tally with a census of messages of this family, in which nothing was counted.
-abbrev pub census_begun : AddressFamily → Tally → Tally
-census_begun family tally = record tally { census = Some (no_names family) }
+-- The tally with a census of messages of this family for a router with this address, in which nothing
+-- was counted.
+abbrev pub census_begun : AddressFamily → List ℕ → Tally → Tally
+census_begun family own tally = record tally { census = Some (no_names family own) }
 
 -- One more. The count stops at 2^64 - 1.
 abbrev pub one_more : ℕ → ℕ
@@ -77,10 +83,6 @@ abbrev pub is_cut_frame : Option Why → Bool
 is_cut_frame (Some Cut) = true
 is_cut_frame why = false
 
-abbrev pub is_cut_short : Option Why → Bool
-is_cut_short (Some CutShort) = true
-is_cut_short why = false
-
 -- The tally after one more record of this time that is skipped for this reason, if there is one.
 abbrev pub tally_by : Tally → Option Why → Option ℕ → Tally
 tally_by tally why time = record {
@@ -89,7 +91,9 @@ tally_by tally why time = record {
   fragments = counted_if (is_fragment why) tally.fragments;
   incomplete = tally.incomplete;
   cut_frames = counted_if (is_cut_frame why) tally.cut_frames;
-  cut_short = first_place tally.cut_short (is_cut_short why) (next_place tally);
+  cut_short = tally.cut_short;
+  more_cut_short = tally.more_cut_short;
+  unchosen = tally.unchosen;
   last = last_time tally.last time;
   ran_back = first_place tally.ran_back (runs_back tally.last time) (next_place tally);
   jumped = first_place tally.jumped (jumps tally.last time) (next_place tally);
@@ -113,17 +117,35 @@ in_next_file tally = record {
   incomplete = tally.incomplete;
   cut_frames = tally.cut_frames;
   cut_short = tally.cut_short;
+  more_cut_short = tally.more_cut_short;
+  unchosen = tally.unchosen;
   last = tally.last;
   ran_back = tally.ran_back;
   jumped = tally.jumped;
   census = tally.census;
 }
 
+-- The tally after one more record of this time that isn't chosen, with the link of its PIM packet, if
+-- it has one.
+abbrev pub tally_unchosen : Tally → Option Link → Option ℕ → Tally
+tally_unchosen tally link time =
+    tally_by (record tally { unchosen = unchosen_after tally.unchosen link }) (Some (NotChosen link)) time
+
+-- The tally after one more record, inside which its file ends.
+abbrev pub tally_cut_short : Tally → Tally
+tally_cut_short tally = tally_by (record tally {
+  cut_short = added same_place (next_place tally) tally.cut_short;
+  more_cut_short = counted_if (not (fits same_place (next_place tally) tally.cut_short)) tally.more_cut_short;
+}) (Some CutShort) None
+
 -- The tally after one more result of this time that is skipped for this reason. The beginning of
--- the next file is no record, nor is what is told of incomplete packets.
+-- the next file is no record, nor is the link of a packet or a report of incomplete packets.
 abbrev pub tally_skipped : Tally → Why → Option ℕ → Tally
 tally_skipped tally NextFile time = in_next_file tally
 tally_skipped tally (Incomplete packets) time = record tally { incomplete = packets }
+tally_skipped tally (OfLink link) time = tally
+tally_skipped tally (NotChosen link) time = tally_unchosen tally link time
+tally_skipped tally CutShort time = tally_cut_short tally
 tally_skipped tally why time = tally_by tally (Some why) time
 
 -- The tally after one more result of the capture. The end leaves it.

@@ -3,78 +3,47 @@
 //! such messages. It has a fixed size, so no function here allocates.
 
 mod counting;
-pub(crate) mod slots;
 
 ghost use Rattle.std.specs.Prelude.{◌≡◌, ◌≤◌, length, option_map};
 ghost use Rattle.pim_capture.specs.Capture.{most_captured};
 ghost use Rattle.pim_capture.specs.Seen.{ip_seen, LiesIn};
 ghost use Rattle.pim_merge.specs.Census.{no_names, census_after};
-ghost use Rattle.pim_merge.specs.Missing.{names, has, misses, without_rp};
+ghost use Rattle.pim_merge.specs.Missing.{misses, without_rp};
 ghost use Rattle.pim_merge.specs.Missing.{group_without_rp, first_without_rp};
+ghost use Rattle.pim_merge.specs.Slots.{field_of};
 
 use crate::census::counting::count_of;
-use crate::census::slots::field_of;
+use crate::slots::field_of;
 use pim_addr::{AddressFamily, Family, Routes, V4, V6};
 use pim_capture::Ip;
 
-/// A Join(\*,G) of a message. Each address has a field of 16 bytes, with zeros after those of IPv4.
-#[derive(Clone, Copy, Debug, PartialEq, Eq)]
-pub struct StarJoin {
-    /// The upstream neighbour of the message.
-    pub upstream: [u8; 16],
-    /// The group.
-    pub group: [u8; 16],
-}
-
-/// Whom the Join/Prune messages of a capture name. Each list has the first different items in the
-/// order of the messages, and then free slots.
+/// Whom the Join/Prune messages of a capture name, as far as other routers than the own one sent
+/// them. Each list has the first different items in the order of the messages, and then free slots.
+/// An address has a field of 16 bytes, with zeros after those of IPv4.
 #[derive(Clone, Copy, Debug, PartialEq, Eq)]
 pub struct Census {
     /// The address family of the messages that count.
     pub family: AddressFamily,
-    /// The upstream neighbours, each in a field of 16 bytes, with zeros after those of IPv4.
+    /// The own address. Messages with this source don't count.
+    pub own: [u8; 16],
+    /// A message names the own address as its upstream neighbour.
+    pub is_named: bool,
+    /// The other upstream neighbours.
     pub upstreams: [Option<[u8; 16]>; 8],
-    /// The Joins(\*,G).
-    pub stars: [Option<StarJoin>; 16],
+    /// Messages name more upstream neighbours than have slots.
+    pub has_more: bool,
+    /// The groups of Joins(\*,G) for the own address.
+    pub groups: [Option<[u8; 16]>; 64],
 }
 
-/// Whether a slot has this address.
-fn names(slot: Option<[u8; 16]>, address: [u8; 16]) -> bool
-    ensures { result ≡ names address slot }
+/// The group in a slot, if the table has no RP for it.
+fn group_without_rp<F: Family>(slot: Option<[u8; 16]>, routes: &Routes<F>) -> Option<F::Addr>
+    ensures { option_map F.bytes_of result ≡ group_without_rp F.family routes.now slot }
 {
-    match slot {
-        Some(held) => address == held,
-        None => false,
-    }
-}
-
-/// Whether one of the slots has this address.
-fn has(slots: &[Option<[u8; 16]>], address: [u8; 16]) -> bool
-    ensures { result ≡ has address slots.now }
-{
-    for slot in slots {
-        if names(*slot, address) {
-            return true;
-        }
-    }
-    false
-}
-
-/// The group of a Join(\*,G) for this upstream neighbour, if the table has no RP for it.
-fn group_without_rp<F: Family>(
-    slot: Option<StarJoin>,
-    own: [u8; 16],
-    routes: &Routes<F>,
-) -> Option<F::Addr>
-    ensures { option_map F.bytes_of result ≡ group_without_rp F.family routes.now own slot }
-{
-    let Some(star) = slot else {
+    let Some(field) = slot else {
         return None;
     };
-    if own != star.upstream {
-        return None;
-    }
-    let group = F::take(&star.group);
+    let group = F::take(&field);
     match routes.rp_of(group) {
         Some(_) => None,
         None => Some(group),
@@ -82,16 +51,11 @@ fn group_without_rp<F: Family>(
 }
 
 /// The first of these groups.
-fn first_without_rp<F: Family>(
-    slots: &[Option<StarJoin>],
-    own: [u8; 16],
-    routes: &Routes<F>,
-) -> Option<F::Addr>
-    ensures { option_map F.bytes_of result
-        ≡ first_without_rp F.family routes.now own slots.now }
+fn first_without_rp<F: Family>(slots: &[Option<[u8; 16]>], routes: &Routes<F>) -> Option<F::Addr>
+    ensures { option_map F.bytes_of result ≡ first_without_rp F.family routes.now slots.now }
 {
     for slot in slots {
-        if let Some(group) = group_without_rp::<F>(*slot, own, routes) {
+        if let Some(group) = group_without_rp::<F>(*slot, routes) {
             return Some(group);
         }
     }
@@ -99,19 +63,22 @@ fn first_without_rp<F: Family>(
 }
 
 impl Census {
-    /// The census of messages of this family before the first.
-    pub fn new(family: AddressFamily) -> Census
-        ensures { result ≡ no_names family }
+    /// The census of messages of the family before the first one, for a router with this address.
+    pub fn new<F: Family>(own: F::Addr) -> Census
+        ensures { result ≡ no_names F.family (F.bytes_of own) }
     {
         Census {
-            family,
+            family: F::family(),
+            own: field_of::<F>(own),
+            is_named: false,
             upstreams: [None; 8],
-            stars: [None; 16],
+            has_more: false,
+            groups: [None; 64],
         }
     }
 
     /// Counts the Join/Prune message of a packet whose record has these bytes, if it is one of the
-    /// family without a fault.
+    /// family without a fault, and another router sent it.
     pub fn count(&mut self, ip: &Ip, bytes: &[u8])
         requires payload { LiesIn bytes.now ip.now }
         requires bytes { length bytes.now ≤ most_captured }
@@ -138,21 +105,18 @@ impl Census {
         }
     }
 
-    /// Whether messages name upstream neighbours, but not this one. If no slot is free, more may
-    /// have been named, so the answer is `false`.
-    pub fn misses<F: Family>(&self, own: F::Addr) -> bool
-        ensures { result ≡ misses (F.bytes_of own) self.now.upstreams }
+    /// Whether messages name upstream neighbours, but none names the own address.
+    pub fn misses(&self) -> bool
+        ensures { result ≡ misses self.now }
     {
-        let is_listed_neighbour = has(&self.upstreams, field_of::<F>(own));
-        self.upstreams[0].is_some() && self.upstreams[7].is_none() && !is_listed_neighbour
+        self.upstreams[0].is_some() && !self.is_named
     }
 
-    /// The group of the first Join(\*,G) for the upstream neighbour `own` that has no RP in the
-    /// table; `None` if there is none.
-    pub fn without_rp<F: Family>(&self, own: F::Addr, routes: &Routes<F>) -> Option<F::Addr>
-        ensures { option_map F.bytes_of result
-            ≡ without_rp F.family routes.now (F.bytes_of own) self.now.stars }
+    /// The group of the first Join(\*,G) for the own address that has no RP in the table; `None` if
+    /// none of the groups in slots is without one.
+    pub fn without_rp<F: Family>(&self, routes: &Routes<F>) -> Option<F::Addr>
+        ensures { option_map F.bytes_of result ≡ without_rp F.family routes.now self.now }
     {
-        first_without_rp::<F>(&self.stars, field_of::<F>(own), routes)
+        first_without_rp::<F>(&self.groups, routes)
     }
 }

@@ -28,8 +28,8 @@ ghost use Rattle.pim_merge.specs.Source.{coming_at_end, is_end};
 ghost use Rattle.pim_merge.specs.Source.{chosen_is_over, IsRepeatedIf, failed};
 ghost use Rattle.pim_merge.specs.Source.{piece_capacity, places, read_needs, chosen_needs};
 ghost use Rattle.pim_merge.specs.Source.{PassesNeeds, IsLonger, ReadAllocates, ChosenAllocates};
-ghost use Rattle.pim_merge.specs.Source.{GrowsWithin, read_fragment, StaysFragment};
-ghost use Rattle.pim_merge.specs.Source.{chosen_fragment, first_fragment};
+ghost use Rattle.pim_merge.specs.Source.{GrowsWithin, read_held, StaysHeld};
+ghost use Rattle.pim_merge.specs.Source.{chosen_held, first_held};
 ghost use Rattle.pim_merge.specs.Taker.{taker_of};
 
 use crate::taker::Taker;
@@ -117,14 +117,13 @@ impl<R: Feed> Chosen<R> {
             (all_known R.remaining (device ∷ others.items)) }
         ensures failures { chosen_failures R.failures result
             ≡ all_failures R.failures (device ∷ others.items) }
-        ensures left { chosen_left result ≡ 8589934593 + vec_len others * 8589934594 }
+        ensures left { chosen_left result ≡ 12884901889 + vec_len others * 12884901890 }
         ensures over { chosen_is_over result ≡ false }
         ensures piece { piece_capacity result ≡ 0 }
         ensures places { places result ≡ 0 }
         ensures needs { chosen_needs R.remaining result
             ≡ option_map (needs_in Unbegun 0 []) (R.remaining device) }
-        ensures fragment { chosen_fragment R.remaining result
-            ≡ first_fragment (R.remaining device) }
+        ensures held { chosen_held R.remaining result ≡ first_held choice (R.remaining device) }
     {
         Chosen {
             reader: Reader::new(alloc, device),
@@ -140,7 +139,8 @@ impl<R: Feed> Chosen<R> {
 
     /// Goes on with the next file. Without one the event is the end.
     fn go_on(&mut self) -> Event
-        requires { self.old.taker.is_told ≡ true }
+        requires link { self.old.taker.link_of_packet ≡ None }
+        requires reported { self.old.taker.is_reported ≡ true }
         ensures answer { (bytes : List ℕ) → IsNext (coming_at_end R.remaining self.old)
             (Ok (event_seen bytes result)) (read_coming R.remaining self.new) }
         ensures reads { chosen_failures R.failures self.new ≡ chosen_failures R.failures self.old }
@@ -180,9 +180,8 @@ impl<R: Feed> Chosen<R> {
             (read_needs R.remaining self.old) }
         ensures needs { IfOk result (λ it. it ≡ None →
             PassesNeeds (read_needs R.remaining self.old) (read_needs R.remaining self.new)) }
-        ensures fragment { IfOk result (λ it. it ≡ None →
-            StaysFragment (read_fragment R.remaining self.old)
-            (read_fragment R.remaining self.new)) }
+        ensures held { IfOk result (λ it. it ≡ None →
+            StaysHeld (read_held R.remaining self.old) (read_held R.remaining self.new)) }
         ensures rooms { IfOk result (λ it. it ≡ None →
             (piece_capacity self.old ≤ piece_capacity self.new)
             × (places self.old ≤ places self.new)
@@ -191,8 +190,8 @@ impl<R: Feed> Chosen<R> {
         ensures moment { IfOk result (λ it. IfSome it (IsBy latest_moment)) }
         ensures length { vec_len buffer.new ≤ most_captured }
     {
-        if let Some(news) = self.taker.tell() {
-            return Ok(Some(news));
+        if let Some(report) = self.taker.report() {
+            return Ok(Some(report));
         }
         if self.is_cut {
             return Ok(Some(self.go_on()));
@@ -285,8 +284,7 @@ impl<R: Feed> Chosen<R> {
         ensures piece { piece_capacity self.new ≡ piece_capacity self.old }
         ensures places { places self.new ≡ places self.old }
         ensures needs { chosen_needs R.remaining self.new ≡ chosen_needs R.remaining self.old }
-        ensures fragment { chosen_fragment R.remaining self.new
-            ≡ chosen_fragment R.remaining self.old }
+        ensures held { chosen_held R.remaining self.new ≡ chosen_held R.remaining self.old }
         ensures over { chosen_is_over self.new ≡ chosen_is_over self.old }
     {
         self.reader.pass_record();

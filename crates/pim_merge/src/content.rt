@@ -119,7 +119,7 @@ fn skipped_in<'a, A>(why: Why) -> Content<'a, A>
     ensures bytes { IfDatagram result (λ datagram. length datagram.payload.now < 2 ^ 32) }
 {
     match why {
-        Why::NextFile | Why::Incomplete(_) => Content::End,
+        Why::NextFile | Why::OfLink(_) | Why::Incomplete(_) => Content::End,
         _ => Content::Skipped(why),
     }
 }

@@ -12,7 +12,7 @@ ghost use Rattle.pim_capture.specs.declared.capture.CaptureState.TheVariants.{Un
 ghost use Rattle.pim_merge.specs.Lane.{coming_on, without_head, IsLooked, head_time, lane_left};
 ghost use Rattle.pim_merge.specs.Lane.{LacksHeadRoom, KeepsRoom, HadAll, HasFailed};
 ghost use Rattle.pim_merge.specs.Lane.{IsFailedHead, head_rank, with_census};
-ghost use Rattle.pim_merge.specs.Source.{begun_store, first_fragment};
+ghost use Rattle.pim_merge.specs.Source.{begun_store, first_held};
 ghost use Rattle.pim_container.specs.Room.{needs_in};
 ghost use Rattle.pim_container.specs.declared.reader.ReaderState.TheVariants as any;
 ghost use Rattle.pim_merge.specs.Merge.{event_time, time_by, unchosen_rank, skipped_rank};
@@ -25,7 +25,7 @@ use crate::chosen::Chosen;
 use crate::clock::Clock;
 use crate::source::Source;
 use crate::tally::{Tally, count_head};
-use pim_addr::{AddressFamily, Feed};
+use pim_addr::{Family, Feed};
 use pim_capture::{Capture, CaptureFault, Event, RecordPlace, Why};
 use pim_container::Choice;
 use pim_time::Time;
@@ -71,8 +71,8 @@ fn time_by(why: Why, millis: u64) -> Option<u64>
     ensures { result ≡ time_by why millis }
 {
     match why {
-        Why::NoTime | Why::NotChosen | Why::Copy | Why::CutShort | Why::NextFile => None,
-        Why::Incomplete(_) => None,
+        Why::NoTime | Why::NotChosen(_) | Why::Copy | Why::CutShort => None,
+        Why::NextFile | Why::OfLink(_) | Why::Incomplete(_) => None,
         _ => Some(millis),
     }
 }
@@ -93,7 +93,7 @@ fn skipped_rank(why: Why, millis: u64, last: Option<Time>, clock: Option<Clock>)
     ensures { result ≡ skipped_rank (past_at last clock) why millis }
 {
     match why {
-        Why::NotChosen | Why::Copy => unchosen_rank(millis, last, clock),
+        Why::NotChosen(_) | Why::Copy => unchosen_rank(millis, last, clock),
         _ => Some(millis + 1),
     }
 }
@@ -141,7 +141,7 @@ impl<R: Feed + Drop> Lane<R> {
         ensures size { result.size ≡ None }
         ensures store { result.store
             ≡ begun_store (option_map (needs_in any.Unbegun 0 []) (R.remaining reader))
-            (first_fragment (R.remaining reader)) }
+            (first_held choice (R.remaining reader)) }
         ensures tally { result.tally ≡ no_tally }
     {
         Lane::of_files(alloc, reader, Vec::new(alloc), choice)
@@ -159,7 +159,7 @@ impl<R: Feed + Drop> Lane<R> {
         ensures size { result.size ≡ None }
         ensures store { result.store
             ≡ begun_store (option_map (needs_in any.Unbegun 0 []) (R.remaining reader))
-            (first_fragment (R.remaining reader)) }
+            (first_held choice (R.remaining reader)) }
         ensures tally { result.tally ≡ no_tally }
     {
         Lane {
@@ -219,11 +219,11 @@ impl<R: Feed + Drop> Lane<R> {
         }
     }
 
-    /// Begins a census of messages of this family.
-    pub(crate) fn begin_census(&mut self, family: AddressFamily)
-        ensures { self.new ≡ with_census family self.old }
+    /// Begins a census of messages of the family, for a router with this address.
+    pub(crate) fn begin_census<F: Family>(&mut self, own: F::Addr)
+        ensures { self.new ≡ with_census F.family (F.bytes_of own) self.old }
     {
-        self.tally.begin_census(family);
+        self.tally.begin_census::<F>(own);
     }
 
     /// What was taken of the capture.

@@ -1,6 +1,6 @@
 //! Laws of the definitions. Nothing in this module is to be called.
 
-ghost use Rattle.pim_merge.specs.CensusLaws.{MissedIsListedByNone, UnservedIsJoined};
+ghost use Rattle.pim_merge.specs.CensusLaws.{MissedIsNamedByNone, UnservedIsJoined};
 ghost use Rattle.pim_merge.specs.Laws.{MergeHasOneEnd, MergeByHasOneEnd};
 ghost use Rattle.pim_merge.specs.OneLink.{OneLinkIsReadAlike, MergesAlike};
 ghost use Rattle.pim_merge.specs.OneLink.{RecordsHoldAlike};
@@ -35,14 +35,14 @@ pub fn records_hold_alike()
     ensures { RecordsHoldAlike }
 {}
 
-/// Where a census misses an address, messages count, and none of them names it as its upstream
-/// neighbour.
-pub fn missed_is_listed_by_none()
-    ensures { MissedIsListedByNone }
+/// A census misses its address exactly where messages count, and none of them names it as its
+/// upstream neighbour.
+pub fn missed_is_named_by_none()
+    ensures { MissedIsNamedByNone }
 {}
 
-/// The group that a census names for an address has no RP. A message that counts has a Join(\*,G)
-/// of it for the upstream neighbour with that address.
+/// The group that a census names has no RP. A message that counts has a Join(\*,G) of it for the own
+/// address.
 pub fn unserved_is_joined()
     ensures { UnservedIsJoined }
 {

@@ -22,8 +22,8 @@ ghost use Rattle.pim_merge.specs.Next.{GivesTurnBy, IsFailed};
 ghost use Rattle.pim_merge.specs.Next.{bytes_at, with_fault, LacksMemory};
 ghost use Rattle.pim_merge.specs.Next.{KeepsTallies, IsNumbered};
 ghost use Rattle.pim_merge.specs.Chosen.{answers_by, answers_of_files, all_known, all_failures};
-ghost use Rattle.pim_merge.specs.Lane.{tallies_of, stores_of, with_census};
-ghost use Rattle.pim_merge.specs.Source.{begun_store, first_fragment};
+ghost use Rattle.pim_merge.specs.Lane.{tallies_of, stores_of, census_at};
+ghost use Rattle.pim_merge.specs.Source.{begun_store, first_held};
 ghost use Rattle.pim_container.specs.Room.{needs_in};
 ghost use Rattle.pim_container.specs.declared.reader.ReaderState.TheVariants as any;
 ghost use Rattle.pim_merge.specs.Tally.{no_tally, tally_at};
@@ -33,7 +33,7 @@ use crate::clock::{Clock, moment_at, moment_of};
 use crate::lane::{Lane, time_of};
 use crate::search::{earliest, look_at_all};
 use crate::tally::Tally;
-use pim_addr::{AddressFamily, Feed};
+use pim_addr::{Family, Feed};
 use pim_capture::{CaptureFault, Event};
 use pim_container::Choice;
 use pim_time::Time;
@@ -72,15 +72,6 @@ impl Turn {
         ensures { (bytes : List ℕ) → result ≡ event_time (event_seen bytes self.now.event) }
     {
         time_of(&self.event)
-    }
-}
-
-/// Begins a census of messages of this family in each capture.
-fn begin_all<R: Feed + Drop>(lanes: &mut [Lane<R>], family: AddressFamily)
-    ensures { lanes.new ≡ map (with_census family) lanes.old }
-{
-    for lane in lanes.iter_mut() {
-        lane.begin_census(family);
     }
 }
 
@@ -160,7 +151,7 @@ impl<R: Feed + Drop> Merge<R> {
         ensures stores { IfOk result (λ _. stores_of self.new.lanes ≡
             stores_of self.old.lanes ++ begun_store
             (option_map (needs_in any.Unbegun 0 []) (R.remaining reader))
-            (first_fragment (R.remaining reader)) ∷ []) }
+            (first_held choice (R.remaining reader)) ∷ []) }
         ensures tallies { IfOk result (λ _. tallies_of self.new.lanes ≡
             tallies_of self.old.lanes ++ no_tally ∷ []) }
         ensures clock { self.new.clock ≡ self.old.clock }
@@ -203,13 +194,15 @@ impl<R: Feed + Drop> Merge<R> {
         Ok(())
     }
 
-    /// Begins a census of messages of this family in each capture: its tally then says whom those
-    /// name that are taken from now on.
-    pub fn begin_census(&mut self, family: AddressFamily)
-        ensures lanes { self.new.lanes ≡ map (with_census family) self.old.lanes }
+    /// Begins a census of messages of the family in this capture, for a router with this address: the
+    /// capture's tally then says whom those name that are taken from now on.
+    pub fn begin_census<F: Family>(&mut self, capture: usize, own: F::Addr)
+        requires { capture < length self.old.lanes }
+        ensures lanes { self.new.lanes
+            ≡ census_at F.family (F.bytes_of own) capture self.old.lanes }
         ensures clock { self.new.clock ≡ self.old.clock }
     {
-        begin_all(&mut self.lanes, family);
+        self.lanes[capture].begin_census::<F>(own);
     }
 
     /// The number of captures.
@@ -308,7 +301,7 @@ impl<R: Feed + Drop> Merge<R> {
         ensures reads { CountsFailures self.old.lanes result self.new.lanes }
         // Memory is refused only if a head wasn't read and its buffer had less room than it needs.
         // Of any container, if a piece up to the next record needs more room, or describes an
-        // interface for which the list has none, or if that record is a fragment.
+        // interface for which the list has none, or if room is asked for to hold that record as a fragment.
         ensures memory { IfErr result (LacksMemory self.old.lanes) }
         ensures rooms { KeepRooms self.old.lanes self.new.lanes }
         ensures clock { KeepsTime self.old.clock result self.new }
@@ -345,7 +338,7 @@ impl<R: Feed + Drop> Merge<R> {
         ensures reads { CountsFailures self.old.lanes result self.new.lanes }
         // Memory is refused only if a head wasn't read and its buffer had less room than it needs.
         // Of any container, if a piece up to the next record needs more room, or describes an
-        // interface for which the list has none, or if that record is a fragment.
+        // interface for which the list has none, or if room is asked for to hold that record as a fragment.
         ensures memory { IfErr result (LacksMemory self.old.lanes) }
         ensures rooms { KeepRooms self.old.lanes self.new.lanes }
         ensures clock { KeepsTime self.old.clock result self.new }

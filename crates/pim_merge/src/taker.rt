@@ -3,9 +3,10 @@
 //! Each record gives one event, so that who counts events has the numbers of records in the file.
 //! One that isn't taken is skipped. Of a packet that is taken the message alone is kept. A fragment
 //! is held until its packet is whole: the record that completes it gives the packet. After each
-//! fragment an event says of which packets the fragments are incomplete.
+//! fragment an event reports of which packets the fragments are incomplete. Where links are mixed,
+//! an event after each packet reports its link.
 
-ghost use Rattle.std.specs.Prelude.{◌≡◌, ◌≤◌, ◌<◌, ◌⊎◌, ℕ, List, length, drop, true, Ok, Err, IfOk};
+ghost use Rattle.std.specs.Prelude.{◌≡◌, ◌≤◌, ◌<◌, ◌⊎◌, ℕ, List, length, drop, true, Ok, Err, IfOk, OnErr};
 ghost use Rattle.std.specs.Prelude.{option_map, vec_len, vec_capacity};
 ghost use Rattle.std.specs.Option.{IfSome};
 ghost use Rattle.pim_addr.specs.Faults.{Answers};
@@ -16,29 +17,29 @@ ghost use Rattle.pim_capture.specs.Seen.{ip_seen, LiesIn, IsShort};
 ghost use Rattle.pim_container.specs.Choice.{judge_origin, first_after};
 ghost use Rattle.pim_container.specs.EventSeen as any;
 ghost use Rattle.pim_fragments.specs.Pieces.{piece_of};
-ghost use Rattle.pim_fragments.specs.Packets.{whole_after, kept_after};
+ghost use Rattle.pim_fragments.specs.Packets.{whole_after, kept_after, asks_after};
 ghost use Rattle.pim_fragments.specs.Stored as fragments;
 ghost use Rattle.pim_fragments.specs.Stored.{payload_seen};
 ghost use Rattle.pim_merge.specs.Taker.{TakerState, taker_of, key_of, same_key, version_of};
 ghost use Rattle.pim_merge.specs.Taker.{carrying, whole_given, fragment_given, untaken_why};
 ghost use Rattle.pim_merge.specs.Taker.{mixed_fault, taken_given, untaken, event_given};
 ghost use Rattle.pim_merge.specs.Taker.{state_after, skipped_given, link_with, next_record};
-ghost use Rattle.pim_merge.specs.Taker.{in_next_file, news, told, is_fragment, begun_given};
+ghost use Rattle.pim_merge.specs.Taker.{in_next_file, report_of, reported, begun_given};
 ghost use Rattle.pim_merge.specs.Taker.{judged_by, packet_after, skipped_after, origin_given};
-ghost use Rattle.pim_merge.specs.Taker.{holding};
+ghost use Rattle.pim_merge.specs.Taker.{holding, interface_of, link_of, asks_to_hold};
 ghost use Rattle.pim_merge.specs.Source.{IsGiven, IsLonger, is_end};
 
-use crate::census::slots::field_of;
+use crate::slots::{Item, field_of};
 use crate::tally::one_more;
 use pim_addr::{V4, V6};
-use pim_capture::{CaptureFault, Event, Ip, RecordPlace, Why};
+use pim_capture::{CaptureFault, Event, InterfaceChoice, Ip, Link, RecordPlace, Why};
 use pim_container::{Choice, Chooser, ContainerEvent as Piece, Mixed, Origin};
 use pim_fragments::{Fragment, Fragments, pim_begins};
 use std::alloc::{AllocError, Global};
 use std::marker::Model;
 
 /// What the fragments of a packet have in common (RFC 791, 3.2; RFC 8200, 4.5).
-#[derive(Clone, Copy, Debug, PartialEq, Eq)]
+#[derive(Clone, Copy, Debug)]
 pub(crate) struct FragmentKey {
     /// The version of IP.
     version: u8,
@@ -50,6 +51,32 @@ pub(crate) struct FragmentKey {
     protocol: u8,
     /// The identification.
     identification: u32,
+    /// The link.
+    link: Link,
+}
+
+impl PartialEq for FragmentKey {
+    ghost use Rattle.std.specs.Cmp.{partial_equiv_from_equiv};
+    ghost use Rattle.pim_merge.specs.KeyLaws.{keys_equiv};
+
+    ghost eq = { same_key };
+
+    ghost laws = { partial_equiv_from_equiv keys_equiv };
+
+    fn eq(&self, other: &FragmentKey) -> bool {
+        self.version == other.version
+            && self.source == other.source
+            && self.destination == other.destination
+            && self.protocol == other.protocol
+            && self.identification == other.identification
+            && self.link.is_same(other.link)
+    }
+}
+
+impl Eq for FragmentKey {
+    ghost use Rattle.pim_merge.specs.KeyLaws.{keys_equiv};
+
+    ghost laws = { keys_equiv };
 }
 
 /// What the chosen frames of a file begin with, as far as it was read.
@@ -73,8 +100,10 @@ pub(crate) struct Taker {
     link: FileLink,
     /// The place of the next record.
     place: RecordPlace,
-    /// It was told of which packets the fragments are incomplete.
-    is_told: bool,
+    /// The link of the packet that was taken last, where links are mixed, until it is reported.
+    link_of_packet: Option<Link>,
+    /// It was reported of which packets the fragments are incomplete.
+    is_reported: bool,
 }
 
 impl Model for Taker {
@@ -89,7 +118,8 @@ impl Model for Taker {
       kept = taker.fragments;
       link = taker.link;
       place = taker.place;
-      is_told = taker.is_told;
+      link_of_packet = taker.link_of_packet;
+      is_reported = taker.is_reported;
     } };
 }
 
@@ -105,8 +135,8 @@ fn mixed_fault(mixed: Mixed) -> CaptureFault
 }
 
 /// What this fragment has in common with the others of its packet.
-fn key_of(ip: &Ip, fragment: Fragment) -> FragmentKey
-    ensures { (bytes : List ℕ) → result ≡ key_of (ip_seen bytes ip.now) fragment }
+fn key_of(ip: &Ip, fragment: Fragment, origin: Origin) -> FragmentKey
+    ensures { (bytes : List ℕ) → result ≡ key_of (ip_seen bytes ip.now) fragment origin }
 {
     let (version, source, destination) = match ip {
         Ip::V4 {
@@ -126,6 +156,7 @@ fn key_of(ip: &Ip, fragment: Fragment) -> FragmentKey
         destination,
         protocol: fragment.protocol,
         identification: fragment.identification,
+        link: link_of(origin),
     }
 }
 
@@ -193,6 +224,8 @@ fn whole_event(
     ensures answer { (bytes : List ℕ) → (result ≡ Err Memory)
         ⊎ Answers (event_seen buffer.new.items) result
         (Ok (whole_given millis (ip_seen bytes ip.now) protocol (Some payload.now))) }
+    ensures memory { (bytes : List ℕ) → OnMemory result (IsLonger (vec_capacity buffer.old)
+        (Some (Ok (whole_given millis (ip_seen bytes ip.now) protocol (Some payload.now))))) }
     ensures room { vec_capacity buffer.old ≤ vec_capacity buffer.new }
     ensures payload { IfOk result (PayloadLiesIn buffer.new.items) }
     ensures moment { IfOk result (IsBy latest_moment) }
@@ -212,6 +245,29 @@ fn link_with(why: Why, link: FileLink) -> FileLink
         (Why::LinkType(number), FileLink::Unmet) => FileLink::Unread(number),
         (Why::LinkType(_), link) => link,
         _ => FileLink::Met,
+    }
+}
+
+/// The interface of this origin, as a word chooses it.
+fn interface_of(origin: Origin) -> InterfaceChoice
+    ensures { result ≡ interface_of origin }
+{
+    if origin.index != 0 {
+        return InterfaceChoice::Number(origin.index);
+    }
+    match origin.name {
+        Some(name) => InterfaceChoice::Name(name),
+        None => InterfaceChoice::Number(origin.interface),
+    }
+}
+
+/// The link of a packet of this origin, as words choose it.
+fn link_of(origin: Origin) -> Link
+    ensures { result ≡ link_of origin }
+{
+    Link {
+        vlan: origin.vlan,
+        interface: interface_of(origin),
     }
 }
 
@@ -235,21 +291,32 @@ impl Taker {
             fragments: Fragments::new(alloc),
             link: FileLink::Unmet,
             place: RecordPlace { file: 0, record: 1 },
-            is_told: true,
+            link_of_packet: None,
+            is_reported: true,
         }
     }
 
-    /// Says of which packets the fragments are incomplete, if that wasn't told.
-    pub(crate) fn tell(&mut self) -> Option<Event>
-        ensures news { (bytes : List ℕ) → option_map (event_seen bytes) result ≡ news self.old }
-        ensures told { self.new ≡ told self.old }
+    /// Reports the link of the packet that was taken last, or of which packets the fragments are
+    /// incomplete, unless that was reported.
+    pub(crate) fn report(&mut self) -> Option<Event>
+        ensures report { (bytes : List ℕ) →
+            option_map (event_seen bytes) result ≡ report_of self.old }
+        ensures reported { self.new ≡ reported self.old }
         ensures payload { (bytes : List ℕ) → IfSome result (PayloadLiesIn bytes) }
         ensures moment { IfSome result (IsBy latest_moment) }
     {
-        if self.is_told {
+        let link_of_packet = self.link_of_packet;
+        if let Some(link) = link_of_packet {
+            self.link_of_packet = None;
+            return Some(Event::Skipped {
+                millis: 0,
+                why: Why::OfLink(link),
+            });
+        }
+        if self.is_reported {
             return None;
         }
-        self.is_told = true;
+        self.is_reported = true;
         Some(Event::Skipped {
             millis: 0,
             why: Why::Incomplete(self.fragments.incomplete()),
@@ -274,7 +341,7 @@ impl Taker {
         if self.chooser.is_of_link(origin) {
             Why::Copy
         } else {
-            Why::NotChosen
+            Why::NotChosen(Some(link_of(origin)))
         }
     }
 
@@ -287,6 +354,11 @@ impl Taker {
             self.link = FileLink::Met;
         }
         self.place = next_record(self.place);
+        self.link_of_packet = if self.chooser.mixes(origin) {
+            Some(link_of(origin))
+        } else {
+            None
+        };
         match self.chooser.take(origin) {
             Ok(is_taken) => Ok(is_taken),
             Err(mixed) => Err(mixed_fault(mixed)),
@@ -304,7 +376,7 @@ impl Taker {
     {
         self.place = next_record(self.place);
         if !self.chooser.is_of_link(origin) {
-            let why = Why::NotChosen;
+            let why = Why::NotChosen(None);
             return Event::Skipped { millis, why };
         }
         self.link = link_with(why, self.link);
@@ -359,9 +431,11 @@ impl Taker {
         ensures state { IfOk result (λ _. self.new ≡ holding (kept_after same_key key place millis
             (piece_of fragment bytes.now) self.old.kept) self.old) }
         ensures short { IfOk result fragments.IsShort }
+        ensures lacking { OnErr result (asks_after same_key key place millis
+            (piece_of fragment bytes.now) self.old.kept ≡ true) }
     {
         let whole = self.fragments.take(key, fragment, bytes, place, millis)?;
-        self.is_told = false;
+        self.is_reported = false;
         Ok(whole)
     }
 
@@ -379,10 +453,15 @@ impl Taker {
         requires length { vec_len buffer.old ≤ most_captured }
         ensures answer { (rest : List ℕ) → (result ≡ Err Memory)
             ⊎ Answers (event_seen buffer.new.items) result
-            (taken_given (judged_by self.old origin) (fragment_given self.old millis
+            (taken_given (judged_by self.old origin) (fragment_given self.old millis origin
             (carrying bytes.now (ip_seen rest ip.now)) fragment) (untaken self.old millis origin)) }
         ensures state { (rest : List ℕ) → IfOk result (λ _. self.new ≡ state_after self.old
             (any.fragment millis origin (carrying bytes.now (ip_seen rest ip.now)) fragment)) }
+        ensures memory { (rest : List ℕ) → OnMemory result (IsLonger (vec_capacity buffer.old)
+            (Some (taken_given (judged_by self.old origin) (fragment_given self.old millis origin
+            (carrying bytes.now (ip_seen rest ip.now)) fragment) (untaken self.old millis origin)))
+            ⊎ (asks_to_hold self.old (any.fragment millis origin
+            (carrying bytes.now (ip_seen rest ip.now)) fragment) ≡ true)) }
         ensures room { vec_capacity buffer.old ≤ vec_capacity buffer.new }
         ensures payload { IfOk result (PayloadLiesIn buffer.new.items) }
         ensures moment { IfOk result (IsBy latest_moment) }
@@ -393,7 +472,7 @@ impl Taker {
             let why = self.untaken_why(origin);
             return Ok(Event::Skipped { millis, why });
         }
-        let whole = self.hold(millis, key_of(ip, fragment), fragment, bytes, place)?;
+        let whole = self.hold(millis, key_of(ip, fragment, origin), fragment, bytes, place)?;
         match whole {
             Some(payload) => whole_event(millis, ip, fragment.protocol, payload.as_slice(), buffer),
             None => Ok(Event::Skipped {
@@ -424,7 +503,7 @@ impl Taker {
         ensures ended { is_end event ≡ true → self.new ≡ self.old }
         ensures memory { OnMemory result (IsLonger (vec_capacity buffer.old)
             (event_given self.old (any.event_seen piece.now event))
-            ⊎ (is_fragment (any.event_seen piece.now event) ≡ true)) }
+            ⊎ (asks_to_hold self.old (any.event_seen piece.now event) ≡ true)) }
         ensures room { vec_capacity buffer.old ≤ vec_capacity buffer.new }
         ensures payload { IfOk result (λ it. IfSome it (PayloadLiesIn buffer.new.items)) }
         ensures moment { IfOk result (λ it. IfSome it (IsBy latest_moment)) }

@@ -6,15 +6,17 @@ ghost use Rattle.pim_capture.specs.Capture.{most_captured};
 ghost use Rattle.pim_capture.specs.Next.{event_seen, PayloadLiesIn};
 ghost use Rattle.pim_capture.specs.Seen.{ip_seen, LiesIn};
 ghost use Rattle.pim_merge.specs.Tally.{no_tally, one_more, counted_if, first_place, runs_back};
-ghost use Rattle.pim_merge.specs.Tally.{jumps, last_time, is_fragment, is_cut_frame, is_cut_short};
+ghost use Rattle.pim_merge.specs.Tally.{jumps, last_time, is_fragment, is_cut_frame};
 ghost use Rattle.pim_merge.specs.Tally.{next_place, tally_by, in_next_file, tally_skipped};
 ghost use Rattle.pim_merge.specs.Tally.{tally_after, tally_taken, tally_with, census_with};
-ghost use Rattle.pim_merge.specs.Tally.{census_begun};
+ghost use Rattle.pim_merge.specs.Tally.{census_begun, tally_unchosen, tally_cut_short};
 
 use crate::census::Census;
 use crate::lane::time_of;
-use pim_addr::AddressFamily;
-use pim_capture::{Event, Incomplete, Ip, RecordPlace, Why};
+use crate::slots::add;
+use crate::unchosen::{Unchosen, count_unchosen};
+use pim_addr::Family;
+use pim_capture::{Event, Incomplete, Ip, Link, RecordPlace, Why};
 
 /// What was taken of a capture. Each count stops at 2^64 - 1.
 #[derive(Clone, Copy, Debug, PartialEq, Eq)]
@@ -30,8 +32,12 @@ pub struct Tally {
     /// The number of records that are skipped because fewer bytes were captured than their headers
     /// name.
     pub cut_frames: u64,
-    /// The place of the first record inside which its file ended.
-    pub cut_short: Option<RecordPlace>,
+    /// The places of the first records inside which their files ended, and then free slots.
+    pub cut_short: [Option<RecordPlace>; 16],
+    /// The number of such records after those in slots.
+    pub more_cut_short: u64,
+    /// The records that aren't chosen, if there are any.
+    pub unchosen: Option<Unchosen>,
     /// The time of the last record with a time, in milliseconds since 1970.
     pub last: Option<u64>,
     /// The place of the first record whose time is more than a second before `last`.
@@ -116,16 +122,6 @@ fn is_cut_frame(why: Option<Why>) -> bool
     }
 }
 
-/// Whether this is the reason of a record inside which its file ends.
-fn is_cut_short(why: Option<Why>) -> bool
-    ensures { result ≡ is_cut_short why }
-{
-    match why {
-        Some(Why::CutShort) => true,
-        _ => false,
-    }
-}
-
 /// Counts the message of a packet, if there is a census.
 fn count_names(census: &mut Option<Census>, ip: &Ip, bytes: &[u8])
     requires payload { LiesIn bytes.now ip.now }
@@ -146,10 +142,28 @@ fn count_record(tally: &mut Tally, why: Option<Why>, time: Option<u64>)
     tally.records = place.record;
     tally.fragments = counted_if(is_fragment(why), tally.fragments);
     tally.cut_frames = counted_if(is_cut_frame(why), tally.cut_frames);
-    tally.cut_short = first_place(tally.cut_short, is_cut_short(why), place);
     tally.ran_back = first_place(tally.ran_back, runs_back(tally.last, time), place);
     tally.jumped = first_place(tally.jumped, jumps(tally.last, time), place);
     tally.last = last_time(tally.last, time);
+}
+
+/// Counts one more record of this time that isn't chosen, with the link of its PIM packet, if it has
+/// one.
+fn count_unchosen_record(tally: &mut Tally, link: Option<Link>, time: Option<u64>)
+    ensures { tally.new ≡ tally_unchosen tally.old link time }
+{
+    tally.unchosen = count_unchosen(tally.unchosen, link);
+    count_record(tally, Some(Why::NotChosen(link)), time);
+}
+
+/// Counts one more record, inside which its file ends.
+fn count_cut_short(tally: &mut Tally)
+    ensures { tally.new ≡ tally_cut_short tally.old }
+{
+    let place = tally.next_place();
+    let has_slot = add(&mut tally.cut_short, place);
+    tally.more_cut_short = counted_if(!has_slot, tally.more_cut_short);
+    count_record(tally, Some(Why::CutShort), None);
 }
 
 /// Goes on with the next file.
@@ -161,13 +175,16 @@ fn go_on(tally: &mut Tally)
 }
 
 /// Counts a record of this time that is skipped for this reason. The beginning of a file is no
-/// record, nor is what is told of incomplete packets.
+/// record, nor is the link of a packet or a report of incomplete packets.
 fn count_skipped(tally: &mut Tally, why: Why, time: Option<u64>)
     ensures { tally.new ≡ tally_skipped tally.old why time }
 {
     match why {
         Why::NextFile => go_on(tally),
         Why::Incomplete(packets) => tally.incomplete = packets,
+        Why::OfLink(_) => {}
+        Why::NotChosen(link) => count_unchosen_record(tally, link, time),
+        Why::CutShort => count_cut_short(tally),
         _ => count_record(tally, Some(why), time),
     }
 }
@@ -218,7 +235,9 @@ impl Tally {
             fragments: 0,
             incomplete: None,
             cut_frames: 0,
-            cut_short: None,
+            cut_short: [None; 16],
+            more_cut_short: 0,
+            unchosen: None,
             last: None,
             ran_back: None,
             jumped: None,
@@ -226,11 +245,11 @@ impl Tally {
         }
     }
 
-    /// Begins a census of messages of this family.
-    pub(crate) fn begin_census(&mut self, family: AddressFamily)
-        ensures { self.new ≡ census_begun family self.old }
+    /// Begins a census of messages of the family, for a router with this address.
+    pub(crate) fn begin_census<F: Family>(&mut self, own: F::Addr)
+        ensures { self.new ≡ census_begun F.family (F.bytes_of own) self.old }
     {
-        self.census = Some(Census::new(family));
+        self.census = Some(Census::new::<F>(own));
     }
 
     /// The place of the record that is taken next.

@@ -4,11 +4,12 @@ ghost use Rattle.std.specs.Prelude.{◌≡◌, ◌<◌, ◌^◌, ℕ, List, leng
 ghost use Rattle.pim_frame.specs.Seen.{content_of};
 ghost use Rattle.pim_jp.specs.Seen.{entry_seen};
 ghost use Rattle.pim_jp.specs.Spelling.{is_star};
-ghost use Rattle.pim_merge.specs.Census.{joins_star, stars_after, stars_with, with_message};
-ghost use Rattle.pim_merge.specs.Census.{body_message, content_message, message_in};
+ghost use Rattle.pim_merge.specs.Census.{joins_star, groups_after, groups_with, with_message};
+ghost use Rattle.pim_merge.specs.Census.{body_message, content_message, message_of_others};
+ghost use Rattle.pim_merge.specs.Census.{with_own, with_other};
 
-use crate::census::slots::{add_address, add_star, field_of};
-use crate::census::{Census, StarJoin};
+use crate::census::Census;
+use crate::slots::{add, field_of};
 use pim_addr::Family;
 use pim_frame::{Body, open};
 use pim_jp::{Entry, JpView, SetView, Sets};
@@ -35,35 +36,50 @@ fn joins_star<F: Family>(set: &SetView<'_, F>) -> bool
     false
 }
 
-/// Adds the Join(\*,G) of a group set of a message for this upstream neighbour, if it has one.
-fn add_joined<F: Family>(stars: &mut [Option<StarJoin>], upstream: F::Addr, set: &SetView<'_, F>)
-    ensures { stars.new ≡ stars_after (F.bytes_of upstream) stars.old set.now }
+/// Adds the group of a group set of a message, if the set joins (\*,G).
+fn add_joined<F: Family>(groups: &mut [Option<[u8; 16]>], set: &SetView<'_, F>)
+    ensures { groups.new ≡ groups_after groups.old set.now }
 {
     if joins_star(set) {
-        let star = StarJoin {
-            upstream: field_of::<F>(upstream),
-            group: field_of::<F>(set.group()),
-        };
-        add_star(stars, star);
+        let _is_added = add(groups, field_of::<F>(set.group()));
     }
 }
 
 /// Adds those of the group sets of a message, in their order.
-fn add_all_joined<F: Family>(stars: &mut [Option<StarJoin>], upstream: F::Addr, sets: Sets<'_, F>)
-    ensures { stars.new ≡ stars_with (F.bytes_of upstream) sets.entry stars.old }
+fn add_all_joined<F: Family>(groups: &mut [Option<[u8; 16]>], sets: Sets<'_, F>)
+    ensures { groups.new ≡ groups_with sets.entry groups.old }
 {
     for set in sets {
-        add_joined::<F>(stars, upstream, &set);
+        add_joined::<F>(groups, &set);
     }
+}
+
+/// Counts a message for the own address.
+fn count_own<F: Family>(census: &mut Census, message: &JpView<'_, F>)
+    ensures { census.new ≡ with_own census.old message.now }
+{
+    census.is_named = true;
+    add_all_joined::<F>(&mut census.groups, message.sets());
+}
+
+/// Counts a message for another upstream neighbour.
+fn count_other(census: &mut Census, upstream: [u8; 16])
+    ensures { census.new ≡ with_other census.old upstream }
+{
+    let has_slot = add(&mut census.upstreams, upstream);
+    census.has_more |= !has_slot;
 }
 
 /// Counts a message.
 fn count_message<F: Family>(census: &mut Census, message: &JpView<'_, F>)
     ensures { census.new ≡ with_message census.old (Some message.now) }
 {
-    let upstream = message.upstream();
-    add_address(&mut census.upstreams, field_of::<F>(upstream));
-    add_all_joined::<F>(&mut census.stars, upstream, message.sets());
+    let upstream = field_of::<F>(message.upstream());
+    if census.own == upstream {
+        count_own::<F>(census, message);
+    } else {
+        count_other(census, upstream);
+    }
 }
 
 /// Counts a Join/Prune body, if it has no fault.
@@ -86,8 +102,8 @@ fn count_content<F: Family>(census: &mut Census, content: Body<'_>)
     }
 }
 
-/// Counts the PIM message of a packet, if it is a Join/Prune, and neither header nor body has a
-/// fault.
+/// Counts the PIM message of a packet, if it is a Join/Prune, neither header nor body has a fault,
+/// and another router sent it.
 pub(crate) fn count_of<F: Family>(
     census: &mut Census,
     source: F::Addr,
@@ -95,9 +111,12 @@ pub(crate) fn count_of<F: Family>(
     payload: &[u8],
 )
     requires { length payload.now < 2 ^ 32 }
-    ensures { census.new ≡ with_message census.old
-        (message_in F.family (F.bytes_of source) (F.bytes_of destination) payload.now) }
+    ensures { census.new ≡ with_message census.old (message_of_others census.old.own F.family
+        (F.bytes_of source) (F.bytes_of destination) payload.now) }
 {
+    if census.own == field_of::<F>(source) {
+        return;
+    }
     if let Ok(content) = open::<F>(source, destination, payload) {
         count_content::<F>(census, content);
     }

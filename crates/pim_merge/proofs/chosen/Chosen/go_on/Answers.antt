@@ -9,7 +9,7 @@ returns-then-len-self-clause-answer g c bytes =
     let self = c.args.self.now in
     no_file self.is_begun self.taker (left_of_file g.R.Feed.remaining self) (all_known g.R.Feed.remaining (later_of
     self))
-    (none_follow g.R.Feed.remaining self.others.items self.files_read (omega arith)) c.requires
+    (none_follow g.R.Feed.remaining self.others.items self.files_read (omega arith)) c.requires.link c.requires.reported
 
 pub returns-clause-answer : goal.returns-clause-answer
 returns-clause-answer g c bytes =
@@ -23,4 +23,4 @@ returns-clause-answer g c bytes =
     (others_follow g.R.Feed.remaining self.others.items self.files_read c.exchange.new.device)
     (one_follows g.R.Feed.remaining self.others.items self.files_read device below
     ∙ ap (λ d. known_too (g.R.Feed.remaining d) (all_known g.R.Feed.remaining (drop (self.files_read + 1) self.others.items)))
-    (sym c.index_mut.ensures.value)) c.requires c.go_on.ensures
+    (sym c.index_mut.ensures.value)) c.requires.link c.requires.reported c.go_on.ensures

@@ -1,5 +1,5 @@
 use Rattle.std.proofs.Common.{Bool, sym, subst, vec_capacity}
-use Rattle.pim_merge.specs.Source.{Allocates, GrowsWithin, coming_unless, fragment_unless, needs_unless, read_coming, read_fragment, read_needs, chosen_needs, piece_capacity, places}
+use Rattle.pim_merge.specs.Source.{Allocates, GrowsWithin, coming_unless, held_unless, needs_unless, read_coming, read_held, read_needs, chosen_needs, piece_capacity, places}
 use Rattle.pim_merge.proofs.Needing.{memory_of, within_same}
 use Rattle.pim_merge.proofs.chosen.Chosen.next.Goals as goal
 
@@ -13,7 +13,7 @@ returns-clause-memory g c =
     (subst (λ (over : Bool). Allocates (vec_capacity c.args.buffer.now) (piece_capacity self) (places self)
     (coming_unless over (read_coming g.R.Feed.remaining self)) (needs_unless over (read_needs g.R.Feed.remaining
     self))
-    (fragment_unless over (read_fragment g.R.Feed.remaining self)))
+    (held_unless over (read_held g.R.Feed.remaining self)))
     (sym c.if-self.false))
     c.read_on-result.ensures.memory
 

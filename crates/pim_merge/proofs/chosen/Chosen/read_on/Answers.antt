@@ -42,7 +42,7 @@ loop-event-preserved g c =
       c.step.ensures.length,
       hold_more _ _ _ _ _ _ _ _ _ _ _ _ _ _ _ _ _ _ c.loop-event.invariant.2 stays (c.in_ok-event.ensures.needs
           c.in_default.is)
-          (c.in_ok-event.ensures.fragment c.in_default.is) c.step.ensures.piece
+          (c.in_ok-event.ensures.held c.in_default.is) c.step.ensures.piece
           (c.in_ok-event.ensures.rooms c.in_default.is),
     )
 

@@ -5,40 +5,47 @@ use Rattle.pim_merge.proofs.Words.{read_needs, SomeExceeds, GrowsWithin}
 use Rattle.pim_capture.specs.Next as classic
 use Rattle.pim_container.specs.Next.{coming, IsNext, pieces_left}
 use Rattle.pim_container.specs.EventSeen.{event_seen}
-use Rattle.pim_merge.proofs.Needing.{within_same, memory_weaker, fails_memory, uncut_needs, asks_need, grows_need, asks_record, passes_given, passes_uncut, stays_fragment, given_none, grows_up, list_up}
+use Rattle.pim_merge.proofs.Needing.{within_same, memory_weaker, fails_memory, uncut_needs, asks_need, grows_need, asks_record, passes_given, passes_uncut, stays_held, given_none, grows_up, list_up}
 use Rattle.pim_merge.proofs.Failures.{moves}
-use Rattle.pim_merge.proofs.Choosing.{tells, told_left, stepped, stepped_fault, after_cut, after_end, fails, fails_reads, fails_left, fails_payload, fails_moment, no_reads, stepped_left}
+use Rattle.pim_merge.proofs.Choosing.{reports, report_left, now_reported, is_done, stepped, stepped_fault, after_cut, after_end, fails, fails_reads, fails_left, fails_payload, fails_moment, no_reads, stepped_left}
 use Rattle.pim_merge.proofs.chosen.Chosen.step.Goals as goal
 
--- ---- what is told of incomplete packets
+-- ---- a report
 
 pub returns-in-Some-clause-answer : goal.returns-in-Some-clause-answer
 returns-in-Some-clause-answer g c =
     let self = c.args.self.now in
     let bytes = c.args.buffer.now.items in
-    tells self.is_begun self.taker c.tell.new.self (left_of_file g.R.Feed.remaining self)
-    (all_known g.R.Feed.remaining (later_of self)) (classic.event_seen bytes c.in-Some.news)
-    (sym (ap (option_map (classic.event_seen bytes)) c.in-Some.is) ∙ c.tell.ensures.news bytes) c.tell.ensures.told
+    reports self.is_begun self.taker c.report.new.self (left_of_file g.R.Feed.remaining self)
+    (all_known g.R.Feed.remaining (later_of self)) (classic.event_seen bytes c.in-Some.report)
+    (sym (ap (option_map (classic.event_seen bytes)) c.in-Some.is) ∙ c.report.ensures.report bytes) c.report.ensures.reported
 
 pub returns-in-Some-clause-left : goal.returns-in-Some-clause-left
 returns-in-Some-clause-left g c =
     let self = c.args.self.now in
-    told_left (pieces_left self.reader.state * 2 + cut_left self.is_cut) (length (later_of self) * 8589934594)
+    report_left (pieces_left self.reader.state * 3 + cut_left self.is_cut) (length (later_of self) * 12884901890)
     self.taker
-    c.tell.new.self c.in-Some.news (classic.event_seen [] c.in-Some.news)
-    (sym (ap (option_map (classic.event_seen [])) c.in-Some.is) ∙ c.tell.ensures.news []) c.tell.ensures.told
+    c.report.new.self c.in-Some.report (classic.event_seen [] c.in-Some.report)
+    (sym (ap (option_map (classic.event_seen [])) c.in-Some.is) ∙ c.report.ensures.report []) c.report.ensures.reported
 
 pub returns-in-Some-clause-payload : goal.returns-in-Some-clause-payload
 returns-in-Some-clause-payload g c = c.in-Some.ensures.payload c.args.buffer.now.items
 
 -- ---- the file was cut before
 
+pub go_on-requires-clause-reported : goal.go_on-requires-clause-reported
+go_on-requires-clause-reported g c =
+    is_done c.args.self.now.taker c.report.new.self
+    (sym (c.report.ensures.report []) ∙ ap (option_map (classic.event_seen [])) c.in_default.is)
+    c.report.ensures.reported
+
 pub returns-then-self-clause-answer : goal.returns-then-self-clause-answer
 returns-then-self-clause-answer g c =
     let self = c.args.self.now in
-    after_cut self.is_begun self.is_cut self.taker c.tell.new.self (coming g.R.Feed.remaining self.reader)
+    after_cut self.is_begun self.is_cut self.taker c.report.new.self (coming g.R.Feed.remaining self.reader)
     (all_known g.R.Feed.remaining (later_of self)) _ _ c.if-self.true
-    (sym (c.tell.ensures.news []) ∙ ap (option_map (classic.event_seen [])) c.in_default.is) c.tell.ensures.told
+    (sym (c.report.ensures.report []) ∙ ap (option_map (classic.event_seen [])) c.in_default.is)
+    (now_reported self.taker c.report.new.self (sym (c.report.ensures.report []) ∙ ap (option_map (classic.event_seen [])) c.in_default.is) c.report.ensures.reported)
     (c.go_on.ensures.answer c.args.buffer.now.items)
 
 pub returns-then-self-clause-payload : goal.returns-then-self-clause-payload
@@ -54,11 +61,12 @@ pub returns-in-Err-clause-answer : goal.returns-in-Err-clause-answer
 returns-in-Err-clause-answer g c =
     let self = c.args.self.now in
     rw (c.failed.ensures) (fails (g.R.Feed.failures self.reader.device) (g.R.Feed.failures c.next.new.self.device) _ _
-    self.is_cut c.is_cut-cut.result self.is_begun self.taker c.tell.new.self
+    self.is_cut c.is_cut-cut.result self.is_begun self.taker c.report.new.self
     (coming g.R.Feed.remaining self.reader) (coming g.R.Feed.remaining c.next.new.self)
     (all_known g.R.Feed.remaining (later_of self))
     c.in-Err.fault c.args.buffer.now.items c.if-self.false (sym c.is_cut-cut.ensures)
-    (sym (c.tell.ensures.news []) ∙ ap (option_map (classic.event_seen [])) c.in_default.is) c.tell.ensures.told
+    (sym (c.report.ensures.report []) ∙ ap (option_map (classic.event_seen [])) c.in_default.is)
+    (now_reported self.taker c.report.new.self (sym (c.report.ensures.report []) ∙ ap (option_map (classic.event_seen [])) c.in_default.is) c.report.ensures.reported)
     (moves g.R.Feed.failures self.reader.device c.next.new.self.device self.others.items) c.in-Err.ensures.answer)
 
 pub returns-in-Err-clause-reads : goal.returns-in-Err-clause-reads
@@ -71,9 +79,10 @@ pub returns-in-Err-clause-left : goal.returns-in-Err-clause-left
 returns-in-Err-clause-left g c =
     let self = c.args.self.now in
     rw (c.failed.ensures) (fails_left (pieces_left self.reader.state) (pieces_left c.next.new.self.state) (length
-    (later_of self) * 8589934594)
-    self.is_cut c.is_cut-cut.result self.taker c.tell.new.self c.in-Err.fault c.if-self.false (ap pieces_left
-    c.in-Err.ensures.over) c.tell.ensures.told)
+    (later_of self) * 12884901890)
+    self.is_cut c.is_cut-cut.result self.taker c.report.new.self c.in-Err.fault c.if-self.false (ap pieces_left
+    c.in-Err.ensures.over)
+    (now_reported self.taker c.report.new.self (sym (c.report.ensures.report []) ∙ ap (option_map (classic.event_seen [])) c.in_default.is) c.report.ensures.reported))
 
 pub returns-in-Err-clause-payload : goal.returns-in-Err-clause-payload
 returns-in-Err-clause-payload g c = rw (c.failed.ensures) (fails_payload c.is_cut-cut.result c.in-Err.fault _)
@@ -111,10 +120,11 @@ returns-in_err-event-clause-answer g c =
     let new = coming g.R.Feed.remaining c.next.new.self in
     let P : List ℕ → Type 0 = λ bytes. ⊥ ⊎ IsNext old (Ok (event_seen bytes c.in-Ok.event)) new in
     let p = err_from_is_err_and c.from_residual.result c.from_residual.ensures.1 in
-    rw (p.1, p.2) (stepped_fault _ _ self.is_cut self.is_begun self.taker c.tell.new.self c.take.new.self old new
+    rw (p.1, p.2) (stepped_fault _ _ self.is_cut self.is_begun self.taker c.report.new.self c.take.new.self old new
     (all_known g.R.Feed.remaining (later_of self)) c.in-Ok.event c.as_slice.result.now c.take.new.buffer.items
     c.if-self.false
-    (sym (c.tell.ensures.news []) ∙ ap (option_map (classic.event_seen [])) c.in_default.is) c.tell.ensures.told
+    (sym (c.report.ensures.report []) ∙ ap (option_map (classic.event_seen [])) c.in_default.is)
+    (now_reported self.taker c.report.new.self (sym (c.report.ensures.report []) ∙ ap (option_map (classic.event_seen [])) c.in_default.is) c.report.ensures.reported)
     (subst P (sym c.as_slice.ensures.value) c.in-Ok.ensures.answer) c.in_err-event.field-0.0
     c.in_err-event.ensures.answer)
 
@@ -133,10 +143,11 @@ returns-in_err-event-clause-memory g c =
     let p = err_from_is_err_and c.from_residual.result c.from_residual.ensures.1 in
     rw (p.1, p.2) (memory_weaker (Option Event) (Option Event) c.in_err-event.field-0.0 _ _
     (asks_record (vec_capacity c.args.buffer.now) (piece_capacity self) (places self) self.is_cut self.is_begun
-    self.taker c.tell.new.self old new
+    self.taker c.report.new.self old new
     (all_known g.R.Feed.remaining (later_of self)) c.in-Ok.event c.as_slice.result.now (read_needs
     g.R.Feed.remaining self) c.if-self.false
-    (sym (c.tell.ensures.news []) ∙ ap (option_map (classic.event_seen [])) c.in_default.is) c.tell.ensures.told
+    (sym (c.report.ensures.report []) ∙ ap (option_map (classic.event_seen [])) c.in_default.is)
+    (now_reported self.taker c.report.new.self (sym (c.report.ensures.report []) ∙ ap (option_map (classic.event_seen [])) c.in_default.is) c.report.ensures.reported)
     (subst P (sym c.as_slice.ensures.value) c.in-Ok.ensures.answer))
     c.in_err-event.ensures.memory)
 
@@ -150,16 +161,24 @@ returns-in_err-event-clause-piece g c =
 
 -- ---- the end of a file
 
+pub go_on-requires-then-is_last-clause-reported : goal.go_on-requires-then-is_last-clause-reported
+go_on-requires-then-is_last-clause-reported g c =
+    ap (λ s. s.is_reported) (c.take.ensures.ended (sym c.is_end-is_last.ensures ∙ c.if-is_last.true))
+    ∙ is_done c.args.self.now.taker c.report.new.self
+    (sym (c.report.ensures.report []) ∙ ap (option_map (classic.event_seen [])) c.in_default.is)
+    c.report.ensures.reported
+
 pub returns-then-is_last-clause-answer : goal.returns-then-is_last-clause-answer
 returns-then-is_last-clause-answer g c =
     let self = c.args.self.now in
     let old = coming g.R.Feed.remaining self.reader in
     let new = coming g.R.Feed.remaining c.next.new.self in
     let P : List ℕ → Type 0 = λ bytes. ⊥ ⊎ IsNext old (Ok (event_seen bytes c.in-Ok.event)) new in
-    after_end self.is_begun self.is_cut self.taker c.tell.new.self c.take.new.self old new
+    after_end self.is_begun self.is_cut self.taker c.report.new.self c.take.new.self old new
     (all_known g.R.Feed.remaining (later_of self)) c.in-Ok.event c.as_slice.result.now c.take.new.buffer.items _ _ _
     c.if-self.false (sym c.is_end-is_last.ensures ∙ c.if-is_last.true)
-    (sym (c.tell.ensures.news []) ∙ ap (option_map (classic.event_seen [])) c.in_default.is) c.tell.ensures.told
+    (sym (c.report.ensures.report []) ∙ ap (option_map (classic.event_seen [])) c.in_default.is)
+    (now_reported self.taker c.report.new.self (sym (c.report.ensures.report []) ∙ ap (option_map (classic.event_seen [])) c.in_default.is) c.report.ensures.reported)
     (subst P (sym c.as_slice.ensures.value) c.in-Ok.ensures.answer) c.in_ok-event.ensures.state
     c.in_ok-event.ensures.answer
     (c.go_on-then-is_last.ensures.answer c.take.new.buffer.items)
@@ -184,10 +203,11 @@ returns-clause-answer g c =
     let old = coming g.R.Feed.remaining self.reader in
     let new = coming g.R.Feed.remaining c.next.new.self in
     let P : List ℕ → Type 0 = λ bytes. ⊥ ⊎ IsNext old (Ok (event_seen bytes c.in-Ok.event)) new in
-    stepped 0 0 self.is_cut self.is_begun self.taker c.tell.new.self c.take.new.self old new
+    stepped 0 0 self.is_cut self.is_begun self.taker c.report.new.self c.take.new.self old new
     (all_known g.R.Feed.remaining (later_of self)) c.in-Ok.event c.as_slice.result.now c.take.new.buffer.items
     c.if-self.false
-    (sym (c.tell.ensures.news []) ∙ ap (option_map (classic.event_seen [])) c.in_default.is) c.tell.ensures.told
+    (sym (c.report.ensures.report []) ∙ ap (option_map (classic.event_seen [])) c.in_default.is)
+    (now_reported self.taker c.report.new.self (sym (c.report.ensures.report []) ∙ ap (option_map (classic.event_seen [])) c.in_default.is) c.report.ensures.reported)
     (subst P (sym c.as_slice.ensures.value) c.in-Ok.ensures.answer) _
     (sym c.is_end-is_last.ensures ∙ c.if-is_last.false) c.in_ok-event.ensures.state c.in_ok-event.ensures.answer
 
@@ -200,7 +220,7 @@ pub returns-clause-left : goal.returns-clause-left
 returns-clause-left g c =
     let self = c.args.self.now in
     stepped_left (pieces_left self.reader.state) (pieces_left c.next.new.self.state) (length (later_of self) *
-    8589934594)
+    12884901890)
     self.is_cut self.taker c.take.new.self c.in-Ok.event (Ok _) (sym c.is_end-is_last.ensures
     ∙ c.if-is_last.false) c.in-Ok.ensures.fewer
 
@@ -219,20 +239,22 @@ returns-clause-needs g c none =
     let new = needs_of g.R.Feed.remaining c.next.new.self in
     let seen = c.as_slice.result.now in
     passes_uncut self.is_cut old new c.if-self.false
-    (passes_given c.tell.new.self c.in-Ok.event seen old new
-    (given_none (event_given c.tell.new.self (event_seen seen c.in-Ok.event)) c.take.new.buffer.items _
+    (passes_given c.report.new.self c.in-Ok.event seen old new
+    (given_none (event_given c.report.new.self (event_seen seen c.in-Ok.event)) c.take.new.buffer.items _
     c.in_ok-event.ensures.answer none)
     (sym c.is_end-is_last.ensures ∙ c.if-is_last.false) c.in-Ok.ensures.ahead)
 
-pub returns-clause-fragment : goal.returns-clause-fragment
-returns-clause-fragment g c none =
+pub returns-clause-held : goal.returns-clause-held
+returns-clause-held g c none =
     let self = c.args.self.now in
     let old = coming g.R.Feed.remaining self.reader in
     let new = coming g.R.Feed.remaining c.next.new.self in
     let seen = c.as_slice.result.now in
     let P : List ℕ → Type 0 = λ bytes. ⊥ ⊎ IsNext old (Ok (event_seen bytes c.in-Ok.event)) new in
-    stays_fragment self.is_cut c.tell.new.self old new c.in-Ok.event seen c.if-self.false
-    (given_none (event_given c.tell.new.self (event_seen seen c.in-Ok.event)) c.take.new.buffer.items _
+    stays_held self.is_cut self.taker c.report.new.self c.take.new.self old new c.in-Ok.event seen c.if-self.false
+    (sym (c.report.ensures.report []) ∙ ap (option_map (classic.event_seen [])) c.in_default.is)
+    c.report.ensures.reported c.in_ok-event.ensures.state
+    (given_none (event_given c.report.new.self (event_seen seen c.in-Ok.event)) c.take.new.buffer.items _
     c.in_ok-event.ensures.answer none)
     (sym c.is_end-is_last.ensures ∙ c.if-is_last.false) (subst P (sym c.as_slice.ensures.value) c.in-Ok.ensures.answer)
 

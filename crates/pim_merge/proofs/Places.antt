@@ -1,7 +1,8 @@
 -- The place of an item among slots, slot by slot.
 use Rattle.std.proofs.Common.{◌≡◌, ◌∙◌, ◌≤◌, ◌<◌, ◌+◌, ℕ, suc, Bool, true, false, cond, List, Option, length, drop, get_or, ap, arith}
 use Rattle.std.proofs.lemmas.List.{at_drop_more, at_drop_all}
-use Rattle.pim_merge.specs.CensusPlaces.{takes, place_of}
+use Rattle.pim_merge.specs.Places.{place_of}
+use Rattle.pim_merge.specs.Slots.{takes}
 
 module _ {A : Type 0} (is_it : A → Bool) (slots : List (Option A)) (i : ℕ) where
   step : (d : Option A) → i < length slots → (b : Bool) → takes is_it (get_or slots i d) ≡ b → place_of is_it (drop i slots) ≡ cond b 0 (suc (place_of is_it (drop (i + 1) slots)))

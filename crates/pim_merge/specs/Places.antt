@@ -1,10 +1,6 @@
 -- The number of the slot that an item has or takes. Only contracts of private functions cite it.
-use Rattle.std.specs.Prelude.{ℕ, suc, Bool, true, List, [], ◌∷◌, Option, None, Some, if◌then◌else◌}
-
--- A slot takes an item if it is free or already has that item.
-abbrev pub takes : {A : Type 0} → (A → Bool) → Option A → Bool
-takes is_it None = true
-takes is_it (Some held) = is_it held
+use Rattle.std.specs.Prelude.{ℕ, suc, Bool, List, [], ◌∷◌, Option, if◌then◌else◌}
+use Rattle.pim_merge.specs.Slots.{takes}
 
 -- The number of the first slot that takes an item; the number of slots if there is none.
 unfoldable pub place_of : {A : Type 0} → (A → Bool) → List (Option A) → ℕ

@@ -1,5 +1,5 @@
 use Rattle.pim_merge.proofs.Counted.{missed}
-use Rattle.pim_merge.proofs.laws.missed_is_listed_by_none.Goals as goal
+use Rattle.pim_merge.proofs.laws.missed_is_named_by_none.Goals as goal
 
 pub returns : goal.returns
 returns c = missed
