@@ -159,8 +159,8 @@ class _Counts:
 
 
 def _counted(words: Sequence[str], ports: Sequence[Port]) -> Iterator[_Counted]:
-    """The lines of a trace. The number of a record doesn't tell which file of its port it is in:
-    where ports have further files, a second trace that leaves nothing out counts the records."""
+    """The lines of a trace. Where ports have further files, of which one may come twice, a second
+    trace that leaves nothing out counts the records."""
     pairs = events.lines(words, captures.standard_input())
     if all(len(port.files) == 1 for port in ports):
         yield from _counted_by_frame(pairs)
@@ -170,11 +170,11 @@ def _counted(words: Sequence[str], ports: Sequence[Port]) -> Iterator[_Counted]:
         yield event, text, counts.up_to(event)
 
 
-def _gather(words: Sequence[str], ports: Sequence[Port]) -> _Trace:
+def _gather(words: Sequence[str], ports: Sequence[Port], names: Mapping[str, str]) -> _Trace:
     trace = _Trace({port.name: _Notes() for port in ports})
     try:
         for event, text, count in _counted(words, ports):
-            trace.add(event, text, count)
+            trace.add(event, events.with_names(text, names), count)
     except PimtreeFault as fault:
         trace.fault = fault
     return trace
@@ -188,10 +188,10 @@ def _with_names(words: str, names: Mapping[str, str]) -> str:
 
 
 def _traced(words: Sequence[str], ports: Sequence[Port], names: Mapping[str, str]) -> _Trace:
-    """The lines of a trace. Its fault and warnings name files as the person did."""
+    """The lines of a trace. They, its fault and its warnings name files as the person did."""
     with warnings.catch_warnings(record=True) as caught:
         warnings.simplefilter("always")
-        trace = _gather(words, ports)
+        trace = _gather(words, ports, names)
     for warning in caught:
         warnings.warn(_with_names(str(warning.message), names), events.PimtreeWarning)
     if trace.fault is not None:

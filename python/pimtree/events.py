@@ -43,13 +43,15 @@ class HelloHeard(Event):
     """A Hello that was taken."""
 
     frame: int
-    """The number of the record in the port's file."""
+    """The number of the record in its file."""
     sender: str
     verdict: str
     """`new`, `same`, `restarted` or `gone`."""
     was: Optional[int]
     """The Generation ID before."""
     generation: Optional[int]
+    file: Optional[str] = None
+    """The name of the file of the record, where its port has several."""
 
 
 @dataclass(frozen=True)
@@ -63,6 +65,8 @@ class PacketHeard(Event):
     """The upstream neighbour of a Join/Prune message."""
     joined: Optional[int]
     pruned: Optional[int]
+    file: Optional[str] = None
+    """The name of the file of the record, where its port has several."""
 
 
 @dataclass(frozen=True)
@@ -86,6 +90,10 @@ class Transition(Event):
     neighbours: int
     overrides: Optional[int]
     """The record whose prune this join undid."""
+    file: Optional[str] = None
+    """The name of the file of the record, where its port has several."""
+    overrides_file: Optional[str] = None
+    """The name of the file of that record, likewise."""
 
 
 @dataclass(frozen=True)
@@ -97,6 +105,8 @@ class IgnoredJoin(Event):
     group: str
     names: str
     rp: Optional[str]
+    file: Optional[str] = None
+    """The name of the file of the record, where its port has several."""
 
 
 @dataclass(frozen=True)
@@ -106,6 +116,8 @@ class Restarted(Event):
     frame: int
     was: Optional[int]
     generation: Optional[int]
+    file: Optional[str] = None
+    """The name of the file of the record, where its port has several."""
 
 
 @dataclass(frozen=True)
@@ -114,6 +126,8 @@ class Skipped(Event):
 
     frame: int
     why: str
+    file: Optional[str] = None
+    """The name of the file of the record, where its port has several."""
 
 
 @dataclass(frozen=True)
@@ -123,6 +137,8 @@ class Cause:
     frame: int
     ms: int
     sender: Optional[str] = None
+    file: Optional[str] = None
+    """The name of the file of the record, where its port has several."""
 
 
 @dataclass(frozen=True)
@@ -205,6 +221,8 @@ _KINDS: Dict[str, Type[Event]] = {
 }
 NAMES = tuple(_KINDS)
 """The names of events, as `trace --json` writes them."""
+_FILES = ("file", "overrides_file")
+"""The members with names of files."""
 _RENAMED = {"from": "sender", "for": "upstream"}
 _RENAMED_IN_RECORDS = {**_RENAMED, "for": "held_for"}
 
@@ -274,13 +292,29 @@ def events(words: Sequence[str], stdin: program.Input = None) -> Iterator[Event]
         yield event_of(json.loads(row))
 
 
+def with_names(text: str, names: Mapping[str, str]) -> str:
+    """A line with the names of the files that others stand for, as `names` has them."""
+    for copy, file in names.items():
+        text = text.replace(f"{copy}#", f"{file}#")
+    return text
+
+
+def _with_names(members: Dict[str, Any], names: Mapping[str, str]) -> Dict[str, Any]:
+    """The same of an object."""
+    changed = {it: names.get(members[it], members[it]) for it in _FILES if members.get(it)}
+    if "cause" in members:
+        changed["cause"] = _with_names(members["cause"], names)
+    return {**members, **changed}
+
+
 def lines(words: Sequence[str], stdin: IO[bytes]) -> Iterator[Tuple[Event, str]]:
     """Each event of a trace with its text line. The program runs twice, once for each form, and so
     pipes and standard input are kept in files."""
     with arguments.kept(words, stdin) as (kept, names):
         with contextlib.closing(_rows(kept, subprocess.DEVNULL, names)) as texts:
             for row in _rows(["--json", *kept], subprocess.DEVNULL, names):
-                yield event_of(json.loads(row)), next(texts, "")
+                event = event_of(_with_names(json.loads(row), names))
+                yield event, with_names(next(texts, ""), names)
 
 
 def trace(

@@ -109,9 +109,10 @@ class Lines(Folder):
         ]
         files = [self.file(f"{at}", data) for at, data in enumerate(made_by)]
         words = [f"lan={OWN}@{files[0]}", *(f"+{it}" for it in files[1:])]
-        numbers = [number for part in parts for number in range(1, len(part) + 1)]
+        places = [f" {file}#{number}" for file, part in zip(files, parts)
+                  for number in range(1, len(part) + 1)]
         expected = {
-            at: [re.sub("#[0-9]+", f"#{numbers[at - 1]}", line) for line in lines]
+            at: [re.sub(" #[0-9]+", places[at - 1], line) for line in lines]
             for at, lines in LAN_COMMENTS.items()
         }
         for filters in ((), ("--group", "239.2.2.2"), ("--from", "3000")):

@@ -451,7 +451,7 @@ class Pictures(InFolder):
 
     def test_a_cut_file(self) -> None:
         path = self.path("chart.svg")
-        ran = run_chart("-o", path, "10.0.0.2@examples/fault.pcap")
+        ran = run_chart("-o", path, "--rp", "10.9.9.9", "10.0.0.2@examples/fault.pcap")
         warning = "pimtree: warning: examples/fault.pcap ends inside record 8\n"
         self.assertEqual((ran.stderr, ran.returncode), (warning, 0))
         self.assertTrue(os.path.exists(path))

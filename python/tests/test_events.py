@@ -187,6 +187,25 @@ class Events(unittest.TestCase):
                 found = events.lines(words, io.BytesIO(routes))
                 self.assertEqual([line for _, line in found], wanted)
 
+    def test_several_files(self) -> None:
+        """A port's files from standard input and of a name that JSON escapes, and a Prune(S,G,rpt)
+        of the first one that the second one overrides."""
+        last = support.write_capture(os.path.join(self.folder, 'b".pcap'), story()[7:])
+        words = ["--rp", RP, f"lan={OWN}@-", f"+{last}"]
+        first = support.write_capture(os.path.join(self.folder, "c.pcap"), story()[:7])
+        with open(first, "rb") as file:
+            pairs = list(events.lines(words, file))
+        with open(first, "rb") as file:
+            command = [support.PROGRAM, "trace", *words]
+            ran = subprocess.run(command, stdin=file, capture_output=True)
+        self.assertEqual([line for _, line in pairs], ran.stdout.decode().splitlines())
+        found = [it for it, _ in pairs if isinstance(it, (HelloHeard, Transition, TimedOut))]
+        self.assertEqual(found[0], HelloHeard(*self.at(0), 1, A, "new", None, 1, "-"))
+        end = ("prune-pending", "no-info", None, None, 2, 7, last, "-")
+        change = Transition(*self.at(200), 1, B, "end", "rpt", G, S, *end)
+        self.assertIn(change, found)
+        self.assertIn(TimedOut(*self.at(2000), A, Cause(1, 0, None, "-")), found)
+
     def test_standard_input_is_read_once(self) -> None:
         for words in [f"{OWN}@-", "+-"], ["--routes", "-", f"{OWN}@-"]:
             with self.subTest(words), self.assertRaises(PimtreeFault) as raised:
@@ -227,7 +246,7 @@ class Events(unittest.TestCase):
     def test_a_cut_file_is_warned_of(self) -> None:
         with warnings.catch_warnings(record=True) as caught:
             warnings.simplefilter("always")
-            list(trace(f"{OWN}@{support.example('fault.pcap')}"))
+            list(trace(f"{OWN}@{support.example('fault.pcap')}", rp="10.9.9.9"))
         self.assertEqual([it.category for it in caught], [PimtreeWarning])
         self.assertIn("ends inside record 8", str(caught[0].message))
 

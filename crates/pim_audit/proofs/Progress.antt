@@ -1,6 +1,7 @@
 -- How far captures were read, by a ledger.
 use Rattle.std.proofs.Common.{◌≡◌, ◌∙◌, ℕ, Option, None, Some, length, refl, ap}
 use Rattle.std.proofs.lemmas.List.{length-set}
+use Rattle.pim_capture.specs.declared.incomplete.RecordPlace.{RecordPlace}
 use Rattle.pim_merge.specs.Merge.{Taken, event_time}
 use Rattle.pim_trace.specs.Ledger.{Ledger, frame_of, frame_after, opened}
 use Rattle.pim_audit.specs.Own.{after_own}
@@ -26,7 +27,7 @@ counted_frames turn progress =
     length-set progress.frames turn.capture (frame_after turn.reported (frame_of turn.capture (ledger_of progress)))
 
 -- a record is counted
-pub opens : (turn : Taken) (next frame : ℕ) (time : Option ℕ) (before after : Ledger) → after ≡ opened turn.capture next time before
+pub opens : (turn : Taken) (next frame : RecordPlace) (time : Option ℕ) (before after : Ledger) → after ≡ opened turn.capture next time before
     → frame ≡ frame_of turn.capture before → next ≡ frame_after turn.reported frame → time ≡ event_time turn.reported
     → progress_of after ≡ counted turn (progress_of before)
 opens turn next frame time before after is frame_is next_is time_is =

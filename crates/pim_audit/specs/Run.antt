@@ -4,6 +4,7 @@ use Rattle.std.specs.Prelude.{Result, Ok, Err}
 use Rattle.std.specs.Io.KnownBytes.{Appends}
 use Rattle.std.specs.List.{flat_map}
 use Rattle.pim_addr.specs.declared.family.AddressFamily.{AddressFamily}
+use Rattle.pim_capture.specs.declared.incomplete.RecordPlace.{RecordPlace}
 use Rattle.pim_device.specs.Device.{AppendsFront}
 use Rattle.pim_merge.specs.declared.end.End.{End}
 use Rattle.pim_merge.specs.Content.{Content, holds, content_in}
@@ -34,11 +35,11 @@ use Rattle.pim_audit.specs.Totals.{nothing_counted, with_lines, with_all_open, s
 use Rattle.pim_audit.specs.Turn.{ReceivedMessage, TakesTurn}
 use Rattle.pim_audit.specs.TurnLines.{report_lines, end_lines, turn_lines}
 
--- How far captures were read, as the ledger of a trace has it: how many records of each file were
--- taken, and the time of the first record that has one. For each port it has the Generation ID of the
+-- How far captures were read, as the ledger of a trace has it: the place of the last record that was
+-- taken of each, and the time of the first record that has one. For each port it has the Generation ID of the
 -- last Hello that the port's own address sent.
 pub record Progress : Type 0 where
-  pub frames : List ℕ
+  pub frames : List RecordPlace
   pub begin : Option ℕ
   pub own : List (Option (Option ℕ))
 
@@ -94,8 +95,8 @@ message_in family other = None
 abbrev pub message_of : AddressFamily → Taken → Option ReceivedMessage
 message_of family turn = message_in family (content_in family turn.reported)
 
--- The record of the message, by its port and its number in its file.
-abbrev pub origin_of : ℕ → ℕ → Option ReceivedMessage → Option Origin
+-- The record of the message, by its port and its place in the port's capture.
+abbrev pub origin_of : ℕ → RecordPlace → Option ReceivedMessage → Option Origin
 origin_of port frame message =
     option_map (λ (received : ReceivedMessage). record { port = port; frame = frame; from = received.source }) message
 
@@ -104,8 +105,8 @@ abbrev pub own_in : ℕ → RouterState → Option ReceivedMessage → Option (O
 own_in port router None = None
 own_in port router (Some received) = own_generation port router received.source received.reading
 
--- The number of the record in its file that was counted last on this port.
-abbrev pub frame_on : ℕ → Progress → ℕ
+-- The place of the record that was counted last on this port.
+abbrev pub frame_on : ℕ → Progress → RecordPlace
 frame_on port progress = frame_of port (ledger_of progress)
 
 -- The restart of the router of which the message of a turn says, whose record was counted.

@@ -8,6 +8,7 @@ ghost use Rattle.pim_trace.specs.Kept.{ledger_seen};
 ghost use Rattle.pim_audit.specs.Own.{own_generation, own_restart, after_own};
 
 use pim_addr::Family;
+use pim_capture::RecordPlace;
 use pim_events::OwnRestart;
 use pim_router::{PimMessage, Router};
 use pim_trace::Ledger;
@@ -39,11 +40,11 @@ pub(crate) fn own_generation<F: Family>(
 }
 
 /// Remembers a Hello of the port's own address with this Generation ID, if there is one. Returns
-/// the restart of the router of which it says, in the record of this number.
+/// the restart of the router of which it says, in the record at this place.
 pub(crate) fn remember_own<F: Family>(
     ledger: &mut Ledger<F>,
     port: usize,
-    frame: u64,
+    frame: RecordPlace,
     generation: Option<Option<u32>>,
 ) -> Option<OwnRestart>
     requires { port < length ledger.old.own.items }

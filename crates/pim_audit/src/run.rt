@@ -27,6 +27,7 @@ use pim_addr::{Family, Feed};
 use pim_audit_events::{
     AuditEvent, AuditLine, AuditTotals, AuditWriter, MessageOrigin, write_lines,
 };
+use pim_capture::RecordPlace;
 use pim_local::LocalJoins;
 use pim_merge::{Content, End, Merge, Turn};
 use pim_router::{Router, read_message};
@@ -95,10 +96,10 @@ fn received_in<'b, F: Family>(turn: &Turn, bytes: &'b [u8]) -> Option<Received<'
     }
 }
 
-/// The record of a message, by its port and its number in its file.
+/// The record of a message, by its port and its place in the port's capture.
 fn origin_of<F: Family>(
     port: usize,
-    frame: u64,
+    frame: RecordPlace,
     received: &Option<Received<'_, F>>,
 ) -> Option<MessageOrigin<F::Addr>>
     ensures { option_map (origin_seen F.bytes_of) result ≡ origin_of port frame

@@ -1,14 +1,15 @@
 -- What an audit says of its turns, one line for each thing.
 use Rattle.std.specs.Prelude.{ℕ, List, Option}
+use Rattle.pim_capture.specs.declared.incomplete.RecordPlace.{RecordPlace}
 use Rattle.pim_down.specs.Hearing.{Event}
 use Rattle.pim_events.specs.declared.event.OwnRestart.{OwnRestart}
 use Rattle.pim_audit_events.specs.declared.line.AuditTotals.{AuditTotals}
 use Rattle.pim_audit_events.specs.declared.line.Loss.{Loss}
 
--- The record of a message: its port, its number in its file, and its IP source.
+-- The record of a message: its port, its place in the port's capture, and its IP source.
 pub record Origin : Type 0 where
   pub port : ℕ
-  pub frame : ℕ
+  pub frame : RecordPlace
   pub from : List ℕ
 
 -- What a line says. An entry is due; it is late, since it has been due from a moment on; it was

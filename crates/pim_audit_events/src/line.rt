@@ -1,5 +1,6 @@
 //! The lines of an audit, as values.
 
+use pim_capture::RecordPlace;
 use pim_down::Event;
 use pim_events::OwnRestart;
 
@@ -19,8 +20,8 @@ pub enum Loss {
 pub struct MessageOrigin<A> {
     /// The port, counted from 0.
     pub port: usize,
-    /// The number of the record in its file, from 1.
-    pub frame: u64,
+    /// Its place in the capture of the port.
+    pub frame: RecordPlace,
     /// The IP source.
     pub from: A,
 }

@@ -3,6 +3,7 @@ use Rattle.std.proofs.Common.{◌≡◌, ℕ, List, [], ◌∷◌, None, Some, c
 use Rattle.pim_addr.specs.declared.family.AddressFamily.{AddressFamily}
 use Rattle.pim_down.specs.Hearing.{Event}
 use Rattle.pim_lines.specs.ShortText.{short_text}
+use Rattle.pim_event_lines.specs.Files.{file_of, if_several}
 use Rattle.pim_event_lines.specs.JsonLine.{kind_word}
 use Rattle.pim_audit_events.specs.declared.line.AuditTotals.{AuditTotals}
 use Rattle.pim_audit_events.specs.declared.line.Loss.TheVariants.{TimedOut}
@@ -27,22 +28,27 @@ pub asked_members : (family : AddressFamily) (entry : Event) (word kind of : Lis
 asked_members family entry word kind of p0 p1 p2 =
     in_parts (asked_of word kind of) ∙ rw (p0, p1, p2) (refl {a = asked_json family entry})
 
-abbrev named_of : List ℕ → List ℕ → List ℕ → Text
-named_of name frame from = part name ⊕ (part (codes "\",\"frame\":") ⋄ frame ⋄ codes ",\"from\":" ⊕ string_of from)
+-- A record: its number, and its file in three parts.
+abbrev frame_of : List ℕ → List ℕ → List ℕ → List ℕ → Text
+frame_of frame front file back = part frame ⊕ (part front ⊕ (part file ⋄ back))
 
-pub named_members : (family : AddressFamily) (name : List ℕ) (origin : Origin) (frame from : List ℕ) → frame ≡ decimal origin.frame → from ≡ short_text family origin.from
-    → spread (named_of name frame from) [] ≡ named_json family name (Some origin)
-named_members family name origin frame from p0 p1 =
-    in_parts (named_of name frame from) ∙ rw (p0, p1) (refl {a = named_json family name (Some origin)})
+abbrev named_of : List ℕ → Text → List ℕ → Text
+named_of name place from = part name ⊕ (part (codes "\",\"frame\":") ⊕ place ⋄ codes ",\"from\":" ⊕ string_of from)
+
+pub named_members : (family : AddressFamily) (files : List (List ℕ)) (name : List ℕ) (origin : Origin) (frame front file back from : List ℕ) → frame ≡ decimal origin.frame.«record»
+    → front ≡ if_several files (codes ",\"file\":\"") → file ≡ file_of files origin.frame → back ≡ if_several files (codes "\"") → from ≡ short_text family origin.from
+    → spread (named_of name (frame_of frame front file back) from) [] ≡ named_json family files name (Some origin)
+named_members family files name origin frame front file back from p0 pf pn pb p1 =
+    in_parts (named_of name (frame_of frame front file back) from) ∙ rw (pf, pn, pb, p0, p1) (refl {a = named_json family files name (Some origin)})
 
 abbrev time_out_of : List ℕ → Text
 time_out_of neighbour =
     part (codes "upstream\",\"frame\":null,\"from\":") ⊕ string_of neighbour ⋄ codes ",\"verdict\":\"timed-out\"}" ⋄ (10 ∷ [])
 
 pub time_out_members : (family : AddressFamily) (upstream : List ℕ) (neighbour : List ℕ) → neighbour ≡ short_text family upstream
-    → spread (time_out_of neighbour) [] ≡ lost_json family upstream None TimedOut
+    → spread (time_out_of neighbour) [] ≡ lost_json family [] upstream None TimedOut
 time_out_members family upstream neighbour p0 =
-    in_parts (time_out_of neighbour) ∙ rw p0 (refl {a = lost_json family upstream None TimedOut})
+    in_parts (time_out_of neighbour) ∙ rw p0 (refl {a = lost_json family [] upstream None TimedOut})
 
 abbrev needed_of : List ℕ → Text
 needed_of digits = part (codes ",\"needed\":") ⋄ digits ⋄ codes "}" ⋄ (10 ∷ [])

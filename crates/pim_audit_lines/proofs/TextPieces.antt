@@ -6,6 +6,7 @@ use Rattle.pim_events.specs.Events.{epoch_at}
 use Rattle.pim_lines.specs.ShortText.{short_text}
 use Rattle.pim_report.specs.EchoLine.{kind_of}
 use Rattle.pim_time.specs.declared.form.TimeForm.{TimeForm}
+use Rattle.pim_event_lines.specs.Files.{file_of}
 use Rattle.pim_event_lines.specs.Moments.{moment_text}
 use Rattle.pim_event_lines.specs.TextLine.{source_words}
 use Rattle.pim_audit_events.specs.declared.line.AuditTotals.{AuditTotals}
@@ -14,13 +15,14 @@ use Rattle.pim_audit_events.specs.Lines.{Origin}
 use Rattle.pim_audit_lines.specs.AuditText.{asked_word, origin_text, late_line, sends_line, dropped_line, lost_line, full_line, totals_line}
 use Rattle.pim_audit_lines.proofs.Nested.{Text, part, ◌⋄◌, ◌⊕◌, spread, in_parts}
 
--- `#FRAME A`
-abbrev origin_of : List ℕ → List ℕ → Text
-origin_of frame from = part (codes "#") ⋄ frame ⋄ codes " " ⋄ from
+-- `#N A`, after the name of its file
+abbrev origin_of : List ℕ → List ℕ → List ℕ → Text
+origin_of file frame from = part file ⋄ codes "#" ⋄ frame ⋄ codes " " ⋄ from
 
-pub origin_pieces : (family : AddressFamily) (origin : Origin) (frame from : List ℕ) → frame ≡ decimal origin.frame → from ≡ short_text family origin.from
-    → spread (origin_of frame from) [] ≡ origin_text family (Some origin)
-origin_pieces family origin frame from p0 p1 = in_parts (origin_of frame from) ∙ rw (p0, p1) (refl {a = origin_text family (Some origin)})
+pub origin_pieces : (family : AddressFamily) (files : List (List ℕ)) (origin : Origin) (file frame from : List ℕ) → file ≡ file_of files origin.frame → frame ≡ decimal origin.frame.«record» → from ≡ short_text family origin.from
+    → spread (origin_of file frame from) [] ≡ origin_text family files (Some origin)
+origin_pieces family files origin file frame from pf p0 p1 =
+    in_parts (origin_of file frame from) ∙ rw (pf, p0, p1) (refl {a = origin_text family files (Some origin)})
 
 -- ---- entries
 
@@ -64,9 +66,9 @@ abbrev time_out_of : List ℕ → Text
 time_out_of neighbour = part (codes "neighbour ") ⋄ neighbour ⋄ codes " timed out; it lost what it was asked" ⋄ (10 ∷ [])
 
 pub time_out_pieces : (family : AddressFamily) (upstream : List ℕ) (neighbour : List ℕ) → neighbour ≡ short_text family upstream
-    → spread (time_out_of neighbour) [] ≡ lost_line family upstream None TimedOut
+    → spread (time_out_of neighbour) [] ≡ lost_line family [] upstream None TimedOut
 time_out_pieces family upstream neighbour p0 =
-    in_parts (time_out_of neighbour) ∙ rw p0 (refl {a = lost_line family upstream None TimedOut})
+    in_parts (time_out_of neighbour) ∙ rw p0 (refl {a = lost_line family [] upstream None TimedOut})
 
 abbrev full_of : List ℕ → Text
 full_of digits = part (codes ": full ") ⋄ digits ⋄ codes " at the upstream neighbour" ⋄ (10 ∷ [])

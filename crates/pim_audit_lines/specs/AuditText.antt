@@ -7,6 +7,7 @@ use Rattle.pim_events.specs.Events.{epoch_at}
 use Rattle.pim_lines.specs.Pieces.{line}
 use Rattle.pim_lines.specs.ShortText.{short_text}
 use Rattle.pim_time.specs.declared.form.TimeForm.{TimeForm}
+use Rattle.pim_event_lines.specs.Files.{files_of}
 use Rattle.pim_event_lines.specs.Moments.{moment_text}
 use Rattle.pim_event_lines.specs.TextLine.{sender_text, machine_text, restart_line, head_text}
 use Rattle.pim_audit_events.specs.declared.line.AuditTotals.{AuditTotals}
@@ -38,10 +39,11 @@ module _ (family : AddressFamily) where
   abbrev pub asked_text : Event → List ℕ
   asked_text entry = asked_word entry.joins ++ codes " " ++ machine_text family entry.group entry.what
 
-  -- `#FRAME A`. Each line that has it is of a record, so `None` doesn't come.
-  abbrev pub origin_text : Option Origin → List ℕ
-  origin_text None = []
-  origin_text (Some origin) = sender_text family origin.frame origin.from
+  -- `#N A`, or `FILE#N A`, where `files` are the names of the files of the port. Each line that has
+  -- it is of a record, so `None` doesn't come.
+  abbrev pub origin_text : List (List ℕ) → Option Origin → List ℕ
+  origin_text files None = []
+  origin_text files (Some origin) = sender_text family files origin.frame origin.from
 
   -- `late: ENTRY, due since MOMENT`.
   abbrev pub late_line : TimeForm → Option ℕ → Event → ℕ → List ℕ
@@ -59,27 +61,28 @@ module _ (family : AddressFamily) where
       ++ decimal after ++ codes " ms")
 
   -- The upstream neighbour lost what it was asked: by a Hello of this record, or at a time-out.
-  abbrev pub lost_line : List ℕ → Option Origin → Loss → List ℕ
-  lost_line upstream origin Restarted =
-      origin_text origin ++ line (codes ": hello restarted; it lost what it was asked")
-  lost_line upstream origin Gone = origin_text origin ++ line (codes ": hello gone; it lost what it was asked")
-  lost_line upstream origin TimedOut =
+  abbrev pub lost_line : List (List ℕ) → List ℕ → Option Origin → Loss → List ℕ
+  lost_line files upstream origin Restarted =
+      origin_text files origin ++ line (codes ": hello restarted; it lost what it was asked")
+  lost_line files upstream origin Gone = origin_text files origin ++ line (codes ": hello gone; it lost what it was asked")
+  lost_line files upstream origin TimedOut =
       line (codes "neighbour " ++ short_text family upstream ++ codes " timed out; it lost what it was asked")
 
   -- What a line says. The line of an entry that becomes due is never shown, so it has no text.
-  abbrev pub said_text : TimeForm → List ℕ → Option ℕ → Option Origin → Saying → List ℕ
-  said_text form upstream begin origin (due entry) = []
-  said_text form upstream begin origin (late entry since) = late_line form begin entry since
-  said_text form upstream begin origin (sent entry after) = origin_text origin ++ sends_line entry after
-  said_text form upstream begin origin (dropped entry after) = dropped_line entry after
-  said_text form upstream begin origin (lost loss) = lost_line upstream origin loss
-  said_text form upstream begin origin (full needed) = origin_text origin ++ full_line needed
-  said_text form upstream begin origin (restarted restart) = restart_line restart
-  said_text form upstream begin origin (ended totals) = totals_line totals
+  abbrev pub said_text : List (List ℕ) → TimeForm → List ℕ → Option ℕ → Option Origin → Saying → List ℕ
+  said_text files form upstream begin origin (due entry) = []
+  said_text files form upstream begin origin (late entry since) = late_line form begin entry since
+  said_text files form upstream begin origin (sent entry after) = origin_text files origin ++ sends_line entry after
+  said_text files form upstream begin origin (dropped entry after) = dropped_line entry after
+  said_text files form upstream begin origin (lost loss) = lost_line files upstream origin loss
+  said_text files form upstream begin origin (full needed) = origin_text files origin ++ full_line needed
+  said_text files form upstream begin origin (restarted restart) = restart_line files restart
+  said_text files form upstream begin origin (ended totals) = totals_line totals
 
--- The line of an audit as text: its moment, its port, and what it says. `upstream` is the address of
--- the upstream neighbour, and `begin` the time of moment 0.
-abbrev pub audit_text : AddressFamily → List (List ℕ) → TimeForm → List ℕ → Option ℕ → Statement → List ℕ
-audit_text family names form upstream begin it =
+-- The line of an audit as text: its moment, its port, and what it says. `files` are the names of the
+-- files of each port, `upstream` is the address of the upstream neighbour, and `begin` the time of
+-- moment 0.
+abbrev pub audit_text : AddressFamily → List (List ℕ) → List (List (List ℕ)) → TimeForm → List ℕ → Option ℕ → Statement → List ℕ
+audit_text family names files form upstream begin it =
     head_text names form it.moment (epoch_at begin it.moment) (port_of it.origin)
-    ++ said_text family form upstream begin it.origin it.said
+    ++ said_text family (files_of files (port_of it.origin)) form upstream begin it.origin it.said

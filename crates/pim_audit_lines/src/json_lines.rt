@@ -1,6 +1,6 @@
 //! The JSON of an audit's lines, from the name of the event on.
 
-ghost use Rattle.std.specs.Prelude.{◌≡◌, ◌++◌, None, codes, decimal, option_map};
+ghost use Rattle.std.specs.Prelude.{◌≡◌, ◌++◌, [], None, codes, decimal, option_map};
 ghost use Rattle.pim_device.specs.Device.{AppendsAll, failures_after};
 ghost use Rattle.pim_down.specs.Seen.{event_seen, what_seen};
 ghost use Rattle.pim_lines.specs.Pieces.{line};
@@ -14,7 +14,7 @@ use itoa::Buffer;
 use pim_addr::{Drain, Failed, Family, write_all};
 use pim_audit_events::{AuditTotals, Loss, MessageOrigin};
 use pim_down::{Event, What};
-use pim_event_lines::kind_word;
+use pim_event_lines::{FileName, file_of, if_several, kind_word};
 use pim_lines::{ShortText, write_pieces};
 
 /// Writes what an entry asks for, up to its source.
@@ -93,11 +93,12 @@ pub(crate) fn write_timed<F: Family, W: Drain>(
 /// Writes the name of an event, and its record.
 fn write_named<F: Family, W: Drain>(
     writer: &mut W,
+    files: &[FileName],
     name: &[u8],
     origin: Option<MessageOrigin<F::Addr>>,
 ) -> Result<(), Failed>
     ensures bytes { AppendsAll (W.contents writer.old) (W.contents writer.new) result
-        (named_json F.family name.now (option_map (origin_seen F.bytes_of) origin)) }
+        (named_json F.family files.now name.now (option_map (origin_seen F.bytes_of) origin)) }
     ensures count { W.failures writer.new ≡ failures_after (W.failures writer.old) result }
 {
     let Some(message) = origin else {
@@ -109,7 +110,10 @@ fn write_named<F: Family, W: Drain>(
     let pieces = [
         name,
         b"\",\"frame\":",
-        frame.format(message.frame).as_bytes(),
+        frame.format(message.frame.record).as_bytes(),
+        if_several(files, b",\"file\":\""),
+        file_of(files, message.frame),
+        if_several(files, b"\""),
         b",\"from\":\"",
         from.text(),
         b"\"",
@@ -120,16 +124,17 @@ fn write_named<F: Family, W: Drain>(
 /// Writes a late entry that was sent, and its record.
 pub(crate) fn write_sent_json<F: Family, W: Drain>(
     writer: &mut W,
+    files: &[FileName],
     origin: Option<MessageOrigin<F::Addr>>,
     entry: &Event<F::Addr>,
     after: u64,
 ) -> Result<(), Failed>
     ensures bytes { AppendsAll (W.contents writer.old) (W.contents writer.new) result
-        (sent_json F.family (option_map (origin_seen F.bytes_of) origin)
+        (sent_json F.family files.now (option_map (origin_seen F.bytes_of) origin)
         (event_seen F.bytes_of entry.now) after) }
     ensures count { W.failures writer.new ≡ failures_after (W.failures writer.old) result }
 {
-    write_named::<F, W>(writer, b"sent", origin)?;
+    write_named::<F, W>(writer, files, b"sent", origin)?;
     write_timed::<F, W>(writer, b",\"after\":", after, entry)
 }
 
@@ -137,22 +142,23 @@ pub(crate) fn write_sent_json<F: Family, W: Drain>(
 /// ends the object.
 fn write_heard<F: Family, W: Drain>(
     writer: &mut W,
+    files: &[FileName],
     origin: Option<MessageOrigin<F::Addr>>,
     verdict: &[u8],
 ) -> Result<(), Failed>
     ensures bytes { AppendsAll (W.contents writer.old) (W.contents writer.new) result
-        (named_json F.family (codes "upstream") (option_map (origin_seen F.bytes_of) origin)
+        (named_json F.family files.now (codes "upstream") (option_map (origin_seen F.bytes_of) origin)
         ++ verdict.now) }
     ensures count { W.failures writer.new ≡ failures_after (W.failures writer.old) result }
 {
-    write_named::<F, W>(writer, b"upstream", origin)?;
+    write_named::<F, W>(writer, files, b"upstream", origin)?;
     write_all(writer, verdict)
 }
 
 /// Writes that the time of the upstream neighbour is over.
 fn write_time_out<F: Family, W: Drain>(writer: &mut W, upstream: F::Addr) -> Result<(), Failed>
     ensures bytes { AppendsAll (W.contents writer.old) (W.contents writer.new) result
-        (lost_json F.family (F.bytes_of upstream) None Loss.TimedOut) }
+        (lost_json F.family [] (F.bytes_of upstream) None Loss.TimedOut) }
     ensures count { W.failures writer.new ≡ failures_after (W.failures writer.old) result }
 {
     let neighbour = ShortText::of::<F>(upstream);
@@ -167,18 +173,21 @@ fn write_time_out<F: Family, W: Drain>(writer: &mut W, upstream: F::Addr) -> Res
 /// Writes that the upstream neighbour lost what it was asked.
 pub(crate) fn write_lost_json<F: Family, W: Drain>(
     writer: &mut W,
+    files: &[FileName],
     upstream: F::Addr,
     origin: Option<MessageOrigin<F::Addr>>,
     loss: Loss,
 ) -> Result<(), Failed>
     ensures bytes { AppendsAll (W.contents writer.old) (W.contents writer.new) result
-        (lost_json F.family (F.bytes_of upstream) (option_map (origin_seen F.bytes_of) origin)
+        (lost_json F.family files.now (F.bytes_of upstream) (option_map (origin_seen F.bytes_of) origin)
         loss) }
     ensures count { W.failures writer.new ≡ failures_after (W.failures writer.old) result }
 {
     match loss {
-        Loss::Restarted => { write_heard::<F, W>(writer, origin, b",\"verdict\":\"restarted\"}\n") }
-        Loss::Gone => write_heard::<F, W>(writer, origin, b",\"verdict\":\"gone\"}\n"),
+        Loss::Restarted => {
+            write_heard::<F, W>(writer, files, origin, b",\"verdict\":\"restarted\"}\n")
+        }
+        Loss::Gone => write_heard::<F, W>(writer, files, origin, b",\"verdict\":\"gone\"}\n"),
         Loss::TimedOut => write_time_out::<F, W>(writer, upstream),
     }
 }
@@ -197,15 +206,16 @@ fn write_needed<W: Drain>(writer: &mut W, needed: usize) -> Result<(), Failed>
 /// Writes a message for which the upstream neighbour has no room.
 pub(crate) fn write_full_json<F: Family, W: Drain>(
     writer: &mut W,
+    files: &[FileName],
     origin: Option<MessageOrigin<F::Addr>>,
     needed: usize,
 ) -> Result<(), Failed>
     ensures bytes { AppendsAll (W.contents writer.old) (W.contents writer.new) result
-        (named_json F.family (codes "full") (option_map (origin_seen F.bytes_of) origin)
+        (named_json F.family files.now (codes "full") (option_map (origin_seen F.bytes_of) origin)
         ++ needed_json needed) }
     ensures count { W.failures writer.new ≡ failures_after (W.failures writer.old) result }
 {
-    write_named::<F, W>(writer, b"full", origin)?;
+    write_named::<F, W>(writer, files, b"full", origin)?;
     write_needed(writer, needed)
 }
 

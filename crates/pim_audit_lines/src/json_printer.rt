@@ -11,19 +11,20 @@ use crate::json_lines::{
 use crate::words::port_of;
 use pim_addr::{Drain, Failed, Family};
 use pim_audit_events::{AuditEvent, AuditFilter, AuditLine, AuditWriter, MessageOrigin, is_shown};
-use pim_event_lines::{write_json_head, write_restart_json};
+use pim_event_lines::{FileName, FileNames, files_of, write_json_head, write_restart_json};
 use pim_events::epoch_at;
 use pim_lines::Name;
 
 /// Writes the name of an event, and its members after it.
 fn write_said<F: Family, W: Drain>(
     writer: &mut W,
+    files: &[FileName],
     upstream: F::Addr,
     origin: Option<MessageOrigin<F::Addr>>,
     said: &AuditEvent<F::Addr>,
 ) -> Result<(), Failed>
     ensures bytes { AppendsAll (W.contents writer.old) (W.contents writer.new) result
-        (said_json F.family (F.bytes_of upstream) (option_map (origin_seen F.bytes_of) origin)
+        (said_json F.family files.now (F.bytes_of upstream) (option_map (origin_seen F.bytes_of) origin)
         (said_seen F.bytes_of said.now)) }
     ensures count { W.failures writer.new ≡ failures_after (W.failures writer.old) result }
 {
@@ -33,14 +34,14 @@ fn write_said<F: Family, W: Drain>(
             write_timed::<F, W>(writer, b"late\",\"since\":", *since, entry)
         }
         AuditEvent::Sent { entry, after } => {
-            write_sent_json::<F, W>(writer, origin, entry, *after)
+            write_sent_json::<F, W>(writer, files, origin, entry, *after)
         }
         AuditEvent::Dropped { entry, after } => {
             write_timed::<F, W>(writer, b"dropped\",\"after\":", *after, entry)
         }
-        AuditEvent::Lost(loss) => write_lost_json::<F, W>(writer, upstream, origin, *loss),
-        AuditEvent::Full { needed } => write_full_json::<F, W>(writer, origin, *needed),
-        AuditEvent::Restarted(restart) => write_restart_json(writer, *restart),
+        AuditEvent::Lost(loss) => write_lost_json::<F, W>(writer, files, upstream, origin, *loss),
+        AuditEvent::Full { needed } => write_full_json::<F, W>(writer, files, origin, *needed),
+        AuditEvent::Restarted(restart) => write_restart_json(writer, files, *restart),
         AuditEvent::End(totals) => write_totals_json(writer, *totals),
     }
 }
@@ -49,19 +50,21 @@ fn write_said<F: Family, W: Drain>(
 fn write_json<F: Family, W: Drain>(
     writer: &mut W,
     names: &[Name],
+    files: &[FileNames],
     upstream: F::Addr,
     begin: Option<u64>,
     line: &AuditLine<F::Addr>,
 ) -> Result<(), Failed>
     ensures bytes { AppendsAll (W.contents writer.old) (W.contents writer.new) result
-        (audit_json F.family names.now (F.bytes_of upstream) begin
+        (audit_json F.family names.now files.now (F.bytes_of upstream) begin
         (line_seen F.bytes_of line.now)) }
     ensures count { W.failures writer.new ≡ failures_after (W.failures writer.old) result }
 {
     let epoch = epoch_at(begin, line.moment);
     let port = port_of::<F>(line.origin);
     write_json_head(writer, names, line.moment, epoch, port)?;
-    write_said::<F, W>(writer, upstream, line.origin, &line.said)
+    let files = files_of(files, port);
+    write_said::<F, W>(writer, files, upstream, line.origin, &line.said)
 }
 
 /// Writes each line that is shown, as JSON.
@@ -69,6 +72,8 @@ fn write_json<F: Family, W: Drain>(
 pub struct AuditJsonPrinter<'a, A> {
     /// The names of the ports, in the order of their numbers.
     pub names: &'a [Name],
+    /// The names of their files as they stand in JSON strings; none for a port with one file.
+    pub files: &'a [FileNames],
     /// Which lines are shown.
     pub filter: AuditFilter<'a, A>,
     /// The address of the upstream neighbour.
@@ -80,7 +85,7 @@ impl<'a, F: Family, W: Drain> AuditWriter<F, W> for AuditJsonPrinter<'a, F::Addr
     ghost use Rattle.pim_audit_lines.specs.AuditJson.{audit_json};
 
     ghost line = { λ printer begin it. if_shown (filter_seen F.bytes_of printer.filter) begin it
-        (audit_json F.family printer.names.now (F.bytes_of printer.upstream) begin it) };
+        (audit_json F.family printer.names.now printer.files.now (F.bytes_of printer.upstream) begin it) };
 
     ghost contents = { W.contents };
 
@@ -95,6 +100,13 @@ impl<'a, F: Family, W: Drain> AuditWriter<F, W> for AuditJsonPrinter<'a, F::Addr
         if !is_shown::<F>(&self.filter, begin, statement) {
             return Ok(());
         }
-        write_json::<F, W>(device, self.names, self.upstream, begin, statement)
+        write_json::<F, W>(
+            device,
+            self.names,
+            self.files,
+            self.upstream,
+            begin,
+            statement,
+        )
     }
 }

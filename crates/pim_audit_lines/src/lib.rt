@@ -4,8 +4,9 @@
 //!   other.
 //!
 //! `specs/AuditText.antt` and `specs/AuditJson.antt` define each line byte by byte. It depends on
-//! nothing but the line, the names of the ports, the form of moments, the time of moment 0 and the
-//! upstream neighbour. At Ok the whole line was written. If the device fails, a prefix of it was.
+//! nothing but the line, the names of the ports and of their files, the form of moments, the time of
+//! moment 0 and the upstream neighbour. At Ok the whole line was written. If the device fails, a
+//! prefix of it was.
 //!
 //! Lines need no memory, since they are written in pieces. Callers: `pim_commands`.
 #![tactic(auto)]

@@ -1,6 +1,6 @@
 //! The lines of an audit as text, without their moments and ports.
 
-ghost use Rattle.std.specs.Prelude.{◌≡◌, ◌++◌, None, codes, option_map};
+ghost use Rattle.std.specs.Prelude.{◌≡◌, ◌++◌, [], None, codes, option_map};
 ghost use Rattle.pim_device.specs.Device.{AppendsAll, failures_after};
 ghost use Rattle.pim_down.specs.Seen.{event_seen};
 ghost use Rattle.pim_lines.specs.Pieces.{line};
@@ -13,7 +13,7 @@ use itoa::Buffer;
 use pim_addr::{Drain, Failed, Family, write_all};
 use pim_audit_events::{AuditTotals, Loss, MessageOrigin};
 use pim_down::Event;
-use pim_event_lines::{Stamp, show_what};
+use pim_event_lines::{FileName, Stamp, file_of, show_what};
 use pim_events::epoch_at;
 use pim_lines::{ShortText, write_pieces};
 use pim_time::TimeForm;
@@ -21,10 +21,11 @@ use pim_time::TimeForm;
 /// Writes the record of a message and its sender; nothing without one.
 fn write_origin<F: Family, W: Drain>(
     writer: &mut W,
+    files: &[FileName],
     origin: Option<MessageOrigin<F::Addr>>,
 ) -> Result<(), Failed>
     ensures bytes { AppendsAll (W.contents writer.old) (W.contents writer.new) result
-        (origin_text F.family (option_map (origin_seen F.bytes_of) origin)) }
+        (origin_text F.family files.now (option_map (origin_seen F.bytes_of) origin)) }
     ensures count { W.failures writer.new ≡ failures_after (W.failures writer.old) result }
 {
     let Some(message) = origin else {
@@ -33,8 +34,9 @@ fn write_origin<F: Family, W: Drain>(
     let mut frame = Buffer::new();
     let from = ShortText::of::<F>(message.from);
     let pieces = [
+        file_of(files, message.frame),
         b"#",
-        frame.format(message.frame).as_bytes(),
+        frame.format(message.frame.record).as_bytes(),
         b" ",
         from.text(),
     ];
@@ -104,16 +106,17 @@ fn write_sends<F: Family, W: Drain>(
 /// Writes the line of a late entry that was sent, and its record.
 pub(crate) fn write_sent_line<F: Family, W: Drain>(
     writer: &mut W,
+    files: &[FileName],
     origin: Option<MessageOrigin<F::Addr>>,
     entry: &Event<F::Addr>,
     after: u64,
 ) -> Result<(), Failed>
     ensures bytes { AppendsAll (W.contents writer.old) (W.contents writer.new) result
-        (origin_text F.family (option_map (origin_seen F.bytes_of) origin)
+        (origin_text F.family files.now (option_map (origin_seen F.bytes_of) origin)
         ++ sends_line F.family (event_seen F.bytes_of entry.now) after) }
     ensures count { W.failures writer.new ≡ failures_after (W.failures writer.old) result }
 {
-    write_origin::<F, W>(writer, origin)?;
+    write_origin::<F, W>(writer, files, origin)?;
     write_sends::<F, W>(writer, entry, after)
 }
 
@@ -149,35 +152,37 @@ pub(crate) fn write_dropped_line<F: Family, W: Drain>(
 /// Writes that a Hello of this record has a new Generation ID.
 fn write_restarted<F: Family, W: Drain>(
     writer: &mut W,
+    files: &[FileName],
     origin: Option<MessageOrigin<F::Addr>>,
 ) -> Result<(), Failed>
     ensures bytes { AppendsAll (W.contents writer.old) (W.contents writer.new) result
-        (origin_text F.family (option_map (origin_seen F.bytes_of) origin)
+        (origin_text F.family files.now (option_map (origin_seen F.bytes_of) origin)
         ++ line (codes ": hello restarted; it lost what it was asked")) }
     ensures count { W.failures writer.new ≡ failures_after (W.failures writer.old) result }
 {
-    write_origin::<F, W>(writer, origin)?;
+    write_origin::<F, W>(writer, files, origin)?;
     write_all(writer, b": hello restarted; it lost what it was asked\n")
 }
 
 /// Writes that a Hello of this record is a goodbye.
 fn write_gone<F: Family, W: Drain>(
     writer: &mut W,
+    files: &[FileName],
     origin: Option<MessageOrigin<F::Addr>>,
 ) -> Result<(), Failed>
     ensures bytes { AppendsAll (W.contents writer.old) (W.contents writer.new) result
-        (origin_text F.family (option_map (origin_seen F.bytes_of) origin)
+        (origin_text F.family files.now (option_map (origin_seen F.bytes_of) origin)
         ++ line (codes ": hello gone; it lost what it was asked")) }
     ensures count { W.failures writer.new ≡ failures_after (W.failures writer.old) result }
 {
-    write_origin::<F, W>(writer, origin)?;
+    write_origin::<F, W>(writer, files, origin)?;
     write_all(writer, b": hello gone; it lost what it was asked\n")
 }
 
 /// Writes that the time of the upstream neighbour is over.
 fn write_time_out<F: Family, W: Drain>(writer: &mut W, upstream: F::Addr) -> Result<(), Failed>
     ensures bytes { AppendsAll (W.contents writer.old) (W.contents writer.new) result
-        (lost_line F.family (F.bytes_of upstream) None Loss.TimedOut) }
+        (lost_line F.family [] (F.bytes_of upstream) None Loss.TimedOut) }
     ensures count { W.failures writer.new ≡ failures_after (W.failures writer.old) result }
 {
     let neighbour = ShortText::of::<F>(upstream);
@@ -192,18 +197,19 @@ fn write_time_out<F: Family, W: Drain>(writer: &mut W, upstream: F::Addr) -> Res
 /// Writes the line of an upstream neighbour that lost what it was asked.
 pub(crate) fn write_lost_line<F: Family, W: Drain>(
     writer: &mut W,
+    files: &[FileName],
     upstream: F::Addr,
     origin: Option<MessageOrigin<F::Addr>>,
     loss: Loss,
 ) -> Result<(), Failed>
     ensures bytes { AppendsAll (W.contents writer.old) (W.contents writer.new) result
-        (lost_line F.family (F.bytes_of upstream) (option_map (origin_seen F.bytes_of) origin)
+        (lost_line F.family files.now (F.bytes_of upstream) (option_map (origin_seen F.bytes_of) origin)
         loss) }
     ensures count { W.failures writer.new ≡ failures_after (W.failures writer.old) result }
 {
     match loss {
-        Loss::Restarted => write_restarted::<F, W>(writer, origin),
-        Loss::Gone => write_gone::<F, W>(writer, origin),
+        Loss::Restarted => write_restarted::<F, W>(writer, files, origin),
+        Loss::Gone => write_gone::<F, W>(writer, files, origin),
         Loss::TimedOut => write_time_out::<F, W>(writer, upstream),
     }
 }
@@ -226,14 +232,15 @@ fn write_needed<W: Drain>(writer: &mut W, needed: usize) -> Result<(), Failed>
 /// Writes the line of a message for which the upstream neighbour has no room.
 pub(crate) fn write_full_line<F: Family, W: Drain>(
     writer: &mut W,
+    files: &[FileName],
     origin: Option<MessageOrigin<F::Addr>>,
     needed: usize,
 ) -> Result<(), Failed>
     ensures bytes { AppendsAll (W.contents writer.old) (W.contents writer.new) result
-        (origin_text F.family (option_map (origin_seen F.bytes_of) origin) ++ full_line needed) }
+        (origin_text F.family files.now (option_map (origin_seen F.bytes_of) origin) ++ full_line needed) }
     ensures count { W.failures writer.new ≡ failures_after (W.failures writer.old) result }
 {
-    write_origin::<F, W>(writer, origin)?;
+    write_origin::<F, W>(writer, files, origin)?;
     write_needed(writer, needed)
 }
 

@@ -11,8 +11,8 @@ use crate::text_lines::{
 };
 use crate::words::port_of;
 use pim_addr::{Drain, Failed, Family};
-use pim_audit_events::{AuditEvent, AuditFilter, AuditLine, AuditWriter, MessageOrigin, is_shown};
-use pim_event_lines::{write_restart_line, write_text_head};
+use pim_audit_events::{AuditEvent, AuditFilter, AuditLine, AuditWriter, is_shown};
+use pim_event_lines::{FileName, FileNames, files_of, write_restart_line, write_text_head};
 use pim_events::epoch_at;
 use pim_lines::Name;
 use pim_time::TimeForm;
@@ -20,51 +20,61 @@ use pim_time::TimeForm;
 /// Writes what a line says.
 fn write_said<F: Family, W: Drain>(
     writer: &mut W,
-    form: TimeForm,
-    upstream: F::Addr,
-    begin: Option<u64>,
-    origin: Option<MessageOrigin<F::Addr>>,
-    said: &AuditEvent<F::Addr>,
-) -> Result<(), Failed>
-    ensures bytes { AppendsAll (W.contents writer.old) (W.contents writer.new) result
-        (said_text F.family form (F.bytes_of upstream) begin
-        (option_map (origin_seen F.bytes_of) origin) (said_seen F.bytes_of said.now)) }
-    ensures count { W.failures writer.new ≡ failures_after (W.failures writer.old) result }
-{
-    match said {
-        AuditEvent::Due(_) => Ok(()),
-        AuditEvent::Late { entry, since } => {
-            write_late_line::<F, W>(writer, form, begin, entry, *since)
-        }
-        AuditEvent::Sent { entry, after } => {
-            write_sent_line::<F, W>(writer, origin, entry, *after)
-        }
-        AuditEvent::Dropped { entry, after } => write_dropped_line::<F, W>(writer, entry, *after),
-        AuditEvent::Lost(loss) => write_lost_line::<F, W>(writer, upstream, origin, *loss),
-        AuditEvent::Full { needed } => write_full_line::<F, W>(writer, origin, *needed),
-        AuditEvent::Restarted(restart) => write_restart_line(writer, *restart),
-        AuditEvent::End(totals) => write_totals_line(writer, *totals),
-    }
-}
-
-/// Writes a line. `begin` is the time of moment 0.
-fn write_text<F: Family, W: Drain>(
-    writer: &mut W,
-    names: &[Name],
+    files: &[FileName],
     form: TimeForm,
     upstream: F::Addr,
     begin: Option<u64>,
     line: &AuditLine<F::Addr>,
 ) -> Result<(), Failed>
     ensures bytes { AppendsAll (W.contents writer.old) (W.contents writer.new) result
-        (audit_text F.family names.now form (F.bytes_of upstream) begin
-        (line_seen F.bytes_of line.now)) }
+        (said_text F.family files.now form (F.bytes_of upstream) begin
+        (option_map (origin_seen F.bytes_of) line.now.origin)
+        (said_seen F.bytes_of line.now.said)) }
+    ensures count { W.failures writer.new ≡ failures_after (W.failures writer.old) result }
+{
+    let origin = line.origin;
+    match &line.said {
+        AuditEvent::Due(_) => Ok(()),
+        AuditEvent::Late { entry, since } => {
+            write_late_line::<F, W>(writer, form, begin, entry, *since)
+        }
+        AuditEvent::Sent { entry, after } => {
+            write_sent_line::<F, W>(writer, files, origin, entry, *after)
+        }
+        AuditEvent::Dropped { entry, after } => write_dropped_line::<F, W>(writer, entry, *after),
+        AuditEvent::Lost(loss) => {
+            write_lost_line::<F, W>(writer, files, upstream, origin, *loss)
+        }
+        AuditEvent::Full { needed } => write_full_line::<F, W>(writer, files, origin, *needed),
+        AuditEvent::Restarted(restart) => write_restart_line(writer, files, *restart),
+        AuditEvent::End(totals) => write_totals_line(writer, *totals),
+    }
+}
+
+/// Writes a line as this printer has it. `begin` is the time of moment 0.
+fn write_text<F: Family, W: Drain>(
+    writer: &mut W,
+    printer: &AuditTextPrinter<'_, F::Addr>,
+    begin: Option<u64>,
+    line: &AuditLine<F::Addr>,
+) -> Result<(), Failed>
+    ensures bytes { AppendsAll (W.contents writer.old) (W.contents writer.new) result
+        (audit_text F.family printer.now.names.now printer.now.files.now printer.now.form
+        (F.bytes_of printer.now.upstream) begin (line_seen F.bytes_of line.now)) }
     ensures count { W.failures writer.new ≡ failures_after (W.failures writer.old) result }
 {
     let epoch = epoch_at(begin, line.moment);
     let port = port_of::<F>(line.origin);
-    write_text_head(writer, names, form, line.moment, epoch, port)?;
-    write_said::<F, W>(writer, form, upstream, begin, line.origin, &line.said)
+    write_text_head(
+        writer,
+        printer.names,
+        printer.form,
+        line.moment,
+        epoch,
+        port,
+    )?;
+    let files = files_of(printer.files, port);
+    write_said::<F, W>(writer, files, printer.form, printer.upstream, begin, line)
 }
 
 /// Writes each line that is shown, as text.
@@ -72,6 +82,8 @@ fn write_text<F: Family, W: Drain>(
 pub struct AuditTextPrinter<'a, A> {
     /// The names of the ports, in the order of their numbers.
     pub names: &'a [Name],
+    /// The names of their files; none for a port with one file.
+    pub files: &'a [FileNames],
     /// How moments are written.
     pub form: TimeForm,
     /// Which lines are shown.
@@ -85,7 +97,7 @@ impl<'a, F: Family, W: Drain> AuditWriter<F, W> for AuditTextPrinter<'a, F::Addr
     ghost use Rattle.pim_audit_lines.specs.AuditText.{audit_text};
 
     ghost line = { λ printer begin it. if_shown (filter_seen F.bytes_of printer.filter) begin it
-        (audit_text F.family printer.names.now printer.form (F.bytes_of printer.upstream) begin
+        (audit_text F.family printer.names.now printer.files.now printer.form (F.bytes_of printer.upstream) begin
         it) };
 
     ghost contents = { W.contents };
@@ -101,13 +113,6 @@ impl<'a, F: Family, W: Drain> AuditWriter<F, W> for AuditTextPrinter<'a, F::Addr
         if !is_shown::<F>(&self.filter, begin, statement) {
             return Ok(());
         }
-        write_text::<F, W>(
-            device,
-            self.names,
-            self.form,
-            self.upstream,
-            begin,
-            statement,
-        )
+        write_text::<F, W>(device, self, begin, statement)
     }
 }

@@ -1,39 +1,36 @@
 -- The pieces in which lines of text are written.
 use Rattle.pim_event_lines.proofs.Cited.{◌≡◌, ℕ, ◌-◌, List, [], ◌∷◌, ◌++◌, Option, Some, codes, decimal, refl, ◌∙◌, AddressFamily}
-use Rattle.pim_event_lines.proofs.Cited.{line, state_in, short_text, Fired, Greeting, Ignored, OwnRestart, SkipCounts, TimeOut}
-use Rattle.pim_event_lines.proofs.Cited.{TransitionEvent, generation_text, generation_part, restarted_part, restart_line}
+use Rattle.pim_event_lines.proofs.Cited.{line, state_in, short_text, Fired, Ignored, OwnRestart, SkipCounts, TimeOut}
+use Rattle.pim_event_lines.proofs.Cited.{TransitionEvent, generation_text, generation_part, restarted_part}
 use Rattle.pim_event_lines.proofs.Cited.{counts_text, held_text, overrides_part, by_words, timer_words, cause_words, echo_text}
-use Rattle.pim_event_lines.proofs.Cited.{source_words, state_text, sender_text, greeting_text, entry_text, time_out_line}
-use Rattle.pim_event_lines.proofs.Cited.{change_text, effect_text, cause_line}
+use Rattle.pim_event_lines.proofs.Cited.{source_words, state_text, sender_text, entry_text, time_out_line}
+use Rattle.pim_event_lines.proofs.Cited.{effect_text, cause_line}
 use Rattle.pim_event_lines.proofs.Cited.{Cause, HeldMachine, WantedEntry, state_name}
 use Rattle.pim_down.specs.declared.machines.step.Timer.{Timer}
 use Rattle.pim_lines.specs.Pieces.{number_or}
-use Rattle.pim_event_lines.specs.TextLine.{record_text, address_part, tree_of, exception_in, want_line}
+use Rattle.pim_capture.specs.declared.incomplete.RecordPlace.{RecordPlace}
+use Rattle.pim_event_lines.specs.Files.{file_of, frame_text}
+use Rattle.pim_event_lines.specs.TextLine.{change_words, restart_words, record_text, address_part, tree_of, exception_in, want_line}
 use Rattle.pim_report.specs.EchoLine.{kind_of}
-use Rattle.pim_report.specs.PacketLine.{heard_words}
 use Rattle.pim_event_lines.proofs.Nested.{Text, part, ◌⋄◌, ◌⊕◌, spread, in_parts}
 
 -- ---- packets
 
--- `#FRAME A`
-abbrev sender_of : List ℕ → List ℕ → Text
-sender_of frame from = part (codes "#") ⋄ frame ⋄ codes " " ⋄ from
+-- `#N`, after the name of its file
+abbrev place_of : List ℕ → List ℕ → Text
+place_of file frame = part file ⋄ codes "#" ⋄ frame
 
-abbrev shown_of : List ℕ → List ℕ → Text
-shown_of frame from = sender_of frame from ⋄ codes ": "
+-- the same, and the sender
+abbrev sender_of : List ℕ → List ℕ → List ℕ → Text
+sender_of file frame from = place_of file frame ⋄ codes " " ⋄ from
 
-pub sender_pieces : (family : AddressFamily) (frame : ℕ) (from : List ℕ) (digits shown : List ℕ) → digits ≡ decimal frame → shown ≡ short_text family from
-    → spread (shown_of digits shown) [] ≡ sender_text family frame from ++ codes ": "
-sender_pieces family frame from digits shown p0 p1 =
-    in_parts (shown_of digits shown) ∙ rw (p0, p1) (refl {a = sender_text family frame from ++ codes ": "})
+abbrev shown_of : List ℕ → List ℕ → List ℕ → Text
+shown_of file frame from = sender_of file frame from ⋄ codes ": "
 
-abbrev greeting_of : List ℕ → List ℕ → List ℕ → Text
-greeting_of frame from word = sender_of frame from ⋄ codes ": " ⋄ word
-
-pub greeting_pieces : (family : AddressFamily) (hello : Greeting (List ℕ)) (frame from word : List ℕ) → frame ≡ decimal hello.frame → from ≡ short_text family hello.from → word ≡ heard_words hello.verdict
-    → spread (greeting_of frame from word) [] ≡ greeting_text family hello
-greeting_pieces family hello frame from word p0 p1 p2 =
-    in_parts (greeting_of frame from word) ∙ rw (p0, p1, p2) (refl {a = greeting_text family hello})
+pub sender_pieces : (family : AddressFamily) (files : List (List ℕ)) (frame : RecordPlace) (from : List ℕ) (file digits shown : List ℕ) → file ≡ file_of files frame → digits ≡ decimal frame.«record» → shown ≡ short_text family from
+    → spread (shown_of file digits shown) [] ≡ sender_text family files frame from ++ codes ": "
+sender_pieces family files frame from file digits shown pf p0 p1 =
+    in_parts (shown_of file digits shown) ∙ rw (pf, p0, p1) (refl {a = sender_text family files frame from ++ codes ": "})
 
 abbrev generation_of : List ℕ → Text
 generation_of shown = part (codes ", generation ") ⋄ shown ⋄ (10 ∷ [])
@@ -51,32 +48,38 @@ pub restarted_pieces : (before after : Option ℕ) (was generation : List ℕ) �
 restarted_pieces before after was generation p0 p1 =
     in_parts (restarted_of was generation) ∙ rw (p0, p1) (refl {a = line (restarted_part before after)})
 
-abbrev entry_of : List ℕ → List ℕ → List ℕ → List ℕ → Text
-entry_of frame from of names =
-    sender_of frame from ⋄ codes " joins star " ⋄ of ⋄ codes ": ignored, it names RP " ⋄ names ⋄ codes ", and "
+abbrev entry_of : List ℕ → List ℕ → List ℕ → List ℕ → List ℕ → Text
+entry_of file frame from of names =
+    sender_of file frame from ⋄ codes " joins star " ⋄ of ⋄ codes ": ignored, it names RP " ⋄ names ⋄ codes ", and "
 
-pub entry_pieces : (family : AddressFamily) (entry : Ignored (List ℕ)) (frame from of names : List ℕ) → frame ≡ decimal entry.frame → from ≡ short_text family entry.from → of ≡ short_text family entry.group → names ≡ short_text family entry.names
-    → spread (entry_of frame from of names) [] ≡ entry_text family entry
-entry_pieces family entry frame from of names p0 p1 p2 p3 =
-    in_parts (entry_of frame from of names) ∙ rw (p0, p1, p2, p3) (refl {a = entry_text family entry})
+pub entry_pieces : (family : AddressFamily) (files : List (List ℕ)) (entry : Ignored (List ℕ)) (file frame from of names : List ℕ) → file ≡ file_of files entry.frame → frame ≡ decimal entry.frame.«record» → from ≡ short_text family entry.from → of ≡ short_text family entry.group → names ≡ short_text family entry.names
+    → spread (entry_of file frame from of names) [] ≡ entry_text family files entry
+entry_pieces family files entry file frame from of names pf p0 p1 p2 p3 =
+    in_parts (entry_of file frame from of names) ∙ rw (pf, p0, p1, p2, p3) (refl {a = entry_text family files entry})
 
-abbrev restart_of : List ℕ → List ℕ → List ℕ → Text
-restart_of frame was generation =
-    part (codes "#") ⋄ frame ⋄ codes " own Hello, generation " ⋄ was ⋄ codes " -> " ⋄ generation
+pub frame_pieces : (files : List (List ℕ)) (frame : RecordPlace) (file digits : List ℕ) → file ≡ file_of files frame → digits ≡ decimal frame.«record»
+    → spread (place_of file digits) [] ≡ frame_text files frame
+frame_pieces files frame file digits pf p0 = in_parts (place_of file digits) ∙ rw (pf, p0) (refl {a = frame_text files frame})
+
+abbrev restart_of : List ℕ → List ℕ → Text
+restart_of was generation =
+    part (codes " own Hello, generation ") ⋄ was ⋄ codes " -> " ⋄ generation
     ⋄ codes ": this router restarted; it lost what it held, the replay keeps it" ⋄ (10 ∷ [])
 
-pub restart_pieces : (restart : OwnRestart) (frame was generation : List ℕ) → frame ≡ decimal restart.frame → was ≡ generation_text restart.was → generation ≡ generation_text restart.generation
-    → spread (restart_of frame was generation) [] ≡ restart_line restart
-restart_pieces restart frame was generation p0 p1 p2 =
-    in_parts (restart_of frame was generation) ∙ rw (p0, p1, p2) (refl {a = restart_line restart})
+pub restart_pieces : (restart : OwnRestart) (was generation : List ℕ) → was ≡ generation_text restart.was → generation ≡ generation_text restart.generation
+    → spread (restart_of was generation) [] ≡ line (restart_words restart)
+restart_pieces restart was generation p0 p1 =
+    in_parts (restart_of was generation) ∙ rw (p0, p1) (refl {a = line (restart_words restart)})
 
 -- ---- machines, neighbours and the end
 
-abbrev overrides_of : List ℕ → Text
-overrides_of digits = part (codes ", overrides #") ⋄ digits ⋄ (10 ∷ [])
+abbrev overrides_of : List ℕ → List ℕ → Text
+overrides_of file digits = part (codes ", overrides ") ⊕ place_of file digits ⋄ (10 ∷ [])
 
-pub overrides_pieces : (frame : ℕ) (digits : List ℕ) → digits ≡ decimal frame → spread (overrides_of digits) [] ≡ line (overrides_part (Some frame))
-overrides_pieces frame digits p0 = in_parts (overrides_of digits) ∙ rw p0 (refl {a = line (overrides_part (Some frame))})
+pub overrides_pieces : (files : List (List ℕ)) (frame : RecordPlace) (file digits : List ℕ) → file ≡ file_of files frame → digits ≡ decimal frame.«record»
+    → spread (overrides_of file digits) [] ≡ line (overrides_part files (Some frame))
+overrides_pieces files frame file digits pf p0 =
+    in_parts (overrides_of file digits) ∙ rw (pf, p0) (refl {a = line (overrides_part files (Some frame))})
 
 -- `STATE -> STATE`
 abbrev states_of : List ℕ → List ℕ → Text
@@ -86,15 +89,20 @@ states_of was new = part was ⋄ codes " -> " ⋄ new
 abbrev machine_of : List ℕ → List ℕ → List ℕ → List ℕ → Text
 machine_of kind source gap of = part kind ⊕ (part source ⋄ gap) ⋄ of
 
-abbrev change_of : List ℕ → List ℕ → List ℕ → Text → Text → Text
-change_of frame from word machine states = sender_of frame from ⋄ word ⊕ machine ⋄ codes ": " ⊕ states
+pub one_sender_pieces : (family : AddressFamily) (files : List (List ℕ)) (frame : RecordPlace) (from : List ℕ) (file digits shown : List ℕ) → file ≡ file_of files frame → digits ≡ decimal frame.«record» → shown ≡ short_text family from
+    → spread (sender_of file digits shown) [] ≡ sender_text family files frame from
+one_sender_pieces family files frame from file digits shown pf p0 p1 =
+    in_parts (sender_of file digits shown) ∙ rw (pf, p0, p1) (refl {a = sender_text family files frame from})
 
-pub change_pieces : (family : AddressFamily) (change : TransitionEvent (List ℕ)) (frame from word kind source gap of was new : List ℕ) → frame ≡ decimal change.frame → from ≡ short_text family change.from → word ≡ by_words change.by
+abbrev change_of : List ℕ → Text → Text → Text
+change_of word machine states = part word ⊕ machine ⋄ codes ": " ⊕ states
+
+pub change_pieces : (family : AddressFamily) (change : TransitionEvent (List ℕ)) (word kind source gap of was new : List ℕ) → word ≡ by_words change.by
     → kind ≡ kind_of change.what → source ++ gap ≡ source_words family change.what → of ≡ short_text family change.group → was ≡ state_text change.before → new ≡ state_text (state_in change.after)
-    → spread (change_of frame from word (machine_of kind source gap of) (states_of was new)) [] ≡ change_text family change
-change_pieces family change frame from word kind source gap of was new p0 p1 p2 p3 p4 p5 p6 p7 =
-    in_parts (change_of frame from word (machine_of kind source gap of) (states_of was new))
-    ∙ rw (p4, p0, p1, p2, p3, p5, p6, p7) (refl {a = change_text family change})
+    → spread (change_of word (machine_of kind source gap of) (states_of was new)) [] ≡ change_words family change
+change_pieces family change word kind source gap of was new p2 p3 p4 p5 p6 p7 =
+    in_parts (change_of word (machine_of kind source gap of) (states_of was new))
+    ∙ rw (p4, p2, p3, p5, p6, p7) (refl {a = change_words family change})
 
 abbrev effect_of : List ℕ → Text → Text → List ℕ → Text
 effect_of word machine states echo = part word ⊕ machine ⋄ codes ": " ⊕ states ⋄ echo
@@ -106,24 +114,24 @@ effect_pieces family firing word kind source gap of was new echo p0 p1 p2 p3 p4 
     in_parts (effect_of word (machine_of kind source gap of) (states_of was new) echo)
     ∙ rw (p2, p0, p1, p3, p4, p5, p6) (refl {a = effect_text family firing})
 
-abbrev cause_of : List ℕ → List ℕ → List ℕ → List ℕ → Text
-cause_of word from frame before =
-    part word ⋄ from ⋄ codes " in #" ⋄ frame ⋄ codes ", " ⋄ before ⋄ codes " ms before" ⋄ (10 ∷ [])
+abbrev cause_of : List ℕ → List ℕ → List ℕ → List ℕ → List ℕ → Text
+cause_of word from file frame before =
+    part word ⋄ from ⋄ codes " in " ⊕ place_of file frame ⋄ codes ", " ⋄ before ⋄ codes " ms before" ⋄ (10 ∷ [])
 
-pub cause_pieces : (family : AddressFamily) (ms : ℕ) (timer : Timer) (cause : Cause (List ℕ)) (word from frame before : List ℕ) → word ≡ cause_words timer → from ≡ short_text family cause.from → frame ≡ decimal cause.frame → before ≡ decimal (ms - cause.ms)
-    → spread (cause_of word from frame before) [] ≡ cause_line family ms timer cause
-cause_pieces family ms timer cause word from frame before p0 p1 p2 p3 =
-    in_parts (cause_of word from frame before) ∙ rw (p0, p1, p2, p3) (refl {a = cause_line family ms timer cause})
+pub cause_pieces : (family : AddressFamily) (ms : ℕ) (timer : Timer) (files : List (List ℕ)) (cause : Cause (List ℕ)) (word from file frame before : List ℕ) → word ≡ cause_words timer → from ≡ short_text family cause.from → file ≡ file_of files cause.frame → frame ≡ decimal cause.frame.«record» → before ≡ decimal (ms - cause.ms)
+    → spread (cause_of word from file frame before) [] ≡ cause_line family files ms timer cause
+cause_pieces family ms timer files cause word from file frame before p0 p1 pf p2 p3 =
+    in_parts (cause_of word from file frame before) ∙ rw (p0, p1, pf, p2, p3) (refl {a = cause_line family files ms timer cause})
 
-abbrev time_out_of : List ℕ → List ℕ → List ℕ → Text
-time_out_of neighbour frame before =
-    part (codes "neighbour ") ⋄ neighbour ⋄ codes " timed out; Hello #" ⋄ frame ⋄ codes ", " ⋄ before
+abbrev time_out_of : List ℕ → List ℕ → List ℕ → List ℕ → Text
+time_out_of neighbour file frame before =
+    part (codes "neighbour ") ⋄ neighbour ⋄ codes " timed out; Hello " ⊕ place_of file frame ⋄ codes ", " ⋄ before
     ⋄ codes " ms before; its joins stay until they expire" ⋄ (10 ∷ [])
 
-pub time_out_pieces : (family : AddressFamily) (ms : ℕ) (over : TimeOut (List ℕ)) (neighbour frame before : List ℕ) → neighbour ≡ short_text family over.neighbour → frame ≡ decimal over.frame → before ≡ decimal (ms - over.ms)
-    → spread (time_out_of neighbour frame before) [] ≡ time_out_line family ms over
-time_out_pieces family ms over neighbour frame before p0 p1 p2 =
-    in_parts (time_out_of neighbour frame before) ∙ rw (p0, p1, p2) (refl {a = time_out_line family ms over})
+pub time_out_pieces : (family : AddressFamily) (ms : ℕ) (files : List (List ℕ)) (over : TimeOut (List ℕ)) (neighbour file frame before : List ℕ) → neighbour ≡ short_text family over.neighbour → file ≡ file_of files over.frame → frame ≡ decimal over.frame.«record» → before ≡ decimal (ms - over.ms)
+    → spread (time_out_of neighbour file frame before) [] ≡ time_out_line family files ms over
+time_out_pieces family ms files over neighbour file frame before p0 pf p1 p2 =
+    in_parts (time_out_of neighbour file frame before) ∙ rw (p0, pf, p1, p2) (refl {a = time_out_line family files ms over})
 
 abbrev held_of : List ℕ → List ℕ → Text
 held_of a b = part (codes "end: records ") ⋄ a ⋄ codes " neighbours " ⋄ b

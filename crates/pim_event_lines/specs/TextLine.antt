@@ -2,8 +2,9 @@
 use Rattle.std.specs.Prelude.{ℕ, ◌-◌, ◌==◌, if◌then◌else◌, Bool, true, false, List, [], ◌++◌, Option, None, Some}
 use Rattle.std.specs.Prelude.{slice_index_or, codes, decimal}
 use Rattle.pim_addr.specs.declared.family.AddressFamily.{AddressFamily}
+use Rattle.pim_capture.specs.declared.incomplete.RecordPlace.{RecordPlace}
 use Rattle.pim_capture.specs.declared.event.Why.TheVariants.{Cut, NotIp, BadHeader, NotPim, Fragment}
-use Rattle.pim_capture.specs.declared.event.Why.TheVariants.{Part, NoTime, LinkType, NotChosen, Copy, CutShort, NextFile, Incomplete}
+use Rattle.pim_capture.specs.declared.event.Why.TheVariants.{Part, NoTime, LinkType, NotChosen, Copy, CutShort, NextFile, OfLink, Incomplete}
 use Rattle.pim_down.specs.declared.machines.key.What.{What}
 use Rattle.pim_down.specs.declared.machines.key.What.TheVariants.{Star, Source, Rpt}
 use Rattle.pim_down.specs.declared.machines.machine.Machine.{Machine}
@@ -17,6 +18,7 @@ use Rattle.pim_report.specs.PacketLine.{heard_words, verdict_words}
 use Rattle.pim_lines.specs.Pieces.{line, number_or}
 use Rattle.pim_report.specs.RecordLine.{state_name}
 use Rattle.pim_event_lines.specs.Counts.{joined_in, pruned_in}
+use Rattle.pim_event_lines.specs.Files.{files_of, frame_text}
 use Rattle.pim_events.specs.Events.{Happened, Judged, Occurrence, hello_heard, packet_judged, machine_changed}
 use Rattle.pim_events.specs.Events.{join_ignored, own_restart, record_skipped, neighbour_gone, timer_fired}
 use Rattle.pim_events.specs.Events.{machine_held, entry_wanted, run_ended}
@@ -72,11 +74,12 @@ skip_words (NoPacket Fragment) = codes "a fragment of a PIM message"
 skip_words (NoPacket Part) = codes "a fragment of a PIM message"
 skip_words (NoPacket NoTime) = codes "without a time"
 skip_words (NoPacket (LinkType number)) = codes "a link type that is not read"
-skip_words (NoPacket NotChosen) = codes "of another link than the chosen one"
+skip_words (NoPacket (NotChosen link)) = codes "of another link than the chosen one"
 skip_words (NoPacket Copy) = codes "a copy of another packet"
 skip_words (NoPacket CutShort) = codes "cut short by the end of its file"
 skip_words (NoPacket NextFile) = codes "the capture goes on with its next file"
-skip_words (NoPacket (Incomplete packets)) = codes "what is told of incomplete packets"
+skip_words (NoPacket (OfLink link)) = codes "the link of the packet before it"
+skip_words (NoPacket (Incomplete packets)) = codes "what is reported of incomplete packets"
 skip_words (NoPacket Cut) = codes "fewer bytes captured than its lengths say"
 skip_words (NoPacket NotIp) = codes "not IPv4 or IPv6"
 skip_words (NoPacket BadHeader) = codes "a bad IP header"
@@ -106,31 +109,34 @@ pending_part None = []
 pending_part (Some timer) = codes ", ppt " ++ decimal timer.ends_in
 
 -- The packet that is overridden, if one is.
-abbrev pub overrides_part : Option ℕ → List ℕ
-overrides_part None = []
-overrides_part (Some frame) = codes ", overrides #" ++ decimal frame
+abbrev pub overrides_part : List (List ℕ) → Option RecordPlace → List ℕ
+overrides_part files None = []
+overrides_part files (Some place) = codes ", overrides " ++ frame_text files place
 
 -- `, echo` where the router is to send a PruneEcho.
 abbrev pub echo_part : Bool → List ℕ
 echo_part false = []
 echo_part true = codes ", echo"
 
--- ---- the lines without the moment and the port
+-- ---- the lines without the moment and the port. `files` are the names of the files of the port.
 
 -- The timers of the machine after a message, and what the message overrides.
-abbrev pub timers_line : TransitionEvent (List ℕ) → List ℕ
-timers_line change = expiry_part change.after
-    ++ (waiting_part change.neighbours (pending_in change.after) ++ line (overrides_part change.overrides))
+abbrev pub timers_line : List (List ℕ) → TransitionEvent (List ℕ) → List ℕ
+timers_line files change = expiry_part change.after
+    ++ (waiting_part change.neighbours (pending_in change.after) ++ line (overrides_part files change.overrides))
+
+-- The Generation IDs of the port's own router before and after a restart, and what that means.
+abbrev pub restart_words : OwnRestart → List ℕ
+restart_words restart = codes " own Hello, generation " ++ generation_text restart.was ++ codes " -> "
+    ++ generation_text restart.generation ++ codes ": this router restarted; it lost what it held, the replay keeps it"
 
 -- A restart of the port's own router.
-abbrev pub restart_line : OwnRestart → List ℕ
-restart_line restart = line (codes "#" ++ decimal restart.frame ++ codes " own Hello, generation "
-    ++ generation_text restart.was ++ codes " -> " ++ generation_text restart.generation
-    ++ codes ": this router restarted; it lost what it held, the replay keeps it")
+abbrev pub restart_line : List (List ℕ) → OwnRestart → List ℕ
+restart_line files restart = frame_text files restart.frame ++ line (restart_words restart)
 
 -- A record that is skipped.
-abbrev pub skipped_line : Skipping → List ℕ
-skipped_line skipped = line (codes "#" ++ decimal skipped.frame ++ codes " skipped: " ++ skip_words skipped.why)
+abbrev pub skipped_line : List (List ℕ) → Skipping → List ℕ
+skipped_line files skipped = line (frame_text files skipped.frame ++ codes " skipped: " ++ skip_words skipped.why)
 
 -- What the end of a timer means.
 abbrev pub timer_words : Timer → List ℕ
@@ -190,9 +196,9 @@ meaning_text Restarted was generation = restarted_part was generation
 meaning_text Gone was generation = codes "; its joins stay until they expire"
 
 module _ (family : AddressFamily) where
-  -- `#FRAME A`.
-  abbrev pub sender_text : ℕ → List ℕ → List ℕ
-  sender_text frame from = codes "#" ++ decimal frame ++ codes " " ++ short_text family from
+  -- `#N A`, or `FILE#N A`.
+  abbrev pub sender_text : List (List ℕ) → RecordPlace → List ℕ → List ℕ
+  sender_text files frame from = frame_text files frame ++ codes " " ++ short_text family from
 
   -- The source of a machine and a space, or nothing for (*,G).
   abbrev pub source_words : What (List ℕ) → List ℕ
@@ -205,12 +211,12 @@ module _ (family : AddressFamily) where
   machine_text group what = kind_of what ++ source_words what ++ short_text family group
 
   -- The sender of a Hello that was taken, and what it means.
-  abbrev pub greeting_text : Greeting (List ℕ) → List ℕ
-  greeting_text hello = sender_text hello.frame hello.from ++ codes ": " ++ heard_words hello.verdict
+  abbrev pub greeting_text : List (List ℕ) → Greeting (List ℕ) → List ℕ
+  greeting_text files hello = sender_text files hello.frame hello.from ++ codes ": " ++ heard_words hello.verdict
 
   -- A Hello that was taken.
-  abbrev pub hello_line : Greeting (List ℕ) → List ℕ
-  hello_line hello = greeting_text hello ++ line (meaning_text hello.verdict hello.was hello.generation)
+  abbrev pub hello_line : List (List ℕ) → Greeting (List ℕ) → List ℕ
+  hello_line files hello = greeting_text files hello ++ line (meaning_text hello.verdict hello.was hello.generation)
 
   -- To whom a Join/Prune message is addressed, and the number of its entries.
   abbrev pub message_part : Option Message → List ℕ
@@ -219,21 +225,25 @@ module _ (family : AddressFamily) where
       ++ decimal (joined_in message.sets) ++ codes " pruned " ++ decimal (pruned_in message.sets)
 
   -- The verdict on a packet.
-  abbrev pub verdict_text : Judged → List ℕ
-  verdict_text packet = (sender_text packet.frame packet.from ++ codes ": ") ++ verdict_words packet.verdict
+  abbrev pub verdict_text : List (List ℕ) → Judged → List ℕ
+  verdict_text files packet = (sender_text files packet.frame packet.from ++ codes ": ") ++ verdict_words packet.verdict
 
   -- A packet with its verdict.
-  abbrev pub judged_line : Judged → List ℕ
-  judged_line packet = verdict_text packet ++ line (message_part packet.message)
+  abbrev pub judged_line : List (List ℕ) → Judged → List ℕ
+  judged_line files packet = verdict_text files packet ++ line (message_part packet.message)
 
   -- What a message does to a machine, and the states before and after it.
-  abbrev pub change_text : TransitionEvent (List ℕ) → List ℕ
-  change_text change = sender_text change.frame change.from ++ by_words change.by
-      ++ machine_text change.group change.what ++ codes ": " ++ states_text change.before (state_in change.after)
+  abbrev pub change_words : TransitionEvent (List ℕ) → List ℕ
+  change_words change = by_words change.by ++ machine_text change.group change.what ++ codes ": "
+      ++ states_text change.before (state_in change.after)
+
+  -- The same, after the sender.
+  abbrev pub change_text : List (List ℕ) → TransitionEvent (List ℕ) → List ℕ
+  change_text files change = sender_text files change.frame change.from ++ change_words change
 
   -- A machine that a message changed.
-  abbrev pub transition_line : TransitionEvent (List ℕ) → List ℕ
-  transition_line change = change_text change ++ timers_line change
+  abbrev pub transition_line : List (List ℕ) → TransitionEvent (List ℕ) → List ℕ
+  transition_line files change = change_text files change ++ timers_line files change
 
   -- The RP of the group, if it has one.
   abbrev pub rp_part : Option (List ℕ) → List ℕ
@@ -241,18 +251,18 @@ module _ (family : AddressFamily) where
   rp_part (Some rp) = codes "the RP of this group is " ++ short_text family rp
 
   -- A Join(*,G) that is ignored, and the RP that it names.
-  abbrev pub entry_text : Ignored (List ℕ) → List ℕ
-  entry_text entry = sender_text entry.frame entry.from ++ codes " joins star " ++ short_text family entry.group
+  abbrev pub entry_text : List (List ℕ) → Ignored (List ℕ) → List ℕ
+  entry_text files entry = sender_text files entry.frame entry.from ++ codes " joins star " ++ short_text family entry.group
       ++ codes ": ignored, it names RP " ++ short_text family entry.names ++ codes ", and "
 
   -- A Join(*,G) that is ignored.
-  abbrev pub ignored_line : Ignored (List ℕ) → List ℕ
-  ignored_line entry = entry_text entry ++ line (rp_part entry.rp)
+  abbrev pub ignored_line : List (List ℕ) → Ignored (List ℕ) → List ℕ
+  ignored_line files entry = entry_text files entry ++ line (rp_part entry.rp)
 
   -- A neighbour whose time is over, at this moment.
-  abbrev pub time_out_line : ℕ → TimeOut (List ℕ) → List ℕ
-  time_out_line ms over = line (codes "neighbour " ++ short_text family over.neighbour
-      ++ codes " timed out; Hello #" ++ decimal over.frame ++ codes ", " ++ decimal (ms - over.ms)
+  abbrev pub time_out_line : List (List ℕ) → ℕ → TimeOut (List ℕ) → List ℕ
+  time_out_line files ms over = line (codes "neighbour " ++ short_text family over.neighbour
+      ++ codes " timed out; Hello " ++ frame_text files over.frame ++ codes ", " ++ decimal (ms - over.ms)
       ++ codes " ms before; its joins stay until they expire")
 
   -- A timer that fired, its machine, the states before and after, and whether an echo is to be
@@ -262,13 +272,13 @@ module _ (family : AddressFamily) where
       ++ states_text (Some firing.before) firing.after ++ echo_text firing.timer firing.echo
 
   -- The packet that set the timer, and how long before this moment it came.
-  abbrev pub cause_line : ℕ → Timer → Cause (List ℕ) → List ℕ
-  cause_line ms timer cause = line (cause_words timer ++ short_text family cause.from ++ codes " in #"
-      ++ decimal cause.frame ++ codes ", " ++ decimal (ms - cause.ms) ++ codes " ms before")
+  abbrev pub cause_line : List (List ℕ) → ℕ → Timer → Cause (List ℕ) → List ℕ
+  cause_line files ms timer cause = line (cause_words timer ++ short_text family cause.from ++ codes " in "
+      ++ frame_text files cause.frame ++ codes ", " ++ decimal (ms - cause.ms) ++ codes " ms before")
 
   -- A timer that fired, at this moment.
-  abbrev pub fired_line : ℕ → Fired (List ℕ) → List ℕ
-  fired_line ms firing = effect_text firing ++ cause_line ms firing.timer firing.cause
+  abbrev pub fired_line : List (List ℕ) → ℕ → Fired (List ℕ) → List ℕ
+  fired_line files ms firing = effect_text firing ++ cause_line files ms firing.timer firing.cause
 
   -- A machine that is held, its state, the time since it was last in NoInfo, and the time left on
   -- its Expiry Timer.
@@ -278,12 +288,12 @@ module _ (family : AddressFamily) where
       ++ expiry_part (Some held.machine)
 
   -- The time left on the Prune-Pending Timer of a machine, and the packet that set its Expiry Timer.
-  abbrev pub timer_line : ℕ → HeldMachine (List ℕ) → List ℕ
-  timer_line ms held = pending_part held.machine.pending ++ cause_line ms Expiry held.cause
+  abbrev pub timer_line : List (List ℕ) → ℕ → HeldMachine (List ℕ) → List ℕ
+  timer_line files ms held = pending_part held.machine.pending ++ cause_line files ms Expiry held.cause
 
   -- A machine that is held at this moment.
-  abbrev pub record_line : ℕ → HeldMachine (List ℕ) → List ℕ
-  record_line ms held = record_text held ++ timer_line ms held
+  abbrev pub record_line : List (List ℕ) → ℕ → HeldMachine (List ℕ) → List ℕ
+  record_line files ms held = record_text held ++ timer_line files ms held
 
   -- Words and an address, or nothing where there is no address.
   abbrev pub address_part : List ℕ → Option (List ℕ) → List ℕ
@@ -297,18 +307,18 @@ module _ (family : AddressFamily) where
       ++ address_part (codes " via ") entry.via ++ address_part (codes " except ") (exception_in entry.what))
 
   -- What happened, at this moment.
-  abbrev pub what_line : ℕ → Happened → List ℕ
-  what_line ms (hello_heard hello) = hello_line hello
-  what_line ms (packet_judged packet) = judged_line packet
-  what_line ms (machine_changed change) = transition_line change
-  what_line ms (join_ignored entry) = ignored_line entry
-  what_line ms (own_restart restart) = restart_line restart
-  what_line ms (record_skipped skipped) = skipped_line skipped
-  what_line ms (neighbour_gone over) = time_out_line ms over
-  what_line ms (timer_fired firing) = fired_line ms firing
-  what_line ms (machine_held held) = record_line ms held
-  what_line ms (entry_wanted entry) = want_line entry
-  what_line ms (run_ended ending) = ending_line ending
+  abbrev pub what_line : List (List ℕ) → ℕ → Happened → List ℕ
+  what_line files ms (hello_heard hello) = hello_line files hello
+  what_line files ms (packet_judged packet) = judged_line files packet
+  what_line files ms (machine_changed change) = transition_line files change
+  what_line files ms (join_ignored entry) = ignored_line files entry
+  what_line files ms (own_restart restart) = restart_line files restart
+  what_line files ms (record_skipped skipped) = skipped_line files skipped
+  what_line files ms (neighbour_gone over) = time_out_line files ms over
+  what_line files ms (timer_fired firing) = fired_line files ms firing
+  what_line files ms (machine_held held) = record_line files ms held
+  what_line files ms (entry_wanted entry) = want_line entry
+  what_line files ms (run_ended ending) = ending_line ending
 
 -- ---- whole lines
 
@@ -325,7 +335,8 @@ port_text names (Some port) = name_of names port ++ codes " "
 abbrev pub head_text : List (List ℕ) → TimeForm → ℕ → Option ℕ → Option ℕ → List ℕ
 head_text names form ms epoch port = moment_text form ms epoch ++ codes " " ++ port_text names port
 
--- The line of an event: its moment, its port, and what happened.
-abbrev pub text_line : AddressFamily → List (List ℕ) → TimeForm → Occurrence → List ℕ
-text_line family names form event =
-    head_text names form event.ms event.epoch event.port ++ what_line family event.ms event.what
+-- The line of an event: its moment, its port, and what happened. `files` are the names of the files
+-- of each port.
+abbrev pub text_line : AddressFamily → List (List ℕ) → List (List (List ℕ)) → TimeForm → Occurrence → List ℕ
+text_line family names files form event = head_text names form event.ms event.epoch event.port
+    ++ what_line family (files_of files event.port) event.ms event.what

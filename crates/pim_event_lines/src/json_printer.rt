@@ -5,6 +5,7 @@ ghost use Rattle.pim_device.specs.Device.{AppendsAll, failures_after};
 ghost use Rattle.pim_events.specs.Events.{happening_seen, event_seen};
 ghost use Rattle.pim_event_lines.specs.JsonLine.{time_json, place_json, what_json, json_line};
 
+use crate::files::{FileName, FileNames, files_of};
 use crate::json_machines::{
     write_ending_json, write_fired_json, write_time_out_json, write_transition_json,
 };
@@ -76,21 +77,25 @@ pub fn write_json_head<W: Drain>(
 }
 
 /// Writes the name of an event, and its members after it.
-fn write_what<F: Family, W: Drain>(writer: &mut W, what: &Happening<'_, F>) -> Result<(), Failed>
+fn write_what<F: Family, W: Drain>(
+    writer: &mut W,
+    files: &[FileName],
+    what: &Happening<'_, F>,
+) -> Result<(), Failed>
     ensures bytes { AppendsAll (W.contents writer.old) (W.contents writer.new) result
-        (what_json F.family (happening_seen F.bytes_of what.now)) }
+        (what_json F.family files.now (happening_seen F.bytes_of what.now)) }
     ensures count { W.failures writer.new ≡ failures_after (W.failures writer.old) result }
 {
     match what {
-        Happening::Hello(hello) => write_hello_json::<F, W>(writer, hello),
-        Happening::Packet(packet) => write_judged_json::<F, W>(writer, packet),
-        Happening::Transition(change) => write_transition_json::<F, W>(writer, change),
-        Happening::Ignored(entry) => write_ignored_json::<F, W>(writer, entry),
-        Happening::Restarted(restart) => write_restart_json(writer, *restart),
-        Happening::Skipped(skipped) => write_skipped_json(writer, *skipped),
-        Happening::TimedOut(over) => write_time_out_json::<F, W>(writer, over),
-        Happening::Fired(firing) => write_fired_json::<F, W>(writer, firing),
-        Happening::Held(held) => write_record_json::<F, W>(writer, held),
+        Happening::Hello(hello) => write_hello_json::<F, W>(writer, files, hello),
+        Happening::Packet(packet) => write_judged_json::<F, W>(writer, files, packet),
+        Happening::Transition(change) => write_transition_json::<F, W>(writer, files, change),
+        Happening::Ignored(entry) => write_ignored_json::<F, W>(writer, files, entry),
+        Happening::Restarted(restart) => write_restart_json(writer, files, *restart),
+        Happening::Skipped(skipped) => write_skipped_json(writer, files, *skipped),
+        Happening::TimedOut(over) => write_time_out_json::<F, W>(writer, files, over),
+        Happening::Fired(firing) => write_fired_json::<F, W>(writer, files, firing),
+        Happening::Held(held) => write_record_json::<F, W>(writer, files, held),
         Happening::Wanted(entry) => write_want_json::<F, W>(writer, entry),
         Happening::Ended(ending) => write_ending_json(writer, *ending),
     }
@@ -100,14 +105,16 @@ fn write_what<F: Family, W: Drain>(writer: &mut W, what: &Happening<'_, F>) -> R
 fn write_line<F: Family, W: Drain>(
     writer: &mut W,
     names: &[Name],
+    files: &[FileNames],
     event: &TraceEvent<'_, F>,
 ) -> Result<(), Failed>
     ensures bytes { AppendsAll (W.contents writer.old) (W.contents writer.new) result
-        (json_line F.family names.now (event_seen F.bytes_of event.now)) }
+        (json_line F.family names.now files.now (event_seen F.bytes_of event.now)) }
     ensures count { W.failures writer.new ≡ failures_after (W.failures writer.old) result }
 {
     write_json_head(writer, names, event.ms, event.epoch, event.port)?;
-    write_what::<F, W>(writer, &event.what)
+    let files = files_of(files, event.port);
+    write_what::<F, W>(writer, files, &event.what)
 }
 
 /// Writes the line of each event that is shown, as JSON.
@@ -115,6 +122,8 @@ fn write_line<F: Family, W: Drain>(
 pub struct JsonPrinter<'a, A> {
     /// The names of the ports, in the order of their numbers.
     pub names: &'a [Name],
+    /// The names of their files as they stand in JSON strings; none for a port with one file.
+    pub files: &'a [FileNames],
     /// Which events are shown.
     pub filter: Filter<'a, A>,
 }
@@ -124,7 +133,7 @@ impl<'a, F: Family, W: Drain> EventWriter<F, W> for JsonPrinter<'a, F::Addr> {
     ghost use Rattle.pim_event_lines.specs.JsonLine.{json_line};
 
     ghost line = { λ printer event. if_shown (filter_seen F.bytes_of printer.filter) event
-        (json_line F.family printer.names.now event) };
+        (json_line F.family printer.names.now printer.files.now event) };
 
     ghost contents = { W.contents };
 
@@ -134,6 +143,6 @@ impl<'a, F: Family, W: Drain> EventWriter<F, W> for JsonPrinter<'a, F::Addr> {
         if !is_shown::<F>(&self.filter, event) {
             return Ok(());
         }
-        write_line::<F, W>(device, self.names, event)
+        write_line::<F, W>(device, self.names, self.files, event)
     }
 }

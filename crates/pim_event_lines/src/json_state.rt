@@ -6,13 +6,17 @@ ghost use Rattle.pim_down.specs.Seen.{what_seen};
 ghost use Rattle.pim_events.specs.Events.{held_seen, wanted_what_seen, wanted_seen};
 ghost use Rattle.pim_event_lines.specs.JsonLine.{address_json, source_in, held_machine_json};
 ghost use Rattle.pim_event_lines.specs.JsonLine.{held_state_json, record_json, wanted_source};
-ghost use Rattle.pim_event_lines.specs.JsonLine.{want_json};
+ghost use Rattle.pim_event_lines.specs.JsonLine.{want_json, cause_json, held_times_json};
+ghost use Rattle.pim_events.specs.Events.{cause_seen};
+ghost use Rattle.pim_lines.specs.Pieces.{line};
+ghost use Rattle.std.specs.Prelude.{codes};
 
+use crate::files::{FileName, file_of, if_several};
 use crate::words::{kind_word, pending_json, want_word};
 use itoa::Buffer;
 use pim_addr::{Drain, Failed, Family};
 use pim_down::What;
-use pim_events::{HeldMachine, WantedEntry, WantedWhat};
+use pim_events::{Cause, HeldMachine, WantedEntry, WantedWhat};
 use pim_lines::{ShortText, number_or, write_pieces};
 use pim_report::state_name;
 
@@ -104,24 +108,20 @@ fn write_machine<F: Family, W: Drain>(
     write_pieces(writer, &pieces)
 }
 
-/// Writes the state of a machine that is held, its times, and the packet that set its Expiry Timer.
-fn write_held_state<F: Family, W: Drain>(
+/// Writes the state of a machine that is held, and its times.
+fn write_held_times<F: Family, W: Drain>(
     writer: &mut W,
     held: &HeldMachine<F::Addr>,
 ) -> Result<(), Failed>
     ensures bytes { AppendsAll (W.contents writer.old) (W.contents writer.new) result
-        (held_state_json F.family (held_seen F.bytes_of held.now)) }
+        (held_times_json (held_seen F.bytes_of held.now)) }
     ensures count { W.failures writer.new ≡ failures_after (W.failures writer.old) result }
 {
     let machine = held.machine;
     let state = machine.state;
-    let cause = held.cause;
-    let from = ShortText::of::<F>(cause.from);
     let mut since = Buffer::new();
     let mut expiry = Buffer::new();
     let mut pending = Buffer::new();
-    let mut frame = Buffer::new();
-    let mut moment = Buffer::new();
     let pieces = [
         b",\"state\":\"",
         state_name(&state),
@@ -131,8 +131,29 @@ fn write_held_state<F: Family, W: Drain>(
         number_or(&mut expiry, machine.expires_in, b"\"never\""),
         b",\"ppt\":",
         pending_json(&mut pending, Some(machine)),
+    ];
+    write_pieces(writer, &pieces)
+}
+
+/// Writes the packet that set a timer, and ends the object.
+fn write_cause<F: Family, W: Drain>(
+    writer: &mut W,
+    files: &[FileName],
+    cause: Cause<F::Addr>,
+) -> Result<(), Failed>
+    ensures bytes { AppendsAll (W.contents writer.old) (W.contents writer.new) result
+        (line (cause_json F.family files.now (cause_seen F.bytes_of cause) ++ codes "}")) }
+    ensures count { W.failures writer.new ≡ failures_after (W.failures writer.old) result }
+{
+    let from = ShortText::of::<F>(cause.from);
+    let mut frame = Buffer::new();
+    let mut moment = Buffer::new();
+    let pieces = [
         b",\"cause\":{\"frame\":",
-        frame.format(cause.frame).as_bytes(),
+        frame.format(cause.frame.record).as_bytes(),
+        if_several(files, b",\"file\":\""),
+        file_of(files, cause.frame),
+        if_several(files, b"\""),
         b",\"from\":\"",
         from.text(),
         b"\",\"ms\":",
@@ -142,17 +163,32 @@ fn write_held_state<F: Family, W: Drain>(
     write_pieces(writer, &pieces)
 }
 
-/// Writes the members of a machine that is held.
-pub(crate) fn write_record_json<F: Family, W: Drain>(
+/// Writes the state of a machine that is held, its times, and the packet that set its Expiry Timer.
+fn write_held_state<F: Family, W: Drain>(
     writer: &mut W,
+    files: &[FileName],
     held: &HeldMachine<F::Addr>,
 ) -> Result<(), Failed>
     ensures bytes { AppendsAll (W.contents writer.old) (W.contents writer.new) result
-        (record_json F.family (held_seen F.bytes_of held.now)) }
+        (held_state_json F.family files.now (held_seen F.bytes_of held.now)) }
+    ensures count { W.failures writer.new ≡ failures_after (W.failures writer.old) result }
+{
+    write_held_times::<F, W>(writer, held)?;
+    write_cause::<F, W>(writer, files, held.cause)
+}
+
+/// Writes the members of a machine that is held.
+pub(crate) fn write_record_json<F: Family, W: Drain>(
+    writer: &mut W,
+    files: &[FileName],
+    held: &HeldMachine<F::Addr>,
+) -> Result<(), Failed>
+    ensures bytes { AppendsAll (W.contents writer.old) (W.contents writer.new) result
+        (record_json F.family files.now (held_seen F.bytes_of held.now)) }
     ensures count { W.failures writer.new ≡ failures_after (W.failures writer.old) result }
 {
     write_machine::<F, W>(writer, held)?;
-    write_held_state::<F, W>(writer, held)
+    write_held_state::<F, W>(writer, files, held)
 }
 
 /// The source that a router wants, or does not want.

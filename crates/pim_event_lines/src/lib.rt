@@ -4,14 +4,15 @@
 //!   other.
 //!
 //! `specs/TextLine.antt` and `specs/JsonLine.antt` define the line of each event byte by byte. It
-//! depends on nothing but the event, the names of the ports and the form of moments. At Ok the
-//! whole line was written. If the device fails, a prefix of it was.
+//! depends on nothing but the event, the names of the ports and of their files, and the form of
+//! moments. At Ok the whole line was written. If the device fails, a prefix of it was.
 //!
 //! Lines need no memory, since they are written in pieces. Callers: `pim_commands`. The lines of
 //! an audit (`pim_audit_lines`) have the same heads, moments, machines and restarts.
 #![tactic(auto)]
 
 mod counts;
+mod files;
 mod json_machines;
 mod json_packets;
 mod json_printer;
@@ -23,6 +24,7 @@ mod text_printer;
 mod text_state;
 mod words;
 
+pub use files::{FileName, FileNames, file_of, files_of, if_several};
 pub use json_packets::write_restart_json;
 pub use json_printer::{JsonPrinter, write_json_head};
 pub use moments::Stamp;

@@ -7,13 +7,15 @@ ghost use Rattle.pim_event_lines.specs.TextLine.{neighbours_text, expiry_part, w
 ghost use Rattle.pim_event_lines.specs.TextLine.{overrides_part, change_text, timers_line};
 ghost use Rattle.pim_event_lines.specs.TextLine.{transition_line, time_out_line, effect_text};
 ghost use Rattle.pim_event_lines.specs.TextLine.{fired_line, cause_line, held_text, counts_text};
-ghost use Rattle.pim_event_lines.specs.TextLine.{ending_line};
+ghost use Rattle.pim_event_lines.specs.TextLine.{ending_line, change_words, sender_text};
 ghost use Rattle.pim_lines.specs.Pieces.{line};
 ghost use Rattle.std.specs.Prelude.{if◌then◌else◌, ◌==◌, codes};
 
+use crate::files::{FileName, file_of};
 use crate::words::{by_words, cause_words, echo_text, show_what, state_text, timer_words};
 use itoa::Buffer;
 use pim_addr::{Drain, Failed, Family, write_all};
+use pim_capture::RecordPlace;
 use pim_down::{Machine, Pending, Timer};
 use pim_events::{
     Cause, EndOfTrace, Fired, SkipCounts, TimeOut, TransitionEvent, pending_in, state_in,
@@ -74,69 +76,75 @@ fn write_waiting<W: Drain>(
 }
 
 /// Writes the packet that is overridden, if one is, and ends the line.
-fn write_overrides<W: Drain>(writer: &mut W, overrides: Option<u64>) -> Result<(), Failed>
+fn write_overrides<W: Drain>(
+    writer: &mut W,
+    files: &[FileName],
+    overrides: Option<RecordPlace>,
+) -> Result<(), Failed>
     ensures bytes { AppendsAll (W.contents writer.old) (W.contents writer.new) result
-        (line (overrides_part overrides)) }
+        (line (overrides_part files.now overrides)) }
     ensures count { W.failures writer.new ≡ failures_after (W.failures writer.old) result }
 {
-    let Some(frame) = overrides else {
+    let Some(place) = overrides else {
         return write_all(writer, b"\n");
     };
     let mut digits = Buffer::new();
-    let pieces = [b", overrides #", digits.format(frame).as_bytes(), b"\n"];
+    let pieces = [
+        b", overrides ",
+        file_of(files, place),
+        b"#",
+        digits.format(place.record).as_bytes(),
+        b"\n",
+    ];
     write_pieces(writer, &pieces)
 }
 
 /// Writes the time left on a Prune-Pending Timer, and the packet that is overridden.
 fn write_pending<W: Drain>(
     writer: &mut W,
+    files: &[FileName],
     neighbours: usize,
     pending: Option<Pending>,
-    overrides: Option<u64>,
+    overrides: Option<RecordPlace>,
 ) -> Result<(), Failed>
     ensures bytes { AppendsAll (W.contents writer.old) (W.contents writer.new) result
-        (waiting_part neighbours pending ++ line (overrides_part overrides)) }
+        (waiting_part neighbours pending ++ line (overrides_part files.now overrides)) }
     ensures count { W.failures writer.new ≡ failures_after (W.failures writer.old) result }
 {
     write_waiting(writer, neighbours, pending)?;
-    write_overrides(writer, overrides)
+    write_overrides(writer, files, overrides)
 }
 
 /// Writes the timers of a machine after a message, and the packet that is overridden.
 fn write_timers<F: Family, W: Drain>(
     writer: &mut W,
+    files: &[FileName],
     change: &TransitionEvent<F::Addr>,
 ) -> Result<(), Failed>
     ensures bytes { AppendsAll (W.contents writer.old) (W.contents writer.new) result
-        (timers_line (transition_seen F.bytes_of change.now)) }
+        (timers_line files.now (transition_seen F.bytes_of change.now)) }
     ensures count { W.failures writer.new ≡ failures_after (W.failures writer.old) result }
 {
     let pending = pending_in(change.after);
     write_expiry(writer, change.after)?;
-    write_pending(writer, change.neighbours, pending, change.overrides)
+    write_pending(writer, files, change.neighbours, pending, change.overrides)
 }
 
 /// Writes what a message does to a machine, and the states before and after it.
-fn write_change<F: Family, W: Drain>(
+fn write_change_words<F: Family, W: Drain>(
     writer: &mut W,
     change: &TransitionEvent<F::Addr>,
 ) -> Result<(), Failed>
     ensures bytes { AppendsAll (W.contents writer.old) (W.contents writer.new) result
-        (change_text F.family (transition_seen F.bytes_of change.now)) }
+        (change_words F.family (transition_seen F.bytes_of change.now)) }
     ensures count { W.failures writer.new ≡ failures_after (W.failures writer.old) result }
 {
     let by = change.by;
     let was = change.before;
     let after = state_in(change.after);
-    let mut frame = Buffer::new();
-    let from = ShortText::of::<F>(change.from);
     let what = show_what::<F>(change.what);
     let group = ShortText::of::<F>(change.group);
     let pieces = [
-        b"#",
-        frame.format(change.frame).as_bytes(),
-        b" ",
-        from.text(),
         by_words(&by),
         what.kind(),
         what.source(),
@@ -150,27 +158,65 @@ fn write_change<F: Family, W: Drain>(
     write_pieces(writer, &pieces)
 }
 
-/// Writes the line of a machine that a message changed.
-pub(crate) fn write_transition_line<F: Family, W: Drain>(
+/// Writes the sender of a message.
+fn write_sender<F: Family, W: Drain>(
     writer: &mut W,
+    files: &[FileName],
     change: &TransitionEvent<F::Addr>,
 ) -> Result<(), Failed>
     ensures bytes { AppendsAll (W.contents writer.old) (W.contents writer.new) result
-        (transition_line F.family (transition_seen F.bytes_of change.now)) }
+        (sender_text F.family files.now change.now.frame (F.bytes_of change.now.from)) }
     ensures count { W.failures writer.new ≡ failures_after (W.failures writer.old) result }
 {
-    write_change::<F, W>(writer, change)?;
-    write_timers::<F, W>(writer, change)
+    let mut frame = Buffer::new();
+    let from = ShortText::of::<F>(change.from);
+    let pieces = [
+        file_of(files, change.frame),
+        b"#",
+        frame.format(change.frame.record).as_bytes(),
+        b" ",
+        from.text(),
+    ];
+    write_pieces(writer, &pieces)
+}
+
+/// Writes the sender of a message, what it does to a machine, and the states before and after it.
+fn write_change<F: Family, W: Drain>(
+    writer: &mut W,
+    files: &[FileName],
+    change: &TransitionEvent<F::Addr>,
+) -> Result<(), Failed>
+    ensures bytes { AppendsAll (W.contents writer.old) (W.contents writer.new) result
+        (change_text F.family files.now (transition_seen F.bytes_of change.now)) }
+    ensures count { W.failures writer.new ≡ failures_after (W.failures writer.old) result }
+{
+    write_sender::<F, W>(writer, files, change)?;
+    write_change_words::<F, W>(writer, change)
+}
+
+/// Writes the line of a machine that a message changed.
+pub(crate) fn write_transition_line<F: Family, W: Drain>(
+    writer: &mut W,
+    files: &[FileName],
+    change: &TransitionEvent<F::Addr>,
+) -> Result<(), Failed>
+    ensures bytes { AppendsAll (W.contents writer.old) (W.contents writer.new) result
+        (transition_line F.family files.now (transition_seen F.bytes_of change.now)) }
+    ensures count { W.failures writer.new ≡ failures_after (W.failures writer.old) result }
+{
+    write_change::<F, W>(writer, files, change)?;
+    write_timers::<F, W>(writer, files, change)
 }
 
 /// Writes the line of a neighbour whose time is over, at this moment in milliseconds.
 pub(crate) fn write_time_out_line<F: Family, W: Drain>(
     writer: &mut W,
+    files: &[FileName],
     ms: u64,
     over: &TimeOut<F::Addr>,
 ) -> Result<(), Failed>
     ensures bytes { AppendsAll (W.contents writer.old) (W.contents writer.new) result
-        (time_out_line F.family ms (time_out_seen F.bytes_of over.now)) }
+        (time_out_line F.family files.now ms (time_out_seen F.bytes_of over.now)) }
     ensures count { W.failures writer.new ≡ failures_after (W.failures writer.old) result }
 {
     let neighbour = ShortText::of::<F>(over.neighbour);
@@ -179,8 +225,10 @@ pub(crate) fn write_time_out_line<F: Family, W: Drain>(
     let pieces = [
         b"neighbour ",
         neighbour.text(),
-        b" timed out; Hello #",
-        frame.format(over.frame).as_bytes(),
+        b" timed out; Hello ",
+        file_of(files, over.frame),
+        b"#",
+        frame.format(over.frame.record).as_bytes(),
         b", ",
         before.format(ms.saturating_sub(over.ms)).as_bytes(),
         b" ms before; its joins stay until they expire\n",
@@ -218,12 +266,13 @@ fn write_effect<F: Family, W: Drain>(writer: &mut W, firing: &Fired<F::Addr>) ->
 /// Writes the packet that set a timer, and how long before this moment, in milliseconds, it came.
 pub(crate) fn write_cause<F: Family, W: Drain>(
     writer: &mut W,
+    files: &[FileName],
     ms: u64,
     timer: Timer,
     cause: Cause<F::Addr>,
 ) -> Result<(), Failed>
     ensures bytes { AppendsAll (W.contents writer.old) (W.contents writer.new) result
-        (cause_line F.family ms timer (cause_seen F.bytes_of cause)) }
+        (cause_line F.family files.now ms timer (cause_seen F.bytes_of cause)) }
     ensures count { W.failures writer.new ≡ failures_after (W.failures writer.old) result }
 {
     let from = ShortText::of::<F>(cause.from);
@@ -232,8 +281,10 @@ pub(crate) fn write_cause<F: Family, W: Drain>(
     let pieces = [
         cause_words(&timer),
         from.text(),
-        b" in #",
-        frame.format(cause.frame).as_bytes(),
+        b" in ",
+        file_of(files, cause.frame),
+        b"#",
+        frame.format(cause.frame.record).as_bytes(),
         b", ",
         before.format(ms.saturating_sub(cause.ms)).as_bytes(),
         b" ms before\n",
@@ -244,15 +295,16 @@ pub(crate) fn write_cause<F: Family, W: Drain>(
 /// Writes the line of a timer that fired, at this moment in milliseconds.
 pub(crate) fn write_fired_line<F: Family, W: Drain>(
     writer: &mut W,
+    files: &[FileName],
     ms: u64,
     firing: &Fired<F::Addr>,
 ) -> Result<(), Failed>
     ensures bytes { AppendsAll (W.contents writer.old) (W.contents writer.new) result
-        (fired_line F.family ms (fired_seen F.bytes_of firing.now)) }
+        (fired_line F.family files.now ms (fired_seen F.bytes_of firing.now)) }
     ensures count { W.failures writer.new ≡ failures_after (W.failures writer.old) result }
 {
     write_effect::<F, W>(writer, firing)?;
-    write_cause::<F, W>(writer, ms, firing.timer, firing.cause)
+    write_cause::<F, W>(writer, files, ms, firing.timer, firing.cause)
 }
 
 /// Writes the number of machines and of neighbours.

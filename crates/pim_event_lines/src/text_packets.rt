@@ -7,41 +7,54 @@ ghost use Rattle.pim_event_lines.specs.TextLine.{sender_text, greeting_text, mea
 ghost use Rattle.pim_event_lines.specs.TextLine.{hello_line, verdict_text, message_part};
 ghost use Rattle.pim_event_lines.specs.TextLine.{judged_line, rp_part, ignored_line, restart_line};
 ghost use Rattle.pim_event_lines.specs.TextLine.{skipped_line, entry_text, generation_part};
-ghost use Rattle.pim_event_lines.specs.TextLine.{restarted_part};
+ghost use Rattle.pim_event_lines.specs.Files.{frame_text};
+ghost use Rattle.pim_event_lines.specs.TextLine.{restarted_part, restart_words};
 ghost use Rattle.pim_lines.specs.Pieces.{line};
 ghost use Rattle.std.specs.Prelude.{codes, option_map};
 
 use crate::counts::{joined_in, pruned_in};
+use crate::files::{FileName, file_of};
 use crate::words::{skip_words, wide};
 use itoa::Buffer;
 use pim_addr::{Drain, Failed, Family, write_all};
+use pim_capture::RecordPlace;
 use pim_events::{Greeting, Ignored, Judgment, OwnRestart, Skipping};
 use pim_hello::Heard;
 use pim_jp::JpView;
 use pim_lines::{ShortText, number_or, write_pieces};
 use pim_report::{heard_words, write_verdict_words};
 
+/// Writes a record, with the name of its file where its port has several.
+pub(crate) fn write_frame<W: Drain>(
+    writer: &mut W,
+    files: &[FileName],
+    frame: RecordPlace,
+) -> Result<(), Failed>
+    ensures bytes { AppendsAll (W.contents writer.old) (W.contents writer.new) result
+        (frame_text files.now frame) }
+    ensures count { W.failures writer.new ≡ failures_after (W.failures writer.old) result }
+{
+    let mut number = Buffer::new();
+    let pieces = [
+        file_of(files, frame),
+        b"#",
+        number.format(frame.record).as_bytes(),
+    ];
+    write_pieces(writer, &pieces)
+}
+
 /// Writes the sender of a Hello and what it means.
 fn write_greeting<F: Family, W: Drain>(
     writer: &mut W,
+    files: &[FileName],
     hello: &Greeting<F::Addr>,
 ) -> Result<(), Failed>
     ensures bytes { AppendsAll (W.contents writer.old) (W.contents writer.new) result
-        (greeting_text F.family (greeting_seen F.bytes_of hello.now)) }
+        (greeting_text F.family files.now (greeting_seen F.bytes_of hello.now)) }
     ensures count { W.failures writer.new ≡ failures_after (W.failures writer.old) result }
 {
-    let verdict = hello.verdict;
-    let mut frame = Buffer::new();
-    let from = ShortText::of::<F>(hello.from);
-    let pieces = [
-        b"#",
-        frame.format(hello.frame).as_bytes(),
-        b" ",
-        from.text(),
-        b": ",
-        heard_words(verdict),
-    ];
-    write_pieces(writer, &pieces)
+    write_sender::<F, W>(writer, files, hello.frame, hello.from)?;
+    write_all(writer, heard_words(hello.verdict))
 }
 
 /// Writes the Generation ID of a Hello.
@@ -112,31 +125,34 @@ fn write_meaning<W: Drain>(
 /// Writes the line of a Hello that was taken.
 pub(crate) fn write_hello_line<F: Family, W: Drain>(
     writer: &mut W,
+    files: &[FileName],
     hello: &Greeting<F::Addr>,
 ) -> Result<(), Failed>
     ensures bytes { AppendsAll (W.contents writer.old) (W.contents writer.new) result
-        (hello_line F.family (greeting_seen F.bytes_of hello.now)) }
+        (hello_line F.family files.now (greeting_seen F.bytes_of hello.now)) }
     ensures count { W.failures writer.new ≡ failures_after (W.failures writer.old) result }
 {
-    write_greeting::<F, W>(writer, hello)?;
+    write_greeting::<F, W>(writer, files, hello)?;
     write_meaning(writer, hello.verdict, hello.was, hello.generation)
 }
 
 /// Writes the sender of a packet.
 fn write_sender<F: Family, W: Drain>(
     writer: &mut W,
-    frame: u64,
+    files: &[FileName],
+    frame: RecordPlace,
     from: F::Addr,
 ) -> Result<(), Failed>
     ensures bytes { AppendsAll (W.contents writer.old) (W.contents writer.new) result
-        (sender_text F.family frame (F.bytes_of from) ++ codes ": ") }
+        (sender_text F.family files.now frame (F.bytes_of from) ++ codes ": ") }
     ensures count { W.failures writer.new ≡ failures_after (W.failures writer.old) result }
 {
     let mut number = Buffer::new();
     let from = ShortText::of::<F>(from);
     let pieces = [
+        file_of(files, frame),
         b"#",
-        number.format(frame).as_bytes(),
+        number.format(frame.record).as_bytes(),
         b" ",
         from.text(),
         b": ",
@@ -147,13 +163,14 @@ fn write_sender<F: Family, W: Drain>(
 /// Writes the verdict on a packet.
 fn write_verdict<F: Family, W: Drain>(
     writer: &mut W,
+    files: &[FileName],
     packet: &Judgment<'_, F>,
 ) -> Result<(), Failed>
     ensures bytes { AppendsAll (W.contents writer.old) (W.contents writer.new) result
-        (verdict_text F.family (judgment_seen F.bytes_of packet.now)) }
+        (verdict_text F.family files.now (judgment_seen F.bytes_of packet.now)) }
     ensures count { W.failures writer.new ≡ failures_after (W.failures writer.old) result }
 {
-    write_sender::<F, W>(writer, packet.frame, packet.from)?;
+    write_sender::<F, W>(writer, files, packet.frame, packet.from)?;
     write_verdict_words(writer, packet.verdict)
 }
 
@@ -187,20 +204,25 @@ fn write_message_part<F: Family, W: Drain>(
 /// Writes the line of a packet with its verdict.
 pub(crate) fn write_judged_line<F: Family, W: Drain>(
     writer: &mut W,
+    files: &[FileName],
     packet: &Judgment<'_, F>,
 ) -> Result<(), Failed>
     ensures bytes { AppendsAll (W.contents writer.old) (W.contents writer.new) result
-        (judged_line F.family (judgment_seen F.bytes_of packet.now)) }
+        (judged_line F.family files.now (judgment_seen F.bytes_of packet.now)) }
     ensures count { W.failures writer.new ≡ failures_after (W.failures writer.old) result }
 {
-    write_verdict::<F, W>(writer, packet)?;
+    write_verdict::<F, W>(writer, files, packet)?;
     write_message_part::<F, W>(writer, &packet.message)
 }
 
 /// Writes a Join(*,G) that is ignored, and the RP that it names.
-fn write_entry<F: Family, W: Drain>(writer: &mut W, entry: &Ignored<F::Addr>) -> Result<(), Failed>
+fn write_entry<F: Family, W: Drain>(
+    writer: &mut W,
+    files: &[FileName],
+    entry: &Ignored<F::Addr>,
+) -> Result<(), Failed>
     ensures bytes { AppendsAll (W.contents writer.old) (W.contents writer.new) result
-        (entry_text F.family (ignored_seen F.bytes_of entry.now)) }
+        (entry_text F.family files.now (ignored_seen F.bytes_of entry.now)) }
     ensures count { W.failures writer.new ≡ failures_after (W.failures writer.old) result }
 {
     let mut frame = Buffer::new();
@@ -208,8 +230,9 @@ fn write_entry<F: Family, W: Drain>(writer: &mut W, entry: &Ignored<F::Addr>) ->
     let group = ShortText::of::<F>(entry.group);
     let names = ShortText::of::<F>(entry.names);
     let pieces = [
+        file_of(files, entry.frame),
         b"#",
-        frame.format(entry.frame).as_bytes(),
+        frame.format(entry.frame.record).as_bytes(),
         b" ",
         from.text(),
         b" joins star ",
@@ -240,31 +263,26 @@ fn write_rp<F: Family, W: Drain>(writer: &mut W, rp: Option<F::Addr>) -> Result<
 /// Writes the line of a Join(*,G) that is ignored.
 pub(crate) fn write_ignored_line<F: Family, W: Drain>(
     writer: &mut W,
+    files: &[FileName],
     entry: &Ignored<F::Addr>,
 ) -> Result<(), Failed>
     ensures bytes { AppendsAll (W.contents writer.old) (W.contents writer.new) result
-        (ignored_line F.family (ignored_seen F.bytes_of entry.now)) }
+        (ignored_line F.family files.now (ignored_seen F.bytes_of entry.now)) }
     ensures count { W.failures writer.new ≡ failures_after (W.failures writer.old) result }
 {
-    write_entry::<F, W>(writer, entry)?;
+    write_entry::<F, W>(writer, files, entry)?;
     write_rp::<F, W>(writer, entry.rp)
 }
 
-/// Writes the line of a restart of the port's own router.
-///
-/// # Errors
-/// The device failed: a prefix of the line was written.
-pub fn write_restart_line<W: Drain>(writer: &mut W, restart: OwnRestart) -> Result<(), Failed>
+/// Writes the Generation IDs of the port's own router, and what its restart means.
+fn write_own_restart<W: Drain>(writer: &mut W, restart: OwnRestart) -> Result<(), Failed>
     ensures bytes { AppendsAll (W.contents writer.old) (W.contents writer.new) result
-        (restart_line restart) }
+        (line (restart_words restart)) }
     ensures count { W.failures writer.new ≡ failures_after (W.failures writer.old) result }
 {
-    let mut frame = Buffer::new();
     let mut before = Buffer::new();
     let mut after = Buffer::new();
     let pieces = [
-        b"#",
-        frame.format(restart.frame).as_bytes(),
         b" own Hello, generation ",
         number_or(&mut before, wide(restart.was), b"-"),
         b" -> ",
@@ -274,17 +292,40 @@ pub fn write_restart_line<W: Drain>(writer: &mut W, restart: OwnRestart) -> Resu
     write_pieces(writer, &pieces)
 }
 
-/// Writes the line of a record that is skipped.
-pub(crate) fn write_skipped_line<W: Drain>(writer: &mut W, skipped: Skipping) -> Result<(), Failed>
+/// Writes the line of a restart of the port's own router. `files` are the names of the port's
+/// files, if it has several.
+///
+/// # Errors
+/// The device failed: a prefix of the line was written.
+pub fn write_restart_line<W: Drain>(
+    writer: &mut W,
+    files: &[FileName],
+    restart: OwnRestart,
+) -> Result<(), Failed>
     ensures bytes { AppendsAll (W.contents writer.old) (W.contents writer.new) result
-        (skipped_line skipped) }
+        (restart_line files.now restart) }
+    ensures count { W.failures writer.new ≡ failures_after (W.failures writer.old) result }
+{
+    write_frame(writer, files, restart.frame)?;
+    write_own_restart(writer, restart)
+}
+
+/// Writes the line of a record that is skipped.
+pub(crate) fn write_skipped_line<W: Drain>(
+    writer: &mut W,
+    files: &[FileName],
+    skipped: Skipping,
+) -> Result<(), Failed>
+    ensures bytes { AppendsAll (W.contents writer.old) (W.contents writer.new) result
+        (skipped_line files.now skipped) }
     ensures count { W.failures writer.new ≡ failures_after (W.failures writer.old) result }
 {
     let why = skipped.why;
     let mut frame = Buffer::new();
     let pieces = [
+        file_of(files, skipped.frame),
         b"#",
-        frame.format(skipped.frame).as_bytes(),
+        frame.format(skipped.frame.record).as_bytes(),
         b" skipped: ",
         skip_words(&why),
         b"\n",

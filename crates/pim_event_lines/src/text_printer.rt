@@ -5,6 +5,7 @@ ghost use Rattle.pim_device.specs.Device.{AppendsAll, failures_after};
 ghost use Rattle.pim_events.specs.Events.{happening_seen, event_seen};
 ghost use Rattle.pim_event_lines.specs.TextLine.{head_text, what_line, text_line};
 
+use crate::files::{FileName, FileNames, files_of};
 use crate::moments::Stamp;
 use crate::text_machines::{
     write_ending_line, write_fired_line, write_time_out_line, write_transition_line,
@@ -52,23 +53,24 @@ pub fn write_text_head<W: Drain>(
 /// Writes what happened at this moment, in milliseconds.
 fn write_what<F: Family, W: Drain>(
     writer: &mut W,
+    files: &[FileName],
     ms: u64,
     what: &Happening<'_, F>,
 ) -> Result<(), Failed>
     ensures bytes { AppendsAll (W.contents writer.old) (W.contents writer.new) result
-        (what_line F.family ms (happening_seen F.bytes_of what.now)) }
+        (what_line F.family files.now ms (happening_seen F.bytes_of what.now)) }
     ensures count { W.failures writer.new ≡ failures_after (W.failures writer.old) result }
 {
     match what {
-        Happening::Hello(hello) => write_hello_line::<F, W>(writer, hello),
-        Happening::Packet(packet) => write_judged_line::<F, W>(writer, packet),
-        Happening::Transition(change) => write_transition_line::<F, W>(writer, change),
-        Happening::Ignored(entry) => write_ignored_line::<F, W>(writer, entry),
-        Happening::Restarted(restart) => write_restart_line(writer, *restart),
-        Happening::Skipped(skipped) => write_skipped_line(writer, *skipped),
-        Happening::TimedOut(over) => write_time_out_line::<F, W>(writer, ms, over),
-        Happening::Fired(firing) => write_fired_line::<F, W>(writer, ms, firing),
-        Happening::Held(held) => write_record_line::<F, W>(writer, ms, held),
+        Happening::Hello(hello) => write_hello_line::<F, W>(writer, files, hello),
+        Happening::Packet(packet) => write_judged_line::<F, W>(writer, files, packet),
+        Happening::Transition(change) => write_transition_line::<F, W>(writer, files, change),
+        Happening::Ignored(entry) => write_ignored_line::<F, W>(writer, files, entry),
+        Happening::Restarted(restart) => write_restart_line(writer, files, *restart),
+        Happening::Skipped(skipped) => write_skipped_line(writer, files, *skipped),
+        Happening::TimedOut(over) => write_time_out_line::<F, W>(writer, files, ms, over),
+        Happening::Fired(firing) => write_fired_line::<F, W>(writer, files, ms, firing),
+        Happening::Held(held) => write_record_line::<F, W>(writer, files, ms, held),
         Happening::Wanted(entry) => write_want_line::<F, W>(writer, entry),
         Happening::Ended(ending) => write_ending_line(writer, *ending),
     }
@@ -78,15 +80,17 @@ fn write_what<F: Family, W: Drain>(
 fn write_line<F: Family, W: Drain>(
     writer: &mut W,
     names: &[Name],
+    files: &[FileNames],
     form: TimeForm,
     event: &TraceEvent<'_, F>,
 ) -> Result<(), Failed>
     ensures bytes { AppendsAll (W.contents writer.old) (W.contents writer.new) result
-        (text_line F.family names.now form (event_seen F.bytes_of event.now)) }
+        (text_line F.family names.now files.now form (event_seen F.bytes_of event.now)) }
     ensures count { W.failures writer.new ≡ failures_after (W.failures writer.old) result }
 {
     write_text_head(writer, names, form, event.ms, event.epoch, event.port)?;
-    write_what::<F, W>(writer, event.ms, &event.what)
+    let files = files_of(files, event.port);
+    write_what::<F, W>(writer, files, event.ms, &event.what)
 }
 
 /// Writes the line of each event that is shown, as text.
@@ -94,6 +98,8 @@ fn write_line<F: Family, W: Drain>(
 pub struct TextPrinter<'a, A> {
     /// The names of the ports, in the order of their numbers.
     pub names: &'a [Name],
+    /// The names of their files; none for a port with one file.
+    pub files: &'a [FileNames],
     /// How moments are written.
     pub form: TimeForm,
     /// Which events are shown.
@@ -105,7 +111,7 @@ impl<'a, F: Family, W: Drain> EventWriter<F, W> for TextPrinter<'a, F::Addr> {
     ghost use Rattle.pim_event_lines.specs.TextLine.{text_line};
 
     ghost line = { λ printer event. if_shown (filter_seen F.bytes_of printer.filter) event
-        (text_line F.family printer.names.now printer.form event) };
+        (text_line F.family printer.names.now printer.files.now printer.form event) };
 
     ghost contents = { W.contents };
 
@@ -115,6 +121,6 @@ impl<'a, F: Family, W: Drain> EventWriter<F, W> for TextPrinter<'a, F::Addr> {
         if !is_shown::<F>(&self.filter, event) {
             return Ok(());
         }
-        write_line::<F, W>(device, self.names, self.form, event)
+        write_line::<F, W>(device, self.names, self.files, self.form, event)
     }
 }

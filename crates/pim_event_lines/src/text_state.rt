@@ -7,6 +7,7 @@ ghost use Rattle.pim_events.specs.Events.{held_seen, wanted_what_seen, wanted_se
 ghost use Rattle.pim_event_lines.specs.TextLine.{pending_part, tree_of, exception_in, record_text};
 ghost use Rattle.pim_event_lines.specs.TextLine.{timer_line, record_line, address_part, want_line};
 
+use crate::files::FileName;
 use crate::text_machines::write_cause;
 use crate::words::show_what;
 use itoa::Buffer;
@@ -65,29 +66,31 @@ fn write_pending<W: Drain>(writer: &mut W, pending: Option<Pending>) -> Result<(
 /// Timer. `ms` is this moment, in milliseconds.
 fn write_timer<F: Family, W: Drain>(
     writer: &mut W,
+    files: &[FileName],
     ms: u64,
     held: &HeldMachine<F::Addr>,
 ) -> Result<(), Failed>
     ensures bytes { AppendsAll (W.contents writer.old) (W.contents writer.new) result
-        (timer_line F.family ms (held_seen F.bytes_of held.now)) }
+        (timer_line F.family files.now ms (held_seen F.bytes_of held.now)) }
     ensures count { W.failures writer.new ≡ failures_after (W.failures writer.old) result }
 {
     write_pending(writer, held.machine.pending)?;
-    write_cause::<F, W>(writer, ms, Timer::Expiry, held.cause)
+    write_cause::<F, W>(writer, files, ms, Timer::Expiry, held.cause)
 }
 
 /// Writes the line of a machine that is held at this moment, in milliseconds.
 pub(crate) fn write_record_line<F: Family, W: Drain>(
     writer: &mut W,
+    files: &[FileName],
     ms: u64,
     held: &HeldMachine<F::Addr>,
 ) -> Result<(), Failed>
     ensures bytes { AppendsAll (W.contents writer.old) (W.contents writer.new) result
-        (record_line F.family ms (held_seen F.bytes_of held.now)) }
+        (record_line F.family files.now ms (held_seen F.bytes_of held.now)) }
     ensures count { W.failures writer.new ≡ failures_after (W.failures writer.old) result }
 {
     write_record::<F, W>(writer, held)?;
-    write_timer::<F, W>(writer, ms, held)
+    write_timer::<F, W>(writer, files, ms, held)
 }
 
 /// The tree that a router wants: that of the RP, with or without an exception, or that of a source.

@@ -79,11 +79,12 @@ fn reason_words(why: &Why) -> &[u8]
         Why::Fragment | Why::Part => b"a fragment of a PIM message",
         Why::NoTime => b"without a time",
         Why::LinkType(_) => b"a link type that is not read",
-        Why::NotChosen => b"of another link than the chosen one",
+        Why::NotChosen(_) => b"of another link than the chosen one",
         Why::Copy => b"a copy of another packet",
         Why::CutShort => b"cut short by the end of its file",
         Why::NextFile => b"the capture goes on with its next file",
-        Why::Incomplete(_) => b"what is told of incomplete packets",
+        Why::OfLink(_) => b"the link of the packet before it",
+        Why::Incomplete(_) => b"what is reported of incomplete packets",
     }
 }
 
@@ -109,10 +110,11 @@ fn reason_word(why: &Why) -> &[u8]
         Why::Fragment | Why::Part => b"fragment",
         Why::NoTime => b"no-time",
         Why::LinkType(_) => b"link-type",
-        Why::NotChosen => b"not-chosen",
+        Why::NotChosen(_) => b"not-chosen",
         Why::Copy => b"copy",
         Why::CutShort => b"cut-short",
         Why::NextFile => b"next-file",
+        Why::OfLink(_) => b"of-link",
         Why::Incomplete(_) => b"incomplete",
     }
 }

@@ -1,5 +1,6 @@
 -- The events of a trace as contracts see them, with each address as its list of bytes.
 use Rattle.std.specs.Prelude.{ℕ, ◌+◌, min, List, Option, option_map}
+use Rattle.pim_capture.specs.declared.incomplete.RecordPlace.{RecordPlace}
 use Rattle.pim_device.specs.Device.{top_count}
 use Rattle.pim_down.specs.Seen.{what_seen}
 use Rattle.pim_jp.specs.Message.{Message}
@@ -30,7 +31,7 @@ epoch_at start ms = option_map (λ begin. min (begin + ms) top_count) start
 -- A packet with the verdict on it. `message` is there if it reads as a Join/Prune (RFC 7761,
 -- 4.9.5).
 pub record Judged : Type 0 where
-  pub frame : ℕ
+  pub frame : RecordPlace
   pub from : List ℕ
   pub verdict : Verdict
   pub message : Option Message

@@ -6,7 +6,7 @@ ghost use Rattle.std.specs.Prelude.{◌≡◌};
 ghost use Rattle.pim_events.specs.Events.{epoch_at};
 
 use pim_addr::Family;
-use pim_capture::Why;
+use pim_capture::{RecordPlace, Why};
 use pim_down::{Machine, State, Timer, What};
 use pim_hello::Heard;
 use pim_jp::JpView;
@@ -65,8 +65,8 @@ pub enum Happening<'a, F: Family> {
 /// A Hello that was taken (RFC 7761, 4.3.1).
 #[derive(Clone, Copy, Debug, PartialEq, Eq)]
 pub struct Greeting<A> {
-    /// The number of the record in its file, from 1.
-    pub frame: u64,
+    /// The place of the record.
+    pub frame: RecordPlace,
     /// The sender.
     pub from: A,
     /// What the Hello means for its sender.
@@ -80,8 +80,8 @@ pub struct Greeting<A> {
 /// A packet with the verdict on it.
 #[derive(Drop)]
 pub struct Judgment<'a, F: Family> {
-    /// The number of the record in its file, from 1.
-    pub frame: u64,
+    /// The place of the record.
+    pub frame: RecordPlace,
     /// The sender.
     pub from: F::Addr,
     /// The verdict.
@@ -93,8 +93,8 @@ pub struct Judgment<'a, F: Family> {
 /// A change of a machine by a Join/Prune message (RFC 7761, 4.5.1 to 4.5.3).
 #[derive(Clone, Copy, Debug, PartialEq, Eq)]
 pub struct TransitionEvent<A> {
-    /// The number of the record in its file, from 1.
-    pub frame: u64,
+    /// The place of the record.
+    pub frame: RecordPlace,
     /// The sender of the message.
     pub from: A,
     /// By what the state changed.
@@ -109,15 +109,15 @@ pub struct TransitionEvent<A> {
     pub after: Option<Machine>,
     /// The number of neighbours of the port.
     pub neighbours: usize,
-    /// The frame of the Prune that the message overrides, if it overrides one.
-    pub overrides: Option<u64>,
+    /// The place of the Prune that the message overrides, if it overrides one.
+    pub overrides: Option<RecordPlace>,
 }
 
 /// A Join(*,G) whose RP is not that of the group (RFC 7761, 4.5.1).
 #[derive(Clone, Copy, Debug, PartialEq, Eq)]
 pub struct Ignored<A> {
-    /// The number of the record in its file, from 1.
-    pub frame: u64,
+    /// The place of the record.
+    pub frame: RecordPlace,
     /// The sender of the message.
     pub from: A,
     /// The group.
@@ -131,8 +131,8 @@ pub struct Ignored<A> {
 /// A Hello of the port's own router with another Generation ID than the one before it.
 #[derive(Clone, Copy, Debug, PartialEq, Eq)]
 pub struct OwnRestart {
-    /// The number of the record in its file, from 1.
-    pub frame: u64,
+    /// The place of the record.
+    pub frame: RecordPlace,
     /// The Generation ID of the Hello before it, if it had one.
     pub was: Option<u32>,
     /// The Generation ID of this Hello, if it has one.
@@ -151,8 +151,8 @@ pub enum Skip {
 /// A record that is skipped.
 #[derive(Clone, Copy, Debug, PartialEq, Eq)]
 pub struct Skipping {
-    /// The number of the record in its file, from 1.
-    pub frame: u64,
+    /// The place of the record.
+    pub frame: RecordPlace,
     /// Why.
     pub why: Skip,
 }
@@ -162,8 +162,8 @@ pub struct Skipping {
 pub struct TimeOut<A> {
     /// The neighbour.
     pub neighbour: A,
-    /// The frame of its last Hello that was taken.
-    pub frame: u64,
+    /// The place of its last Hello that was taken.
+    pub frame: RecordPlace,
     /// The moment of that Hello, in milliseconds.
     pub ms: u64,
 }
@@ -171,8 +171,8 @@ pub struct TimeOut<A> {
 /// The packet that set a timer.
 #[derive(Clone, Copy, Debug, PartialEq, Eq)]
 pub struct Cause<A> {
-    /// The number of the record in its file, from 1.
-    pub frame: u64,
+    /// The place of the record.
+    pub frame: RecordPlace,
     /// The sender.
     pub from: A,
     /// The moment of the packet, in milliseconds.

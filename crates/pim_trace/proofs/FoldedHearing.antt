@@ -10,6 +10,7 @@ use Rattle.pim_trace.proofs.Words.{has_transition, keys_of_transitions, AreTrans
 use Rattle.pim_trace.proofs.Words.{ends_pending, names, states_shown, event_on, ignored_entry, ignored_in, all_ignored, change_by}
 use Rattle.pim_trace.proofs.Words.{change_of, changes_of, restarts, is_pending, Ledger, no_cause, both_by, same_expiry}
 use Rattle.pim_trace.proofs.Words.{pending_left, same_pending, moved_by, caused, causes_of, with_change, with_changes, cause_of}
+use Rattle.pim_trace.proofs.Words.{RecordPlace}
 use Rattle.pim_jp.specs.declared.entry.Entry.{Entry}
 use Rattle.pim_jp.specs.declared.entry.Entry.TheVariants as entry
 use Rattle.pim_down.specs.declared.machines.machine.State.TheVariants as state
@@ -173,7 +174,7 @@ module _ (ms : ℕ) (change : TransitionEvent (List ℕ)) where
 abbrev Items : Type 0
 Items = List (Transition (List ℕ))
 
-module _ (apart : KeysAreDistinct) (port frame : ℕ) (from : List ℕ) (ms neighbours : ℕ) where
+module _ (apart : KeysAreDistinct) (port : ℕ) (frame : RecordPlace) (from : List ℕ) (ms neighbours : ℕ) where
   abbrev by : Cause (List ℕ)
   by = record { frame = frame; from = from; ms = ms }
 
@@ -353,7 +354,7 @@ module _ (apart : KeysAreDistinct) (port frame : ℕ) (from : List ℕ) (ms neig
 
 -- ---- what a packet says beside them tells nothing of machines
 
-module _ (frame : ℕ) (from : List ℕ) (known : List ℕ → Option (List ℕ)) where
+module _ (frame : RecordPlace) (from : List ℕ) (known : List ℕ → Option (List ℕ)) where
   quiet_entry : (group : List ℕ) (e : Entry (List ℕ)) → AllQuiet (ignored_entry frame from known group e)
   quiet_entry group (entry.Star rp) = by (is_known (known group) rp)
     where
@@ -372,7 +373,7 @@ module _ (frame : ℕ) (from : List ℕ) (known : List ℕ → Option (List ℕ)
       (λ (set : GroupSet). quiet_flat (ignored_entry frame from known set.group)
       (quiet_entry set.group) set.joined) sets
 
-pub quiet_restarts : (frame : ℕ) (before : Option (Option ℕ)) (said : Option Parameters) →
+pub quiet_restarts : (frame : RecordPlace) (before : Option (Option ℕ)) (said : Option Parameters) →
     AllQuiet (restarts frame before said)
 quiet_restarts frame before None = tt
 quiet_restarts frame None (Some said) = tt

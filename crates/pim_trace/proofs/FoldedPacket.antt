@@ -7,7 +7,7 @@ use Rattle.pim_trace.proofs.Words.{received, body_causes, message_causes, body_h
 use Rattle.pim_trace.proofs.Words.{Happened, Occurrence, Transition, AreTransitions, event_on, greeting, judgment, all_ignored}
 use Rattle.pim_trace.proofs.Words.{changes_of, restarts, as_cause, after_own, message_says, applied_says, says, remembers}
 use Rattle.pim_trace.proofs.Words.{records_after, AreChangesOf, HearsPacket, Ledger, with_changes, message_by, read_by}
-use Rattle.pim_trace.proofs.Words.{packet_read, message_in, hello_read, message_read}
+use Rattle.pim_trace.proofs.Words.{packet_read, message_in, hello_read, message_read, RecordPlace}
 use Rattle.pim_jp.specs.Faults.{faults as join_prune_faults}
 use Rattle.pim_router.specs.declared.verdict.Verdict.TheVariants as verdict
 use Rattle.pim_router.specs.declared.verdict.Malformed.TheVariants as malformed
@@ -65,7 +65,7 @@ module _ (family : AddressFamily) (packet : Packet) (state : RouterState) where
 -- ---- the events of a packet
 
 module _ (apart : KeysAreDistinct) (keeps : HearingKeepsTheOrder) (leaves : HearingLeavesOtherPorts)
-    (family : AddressFamily) (frame : ℕ) (packet : Packet) (ledger : Ledger) (state : RouterState)
+    (family : AddressFamily) (frame : RecordPlace) (packet : Packet) (ledger : Ledger) (state : RouterState)
     (up : IsAscending state.machines.records) where
   abbrev end : Verdict × RouterState
   end = received family packet state

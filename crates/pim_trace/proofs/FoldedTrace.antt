@@ -4,7 +4,7 @@ use Rattle.pim_trace.proofs.Words.{MergeState, KeysAreDistinct, FiringSaysMore, 
 use Rattle.pim_trace.proofs.Words.{IsAscending, RouterState, NoPacket, OtherFamily, Skipping, Occurrence, record_skipped}
 use Rattle.pim_trace.proofs.Words.{TraceNamesCauses, TurnsNameCauses, RunsNameCauses, EventsShowTheState, TurnsShowTheState}
 use Rattle.pim_trace.proofs.Words.{RunsLeadOn, Ledger, frame_of, with_skip, PassesTime, WritesTurns, RunsUntil, IsTrace, ending}
-use Rattle.pim_trace.proofs.Words.{ledger_for, packet_on, Skips, TakesContent, counting, WritesTurn}
+use Rattle.pim_trace.proofs.Words.{ledger_for, packet_on, Skips, TakesContent, counting, WritesTurn, RecordPlace}
 use Rattle.pim_merge.specs.Content.{Content, holds, of_other_family, without_packet, no_record, content_in}
 use Rattle.pim_trace.proofs.Caused.{leading, naming}
 use Rattle.pim_trace.proofs.Folding.{leads_nowhere, leads_past, Place, place, known_at, LeadsAll, all_nowhere, all_on}
@@ -41,7 +41,7 @@ module _ (given : Given) (family : AddressFamily) where
       (all_quiet (place ledger state) ledger state.machines.moment port (record_skipped skipping ∷ []) up
       ((λ key on. refl), tt))))
 
-  content_leads : (port frame : ℕ) (content : Content) (ledger ledger' : Ledger) (state after : RouterState)
+  content_leads : (port : ℕ) (frame : RecordPlace) (content : Content) (ledger ledger' : Ledger) (state after : RouterState)
       (events : List Occurrence) → IsAscending state.machines.records →
       TakesContent family port frame content ledger state events ledger' after →
       LeadOn' ledger state events ledger' after

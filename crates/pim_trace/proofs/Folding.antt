@@ -4,6 +4,7 @@ use Rattle.pim_trace.proofs.Words.{option_map, unwrap_or, refl, sym, subst, AllB
 use Rattle.pim_trace.proofs.Words.{Record, State, Timer, PrunePending, IsAscending, machine_at, RouterState, Cause}
 use Rattle.pim_trace.proofs.Words.{Fired, TransitionEvent, Causes, Ledger, no_cause, both_by, event_on, cause_of, names}
 use Rattle.pim_trace.proofs.Words.{states_by, states_shown, end_of, end_after, sets, packet_of, ends_pending}
+use Rattle.pim_trace.proofs.Words.{RecordPlace}
 use Rattle.pim_events.specs.Events.{Happened, Occurrence, machine_changed, timer_fired}
 
 -- ---- what is known of a machine
@@ -44,7 +45,7 @@ since_or ms None = ms
 since_or ms (Some known) = known.since
 
 -- The frame of the packet that set the Prune-Pending Timer.
-abbrev pub pending_frame : Option Known → Option ℕ
+abbrev pub pending_frame : Option Known → Option RecordPlace
 pending_frame known = option_map (λ (k : Known). (k.by PrunePending).frame) known
 
 -- What is known after a transition at this moment.

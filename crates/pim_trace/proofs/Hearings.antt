@@ -9,6 +9,7 @@ use Rattle.pim_trace.proofs.Words.{generation_of, generation_in, greeting, judgm
 use Rattle.pim_trace.proofs.Words.{sent_by, message_says, applied_says, says, remembers, records_after, AreTransitionsOf}
 use Rattle.pim_trace.proofs.Words.{AreChangesOf, HearsPacket, read_hello, read_message, packet_read, IsNoHello, IsForOther}
 use Rattle.pim_trace.proofs.Words.{is_applied, hello_in, message_in, hello_read, message_read, HasBegun, Writes, text_on}
+use Rattle.pim_trace.proofs.Words.{RecordPlace}
 use Rattle.pim_router.specs.declared.verdict.Verdict.TheVariants as verdict
 use Rattle.pim_trace.proofs.Verdicts.{taken_reads, reads_as, applied_leaves, other_is_refused}
 use Rattle.pim_trace.proofs.Written.{front-longer}
@@ -68,7 +69,7 @@ not_applied v applied same is e = absurd (false≢true (sym is ∙ same ∙ ap i
 
 -- ---- a packet that is heard
 
-module _ (family : AddressFamily) (frame : ℕ) (packet : Packet) (ledger : Ledger) (state : RouterState) where
+module _ (family : AddressFamily) (frame : RecordPlace) (packet : Packet) (ledger : Ledger) (state : RouterState) where
   abbrev verdict_is : Verdict
   verdict_is = (received family packet state).0
 
@@ -382,7 +383,7 @@ module _ (family : AddressFamily) (frame : ℕ) (packet : Packet) (ledger : Ledg
 
 -- ---- the returns of the calls
 
-module _ (family : AddressFamily) (frame : ℕ) (packet : Packet) (ledger : Ledger) (state : RouterState) (line : Occurrence → List ℕ) where
+module _ (family : AddressFamily) (frame : RecordPlace) (packet : Packet) (ledger : Ledger) (state : RouterState) (line : Occurrence → List ℕ) where
   abbrev HearsIt : List Occurrence → Ledger → RouterState → Type 0
   HearsIt events ledger' after = HearsPacket family frame packet ledger state events ledger' after
 

@@ -2,7 +2,7 @@
 use Rattle.pim_trace.proofs.Words.{◌≡◌, ◌∙◌, ℕ, Bool, true, false, not, if◌then◌else◌, List, [], ◌∷◌, ◌++◌, map, length}
 use Rattle.pim_trace.proofs.Words.{Option, None, Some, slice_index_or, refl, sym, ap, subst, append-nil, flat_map, AllByRecursion}
 use Rattle.pim_trace.proofs.Words.{false≢true, option_eq, nat_eq, AddressFamily, End, Taken, MergeState, Parameters}
-use Rattle.pim_trace.proofs.Words.{Message}
+use Rattle.pim_trace.proofs.Words.{Message, RecordPlace}
 use Rattle.pim_trace.proofs.Words.{Record, rp_of, is_known, Happening, timed_out, Verdict, Packet, received, neighbours_on}
 use Rattle.pim_trace.proofs.Words.{RouterState, Cause, Happened, Occurrence, hello_heard, packet_judged, machine_changed}
 use Rattle.pim_trace.proofs.Words.{join_ignored, own_restart, record_skipped, neighbour_gone, Transition, Ledger, with_change}
@@ -53,7 +53,7 @@ one_if : (b : Bool) (what : Happened) → Other what → AllOther (if b then [] 
 one_if true what p = tt
 one_if false what p = (p, tt)
 
-other_ignored : (frame : ℕ) (from : List ℕ) (known : List ℕ → Option (List ℕ)) (group : List ℕ) (this : Entry (List ℕ)) →
+other_ignored : (frame : RecordPlace) (from : List ℕ) (known : List ℕ → Option (List ℕ)) (group : List ℕ) (this : Entry (List ℕ)) →
     AllOther (ignored_entry frame from known group this)
 other_ignored frame from known group (entry.Star rp) =
     one_if (is_known (known group) rp) (join_ignored
@@ -68,14 +68,14 @@ other_changes packet neighbours ledger [] = tt
 other_changes packet neighbours ledger (change ∷ changes) =
     (refl, other_changes packet neighbours (with_change packet change ledger) changes)
 
-other_restarts : (frame : ℕ) (before : Option (Option ℕ)) (said : Option Parameters) → AllOther (restarts frame before said)
+other_restarts : (frame : RecordPlace) (before : Option (Option ℕ)) (said : Option Parameters) → AllOther (restarts frame before said)
 other_restarts frame before None = tt
 other_restarts frame None (Some said) = tt
 other_restarts frame (Some was) (Some said) =
     one_if (option_eq nat_eq was said.generation)
     (own_restart (record { frame = frame; was = was; generation = said.generation })) refl
 
-module _ (family : AddressFamily) (frame : ℕ) (packet : Packet) (state : RouterState) (ledger : Ledger)
+module _ (family : AddressFamily) (frame : RecordPlace) (packet : Packet) (state : RouterState) (ledger : Ledger)
     (changes : List (Transition (List ℕ))) where
   other_applied : (message : Option Message) → AllOther (applied_says family frame packet state ledger message changes)
   other_applied None = tt
@@ -99,7 +99,7 @@ module _ (family : AddressFamily) (frame : ℕ) (packet : Packet) (state : Route
 plain_is : (events others : List Occurrence) → events ≡ others → Plain others → Plain events
 plain_is events others same plain = subst (λ (es : List Occurrence). Plain es) (sym same) plain
 
-plain_packet : (family : AddressFamily) (frame : ℕ) (packet : Packet) (ledger ledger' : Ledger) (state after : RouterState)
+plain_packet : (family : AddressFamily) (frame : RecordPlace) (packet : Packet) (ledger ledger' : Ledger) (state after : RouterState)
     (events : List Occurrence)
     → HearsPacket family frame packet ledger state events ledger' after → Plain events
 plain_packet family frame packet ledger ledger' state after events h =
@@ -124,7 +124,7 @@ plain_time : (moment : ℕ) (ledger ledger' : Ledger) (state after : RouterState
 plain_time moment ledger ledger' state after events p = plain_is events _ p.events_are (plain_happened p.happened ledger)
 
 module _ (family : AddressFamily) where
-  plain_content : (port frame : ℕ) (content : Content) (ledger ledger' : Ledger) (state after : RouterState)
+  plain_content : (port : ℕ) (frame : RecordPlace) (content : Content) (ledger ledger' : Ledger) (state after : RouterState)
       (events : List Occurrence)
       → TakesContent family port frame content ledger state events ledger' after → Plain events
   plain_content port frame (holds source destination payload) ledger ledger' state after events takes =

@@ -4,7 +4,7 @@ use Rattle.pim_trace.proofs.Words.{AppendsFront, AddressFamily, Taken, Message, 
 use Rattle.pim_trace.proofs.Words.{received, timing_on, RouterState, NoPacket, OtherFamily, Skipping, Occurrence, record_skipped}
 use Rattle.pim_trace.proofs.Words.{Transition, TransitionsAreThere, AreChangesOf, event_on, says, remembers, Ledger, frame_of}
 use Rattle.pim_trace.proofs.Words.{with_skip, PassesTime, message_read, TurnFault, OnTurn, HasWritten, HasBegun, Writes}
-use Rattle.pim_trace.proofs.Words.{packet_on, Skips, TakesContent, TakesRecord, counting, WritesTurn}
+use Rattle.pim_trace.proofs.Words.{packet_on, Skips, TakesContent, TakesRecord, counting, WritesTurn, RecordPlace}
 use Rattle.pim_capture.specs.Capture.{EventSeen}
 use Rattle.pim_merge.specs.Content.{Content, holds, of_other_family, without_packet, no_record, content_in}
 use Rattle.pim_router.specs.declared.verdict.Verdict.TheVariants as verdict
@@ -13,7 +13,7 @@ use Rattle.pim_trace.proofs.Pieces.{none_told, one_told, one_begun, happens_then
 -- ---- each record has its events
 
 -- Some events are those of the content, with what is remembered and the router after it.
-pub record HasEvents (family : AddressFamily) (port frame : ℕ) (content : Content) (ledger : Ledger) (state : RouterState) : Type 0 where
+pub record HasEvents (family : AddressFamily) (port : ℕ) (frame : RecordPlace) (content : Content) (ledger : Ledger) (state : RouterState) : Type 0 where
   pub events : List Occurrence
   pub ledger' : Ledger
   pub after : RouterState
@@ -37,7 +37,7 @@ module _ (law : TransitionsAreThere) (family : AddressFamily) where
   some_changes packet state after (verdict.Full store) message = record { changes = []; are = refl }
   some_changes packet state after (verdict.HelloTaken heard) message = record { changes = []; are = refl }
 
-  pub some_events : (port frame : ℕ) (content : Content) (ledger : Ledger) (state : RouterState) → HasEvents family port frame content ledger state
+  pub some_events : (port : ℕ) (frame : RecordPlace) (content : Content) (ledger : Ledger) (state : RouterState) → HasEvents family port frame content ledger state
   some_events port frame (holds source destination payload) ledger state =
       let packet = packet_on port source destination payload in
       let reported = received family packet state in
@@ -89,12 +89,12 @@ module _ (line : Occurrence → List ℕ) (port : ℕ) (skipping : Skipping) (le
 
 module _ (line : Occurrence → List ℕ) (family : AddressFamily) (port : ℕ) where
   -- what was told of its content was told of the record
-  pub content_tells : {E : Type 0} (frame : ℕ) (content : Content) (ledger : Ledger) (state : RouterState) → frame ≡ frame_of port ledger → (reported : EventSeen) → content ≡ content_in family reported
+  pub content_tells : {E : Type 0} (frame : RecordPlace) (content : Content) (ledger : Ledger) (state : RouterState) → frame ≡ frame_of port ledger → (reported : EventSeen) → content ≡ content_in family reported
       → (ledger' : Ledger) (after : RouterState) (old new : Option (List ℕ)) (result : Result (Unit {0}) E) → Writes line (TakesContent family port frame content ledger state) ledger' after old new result
       → Writes line (TakesRecord family port reported ledger state) ledger' after old new result
   content_tells frame content ledger state numbered reported is ledger' after old new result wrote =
       subst (λ (c : Content). Writes line (TakesContent family port (frame_of port ledger) c ledger state) ledger' after old new result) is
-      (subst (λ (n : ℕ). Writes line (TakesContent family port n content ledger state) ledger' after old new result) numbered wrote)
+      (subst (λ (n : RecordPlace). Writes line (TakesContent family port n content ledger state) ledger' after old new result) numbered wrote)
 
   -- nothing was told of what is no record
   pub rest_tells : (ledger : Ledger) (state : RouterState) (reported : EventSeen) → no_record ≡ content_in family reported → (old : Option (List ℕ)) → HasWritten line (TakesRecord family port reported ledger state) ledger state old old

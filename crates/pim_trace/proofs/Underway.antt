@@ -71,7 +71,7 @@ begun_first goes_on line family end start state old new taken turns ledger after
 
 -- each port has a count of records and a place for its Generation ID
 pub new_frames : (ledger : Ledger) (state : RouterState) → ledger ≡ ledger_for state → length ledger.frames ≡ length state.ports
-new_frames ledger state new = ap (λ (l : Ledger). length l.frames) new ∙ length-replicate (length state.ports) 0
+new_frames ledger state new = ap (λ (l : Ledger). length l.frames) new ∙ length-replicate (length state.ports) _
 
 pub new_own : (ledger : Ledger) (state : RouterState) → ledger ≡ ledger_for state → length ledger.own ≡ length state.ports
 new_own ledger state new = ap (λ (l : Ledger). length l.own) new ∙ length-replicate (length state.ports) _

@@ -3,6 +3,7 @@ pub use Rattle.pim_addr.specs.Faults.{fault_if, judged}
 pub use Rattle.pim_addr.specs.Routes.{RouteTable, rp_of}
 pub use Rattle.pim_addr.specs.declared.family.AddressFamily.{AddressFamily}
 pub use Rattle.pim_capture.specs.Next.{event_seen}
+pub use Rattle.pim_capture.specs.declared.incomplete.RecordPlace.{RecordPlace}
 pub use Rattle.pim_device.specs.Device.{AppendsAll, AppendsFront, top_count}
 pub use Rattle.pim_down.specs.Firing.{et_fires, et_firing, ppt_fires, ppt_firing, step_of}
 unfoldable pub use Rattle.pim_down.specs.Firing.{firing}

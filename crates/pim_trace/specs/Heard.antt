@@ -4,6 +4,7 @@ use Rattle.std.specs.Prelude.{length, slice_index_or, Option, None, Some}
 use Rattle.std.specs.Option.{option_eq}
 use Rattle.std.specs.List.{flat_map}
 use Rattle.pim_addr.specs.declared.family.AddressFamily.{AddressFamily}
+use Rattle.pim_capture.specs.declared.incomplete.RecordPlace.{RecordPlace}
 use Rattle.pim_hello.specs.Hello.{Parameters}
 use Rattle.pim_hello.specs.Neighbours.{Neighbour, neighbour_at}
 use Rattle.pim_hello.specs.declared.heard.Heard.{Heard}
@@ -53,7 +54,7 @@ generation_in None = None
 generation_in (Some said) = said.generation
 
 -- A Hello was taken, which means this for its sender.
-abbrev pub greeting : AddressFamily → ℕ → Packet → RouterState → Heard → Happened
+abbrev pub greeting : AddressFamily → RecordPlace → Packet → RouterState → Heard → Happened
 greeting family frame packet state heard = hello_heard (record {
   frame = frame;
   from = packet.source;
@@ -63,7 +64,7 @@ greeting family frame packet state heard = hello_heard (record {
 })
 
 -- Another packet got this verdict.
-abbrev pub judgment : AddressFamily → ℕ → Packet → Verdict → Happened
+abbrev pub judgment : AddressFamily → RecordPlace → Packet → Verdict → Happened
 judgment family frame packet reported = packet_judged (record {
   frame = frame;
   from = packet.source;
@@ -74,14 +75,14 @@ judgment family frame packet reported = packet_judged (record {
 -- ---- the port's own Hellos
 
 -- The port's own Hello has another Generation ID than the one before it. None is one, too.
-abbrev pub restart_of : ℕ → Option (Option ℕ) → Option ℕ → List Happened
+abbrev pub restart_of : RecordPlace → Option (Option ℕ) → Option ℕ → List Happened
 restart_of frame None generation = []
 restart_of frame (Some was) generation =
     if option_eq nat_eq was generation then []
     else own_restart (record { frame = frame; was = was; generation = generation }) ∷ []
 
 -- What the trace says of a packet from the port's own address, after its verdict.
-abbrev pub restarts : ℕ → Option (Option ℕ) → Option Parameters → List Happened
+abbrev pub restarts : RecordPlace → Option (Option ℕ) → Option Parameters → List Happened
 restarts frame before None = []
 restarts frame before (Some said) = restart_of frame before said.generation
 
@@ -92,7 +93,7 @@ after_own port (Some said) ledger = with_own port said.generation ledger
 
 -- ---- a Join/Prune message that was applied
 
-module _ (frame : ℕ) (from : List ℕ) (known : List ℕ → Option (List ℕ)) where
+module _ (frame : RecordPlace) (from : List ℕ) (known : List ℕ → Option (List ℕ)) where
   -- A Join(*,G) that counts for nothing, since its RP isn't that of the group (RFC 7761, 4.5.1).
   abbrev pub ignored_entry : List ℕ → Entry (List ℕ) → List Happened
   ignored_entry group (entry.Star rp) = if is_known (known group) rp then [] else
@@ -116,7 +117,7 @@ is_pending (Some other) = false
 
 -- The packet that started the Prune-Pending Timer of a machine that is Prune-Pending no more: this
 -- message overrides it.
-abbrev pub overridden : Ledger → Transition (List ℕ) → Option ℕ
+abbrev pub overridden : Ledger → Transition (List ℕ) → Option RecordPlace
 overridden ledger change =
     if is_pending (state_of_machine change.before) && not (is_pending (state_of_machine change.after))
     then Some (causes_of change.key ledger).pending.frame else None
@@ -148,18 +149,18 @@ changes_of ledger packet neighbours (change ∷ changes) = change_of ledger pack
 -- ---- the packet
 
 -- The packet as a cause.
-abbrev pub as_cause : ℕ → Packet → RouterState → Cause (List ℕ)
+abbrev pub as_cause : RecordPlace → Packet → RouterState → Cause (List ℕ)
 as_cause frame packet state = record { frame = frame; from = packet.source; ms = state.machines.moment }
 
 -- What is remembered of the sender of a Hello that was taken at this moment: nothing after a
 -- goodbye.
-abbrev pub sent_by : ℕ → ℕ → Heard → Option Sent
+abbrev pub sent_by : RecordPlace → ℕ → Heard → Option Sent
 sent_by frame ms Gone = None
 sent_by frame ms heard = Some (record { frame = frame; ms = ms })
 
 -- What a message with these group sets says that was applied: the Joins that count for nothing,
 -- then the machines that changed.
-abbrev pub message_says : AddressFamily → ℕ → Packet → RouterState → Ledger → List GroupSet →
+abbrev pub message_says : AddressFamily → RecordPlace → Packet → RouterState → Ledger → List GroupSet →
     List (Transition (List ℕ)) → List Happened
 message_says family frame packet state ledger sets changes =
     all_ignored frame packet.source (rp_of family state.routes) sets
@@ -167,7 +168,7 @@ message_says family frame packet state ledger sets changes =
 
 -- What the trace says of a packet with this verdict, and remembers afterwards. `changes` are the
 -- transitions of a message that was applied.
-module _ (family : AddressFamily) (frame : ℕ) (packet : Packet) (state : RouterState) (ledger : Ledger) where
+module _ (family : AddressFamily) (frame : RecordPlace) (packet : Packet) (state : RouterState) (ledger : Ledger) where
   -- What an applied message says.
   abbrev pub applied_says : Option Message → List (Transition (List ℕ)) → List Happened
   applied_says None changes = []
@@ -212,7 +213,7 @@ AreChangesOf family packet state after verdict.Applied (Some message) changes =
 AreChangesOf family packet state after reported message changes = changes ≡ []
 
 -- A port receives a packet: these are its events, and `ledger'` is what the trace remembers.
-pub record HearsPacket (family : AddressFamily) (frame : ℕ) (packet : Packet) (ledger : Ledger) (state : RouterState)
+pub record HearsPacket (family : AddressFamily) (frame : RecordPlace) (packet : Packet) (ledger : Ledger) (state : RouterState)
     (events : List Occurrence) (ledger' : Ledger) (after : RouterState) : Type 0 where
   pub changes : List (Transition (List ℕ))
   pub are : AreChangesOf family packet state after (received family packet state).0 (message_read family packet) changes

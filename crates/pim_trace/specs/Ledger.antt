@@ -7,7 +7,8 @@ use Rattle.std.specs.Cmp.Lexicographic.{pointwise}
 use Rattle.pim_device.specs.Device.{top_count}
 use Rattle.pim_capture.specs.declared.event.Why.{Why}
 use Rattle.pim_capture.specs.declared.event.Why.TheVariants.{Cut, NotIp, BadHeader, NotPim, Fragment}
-use Rattle.pim_capture.specs.declared.event.Why.TheVariants.{Part, NoTime, LinkType, NotChosen, Copy, CutShort, NextFile, Incomplete}
+use Rattle.pim_capture.specs.declared.event.Why.TheVariants.{Part, NoTime, LinkType, NotChosen, Copy, CutShort, NextFile, OfLink, Incomplete}
+use Rattle.pim_capture.specs.declared.incomplete.RecordPlace.{RecordPlace}
 use Rattle.pim_capture.specs.Capture as record_of
 use Rattle.pim_down.specs.declared.machines.key.Key.{Key}
 use Rattle.pim_down.specs.declared.machines.machine.Machine.{Machine}
@@ -24,9 +25,13 @@ use Rattle.pim_trace.specs.declared.ledger.Sent.{Sent}
 
 -- ---- causes
 
+-- No record: the place before the first record of a capture.
+abbrev pub no_place : RecordPlace
+no_place = record { file = 0; «record» = 0 }
+
 -- No packet. The group of the machine stands in place of a sender.
 abbrev pub no_cause : List ℕ → Cause (List ℕ)
-no_cause group = record { frame = 0; from = group; ms = 0 }
+no_cause group = record { frame = no_place; from = group; ms = 0 }
 
 -- What is remembered of a machine that begins: this packet set both timers, and led the machine out
 -- of NoInfo.
@@ -66,8 +71,8 @@ caused packet known (Some was) (Some now) = Some (moved_by packet known was now)
 
 -- What a trace remembers.
 pub record Ledger : Type 0 where
-  -- how many records of each capture were taken
-  pub frames : List ℕ
+  -- the place of the last record that was taken of each capture
+  pub frames : List RecordPlace
   -- the time of the first record that has one, in milliseconds since 1970
   pub begin : Option ℕ
   -- for each port the Generation ID of the last Hello that the port's own address sent, if it sent
@@ -86,7 +91,7 @@ none_skipped = record { cut = 0; not_ip = 0; bad_header = 0; not_pim = 0; fragme
 -- The ledger of a trace of this number of ports, before any record.
 abbrev pub new_ledger : ℕ → Ledger
 new_ledger ports = record {
-  frames = replicate ports 0;
+  frames = replicate ports no_place;
   begin = None;
   own = replicate ports None;
   hellos = λ port address. None;
@@ -106,27 +111,32 @@ causes_of key ledger = unwrap_or (ledger.causes key) (both_by (no_cause key.grou
 
 -- The last Hello of a neighbour, as it is remembered; none where nothing is.
 abbrev pub sent_or_none : Option Sent → Sent
-sent_or_none sent = unwrap_or sent (record { frame = 0; ms = 0 })
+sent_or_none sent = unwrap_or sent (record { frame = no_place; ms = 0 })
 
 -- One more. The count stops at 2^64 - 1.
 abbrev pub one_more : ℕ → ℕ
 one_more count = min (count + 1) top_count
 
--- The number of the last record that was taken of the file of this capture that is read.
-abbrev pub frame_of : ℕ → Ledger → ℕ
-frame_of capture ledger = slice_index_or ledger.frames capture 0
+-- The place of the last record that was taken of this capture.
+abbrev pub frame_of : ℕ → Ledger → RecordPlace
+frame_of capture ledger = slice_index_or ledger.frames capture no_place
 
--- The number of the last record that was taken of a file, after what is skipped for this reason.
+-- The place after this one in the same file.
+abbrev pub next_in_file : RecordPlace → RecordPlace
+next_in_file place = record { file = place.file; «record» = one_more place.«record» }
+
+-- The place of the last record that was taken of a capture, after what is skipped for this reason.
 -- The beginning of the next file is no record, nor is what is told of incomplete packets.
-abbrev pub frame_by : Why → ℕ → ℕ
-frame_by NextFile frame = 0
-frame_by (Incomplete packets) frame = frame
-frame_by why frame = one_more frame
+abbrev pub frame_by : Why → RecordPlace → RecordPlace
+frame_by NextFile place = record { file = one_more place.file; «record» = 0 }
+frame_by (OfLink link) place = place
+frame_by (Incomplete packets) place = place
+frame_by why place = next_in_file place
 
--- The number of the last record that was taken of a file, after this result of its capture.
-abbrev pub frame_after : record_of.EventSeen → ℕ → ℕ
-frame_after (record_of.skipped millis why) frame = frame_by why frame
-frame_after reported frame = one_more frame
+-- The place of the last record that was taken of a capture, after this result.
+abbrev pub frame_after : record_of.EventSeen → RecordPlace → RecordPlace
+frame_after (record_of.skipped millis why) place = frame_by why place
+frame_after reported place = next_in_file place
 
 -- The time of the first record that has one, where the record that is taken now has this time, in
 -- milliseconds since 1970.
@@ -134,8 +144,8 @@ abbrev pub begun : Option ℕ → Option ℕ → Option ℕ
 begun None time = time
 begun (Some begin) time = Some begin
 
--- The ledger when a record of this capture with this number and this time, if it has one, is taken.
-abbrev pub opened : ℕ → ℕ → Option ℕ → Ledger → Ledger
+-- The ledger when a record of this capture at this place and with this time, if it has one, is taken.
+abbrev pub opened : ℕ → RecordPlace → Option ℕ → Ledger → Ledger
 opened capture frame time ledger = record {
   frames = slice_set ledger.frames capture frame;
   begin = begun ledger.begin time;
@@ -156,10 +166,11 @@ counted (NoPacket Fragment) counts = record (counts) { fragment = one_more count
 counted (NoPacket Part) counts = record (counts) { fragment = one_more counts.fragment }
 counted (NoPacket NoTime) counts = counts
 counted (NoPacket (LinkType number)) counts = counts
-counted (NoPacket NotChosen) counts = counts
+counted (NoPacket (NotChosen link)) counts = counts
 counted (NoPacket Copy) counts = counts
 counted (NoPacket CutShort) counts = counts
 counted (NoPacket NextFile) counts = counts
+counted (NoPacket (OfLink link)) counts = counts
 counted (NoPacket (Incomplete packets)) counts = counts
 counted OtherFamily counts = record (counts) { family = one_more counts.family }
 

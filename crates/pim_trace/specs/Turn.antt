@@ -3,6 +3,7 @@
 use Rattle.std.specs.Prelude.{◌≡◌, ℕ, List, [], ◌∷◌, ◌++◌}
 use Rattle.pim_addr.specs.declared.family.AddressFamily.{AddressFamily}
 use Rattle.pim_capture.specs.Capture.{EventSeen}
+use Rattle.pim_capture.specs.declared.incomplete.RecordPlace.{RecordPlace}
 use Rattle.pim_merge.specs.Content.{Content, holds, of_other_family, without_packet, no_record, content_in}
 use Rattle.pim_merge.specs.Merge.{Taken, event_time}
 use Rattle.pim_router.specs.Packets.{Packet}
@@ -31,9 +32,9 @@ abbrev pub packet_on : ℕ → List ℕ → List ℕ → List ℕ → Packet
 packet_on port source destination payload =
     record { port = port; source = source; destination = destination; bytes = payload }
 
--- What the record of this number in its capture holds is received, or the record is skipped. A
+-- What the record at this place in its capture holds is received, or the record is skipped. A
 -- packet of the other family counts as none.
-abbrev pub TakesContent : AddressFamily → ℕ → ℕ → Content → Ledger → RouterState → List Occurrence → Ledger →
+abbrev pub TakesContent : AddressFamily → ℕ → RecordPlace → Content → Ledger → RouterState → List Occurrence → Ledger →
     RouterState → Type 0
 TakesContent family port frame (holds source destination payload) =
     HearsPacket family frame (packet_on port source destination payload)

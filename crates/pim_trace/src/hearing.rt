@@ -29,6 +29,7 @@ use crate::ignoring::write_ignored;
 use crate::ledger::{Ledger, Sent};
 use crate::writing_events::write_on;
 use pim_addr::Family;
+use pim_capture::RecordPlace;
 use pim_events::{EventWriter, Greeting, Happening, Judgment, OwnRestart};
 use pim_hello::{Heard, Hello};
 use pim_jp::{JpView, Sets};
@@ -44,8 +45,8 @@ use std::alloc::{AllocError, Global};
 pub(crate) struct HeardPacket<'a, A> {
     /// The port that receives it.
     pub(crate) port: usize,
-    /// The number of its record in its capture, from 1.
-    pub(crate) frame: u64,
+    /// The place of its record.
+    pub(crate) frame: RecordPlace,
     pub(crate) source: A,
     pub(crate) destination: A,
     /// The PIM message.

@@ -14,7 +14,7 @@ ghost use Rattle.pim_transitions.specs.Affected.{transition_seen};
 ghost use Rattle.pim_trace.specs.Heard.{is_pending, overridden};
 ghost use Rattle.pim_trace.specs.Kept.{causes_seen, ledger_seen};
 ghost use Rattle.pim_trace.specs.Ledger.{no_cause, both_by, pending_left, moved_by, causes_of};
-ghost use Rattle.pim_trace.specs.Ledger.{new_ledger, one_more, frame_of, frame_by};
+ghost use Rattle.pim_trace.specs.Ledger.{new_ledger, one_more, no_place, next_in_file, frame_of, frame_by};
 ghost use Rattle.pim_trace.specs.Ledger.{frame_after, opened, counted};
 ghost use Rattle.pim_trace.specs.Ledger.{with_skip, with_own, with_hello, sent_or_none, epoch_of};
 ghost use Rattle.pim_trace.specs.Ledger.{caused, with_change, forgetting};
@@ -23,7 +23,7 @@ ghost use Rattle.pim_trace.specs.Passing.{cause_of};
 
 use crate::by_machine::ByMachine;
 use pim_addr::Family;
-use pim_capture::{Event, Why};
+use pim_capture::{Event, RecordPlace, Why};
 use pim_down::{Key, Machine, Pending, State, Timer};
 use pim_events::{Cause, Skip, SkipCounts, epoch_at};
 use pim_transitions::Transition;
@@ -67,7 +67,7 @@ impl<A: Copy> Causes<A> {
             causes_seen bytes_of result ≡ both_by (no_cause (bytes_of group)) }
     {
         let no_packet = Cause {
-            frame: 0,
+            frame: no_place(),
             from: group,
             ms: 0,
         };
@@ -102,8 +102,8 @@ fn is_pending(machine: &Option<Machine>) -> bool
 /// A Hello that was taken.
 #[derive(Clone, Copy, Debug, PartialEq, Eq)]
 pub(crate) struct Sent {
-    /// The number of its record in its capture.
-    pub(crate) frame: u64,
+    /// The place of its record.
+    pub(crate) frame: RecordPlace,
     /// Its moment, in milliseconds.
     pub(crate) ms: u64,
 }
@@ -112,8 +112,8 @@ pub(crate) struct Sent {
 #[derive(Drop)]
 pub struct Ledger<F: Family> {
     alloc: Global,
-    /// How many records of each capture were taken.
-    frames: Vec<u64>,
+    /// The place of the last record that was taken of each capture.
+    frames: Vec<RecordPlace>,
     /// The time of the first record that has one, in milliseconds since 1970.
     begin: Option<u64>,
     /// For each port the Generation ID of the last Hello that the port's own address sent.
@@ -143,25 +143,45 @@ fn one_more(count: u64) -> u64
     count.saturating_add(1)
 }
 
-/// The number of the last record of a file, after what is skipped for this reason.
-fn frame_by(why: Why, frame: u64) -> u64
-    ensures { result ≡ frame_by why frame }
+/// No record: the place before the first record of a capture.
+fn no_place() -> RecordPlace
+    ensures { result ≡ no_place }
 {
-    match why {
-        Why::NextFile => 0,
-        Why::Incomplete(_) => frame,
-        _ => one_more(frame),
+    RecordPlace { file: 0, record: 0 }
+}
+
+/// The place after this one in the same file.
+fn next_in_file(place: RecordPlace) -> RecordPlace
+    ensures { result ≡ next_in_file place }
+{
+    RecordPlace {
+        file: place.file,
+        record: one_more(place.record),
     }
 }
 
-/// The number of the last record of a file, after this one. The beginning of a file is no record, nor
-/// is what is told of incomplete packets.
-pub fn frame_after(event: &Event, frame: u64) -> u64
-    ensures { (bytes : List ℕ) → result ≡ frame_after (event_seen bytes event.now) frame }
+/// The place of the last record of a capture, after what is skipped for this reason.
+fn frame_by(why: Why, place: RecordPlace) -> RecordPlace
+    ensures { result ≡ frame_by why place }
+{
+    match why {
+        Why::NextFile => RecordPlace {
+            file: one_more(place.file),
+            record: 0,
+        },
+        Why::OfLink(_) | Why::Incomplete(_) => place,
+        _ => next_in_file(place),
+    }
+}
+
+/// The place of the last record of a capture, after this result. The beginning of a file is no
+/// record, nor is the link of a packet or a report of incomplete packets.
+pub fn frame_after(event: &Event, place: RecordPlace) -> RecordPlace
+    ensures { (bytes : List ℕ) → result ≡ frame_after (event_seen bytes event.now) place }
 {
     match event {
-        Event::Skipped { why, .. } => frame_by(*why, frame),
-        _ => one_more(frame),
+        Event::Skipped { why, .. } => frame_by(*why, place),
+        _ => next_in_file(place),
     }
 }
 
@@ -176,8 +196,8 @@ fn without_packet(why: Why, counts: SkipCounts) -> SkipCounts
         Why::BadHeader => counts.bad_header = one_more(counts.bad_header),
         Why::NotPim => counts.not_pim = one_more(counts.not_pim),
         Why::Fragment | Why::Part => counts.fragment = one_more(counts.fragment),
-        Why::NoTime | Why::LinkType(_) | Why::NotChosen | Why::Copy => {}
-        Why::CutShort | Why::NextFile | Why::Incomplete(_) => {}
+        Why::NoTime | Why::LinkType(_) | Why::NotChosen(_) | Why::Copy => {}
+        Why::CutShort | Why::NextFile | Why::OfLink(_) | Why::Incomplete(_) => {}
     }
     counts
 }
@@ -205,7 +225,7 @@ impl<F: Family> Ledger<F> {
     {
         Ok(Ledger {
             alloc,
-            frames: for_each_port(alloc, ports, 0)?,
+            frames: for_each_port(alloc, ports, no_place())?,
             begin: None,
             own: for_each_port(alloc, ports, None)?,
             hellos: BTreeMap::new(alloc),
@@ -233,8 +253,8 @@ impl<F: Family> Ledger<F> {
         self.skipped
     }
 
-    /// Takes a record of this capture with this number and time, in milliseconds since 1970.
-    pub fn open(&mut self, capture: usize, frame: u64, time: Option<u64>)
+    /// Takes a record of this capture at this place and time, in milliseconds since 1970.
+    pub fn open(&mut self, capture: usize, frame: RecordPlace, time: Option<u64>)
         requires { capture < length self.old.frames.items }
         ensures { ledger_seen F.bytes_of self.new
             ≡ opened capture frame time (ledger_seen F.bytes_of self.old) }
@@ -245,8 +265,8 @@ impl<F: Family> Ledger<F> {
         self.frames[capture] = frame;
     }
 
-    /// The number of the last record that was taken of the file of this capture that is read.
-    pub fn frame(&self, capture: usize) -> u64
+    /// The place of the last record that was taken of this capture.
+    pub fn frame(&self, capture: usize) -> RecordPlace
         requires { capture < length self.now.frames.items }
         ensures { result ≡ frame_of capture (ledger_seen F.bytes_of self.now) }
     {
@@ -297,9 +317,10 @@ impl<F: Family> Ledger<F> {
         ensures sent { result
             ≡ sent_or_none ((ledger_seen F.bytes_of self.old).hellos port (F.bytes_of address)) }
     {
-        self.hellos
-            .remove(&(port, address))
-            .unwrap_or(Sent { frame: 0, ms: 0 })
+        self.hellos.remove(&(port, address)).unwrap_or(Sent {
+            frame: no_place(),
+            ms: 0,
+        })
     }
 
     /// The time of moment 0 in milliseconds since 1970: that of the first record that has one.
@@ -350,8 +371,8 @@ impl<F: Family> Ledger<F> {
         }
     }
 
-    /// The frame of the packet that started the Prune-Pending Timer which this change overrides.
-    pub(crate) fn overridden(&self, change: &Transition<F::Addr>) -> Option<u64>
+    /// The place of the packet that started the Prune-Pending Timer which this change overrides.
+    pub(crate) fn overridden(&self, change: &Transition<F::Addr>) -> Option<RecordPlace>
         ensures { result ≡ overridden (ledger_seen F.bytes_of self.now)
             (transition_seen F.bytes_of change.now) }
     {

@@ -3,9 +3,9 @@
 //! other texts of lines are in `trace-lines.case` of `pimtree_cases`.
 
 use pim_addr::{ScriptedDrain, V4};
-use pim_capture::Why;
+use pim_capture::{RecordPlace, Why};
 use pim_down::{Machine, Pending, State, Timer, What};
-use pim_event_lines::{JsonPrinter, TextPrinter};
+use pim_event_lines::{FileName, FileNames, JsonPrinter, TextPrinter};
 use pim_events::{
     Cause, EndOfTrace, EventWriter, Filter, Fired, Greeting, Happening, HeldMachine, Ignored,
     Judgment, OwnRestart, Skip, SkipCounts, Skipping, TimeOut, TraceEvent, TransitionEvent,
@@ -18,7 +18,7 @@ use pim_router::Verdict;
 use pim_time::TimeForm;
 use pim_transitions::By;
 use serde_json::Value;
-use std::alloc::Global;
+use std::alloc::{AllocError, Global};
 
 const ANNE: [u8; 4] = [10, 0, 0, 9];
 
@@ -33,8 +33,14 @@ fn are_equal(alloc: Global, this: &str, other: &str) -> bool {
     }
 }
 
-/// Whether the JSON line of an event is read as this object.
-fn is_written(alloc: Global, event: &TraceEvent<'_, V4>, object: &str) -> bool {
+/// Whether the JSON line of an event is read as this object, where these are the names of the files
+/// of ports.
+fn is_written(
+    alloc: Global,
+    files: &[FileNames],
+    event: &TraceEvent<'_, V4>,
+    object: &str,
+) -> bool {
     let names = [Name::number(0), Name::number(1)];
     let filter = Filter {
         all: true,
@@ -44,6 +50,7 @@ fn is_written(alloc: Global, event: &TraceEvent<'_, V4>, object: &str) -> bool {
     };
     let printer = JsonPrinter {
         names: &names,
+        files,
         filter,
     };
     let mut device = ScriptedDrain::new(alloc, 5, usize::MAX);
@@ -64,7 +71,7 @@ fn is_on_port(alloc: Global, what: Happening<'_, V4>, object: &str) -> bool {
         port: Some(1),
         what,
     };
-    is_written(alloc, &event, object)
+    is_written(alloc, &[], &event, object)
 }
 
 const TRANSITION: &str =
@@ -76,7 +83,10 @@ const TRANSITION: &str =
 /// Whether a transition is written so.
 fn writes_transition(alloc: Global) -> bool {
     let what = Happening::Transition(TransitionEvent {
-        frame: 51,
+        frame: RecordPlace {
+            file: 0,
+            record: 51,
+        },
         from: ANNE,
         by: By::Join,
         group: [239, 50, 0, 1],
@@ -88,9 +98,59 @@ fn writes_transition(alloc: Global) -> bool {
             pending: None,
         }),
         neighbours: 4,
-        overrides: Some(50),
+        overrides: Some(RecordPlace {
+            file: 0,
+            record: 50,
+        }),
     });
     is_on_port(alloc, what, TRANSITION)
+}
+
+const IN_FILES: &str =
+    r#"{ "ms": 1500, "epoch": "1000001.500", "port": "1", "event": "transition", "frame": 1, "file":
+    "b\"\u0001\\.pcap", "from": "10.0.0.9", "by": "join", "what": "star", "group": "239.50.0.1",
+    "source": null, "was": "prune-pending", "now": "join", "et": 70000, "ppt": null,
+    "neighbours": 4, "overrides": 50, "overrides_file": "a.pcap" }"#;
+
+/// The names of two files as they stand in JSON strings.
+fn two_files(alloc: Global) -> Result<FileNames, AllocError> {
+    let mut names = FileNames::new(alloc);
+    names.push(FileName::escaped(alloc, "a.pcap")?)?;
+    names.push(FileName::escaped(alloc, "b\"\u{1}\\.pcap")?)?;
+    Ok(names)
+}
+
+/// Whether a transition by a record of the second file of its port, which overrides one of the
+/// first, is written so.
+fn writes_files(alloc: Global) -> bool {
+    let Ok(names) = two_files(alloc) else {
+        return false;
+    };
+    let files = [FileNames::new(alloc), names];
+    let event = TraceEvent {
+        ms: 1500,
+        epoch: Some(1_000_001_500),
+        port: Some(1),
+        what: Happening::Transition(TransitionEvent {
+            frame: RecordPlace { file: 1, record: 1 },
+            from: ANNE,
+            by: By::Join,
+            group: [239, 50, 0, 1],
+            what: What::Star,
+            before: Some(State::PrunePending),
+            after: Some(Machine {
+                state: State::Join,
+                expires_in: Some(70000),
+                pending: None,
+            }),
+            neighbours: 4,
+            overrides: Some(RecordPlace {
+                file: 0,
+                record: 50,
+            }),
+        }),
+    };
+    is_written(alloc, &files, &event, IN_FILES)
 }
 
 const FIRED: &str =
@@ -108,7 +168,7 @@ fn writes_firing(alloc: Global) -> bool {
         after: Some(State::Prune),
         echo: false,
         cause: Cause {
-            frame: 2,
+            frame: RecordPlace { file: 0, record: 2 },
             from: ANNE,
             ms: 0,
         },
@@ -123,7 +183,7 @@ const HELLO: &str =
 /// Whether a Hello is written so.
 fn writes_hello(alloc: Global) -> bool {
     let what = Happening::Hello(Greeting {
-        frame: 3,
+        frame: RecordPlace { file: 0, record: 3 },
         from: ANNE,
         verdict: Heard::Restarted,
         was: Some(7),
@@ -153,7 +213,10 @@ fn writes_message(alloc: Global) -> bool {
         return false;
     };
     let what = Happening::Packet(Judgment {
-        frame: 12,
+        frame: RecordPlace {
+            file: 0,
+            record: 12,
+        },
         from: ANNE,
         verdict: Verdict::NotForUs,
         message: Some(message),
@@ -168,7 +231,10 @@ const IGNORED: &str =
 /// Whether a Join(*,G) that is ignored is written so.
 fn writes_ignored(alloc: Global) -> bool {
     let what = Happening::Ignored(Ignored {
-        frame: 13,
+        frame: RecordPlace {
+            file: 0,
+            record: 13,
+        },
         from: ANNE,
         group: [239, 1, 1, 1],
         names: [10, 9, 9, 8],
@@ -192,17 +258,20 @@ const TIME_OUT: &str = r#"{ "ms": 1500, "epoch": "1000001.500", "port": "1", "ev
 /// is over are written so.
 fn writes_others(alloc: Global) -> bool {
     let restart = Happening::Restarted(OwnRestart {
-        frame: 14,
+        frame: RecordPlace {
+            file: 0,
+            record: 14,
+        },
         was: None,
         generation: Some(9),
     });
     let skipped = Happening::Skipped(Skipping {
-        frame: 8,
+        frame: RecordPlace { file: 0, record: 8 },
         why: Skip::NoPacket(Why::Fragment),
     });
     let over = Happening::TimedOut(TimeOut {
         neighbour: ANNE,
-        frame: 6,
+        frame: RecordPlace { file: 0, record: 6 },
         ms: 400,
     });
     is_on_port(alloc, restart, RESTART)
@@ -233,7 +302,7 @@ fn writes_ending(alloc: Global) -> bool {
             },
         }),
     };
-    is_written(alloc, &event, ENDING)
+    is_written(alloc, &[], &event, ENDING)
 }
 
 /// Whether the line of an event is this text.
@@ -247,6 +316,7 @@ fn is_text(alloc: Global, event: &TraceEvent<'_, V4>, line: &str) -> bool {
     };
     let printer = TextPrinter {
         names: &names,
+        files: &[],
         form: TimeForm::Ms,
         filter,
     };
@@ -279,7 +349,10 @@ const HELD: [HeldRow; 2] = [
             },
             held_for: 400,
             cause: Cause {
-                frame: 21,
+                frame: RecordPlace {
+                    file: 0,
+                    record: 21,
+                },
                 from: ANNE,
                 ms: 1100,
             },
@@ -302,7 +375,10 @@ const HELD: [HeldRow; 2] = [
             },
             held_for: 1400,
             cause: Cause {
-                frame: 20,
+                frame: RecordPlace {
+                    file: 0,
+                    record: 20,
+                },
                 from: ANNE,
                 ms: 1000,
             },
@@ -324,7 +400,7 @@ fn has_lines(alloc: Global, row: &HeldRow) -> bool {
         port: Some(1),
         what: Happening::Held(row.held),
     };
-    is_text(alloc, &event, row.text) && is_written(alloc, &event, row.object)
+    is_text(alloc, &event, row.text) && is_written(alloc, &[], &event, row.object)
 }
 
 /// What a router wants, and its lines.
@@ -375,7 +451,7 @@ fn has_want_lines(alloc: Global, row: &WantRow) -> bool {
         port: None,
         what: Happening::Wanted(row.entry),
     };
-    is_text(alloc, &event, row.text) && is_written(alloc, &event, row.object)
+    is_text(alloc, &event, row.text) && is_written(alloc, &[], &event, row.object)
 }
 
 #[test]
@@ -394,6 +470,7 @@ fn writes_objects_of_machines(rt: HostRuntime) {
     let alloc = rt.alloc();
     assert!(rt; writes_transition(alloc));
     assert!(rt; writes_firing(alloc));
+    assert!(rt; writes_files(alloc));
 }
 
 #[test]

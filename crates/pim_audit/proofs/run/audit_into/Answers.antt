@@ -16,7 +16,7 @@ returns-in_default-clause-audits g c =
 
 pub audit_with-requires-clause-ready : goal.audit_with-requires-clause-ready
 audit_with-requires-clause-ready g c = record {
-  frames = ap (λ (l : Ledger). length l.frames) c.in-Ok.ensures ∙ length-replicate c.port_count.result 0 ∙ c.port_count.ensures;
+  frames = ap (λ (l : Ledger). length l.frames) c.in-Ok.ensures ∙ length-replicate c.port_count.result _ ∙ c.port_count.ensures;
   own = ap (λ (l : Ledger). length l.own) c.in-Ok.ensures ∙ length-replicate c.port_count.result None ∙ c.port_count.ensures;
   step = search rules;
   present = search rules;

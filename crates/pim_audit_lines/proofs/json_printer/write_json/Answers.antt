@@ -3,7 +3,8 @@ use Rattle.std.specs.Option.{option_map}
 use Rattle.pim_device.specs.Device.{AppendsAll}
 use Rattle.pim_events.specs.Events.{epoch_at}
 use Rattle.pim_audit_events.specs.Seen.{origin_seen, said_seen}
-use Rattle.std.proofs.Common.{◌++◌}
+use Rattle.std.proofs.Common.{◌++◌, ◌∙◌, ap}
+use Rattle.pim_event_lines.specs.Files.{files_of}
 use Rattle.pim_event_lines.specs.JsonLine.{time_json, place_json}
 use Rattle.pim_audit_lines.specs.AuditText.{port_of}
 use Rattle.pim_audit_lines.specs.AuditJson.{said_json}
@@ -13,11 +14,14 @@ use Rattle.pim_audit_lines.proofs.json_printer.write_json.Goals as goal
 pub returns-in_err-write_json_head-clause-bytes : goal.returns-in_err-write_json_head-clause-bytes
 returns-in_err-write_json_head-clause-bytes g c =
     subst (λ t. AppendsAll (g.W.Drain.contents c.args.writer.now) (g.W.Drain.contents c.write_json_head.new.writer) c.from_residual.result t)
-    (same_head (λ epoch port. time_json c.args.line.now.moment epoch ++ place_json c.args.names.now port) (said_json g.F.Family.family (g.F.Family.bytes_of c.args.upstream) (option_map (origin_seen g.F.Family.bytes_of) c.args.line.now.origin) (said_seen g.F.Family.bytes_of c.args.line.now.said)) c.epoch_at-epoch.result (epoch_at c.args.begin c.args.line.now.moment) c.port_of-port.result (port_of (option_map (origin_seen g.F.Family.bytes_of) c.args.line.now.origin)) (search rules) (search rules))
+    (same_head (λ epoch port. time_json c.args.line.now.moment epoch ++ place_json c.args.names.now port) (said_json g.F.Family.family (files_of c.args.files.now (port_of (option_map (origin_seen g.F.Family.bytes_of) c.args.line.now.origin))) (g.F.Family.bytes_of c.args.upstream) (option_map (origin_seen g.F.Family.bytes_of) c.args.line.now.origin) (said_seen g.F.Family.bytes_of c.args.line.now.said)) c.epoch_at-epoch.result (epoch_at c.args.begin c.args.line.now.moment) c.port_of-port.result (port_of (option_map (origin_seen g.F.Family.bytes_of) c.args.line.now.origin)) (search rules) (search rules))
     (stopped_first _ _ c.from_residual.result _ _ c.from_residual.ensures.0 c.in_err-write_json_head.ensures.bytes)
 
 pub returns-clause-bytes : goal.returns-clause-bytes
 returns-clause-bytes g c =
     subst (λ t. AppendsAll (g.W.Drain.contents c.args.writer.now) (g.W.Drain.contents c.write_said.new.writer) c.write_said.result t)
-    (same_head (λ epoch port. time_json c.args.line.now.moment epoch ++ place_json c.args.names.now port) (said_json g.F.Family.family (g.F.Family.bytes_of c.args.upstream) (option_map (origin_seen g.F.Family.bytes_of) c.args.line.now.origin) (said_seen g.F.Family.bytes_of c.args.line.now.said)) c.epoch_at-epoch.result (epoch_at c.args.begin c.args.line.now.moment) c.port_of-port.result (port_of (option_map (origin_seen g.F.Family.bytes_of) c.args.line.now.origin)) (search rules) (search rules))
-    (both _ _ _ c.write_said.result _ _ c.in_ok-write_json_head.ensures.bytes c.write_said.ensures.bytes)
+    (same_head (λ epoch port. time_json c.args.line.now.moment epoch ++ place_json c.args.names.now port) (said_json g.F.Family.family (files_of c.args.files.now (port_of (option_map (origin_seen g.F.Family.bytes_of) c.args.line.now.origin))) (g.F.Family.bytes_of c.args.upstream) (option_map (origin_seen g.F.Family.bytes_of) c.args.line.now.origin) (said_seen g.F.Family.bytes_of c.args.line.now.said)) c.epoch_at-epoch.result (epoch_at c.args.begin c.args.line.now.moment) c.port_of-port.result (port_of (option_map (origin_seen g.F.Family.bytes_of) c.args.line.now.origin)) (search rules) (search rules))
+    (both _ _ _ c.write_said.result _ _ c.in_ok-write_json_head.ensures.bytes (
+    subst (λ f. AppendsAll (g.W.Drain.contents c.write_json_head.new.writer) (g.W.Drain.contents c.write_said.new.writer) c.write_said.result
+    (said_json g.F.Family.family f (g.F.Family.bytes_of c.args.upstream) (option_map (origin_seen g.F.Family.bytes_of) c.args.line.now.origin) (said_seen g.F.Family.bytes_of c.args.line.now.said)))
+    (c.files_of-files.ensures ∙ ap (files_of c.args.files.now) c.port_of-port.ensures) c.write_said.ensures.bytes))

@@ -1,9 +1,8 @@
-use Rattle.pim_event_lines.proofs.Cited.{rules, subst, AppendsAll, transition_seen}
-use Rattle.pim_event_lines.proofs.JsonPieces.{change_members}
+use Rattle.pim_event_lines.proofs.Written.{both, stopped_first}
 use Rattle.pim_event_lines.proofs.json_machines.write_change.Goals as goal
 
+pub returns-in_err-write_named-clause-bytes : goal.returns-in_err-write_named-clause-bytes
+returns-in_err-write_named-clause-bytes g c = stopped_first _ _ c.from_residual.result _ _ c.from_residual.ensures.0 c.in_err-write_named.ensures.bytes
+
 pub returns-clause-bytes : goal.returns-clause-bytes
-returns-clause-bytes g c =
-    subst (λ t. AppendsAll (g.W.Drain.contents c.args.writer.now) (g.W.Drain.contents c.write_pieces.new.writer) c.write_pieces.result t)
-    (change_members g.F.Family.family (transition_seen g.F.Family.bytes_of c.args.change.now) c.as_bytes.result.now c.text.result.now c.by_word.result.now c.text-2.result.now c.text-3.result.now (search rules) (search rules) (search rules) (search rules) (search rules))
-    c.write_pieces.ensures.bytes
+returns-clause-bytes g c = both _ _ _ c.write_by.result _ _ c.in_ok-write_named.ensures.bytes c.write_by.ensures.bytes

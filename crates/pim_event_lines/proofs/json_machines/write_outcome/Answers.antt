@@ -1,9 +1,8 @@
-use Rattle.pim_event_lines.proofs.Cited.{rules, subst, AppendsAll, transition_seen}
-use Rattle.pim_event_lines.proofs.JsonPieces.{outcome_members}
+use Rattle.pim_event_lines.proofs.Written.{both, stopped_first}
 use Rattle.pim_event_lines.proofs.json_machines.write_outcome.Goals as goal
 
+pub returns-in_err-write_timers-clause-bytes : goal.returns-in_err-write_timers-clause-bytes
+returns-in_err-write_timers-clause-bytes g c = stopped_first _ _ c.from_residual.result _ _ c.from_residual.ensures.0 c.in_err-write_timers.ensures.bytes
+
 pub returns-clause-bytes : goal.returns-clause-bytes
-returns-clause-bytes g c =
-    subst (λ t. AppendsAll (g.W.Drain.contents c.args.writer.now) (g.W.Drain.contents c.write_pieces.new.writer) c.write_pieces.result t)
-    (outcome_members (transition_seen g.F.Family.bytes_of c.args.change.now) c.state_text.result.now c.state_text-2.result.now c.expiry_json.result.now c.pending_json.result.now c.as_bytes.result.now c.number_or.result.now (search rules) (search rules) (search rules) (search rules) (search rules) (search rules))
-    c.write_pieces.ensures.bytes
+returns-clause-bytes g c = both _ _ _ c.write_overrides.result _ _ c.in_ok-write_timers.ensures.bytes c.write_overrides.ensures.bytes

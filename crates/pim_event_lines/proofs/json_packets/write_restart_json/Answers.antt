@@ -1,9 +1,8 @@
-use Rattle.pim_event_lines.proofs.Cited.{rules, subst, AppendsAll}
-use Rattle.pim_event_lines.proofs.JsonPieces.{restart_members}
+use Rattle.pim_event_lines.proofs.Written.{both, stopped_first}
 use Rattle.pim_event_lines.proofs.json_packets.write_restart_json.Goals as goal
 
+pub returns-in_err-write_restart-clause-bytes : goal.returns-in_err-write_restart-clause-bytes
+returns-in_err-write_restart-clause-bytes g c = stopped_first _ _ c.from_residual.result _ _ c.from_residual.ensures.0 c.in_err-write_restart.ensures.bytes
+
 pub returns-clause-bytes : goal.returns-clause-bytes
-returns-clause-bytes g c =
-    subst (λ t. AppendsAll (g.W.Drain.contents c.args.writer.now) (g.W.Drain.contents c.write_pieces.new.writer) c.write_pieces.result t)
-    (restart_members c.args.restart c.as_bytes.result.now c.number_or.result.now c.number_or-2.result.now (search rules) (search rules) (search rules))
-    c.write_pieces.ensures.bytes
+returns-clause-bytes g c = both _ _ _ c.write_generations.result _ _ c.in_ok-write_restart.ensures.bytes c.write_generations.ensures.bytes

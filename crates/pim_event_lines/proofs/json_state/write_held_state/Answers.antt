@@ -1,9 +1,8 @@
-use Rattle.pim_event_lines.proofs.Cited.{rules, subst, AppendsAll, held_seen}
-use Rattle.pim_event_lines.proofs.JsonPieces.{held_state_members}
+use Rattle.pim_event_lines.proofs.Written.{both, stopped_first}
 use Rattle.pim_event_lines.proofs.json_state.write_held_state.Goals as goal
 
+pub returns-in_err-write_held_times-clause-bytes : goal.returns-in_err-write_held_times-clause-bytes
+returns-in_err-write_held_times-clause-bytes g c = stopped_first _ _ c.from_residual.result _ _ c.from_residual.ensures.0 c.in_err-write_held_times.ensures.bytes
+
 pub returns-clause-bytes : goal.returns-clause-bytes
-returns-clause-bytes g c =
-    subst (λ t. AppendsAll (g.W.Drain.contents c.args.writer.now) (g.W.Drain.contents c.write_pieces.new.writer) c.write_pieces.result t)
-    (held_state_members g.F.Family.family (held_seen g.F.Family.bytes_of c.args.held.now) c.state_name.result.now c.as_bytes.result.now c.number_or.result.now c.pending_json.result.now c.as_bytes-2.result.now c.text.result.now c.as_bytes-3.result.now (search rules) (search rules) (search rules) (search rules) (search rules) (search rules) (search rules))
-    c.write_pieces.ensures.bytes
+returns-clause-bytes g c = both _ _ _ c.write_cause.result _ _ c.in_ok-write_held_times.ensures.bytes c.write_cause.ensures.bytes

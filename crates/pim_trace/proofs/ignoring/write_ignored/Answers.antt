@@ -1,7 +1,16 @@
-use Rattle.pim_trace.proofs.Words.{refl, ◌∙◌, rp_of, ignored_in, ledger_seen}
-use Rattle.pim_trace.proofs.Loops.{item_told, item_begun}
-use Rattle.pim_trace.proofs.Writing.{stopped}
+use Rattle.pim_trace.proofs.Words.{refl, subst, ◌∙◌, rp_of, ignored_in, ledger_seen}
+use Rattle.pim_trace.proofs.Loops.{told_of, item_told, item_begun}
+use Rattle.pim_trace.proofs.Writing.{IsWriting, start_writing, stopped}
 use Rattle.pim_trace.proofs.ignoring.write_ignored.Goals as goal
+
+pub loop-set-init : goal.loop-set-init
+loop-set-init g c =
+    let says = ignored_in c.args.packet.now.frame (g.F.Family.bytes_of c.args.packet.now.source) (rp_of g.F.Family.family c.args.router.now.routes) in
+    let reported = told_of (g.T.EventWriter.line c.args.event_writer.now) (ledger_seen g.F.Family.bytes_of c.args.ledger.now) c.args.router.now.machines.moment c.args.packet.now.port says in (
+      subst (λ whole. IsWriting (g.T.EventWriter.contents c.args.device.now) (g.T.EventWriter.contents c.args.device.now) (reported c.into_iter-set-iterator.result) (reported whole)) c.into_iter-set-iterator.ensures.into_iter_gives
+          (start_writing _ _),
+      refl,
+    )
 
 pub loop-set-preserved : goal.loop-set-preserved
 loop-set-preserved g c =

@@ -1,7 +1,16 @@
-use Rattle.pim_trace.proofs.Words.{subst, ◌∙◌, AppendsFront, rp_of, ignored_entry, ignored_in, ledger_seen, text_on}
+use Rattle.pim_trace.proofs.Words.{refl, subst, ◌∙◌, AppendsFront, rp_of, ignored_entry, ignored_in, ledger_seen, text_on}
 use Rattle.pim_trace.proofs.Loops.{told_of, item_told, item_begun}
-use Rattle.pim_trace.proofs.Writing.{stopped}
+use Rattle.pim_trace.proofs.Writing.{IsWriting, start_writing, stopped}
 use Rattle.pim_trace.proofs.ignoring.write_ignored_in.Goals as goal
+
+pub loop-entry-init : goal.loop-entry-init
+loop-entry-init g c =
+    let says = ignored_entry c.args.packet.now.frame (g.F.Family.bytes_of c.args.packet.now.source) (rp_of g.F.Family.family c.args.router.now.routes) (g.F.Family.bytes_of c.group-group.result) in
+    let reported = told_of (g.T.EventWriter.line c.args.event_writer.now) (ledger_seen g.F.Family.bytes_of c.args.ledger.now) c.now-ms.result c.args.packet.now.port says in (
+      subst (λ whole. IsWriting (g.T.EventWriter.contents c.args.device.now) (g.T.EventWriter.contents c.args.device.now) (reported c.into_iter-entry-iterator.result) (reported whole))
+          (c.into_iter-entry-iterator.ensures.into_iter_gives ∙ c.joined-entry-items.ensures) (start_writing _ _),
+      refl,
+    )
 
 pub loop-entry-preserved : goal.loop-entry-preserved
 loop-entry-preserved g c =

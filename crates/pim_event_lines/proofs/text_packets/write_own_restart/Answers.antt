@@ -1,0 +1,9 @@
+use Rattle.pim_event_lines.proofs.Cited.{rules, subst, AppendsAll}
+use Rattle.pim_event_lines.proofs.TextPieces.{restart_pieces}
+use Rattle.pim_event_lines.proofs.text_packets.write_own_restart.Goals as goal
+
+pub returns-clause-bytes : goal.returns-clause-bytes
+returns-clause-bytes g c =
+    subst (λ t. AppendsAll (g.W.Drain.contents c.args.writer.now) (g.W.Drain.contents c.write_pieces.new.writer) c.write_pieces.result t)
+    (restart_pieces c.args.restart c.number_or.result.now c.number_or-2.result.now (search rules) (search rules))
+    c.write_pieces.ensures.bytes
