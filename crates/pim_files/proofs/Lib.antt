@@ -9,6 +9,7 @@ pub mod Stated
 pub mod Joined
 pub mod Asked
 pub mod Several
+pub mod NoEnd
 pub mod Further
 pub mod Opened
 pub mod InMemory

@@ -3,7 +3,7 @@ use Rattle.std.proofs.Common.{◌≡◌, ◌∙◌, ◌+◌, sym, ap, subst, ref
 use Rattle.pim_files.proofs.Words.{slice_index_or, filter, AllByRecursion, take-append-drop, map-append, length-map}
 use Rattle.pim_files.proofs.Words.{length-append, filter-append, Answer, answers, LaneState, coming_on, tallies_of, MergeState}
 use Rattle.pim_files.proofs.Words.{IsUntaken, More, Port, is_side, is_of, Files, PortFiles, with_more, files_from, files_of}
-use Rattle.pim_files.proofs.Words.{all_files, names_of, choice_of, results_by, results_of, AreReaders, HaveFiles, AreFiles}
+use Rattle.pim_files.proofs.Words.{all_files, names_of, given_by, choice_of, results_by, results_of, AreReaders, HaveFiles, AreFiles}
 use Rattle.pim_files.proofs.Words.{HoldFiles, are_of, of_router, one_of, AddsLane, AddsUntaken}
 use Rattle.std.proofs.lemmas.List.Concat.{flat_map-append}
 use Rattle.pim_merge.specs.Chosen.{all_known, known_too, answers_of_files}
@@ -149,7 +149,7 @@ module _ {A : Type 0} where
         → map coming_on lanes' ≡ map coming_on lanes ++ results_by remaining it.port.link readers ∷ [] → AreFiles files (ports ++ it ∷ []) lanes'
     one_more_result files ports are opened more =
         let results : List Answer = results_from it.port.link opened.contents in
-        let by_files : results_of files it ≡ Some results = by_contents files.contents it.port.link (names_of (files_of it)) opened.contents opened.are in
+        let by_files : results_of files it ≡ Some results = by_contents (given_by files) it.port.link (files_of it) opened.contents opened.are in
         let by_readers : results_by remaining it.port.link readers ≡ Some results = by_contents remaining it.port.link readers opened.contents opened.given in
         record {
           results = are.results ++ results ∷ [];

@@ -1,7 +1,7 @@
 -- Files that are opened one after another, and their readers.
 use Rattle.pim_files.proofs.Words.{◌≡◌, ◌∙◌, sym, ap, subst, refl, ℕ, List, [], ◌∷◌, ◌++◌, map, Option}
 use Rattle.pim_files.proofs.Words.{None, Some, append_assoc, IsSome, map-append, false≢true, OpenFault, Files, Known}
-use Rattle.pim_files.proofs.Words.{RequestsFor, RequestsFront, FileOfName, names_of, IsReaderOf, IsPortFault, CanOpen}
+use Rattle.pim_files.proofs.Words.{RequestsFor, RequestsFront, FileOfName, names_of, IsReaderOf, IsPortFault, CanOpen, given_by}
 use Rattle.pim_files.proofs.Words.{StopsAt, AreReaders, HaveFiles}
 use Rattle.pim_files.proofs.Asked.{asks_more}
 
@@ -39,9 +39,8 @@ pub both_present : (known : Option Files) (xs ys : List FileOfName) → CanOpen 
 both_present None xs ys p q = tt
 both_present (Some files) xs ys (contents, p) (others, q) = (
   contents ++ others,
-  ap (map files.contents) (names-append xs ys)
-      ∙ map-append files.contents (names_of xs) (names_of ys)
-      ∙ ap (λ l. l ++ map files.contents (names_of ys)) p
+  map-append (given_by files) xs ys
+      ∙ ap (λ l. l ++ map (given_by files) ys) p
       ∙ ap (λ l. map Some contents ++ l) q
       ∙ sym (map-append Some contents others),
 )
@@ -79,14 +78,13 @@ module _ {R : Type 0} (remaining : R → Option (List ℕ)) where
   none_read None = tt
   none_read (Some files) = record { contents = []; are = refl; given = refl }
 
-  one_reader : (files : Files) (xs : List FileOfName) (file : FileOfName) (held : Option (List ℕ)) (readers : List R) (reader : R) → files.contents file.name ≡ held → AreReaders remaining files xs readers
+  one_reader : (files : Files) (xs : List FileOfName) (file : FileOfName) (held : Option (List ℕ)) (readers : List R) (reader : R) → given_by files file ≡ held → AreReaders remaining files xs readers
       → IsSome held × (remaining reader ≡ held) → AreReaders remaining files (xs ++ file ∷ []) (readers ++ reader ∷ [])
   one_reader files xs file None readers reader is are opened = absurd (false≢true opened.0)
   one_reader files xs file (Some content) readers reader is are opened = record {
     contents = are.contents ++ content ∷ [];
-    are = ap (map files.contents) (names-append xs (file ∷ []))
-        ∙ map-append files.contents (names_of xs) (file.name ∷ [])
-        ∙ ap (λ l. l ++ files.contents file.name ∷ []) are.are
+    are = map-append (given_by files) xs (file ∷ [])
+        ∙ ap (λ l. l ++ given_by files file ∷ []) are.are
         ∙ ap (λ o. map Some are.contents ++ o ∷ []) is
         ∙ sym (map-append Some are.contents (content ∷ []));
     given = map-append remaining readers (reader ∷ [])
@@ -98,7 +96,7 @@ module _ {R : Type 0} (remaining : R → Option (List ℕ)) where
   one_more : (known : Option Files) (xs : List FileOfName) (file : FileOfName) (readers : List R) (reader : R) → HaveFiles remaining known xs readers → IsReaderOf remaining known file reader
       → HaveFiles remaining known (xs ++ file ∷ []) (readers ++ reader ∷ [])
   one_more None xs file readers reader are opened = tt
-  one_more (Some files) xs file readers reader are opened = one_reader files xs file (files.contents file.name) readers reader refl are opened
+  one_more (Some files) xs file readers reader are opened = one_reader files xs file (given_by files file) readers reader refl are opened
 
   -- one more file, by what is known later
   pub one_more_reader : (known known' : Option Files) (xs all : List FileOfName) (file : FileOfName) (readers readers' : List R) (reader : R) → known' ≡ known → all ≡ xs ++ file ∷ []

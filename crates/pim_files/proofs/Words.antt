@@ -28,7 +28,7 @@ pub use Rattle.std.specs.Str.Parse.{AllDigits, digits_value}
 pub use Rattle.pim_files.specs.Captures.{AddsLane, AddsUntaken, AreFiles, AreReaders, CanOpen, FileOfName}
 pub use Rattle.pim_files.specs.Captures.{HaveFiles, HoldFiles, IsPortFault, IsReaderOf, PortFiles, StopsAt}
 pub use Rattle.pim_files.specs.Captures.{all_files, are_of, choice_of, files_from, files_of, first_file}
-pub use Rattle.pim_files.specs.Captures.{further_file, is_further, names_of, of_router, one_of, results_by}
+pub use Rattle.pim_files.specs.Captures.{further_file, given_by, is_further, names_of, of_router, one_of, results_by}
 pub use Rattle.pim_files.specs.Captures.{results_of, with_more}
 pub use Rattle.pim_files.specs.Files.{Files, Known, RequestsFor, RequestsFront}
 pub use Rattle.pim_files.specs.Held.{held_content}

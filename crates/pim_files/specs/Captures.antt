@@ -1,5 +1,5 @@
 -- The captures of ports that are opened one by one. `known` is what files hold, where it is known.
-use Rattle.std.specs.Prelude.{◌≡◌, ⊤, ℕ, suc, ◌==◌, ◌&&◌, Bool, cond, List, [], ◌∷◌, ◌++◌, map, filter}
+use Rattle.std.specs.Prelude.{◌≡◌, ⊤, ℕ, suc, ◌==◌, ◌&&◌, Bool, false, cond, List, [], ◌∷◌, ◌++◌, map, filter}
 use Rattle.std.specs.Prelude.{Option, None, Some, IsSome, IfSome, is_some, option_map}
 use Rattle.std.specs.List.{flat_map}
 use Rattle.pim_capture.specs.Capture.{Answer, answers}
@@ -15,7 +15,7 @@ use Rattle.pim_words.specs.Faults.{is_side, is_of}
 use Rattle.pim_files.specs.declared.fault.OpenFault.{OpenFault}
 use Rattle.pim_files.specs.declared.fault.OpenFault.TheVariants as opening
 use Rattle.pim_files.specs.declared.opener.FileCause.{FileCause}
-use Rattle.pim_files.specs.Files.{Files}
+use Rattle.pim_files.specs.Files.{Files, bytes_later}
 
 -- ---- ports with their further files
 
@@ -37,12 +37,13 @@ abbrev pub files_from : {A : Type 0} → ℕ → List More → List (Port A) →
 files_from number further [] = []
 files_from number further (port ∷ ports) = with_more number further port ∷ files_from (suc number) further ports
 
--- ---- the files that are opened
+-- ---- the files that are asked for
 
--- A file that is opened, with its fault where it can't be for a cause.
+-- A file that is asked for.
 pub record FileOfName : Type 0 where
   pub name : List ℕ
-  pub fault : FileCause → OpenFault
+  -- the fault if it can't be opened for a cause; `None` for a file that is opened at its first read
+  pub fault : Option (FileCause → OpenFault)
 
 -- The fault of a port whose file can't be opened for this cause. It names the file if the port has
 -- a link, otherwise it has the port's whole word.
@@ -51,17 +52,17 @@ port_fault port cause = cond (is_some port.link) (opening.Port port.file cause) 
 
 -- The port's file.
 abbrev pub first_file : {A : Type 0} → Port A → FileOfName
-first_file port = record { name = port.file.now; fault = λ cause. port_fault port cause }
+first_file port = record { name = port.file.now; fault = Some (λ cause. port_fault port cause) }
 
--- A further file. Its fault names it.
+-- A further file. It is opened at its first read, so it has no fault of opening.
 abbrev pub further_file : More → FileOfName
-further_file one = record { name = one.file.now; fault = λ cause. opening.Port one.file cause }
+further_file one = record { name = one.file.now; fault = None }
 
--- The files of a port, in the order in which they are opened.
+-- The files of a port, in the order in which they are asked for.
 abbrev pub files_of : {A : Type 0} → PortFiles A → List FileOfName
 files_of it = first_file it.port ∷ map further_file it.more
 
--- The files of these ports, in the order in which they are opened.
+-- The files of these ports, in the order in which they are asked for.
 abbrev pub all_files : {A : Type 0} → List (PortFiles A) → List FileOfName
 all_files ports = flat_map files_of ports
 
@@ -71,15 +72,25 @@ names_of wanted = map (λ (file : FileOfName). file.name) wanted
 
 -- ---- one file
 
--- The reader has all of the file to give.
+-- What a reader of the file has to give, if there is one: all of the file. A file that is opened at
+-- its first read has a reader also if it can't be opened: one whose reads fail.
+abbrev pub given_by : Files → FileOfName → Option (List ℕ)
+given_by files file = cond (is_some file.fault) (files.contents file.name) (Some (bytes_later files file.name))
+
+-- The reader has that to give.
 abbrev pub IsReaderOf : {R : Type 0} → (R → Option (List ℕ)) → Option Files → FileOfName → R → Type 0
 IsReaderOf remaining known file reader = IfSome known (λ files.
-    IsSome (files.contents file.name) × (remaining reader ≡ files.contents file.name))
+    IsSome (given_by files file) × (remaining reader ≡ given_by files file))
+
+-- The fault is that of a file which can't be opened for this cause. Some files have none.
+abbrev pub IsFaultOf : Option (FileCause → OpenFault) → FileCause → OpenFault → Type 0
+IsFaultOf None cause fault = ⊥
+IsFaultOf (Some fault_for) cause fault = fault ≡ fault_for cause
 
 -- The file can't be opened, and this is why.
 pub record IsClosed (known : Option Files) (file : FileOfName) (fault : OpenFault) : Type 0 where
   pub cause : FileCause
-  pub is : fault ≡ file.fault cause
+  pub is : IsFaultOf file.fault cause fault
   pub closed : IfSome known (λ files.
       (files.contents file.name ≡ None) × (cause ≡ files.causes file.name))
 
@@ -90,15 +101,16 @@ IsPortFault known file fault = IsClosed known file fault
 
 -- ---- several files
 
--- These files hold these bytes.
+-- Readers of these files have these bytes to give.
 abbrev pub AreContents : Files → List FileOfName → List (List ℕ) → Type 0
-AreContents files wanted contents = map files.contents (names_of wanted) ≡ map Some contents
+AreContents files wanted contents = map (given_by files) wanted ≡ map Some contents
 
--- These files can be opened, where it is known what files hold.
+-- These files have readers, where it is known what files hold: each can be opened, or is opened at
+-- its first read.
 abbrev pub CanOpen : Option Files → List FileOfName → Type 0
 CanOpen known wanted = IfSome known (λ files. (contents : List (List ℕ)) × AreContents files wanted contents)
 
--- This file isn't open. It is the first such one: the files before it can be opened.
+-- This file has no reader, since it can't be opened or memory is refused. It is the first such one.
 pub record StopsAt (known : Option Files) (wanted : List FileOfName) (fault : OpenFault) : Type 0 where
   pub before : List FileOfName
   pub file : FileOfName
@@ -122,7 +134,7 @@ HaveFiles remaining known wanted readers = IfSome known (λ files. AreReaders re
 
 -- The packets that are taken of a link: those of its VLAN and of its interface.
 abbrev pub choice_of : LinkWord → Choice
-choice_of link = record { vlan = link.vlan; interface = link.interface }
+choice_of link = record { vlan = link.vlan; interface = link.interface; mixes_links = false }
 
 -- The results for the bytes of a port's files, if they are known: of any container by this link,
 -- one file after the other; or of a classic capture, which is one file. `bytes_of` gives the bytes
@@ -132,9 +144,10 @@ results_by bytes_of None [] = Some []
 results_by bytes_of None (file ∷ others) = option_map answers (bytes_of file)
 results_by bytes_of (Some link) files = option_map (answers_of_files (choice_of link)) (all_known bytes_of files)
 
--- The results of a port's files by the port's link, if they can be opened.
+-- The results of a port's files by the port's link, if its own file can be opened. A further file
+-- that can't be opened is a fault in the place of its results.
 abbrev pub results_of : {A : Type 0} → Files → PortFiles A → Option (List Answer)
-results_of files it = results_by files.contents it.port.link (names_of (files_of it))
+results_of files it = results_by (given_by files) it.port.link (files_of it)
 
 -- These captures are those of the ports' files, in their order. Nothing of them is read: each has
 -- all results of its files to return, by the link of its port.

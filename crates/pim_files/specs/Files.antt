@@ -1,5 +1,6 @@
 -- What is known of the files that an opener opens, and of the names that it was asked for.
-use Rattle.std.specs.Prelude.{◌≡◌, ⊤, ℕ, List, ◌++◌, Option, None, Some, IsSome, Result, Ok, Err, MatchResult}
+use Rattle.std.specs.Prelude.{◌≡◌, ⊤, ℕ, List, ◌++◌, replicate, Option, None, Some, IsSome, Result, Ok, Err}
+use Rattle.std.specs.Prelude.{MatchResult}
 use Rattle.pim_files.specs.declared.opener.FileCause.{FileCause}
 use Rattle.pim_files.specs.declared.opener.Unopened.{Unopened}
 use Rattle.pim_files.specs.declared.opener.Unopened.TheVariants.{File, Memory}
@@ -50,3 +51,19 @@ Opens remaining files name (Ok reader) =
     IsSome (files.contents name) × (remaining reader ≡ files.contents name)
 Opens remaining files name (Err (File cause)) = (files.contents name ≡ None) × (cause ≡ files.causes name)
 Opens remaining files name (Err Memory) = ⊤
+
+-- ---- a file that is opened at its first read
+
+-- What a reader is said to have left of a file that can't be opened: values that are no bytes, as
+-- many as a header of a file has bytes. No read can give one of them, so each read fails.
+abbrev pub no_bytes : List ℕ
+no_bytes = replicate 24 256
+
+-- What a reader has left of a file with these contents, if it can be opened.
+abbrev pub left_of : Option (List ℕ) → List ℕ
+left_of None = no_bytes
+left_of (Some content) = content
+
+-- What a reader has left of the file of this name, before its first read.
+abbrev pub bytes_later : Files → List ℕ → List ℕ
+bytes_later files name = left_of (files.contents name)

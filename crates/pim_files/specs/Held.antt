@@ -2,8 +2,11 @@
 use Rattle.std.specs.Prelude.{ℕ, List, [], ◌∷◌, map, cond, bytes_eq, string_bytes, Option, None, Some}
 use Rattle.pim_files.specs.declared.held.HeldFile.{HeldFile}
 use Rattle.pim_files.specs.declared.held.HeldFiles.{HeldFiles}
+use Rattle.pim_files.specs.declared.held.HeldReader.{HeldReader}
+use Rattle.pim_files.specs.declared.held.HeldReader.TheVariants as reader
 use Rattle.pim_files.specs.declared.opener.FileCause.TheVariants.{Missing}
-use Rattle.pim_files.specs.Files.{Known}
+use Rattle.pim_files.specs.Files.{Known, no_bytes}
+use Rattle.pim_device.specs.Scripted.{feed_bytes, feed_failures}
 
 -- The bytes of the first file of this name.
 abbrev pub held_content : List HeldFile → List ℕ → Option (List ℕ)
@@ -24,3 +27,13 @@ held_known opener = record {
   files = Some (record { contents = held_content (held_files opener); causes = λ name. Missing });
   requested = held_requested opener;
 }
+
+-- The bytes that the reader has left to give.
+abbrev pub reader_bytes : HeldReader → List ℕ
+reader_bytes (reader.Open feed) = feed_bytes feed
+reader_bytes (reader.Missing count) = no_bytes
+
+-- The number of its reads that failed.
+abbrev pub reader_failures : HeldReader → ℕ
+reader_failures (reader.Open feed) = feed_failures feed
+reader_failures (reader.Missing count) = count

@@ -5,6 +5,7 @@ pub mod RoutesSeen
 pub mod LocalFile
 pub mod LocalSeen
 pub mod Files
+pub mod Unopened
 pub mod Table
 pub mod Receivers
 pub mod Captures

@@ -19,7 +19,7 @@ use Rattle.pim_local.specs.Joins.{Join}
 abbrev pub port_files : {A : Type 0} → Captures A → List (PortFiles A)
 port_files captures = files_from 0 captures.more.items captures.ports.items
 
--- The names of the files, in the order in which they are opened: the file of routes is first. The
+-- The names of the files, in the order in which they are asked for: the file of routes is first. The
 -- further files of a port come after its own.
 abbrev pub file_names : {A : Type 0} → Captures A → List (List ℕ)
 file_names captures = table_names captures ++ names_of (all_files (port_files captures))
@@ -49,7 +49,7 @@ module _ {A R : Type 0} (family : AddressFamily) (bytes_of : A → List ℕ) (re
 
 -- ---- with the file of local receivers, if one is named
 
--- The names of the files, in the order in which they are opened: the file of routes is first, and
+-- The names of the files, in the order in which they are asked for: the file of routes is first, and
 -- then that of local receivers.
 abbrev pub local_file_names : {A : Type 0} → Captures A → Option (Bor (List ℕ)) → List (List ℕ)
 local_file_names captures local = table_names captures ++ name_of local ++ names_of (all_files (port_files captures))

@@ -25,6 +25,7 @@ fn choice_of(link: LinkWord) -> Choice
     Choice {
         vlan: link.vlan,
         interface: link.interface,
+        mixes_links: false,
     }
 }
 
@@ -68,7 +69,7 @@ pub(crate) fn add_by<R: Feed + Drop>(
 }
 
 /// Opens the capture of each port, in the order of the words, each by the link of its port. A
-/// port's further files come after its own. Nothing is read.
+/// port's further files come after its own, and are opened later. Nothing is read.
 ///
 /// # Errors
 /// That of the first file that isn't open.

@@ -1,12 +1,13 @@
 //! Files in memory, for tests.
 
 ghost use Rattle.std.specs.Prelude.{◌≡◌, [], ◌∷◌, Some, option_map, map, string_bytes};
-ghost use Rattle.pim_files.specs.Files.{RequestsFor, Opens, Grows};
+ghost use Rattle.pim_files.specs.Files.{Grows};
 ghost use Rattle.pim_files.specs.Held.{held_content, held_files, held_requested, held_known};
+ghost use Rattle.pim_files.specs.Held.{reader_bytes, reader_failures};
 
 use crate::opener::{FileCause, Opener, Unopened};
-use pim_addr::ScriptedFeed;
-use std::alloc::Global;
+use pim_addr::{Failed, Feed, ScriptedFeed};
+use std::alloc::{AllocError, Global};
 
 /// A file in memory.
 #[derive(Clone, Copy, Debug)]
@@ -84,16 +85,56 @@ fn file_of_name<'a>(files: &'a [HeldFile<'a>], name: &str) -> Option<HeldFile<'a
     None
 }
 
+/// A reader of this file, which gives at most `most` bytes in a call.
+fn reader_of(file: HeldFile<'_>, most: usize) -> HeldReader<'_>
+    ensures { reader_bytes result ≡ file.entry.bytes.now }
+{
+    HeldReader::Open(ScriptedFeed::new(file.bytes, most, file.fails_from))
+}
+
+/// A reader of a file in memory.
+#[derive(Debug, Drop)]
+pub enum HeldReader<'a> {
+    /// That of a file which is there.
+    Open(ScriptedFeed<'a>),
+    /// That of a missing file, with the number of its failures: each read fails.
+    Missing(u64),
+}
+
+impl Feed for HeldReader<'_> {
+    ghost remaining = { λ reader. Some (reader_bytes reader) };
+
+    ghost failures = { reader_failures };
+
+    fn read(&mut self, buffer: &mut [u8]) -> Result<usize, Failed> {
+        match self {
+            HeldReader::Open(feed) => feed.read(buffer),
+            HeldReader::Missing(failures) => {
+                *failures = failures.saturating_add(1);
+                Err(Failed)
+            }
+        }
+    }
+}
+
 impl<'a> Opener for HeldFiles<'a> {
-    type Reader = ScriptedFeed<'a>;
+    type Reader = HeldReader<'a>;
 
     ghost known = { held_known };
 
-    fn open(&mut self, alloc: Global, name: &str) -> Result<ScriptedFeed<'a>, Unopened> {
+    fn open(&mut self, alloc: Global, name: &str) -> Result<HeldReader<'a>, Unopened> {
         self.note(alloc, name);
         match file_of_name(self.files, name) {
-            Some(file) => Ok(ScriptedFeed::new(file.bytes, self.most, file.fails_from)),
+            Some(file) => Ok(reader_of(file, self.most)),
             None => Err(Unopened::File(FileCause::Missing)),
+        }
+    }
+
+    fn open_later(&mut self, alloc: Global, name: &str) -> Result<HeldReader<'a>, AllocError> {
+        self.note(alloc, name);
+        match file_of_name(self.files, name) {
+            Some(file) => Ok(reader_of(file, self.most)),
+            None => Ok(HeldReader::Missing(0)),
         }
     }
 }

@@ -39,6 +39,7 @@ pub struct OpenTwo<F: Family, R: Feed + Drop> {
 
 /// Reads the file of routes, then that of local receivers if one is named. Then it opens the
 /// captures of one router, each by the link of its port, with a port's further files after its own.
+/// A further file is opened when it is read.
 ///
 /// # Errors
 /// The fault of the first file that isn't open.
@@ -68,7 +69,7 @@ pub fn open_with_local<'a, F: Family, O: Opener>(
 }
 
 /// Reads the file of routes, then opens the captures of two routers, each by the link of its port.
-/// A port's further files come after its own.
+/// A port's further files come after its own, and are opened when they are read.
 ///
 /// # Errors
 /// The fault of the first file that isn't open.

@@ -58,7 +58,7 @@ pub(crate) fn add_to<R: Feed + Drop>(
 }
 
 /// Opens the capture of each port, in the order of the words, for its router, and by the link of
-/// the port. A port's further files come after its own. Nothing is read.
+/// the port. A port's further files come after its own, and are opened later. Nothing is read.
 ///
 /// # Errors
 /// That of the first file that isn't open.

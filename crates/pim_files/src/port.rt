@@ -43,7 +43,7 @@ fn open_own<'a, A, O: Opener>(
     }
 }
 
-/// Opens a further file of a port.
+/// Returns a reader of a further file of a port, which is opened when it is read.
 fn open_further<'a, O: Opener>(
     alloc: Global,
     opener: &mut O,
@@ -55,13 +55,9 @@ fn open_further<'a, O: Opener>(
     ensures requested { RequestsFor (O.known opener.old) (O.known opener.new)
         (one.now.file.now ∷ []) }
 {
-    match opener.open(alloc, one.file) {
+    match opener.open_later(alloc, one.file) {
         Ok(reader) => Ok(reader),
-        Err(Unopened::File(cause)) => Err(OpenFault::Port {
-            file: one.file,
-            cause,
-        }),
-        Err(Unopened::Memory) => Err(OpenFault::Memory),
+        Err(_) => Err(OpenFault::Memory),
     }
 }
 
@@ -93,12 +89,12 @@ pub fn is_further<A>(number: usize, port: &Port<'_, A>, one: &More<'_>) -> bool
     port.link.is_some() && one.port == number
 }
 
-/// Opens the files of the port of this number, in their order: its own file, and those of these
-/// further files that are its own. Nothing is read.
+/// Returns readers of the files of the port of this number, in their order: of its own file, which
+/// is opened, and of those of these further files that are its own. Nothing is read.
 ///
 /// # Errors
-/// That of the first file that isn't open. If the port has a link, that is `Port` with the name of
-/// the file, otherwise `File` with the whole word of the port; or `Memory`.
+/// If its own file can't be opened: if the port has a link, `Port` with the name of the file,
+/// otherwise `File` with the whole word of the port. Or `Memory`.
 pub(crate) fn open_port<'a, A, O: Opener>(
     alloc: Global,
     opener: &mut O,

@@ -2,12 +2,12 @@
 
 ghost use Rattle.pim_files.specs.Files.{nothing_known};
 
-use crate::progress::{ProgressLine, RunProgress, Watched};
-use crate::source::CountedInput;
+use crate::late::{LateFile, OpenFile};
+use crate::progress::{ProgressLine, Watched};
 use pim_files::{FileCause, Opener, Unopened};
-use std::alloc::Global;
+use std::alloc::{AllocError, Global};
 use std::fs::{File, metadata};
-use std::io::{BufReader, ErrorKind};
+use std::io::ErrorKind;
 
 /// Why the system doesn't open a file.
 fn cause_of(kind: ErrorKind) -> FileCause {
@@ -79,15 +79,19 @@ impl<'r> Opener for SystemFiles<'r> {
     ghost known = { λ _. nothing_known };
 
     fn open(&mut self, alloc: Global, name: &str) -> Result<Self::Reader, Unopened> {
-        let source = match self.file(name) {
-            Ok(file) => CountedInput::of_file(file),
+        let file = match self.file(name) {
+            Ok(file) => file,
             Err(cause) => return Err(Unopened::File(cause)),
         };
-        let progress = RunProgress::of(self.rt, self.line, name, source.size());
-        match BufReader::new(alloc, source) {
-            Ok(reader) => Ok(Watched::new(reader, progress)),
+        match OpenFile::of_file(alloc, self.rt, self.line, name, file) {
+            Ok(file) => Ok(Watched::new(LateFile::Open(file))),
             Err(_) => Err(Unopened::Memory),
         }
+    }
+
+    fn open_later(&mut self, alloc: Global, name: &str) -> Result<Self::Reader, AllocError> {
+        let file = LateFile::new(alloc, self.rt, self.line, name)?;
+        Ok(Watched::new(file))
     }
 }
 
@@ -103,6 +107,13 @@ impl<'r> SystemInput<'r> {
     pub fn new(rt: &'r HostRuntime) -> Self {
         SystemInput { rt, is_lent: false }
     }
+
+    /// Lends standard input.
+    fn lend(&mut self, alloc: Global) -> Result<Watched<'r>, AllocError> {
+        self.is_lent = true;
+        let input = OpenFile::of_input(alloc, self.rt)?;
+        Ok(Watched::new(LateFile::Open(input)))
+    }
 }
 
 impl<'r> Opener for SystemInput<'r> {
@@ -114,10 +125,16 @@ impl<'r> Opener for SystemInput<'r> {
         if self.is_lent {
             return Err(Unopened::File(FileCause::Other));
         }
-        self.is_lent = true;
-        match BufReader::new(alloc, CountedInput::of_input(self.rt.stdin())) {
-            Ok(reader) => Ok(Watched::new(reader, None)),
+        match self.lend(alloc) {
+            Ok(reader) => Ok(reader),
             Err(_) => Err(Unopened::Memory),
         }
+    }
+
+    fn open_later(&mut self, alloc: Global, _name: &str) -> Result<Self::Reader, AllocError> {
+        if self.is_lent {
+            return Ok(Watched::new(LateFile::Failed));
+        }
+        self.lend(alloc)
     }
 }

@@ -4,7 +4,7 @@ ghost use Rattle.pim_files.specs.Files.{nothing_known};
 
 use pim_files::{Opener, Unopened};
 use pim_words::STANDARD_INPUT;
-use std::alloc::Global;
+use std::alloc::{AllocError, Global};
 
 /// Opens standard input by one opener, and files by another one. Where any container is read, `-`
 /// is the name of standard input.
@@ -36,5 +36,12 @@ impl<O: Opener + Drop, I: Opener<Reader = O::Reader> + Drop> Opener for WithInpu
             return self.input.open(alloc, name);
         }
         self.files.open(alloc, name)
+    }
+
+    fn open_later(&mut self, alloc: Global, name: &str) -> Result<O::Reader, AllocError> {
+        if self.reads_any && name == STANDARD_INPUT {
+            return self.input.open_later(alloc, name);
+        }
+        self.files.open_later(alloc, name)
     }
 }

@@ -16,6 +16,7 @@
 
 mod files;
 mod inputs;
+mod late;
 mod output;
 mod progress;
 mod running;

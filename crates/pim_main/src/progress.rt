@@ -5,12 +5,11 @@
 //! line is cleared first. No contract speaks of a terminal, nor of time.
 
 ghost use Rattle.std.specs.Prelude.{None};
-ghost use Rattle.pim_device.specs.Device.{counted_failures};
 
-use crate::source::CountedInput;
-use pim_addr::{Counted, Failed, Feed};
+use crate::late::LateFile;
+use pim_addr::{Failed, Feed};
 use std::cell::Cell;
-use std::io::{self, BufReader, IsTerminal, Write};
+use std::io::{self, IsTerminal, Write};
 use std::time::Instant;
 
 /// The length of a file, in bytes, above which its progress is shown.
@@ -125,7 +124,7 @@ impl<'r> RunProgress<'r> {
     }
 
     /// Shows these numbers of bytes and records if a second has passed since the last time.
-    fn look(&mut self, bytes: u64, records: u64) {
+    pub fn look(&mut self, bytes: u64, records: u64) {
         let Ok(now) = Instant::now(self.rt) else {
             return;
         };
@@ -140,22 +139,23 @@ impl<'r> RunProgress<'r> {
     }
 }
 
-/// A reader of the system, with its progress if that is shown. No contract can say what it holds.
+/// A reader of the system, with the number of its records. No contract can say what it holds.
 #[derive(Drop)]
 pub struct Watched<'r> {
-    device: Counted<BufReader<CountedInput>>,
+    file: LateFile<'r>,
+    /// The number of reads that failed, at most 2^64 - 1.
+    failures: u64,
     /// The number of records that were passed on.
     records: u64,
-    progress: Option<RunProgress<'r>>,
 }
 
 impl<'r> Watched<'r> {
-    /// Returns a device over a reader that has not failed.
-    pub fn new(reader: BufReader<CountedInput>, progress: Option<RunProgress<'r>>) -> Self {
+    /// Returns a device over a file of which nothing was read.
+    pub fn new(file: LateFile<'r>) -> Self {
         Watched {
-            device: Counted::new(reader),
+            file,
+            failures: 0,
             records: 0,
-            progress,
         }
     }
 }
@@ -163,21 +163,22 @@ impl<'r> Watched<'r> {
 impl Feed for Watched<'_> {
     ghost remaining = { λ _. None };
 
-    ghost failures = { λ watched. counted_failures watched.device };
+    ghost failures = { λ watched. watched.failures };
 
     fn read(&mut self, buffer: &mut [u8]) -> Result<usize, Failed> {
-        self.device.read(buffer)
+        let given = self.file.read(buffer);
+        let Ok(count) = given else {
+            self.failures = self.failures.saturating_add(1);
+            return Err(Failed);
+        };
+        Ok(count)
     }
 
     fn pass_record(&mut self) {
         let records = self.records.saturating_add(1);
         self.records = records;
-        if records % RECORDS_A_LOOK != 0 {
-            return;
-        }
-        let bytes = self.device.get_ref().get_ref().bytes();
-        if let Some(progress) = &mut self.progress {
-            progress.look(bytes, records);
+        if records % RECORDS_A_LOOK == 0 {
+            self.file.look(records);
         }
     }
 }
