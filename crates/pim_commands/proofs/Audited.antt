@@ -14,20 +14,20 @@ use Rattle.pim_audit_lines.specs.AuditText.{audit_text}
 use Rattle.pim_words.specs.declared.task.Tracing.{Tracing}
 use Rattle.pim_commands.specs.Auditing.{audit_selection, audit_line_of}
 
-module _ {A : Type 0} (family : AddressFamily) (bytes_of : A → List ℕ) (names : List (List ℕ)) (upstream : A) (tracing : Tracing A)
+module _ {A : Type 0} (family : AddressFamily) (bytes_of : A → List ℕ) (names : List (List ℕ)) (files : List (List (List ℕ))) (upstream : A) (tracing : Tracing A)
     (filter : AuditFilter A) (groups : filter.groups.now ≡ tracing.groups.items) (from : filter.from ≡ tracing.from) where
   same_selection : filter_seen bytes_of filter ≡ audit_selection bytes_of tracing
   same_selection = λ i. record { groups = map bytes_of (groups i); from = from i }
 
-  pub as_json : tracing.json ≡ true → (λ begin line. if_shown (filter_seen bytes_of filter) begin line (audit_json family names (bytes_of upstream) begin line))
-      ≡ audit_line_of family bytes_of names upstream tracing
+  pub as_json : tracing.json ≡ true → (λ begin line. if_shown (filter_seen bytes_of filter) begin line (audit_json family names files (bytes_of upstream) begin line))
+      ≡ audit_line_of family bytes_of names files upstream tracing
   as_json json = λ i begin line. if_shown (same_selection i) begin line
-      (ap (λ b. if b then audit_json family names (bytes_of upstream) begin line else audit_text family names tracing.form (bytes_of upstream) begin line) (sym json) i)
+      (ap (λ b. if b then audit_json family names files (bytes_of upstream) begin line else audit_text family names files tracing.form (bytes_of upstream) begin line) (sym json) i)
 
-  pub as_text : tracing.json ≡ false → (λ begin line. if_shown (filter_seen bytes_of filter) begin line (audit_text family names tracing.form (bytes_of upstream) begin line))
-      ≡ audit_line_of family bytes_of names upstream tracing
+  pub as_text : tracing.json ≡ false → (λ begin line. if_shown (filter_seen bytes_of filter) begin line (audit_text family names files tracing.form (bytes_of upstream) begin line))
+      ≡ audit_line_of family bytes_of names files upstream tracing
   as_text json = λ i begin line. if_shown (same_selection i) begin line
-      (ap (λ b. if b then audit_json family names (bytes_of upstream) begin line else audit_text family names tracing.form (bytes_of upstream) begin line) (sym json) i)
+      (ap (λ b. if b then audit_json family names files (bytes_of upstream) begin line else audit_text family names files tracing.form (bytes_of upstream) begin line) (sym json) i)
 
 module _ {A : Type 0} (family : AddressFamily) (bytes_of : A → List ℕ) (merge merge' : MergeState) (state after : RouterState) (old new : Option (List ℕ))
     (result : Result ℕ RunFault) where

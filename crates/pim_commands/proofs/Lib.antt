@@ -4,8 +4,6 @@ pub mod Partials
 pub mod Builds
 pub mod NewRouters
 pub mod Ran
-pub mod Named
-pub mod Warned
 pub mod Opened
 pub mod Traced
 pub mod Audited

@@ -1,9 +1,10 @@
 -- What was opened, and what is returned and written over it.
-use Rattle.pim_commands.proofs.Words.{◌≡◌, ◌∙◌, inr, sym, ap, refl, ℕ, List, Option, Result, Ok, Err, AddressFamily}
+use Rattle.pim_commands.proofs.Words.{◌≡◌, ◌∙◌, inl, inr, [], sym, ap, refl, ℕ, List, Option, Result, Ok, Err, AddressFamily}
 use Rattle.std.specs.Borrow.{Bor}
 use Rattle.pim_local.specs.Joins.{Join}
 use Rattle.pim_commands.proofs.Words.{RouteTable, IsOpenWithLocal, AreOpen, MergeState, Fault, OpensNot, Opens, OverOne}
-use Rattle.pim_commands.proofs.Words.{OverBoth, write_failures_after}
+use Rattle.pim_commands.proofs.Words.{OverBoth, IsReported, write_failures_after}
+use Rattle.std.proofs.KnownBytes.{Appends-nil}
 use Rattle.pim_files.specs.declared.fault.OpenFault.{OpenFault}
 use Rattle.pim_files.specs.declared.fault.OpenFault.TheVariants as opening
 use Rattle.pim_files.specs.Files.{Known}
@@ -72,6 +73,10 @@ module _ {A R : Type 0} (family : AddressFamily) (bytes_of : A → List ℕ) (re
     requested = o.requested;
     answers = is;
   }
+
+-- nothing was written
+pub nothing_told : (old : Option (List ℕ)) (failures : ℕ) → IsReported [] old old failures failures
+nothing_told old failures = inl (Appends-nil old, refl)
 
 -- a file isn't open, and the device has not failed
 pub not_failed : (Unopened : OpenFault → Type 0) (known last : Known) (names : List (List ℕ)) (before : ℕ) (fault : Fault) → OpensNot Unopened known last names fault

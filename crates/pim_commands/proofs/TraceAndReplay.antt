@@ -2,6 +2,7 @@
 use Rattle.pim_commands.proofs.Words.{◌≡◌, ◌∙◌, ℕ, Bool, List, [], ◌∷◌, ◌++◌, None, refl, sym, ap, subst, arith}
 use Rattle.pim_commands.proofs.Words.{AddressFamily, IsComing, MergeState, RouterState}
 use Rattle.pim_capture.specs.Capture.{Answer, EventSeen}
+use Rattle.pim_capture.specs.declared.incomplete.RecordPlace.{RecordPlace}
 use Rattle.pim_merge.specs.Content.{Content, holds, of_other_family, without_packet, no_record, content_in}
 use Rattle.pim_merge.specs.declared.end.End.{End}
 use Rattle.pim_merge.specs.Ends.{last_of, end_moment, clock_of}
@@ -52,7 +53,7 @@ module _ (merges : MergeByHasOneEnd) (are_turns : RunsPastAreTurns) (goes_on : H
 
   -- ---- a record
 
-  content_same : (content : Content) (port frame : ℕ) (ledger ledger' : Ledger) (state after : RouterState) (events : List Occurrence)
+  content_same : (content : Content) (port : ℕ) (frame : RecordPlace) (ledger ledger' : Ledger) (state after : RouterState) (events : List Occurrence)
       → turns.TakesContent family port frame content ledger state events ledger' after → after ≡ (replayed.taken_as family port content state).1
   content_same (holds source destination payload) port frame ledger ledger' state after events takes = takes.after_is
   content_same of_other_family port frame ledger ledger' state after events (said, kept, same) = same

@@ -8,7 +8,7 @@ use Rattle.pim_exchange.specs.declared.fault.ExchangeFault.{ExchangeFault}
 use Rattle.pim_exchange.specs.declared.fault.ExchangeFault.TheVariants as of_exchange
 use Rattle.pim_faults.specs.declared.fault.Fault.{Fault}
 use Rattle.pim_faults.specs.declared.fault.Fault.TheVariants.{TooBig, Full, Output, Memory}
-use Rattle.pim_commands.specs.Naming.{port_fault}
+use Rattle.pim_warnings.specs.Naming.{port_fault}
 
 -- The router has the ports `ports`. The second one of two has the ports `others`.
 module _ {A P : Type 0} (ports others : List (PortFiles P)) (family : AddressFamily) (bytes_of : A → List ℕ) where

@@ -30,10 +30,10 @@ audit_of bytes_of auditing tracing local = record {
 abbrev pub audit_selection : {A : Type 0} → (A → List ℕ) → Tracing A → Selection
 audit_selection bytes_of tracing = record { groups = map bytes_of tracing.groups.items; from = tracing.from }
 
--- What is printed of a line: its text or its JSON, or nothing where it isn't shown. `begin` is the
--- time of moment 0, if it has one.
-abbrev pub audit_line_of : {A : Type 0} → AddressFamily → (A → List ℕ) → List (List ℕ) → A → Tracing A → Option ℕ → Statement →
-    List ℕ
-audit_line_of family bytes_of names upstream tracing begin line = if_shown (audit_selection bytes_of tracing) begin line
-    (if tracing.json then audit_json family names (bytes_of upstream) begin line
-    else audit_text family names tracing.form (bytes_of upstream) begin line)
+-- What is printed of a line: its text or its JSON, or nothing where it isn't shown. `names` are those
+-- of the ports, `files` those of their files, and `begin` is the time of moment 0, if it has one.
+abbrev pub audit_line_of : {A : Type 0} → AddressFamily → (A → List ℕ) → List (List ℕ) → List (List (List ℕ)) → A → Tracing A →
+    Option ℕ → Statement → List ℕ
+audit_line_of family bytes_of names files upstream tracing begin line = if_shown (audit_selection bytes_of tracing) begin line
+    (if tracing.json then audit_json family names files (bytes_of upstream) begin line
+    else audit_text family names files tracing.form (bytes_of upstream) begin line)

@@ -26,7 +26,6 @@ use Rattle.pim_commands.specs.declared.two_routers.TwoRouters.{TwoRouters}
 use Rattle.pim_commands.specs.declared.two_routers.TwoRouters.TheVariants.{Same, Change}
 use Rattle.pim_commands.specs.Answers.{answer_of}
 use Rattle.pim_commands.specs.Auditing.{AuditAsked}
-use Rattle.pim_commands.specs.Census.{begun}
 use Rattle.pim_commands.specs.Tracing.{TracesAsAsked}
 use Rattle.pim_commands.specs.Routers.{end_of, setup_in, writer_causes, config_causes, IsFirstCause}
 
@@ -83,13 +82,6 @@ module _ {A : Type 0} (family : AddressFamily) (bytes_of : A → List ℕ) (capt
   DoesBoth Change writing merge merge' other other' state state_of old new after reported =
       WritesChange family (end_of captures) writing captures.limit merge merge' state after.0 other other' state_of
       after.1 bytes_of old new reported
-
-  -- The captures before the run. A census of each has begun, if ports of the words have links, but
-  -- for a trace and an audit.
-  abbrev pub begun_for : Engine → MergeState → MergeState
-  begun_for (a_trace has_state line) merge = merge
-  begun_for (an_audit line asked) merge = merge
-  begun_for engine merge = begun family captures merge
 
 -- The fault of the engine's writer, if it has one.
 abbrev pub causes_of : AddressFamily → Engine → List Fault

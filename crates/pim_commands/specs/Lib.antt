@@ -3,10 +3,8 @@ pub mod Report
 pub mod Partial
 pub mod Ends
 pub mod Building
-pub mod Naming
-pub mod Warnings
-pub mod Census
 pub mod Routers
+pub mod Shown
 pub mod Tracing
 pub mod Auditing
 pub mod Answers

@@ -1,7 +1,7 @@
 -- What a command returns and writes whose words name files. It promises its result over a table and
 -- over the captures of its ports: those of the files that are named, where it is known what files
 -- hold. Or it returns a fault of opening, and writes nothing.
-use Rattle.std.specs.Prelude.{◌≡◌, ◌⊎◌, ℕ, List, [], ◌++◌, length, filter}
+use Rattle.std.specs.Prelude.{◌≡◌, ◌⊎◌, ℕ, List, [], ◌++◌, length, filter, is_ok}
 use Rattle.std.specs.Prelude.{Option, None, Some, Result, Ok, Err}
 use Rattle.std.specs.Borrow.{Bor}
 use Rattle.pim_addr.specs.declared.family.AddressFamily.{AddressFamily}
@@ -22,14 +22,15 @@ use Rattle.pim_words.specs.declared.task.Tracing.{Tracing}
 use Rattle.pim_words.specs.declared.task.Writing.{Writing}
 use Rattle.pim_faults.specs.declared.fault.Fault.{Fault}
 use Rattle.pim_commands.specs.Auditing.{audit_line_of, audit_of}
-use Rattle.pim_commands.specs.Census.{begun}
+use Rattle.pim_warnings.specs.Census.{begun}
 use Rattle.pim_commands.specs.declared.two_routers.TwoRouters.{TwoRouters}
 use Rattle.pim_commands.specs.declared.two_routers.TwoRouters.TheVariants.{Same, Change}
-use Rattle.pim_commands.specs.Engines.{Engine, a_report, a_trace, an_audit, a_mirror, an_emission, begun_for}
+use Rattle.pim_commands.specs.Engines.{Engine, a_report, a_trace, an_audit, a_mirror, an_emission}
 use Rattle.pim_commands.specs.Engines.{RunsOne, RunsBoth}
 use Rattle.pim_commands.specs.Routers.{writing_of}
+use Rattle.pim_commands.specs.Shown.{files_shown}
 use Rattle.pim_commands.specs.Tracing.{line_of, names_of}
-use Rattle.pim_commands.specs.Warnings.{warnings_text}
+use Rattle.pim_warnings.specs.Warnings.{warnings_text}
 use Rattle.pim_faults.specs.Unopened.{open_fault}
 
 -- ---- files that aren't open
@@ -62,8 +63,8 @@ module _ {A R : Type 0} (family : AddressFamily) (bytes_of : A → List ℕ) (re
       known known' (local_file_names captures local)
 
   -- The result is so over a table, local joins and the captures of one router. They are those of its
-  -- ports' files, in their order, each by the link of its port, and nothing of them was read before
-  -- all were open. `merge'` is what the run leaves of them.
+  -- ports' files, in their order, each by the link of its port. Nothing of them was read before the
+  -- own files of all ports were open. `merge'` is what the run leaves of them.
   pub record OverOne (Answers : RouteTable → List Join → MergeState → MergeState → Type 0) : Type 0 where
     pub table : RouteTable
     pub is_table : IsTable family bytes_of remaining failures known.files captures upstream table
@@ -129,8 +130,8 @@ module _ {A R : Type 0} (family : AddressFamily) (bytes_of : A → List ℕ) (re
       Option (List ℕ) → Result ℕ Fault → Type 0
   OneRuns upstream local engine Warns old new result = OpensOne upstream local Warns old new result
       (λ table joins merge merge'. RunsOne family bytes_of captures (engine joins) table
-      (begun_for family bytes_of captures (engine joins) merge) merge' old new result
-      × Warns (warnings_text family bytes_of table (port_files captures) merge'))
+      (begun family bytes_of (port_files captures) merge) merge' old new result
+      × Warns (warnings_text family table (is_ok result) (port_files captures) merge'))
 
   -- An engine with a writer runs over what is opened for two routers. Then come the warnings on the
   -- captures of router a, and on those of b.
@@ -138,9 +139,10 @@ module _ {A R : Type 0} (family : AddressFamily) (bytes_of : A → List ℕ) (re
   BothRun command writing Warns old new result = OpensBoth (Some writing.upstream) Warns old new result
       (λ table merge merge' other other'.
       RunsBoth family bytes_of captures command (writing_of bytes_of writing) table
-      (begun family captures merge) merge' (begun family captures other) other' old new result
-      × Warns (warnings_text family bytes_of table (of_router side.A (port_files captures)) merge'
-      ++ warnings_text family bytes_of table (of_router side.B (port_files captures)) other'))
+      (begun family bytes_of (of_router side.A (port_files captures)) merge) merge'
+      (begun family bytes_of (of_router side.B (port_files captures)) other) other' old new result
+      × Warns (warnings_text family table (is_ok result) (of_router side.A (port_files captures)) merge'
+      ++ warnings_text family table (is_ok result) (of_router side.B (port_files captures)) other'))
 
   -- What `replay` returns and writes. It writes upstream neighbours if a file of routes is named.
   abbrev pub ReplaysFiles : (List ℕ → Type 0) → Option (List ℕ) → Option (List ℕ) → Result ℕ Fault → Type 0
@@ -149,13 +151,15 @@ module _ {A R : Type 0} (family : AddressFamily) (bytes_of : A → List ℕ) (re
   -- What `trace` returns and writes.
   abbrev pub TracesFiles : Tracing A → (List ℕ → Type 0) → Option (List ℕ) → Option (List ℕ) → Result ℕ Fault → Type 0
   TracesFiles tracing Warns old new result = OneRuns None None
-      (λ joins. a_trace tracing.state (line_of family bytes_of (names_of 0 tracing.names.items) tracing))
+      (λ joins. a_trace tracing.state
+      (line_of family bytes_of (names_of 0 tracing.names.items) (files_shown tracing.json (port_files captures)) tracing))
       Warns old new result
 
   -- What `audit` returns and writes.
   abbrev pub AuditsFiles : Auditing A → Tracing A → (List ℕ → Type 0) → Option (List ℕ) → Option (List ℕ) → Result ℕ Fault → Type 0
   AuditsFiles auditing tracing Warns old new result = OneRuns (Some auditing.upstream) auditing.local
-      (λ joins. an_audit (audit_line_of family bytes_of (names_of 0 tracing.names.items) auditing.upstream tracing)
+      (λ joins. an_audit (audit_line_of family bytes_of (names_of 0 tracing.names.items)
+      (files_shown tracing.json (port_files captures)) auditing.upstream tracing)
       (audit_of bytes_of auditing tracing joins)) Warns old new result
 
   -- What `mirror` returns and writes.

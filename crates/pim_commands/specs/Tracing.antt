@@ -36,10 +36,12 @@ selection_of bytes_of tracing = record {
   from = tracing.from;
 }
 
--- What is printed of an event: its line as JSON or as text, or nothing where it isn't shown.
-abbrev pub line_of : {A : Type 0} → AddressFamily → (A → List ℕ) → List (List ℕ) → Tracing A → Occurrence → List ℕ
-line_of family bytes_of names tracing event = if_shown (selection_of bytes_of tracing) event
-    (if tracing.json then json_line family names event else text_line family names tracing.form event)
+-- What is printed of an event: its line as JSON or as text, or nothing where it isn't shown. `names`
+-- are those of the ports, and `files` those of their files.
+abbrev pub line_of : {A : Type 0} → AddressFamily → (A → List ℕ) → List (List ℕ) → List (List (List ℕ)) → Tracing A →
+    Occurrence → List ℕ
+line_of family bytes_of names files tracing event = if_shown (selection_of bytes_of tracing) event
+    (if tracing.json then json_line family names files event else text_line family names files tracing.form event)
 
 -- ---- the state at the end
 

@@ -3,14 +3,14 @@
 ghost use Rattle.std.specs.Prelude.{◌≡◌};
 ghost use Rattle.pim_files.specs.Opening.{port_files};
 ghost use Rattle.pim_commands.specs.Answers.{answer_of, engine_fault};
-ghost use Rattle.pim_commands.specs.Naming.{ports_of};
+ghost use Rattle.pim_warnings.specs.Naming.{ports_of};
 
-use crate::naming::port_fault;
 use pim_addr::Family;
 use pim_exchange::ExchangeFault;
 use pim_faults::Fault;
 use pim_lines::any_address;
 use pim_run::RunFault;
+use pim_warnings::port_fault;
 use pim_words::{Captures, RouterSide};
 
 /// The program's fault for a fault of an engine. Each of the routers is one of two, or the one of

@@ -8,11 +8,11 @@ ghost use Rattle.pim_commands.specs.Auditing.{audit_line_of};
 ghost use Rattle.pim_commands.specs.Routers.{end_of};
 
 use crate::routers::end_of;
+use crate::shown::ShownNames;
 use pim_addr::{Drain, Family, Feed};
 use pim_audit::{AuditOptions, audit_into};
 use pim_audit_events::AuditFilter;
 use pim_audit_lines::{AuditJsonPrinter, AuditTextPrinter};
-use pim_lines::Name;
 use pim_local::LocalJoins;
 use pim_merge::Merge;
 use pim_router::Router;
@@ -65,7 +65,7 @@ pub(crate) fn audit_by<F: Family, R: Feed + Drop, W: Drain>(
         AuditWords<'_, F::Addr>,
         &LocalJoins<F>,
     ),
-    names: &[Name],
+    names: &ShownNames,
     merge: &mut Merge<R>,
     router: &mut Router<'_, F>,
     writer: &mut W,
@@ -76,8 +76,8 @@ pub(crate) fn audit_by<F: Family, R: Feed + Drop, W: Drain>(
     requires new { router.old.machines.moment ≡ 0 }
     ensures audits { Audits F.family F.bytes_of
         (map F.bytes_of requested.entry.1.tracing.now.groups.items)
-        (audit_line_of F.family F.bytes_of names.now requested.entry.1.auditing.now.upstream
-        requested.entry.1.tracing.now)
+        (audit_line_of F.family F.bytes_of names.now.ports.items names.now.files.items
+        requested.entry.1.auditing.now.upstream requested.entry.1.tracing.now)
         (end_of requested.entry.0.now) merge.old
         (run_at_start (F.bytes_of requested.entry.1.auditing.now.upstream)
         requested.entry.1.auditing.now.grace_ms requested.entry.2.now
@@ -93,7 +93,8 @@ pub(crate) fn audit_by<F: Family, R: Feed + Drop, W: Drain>(
     let upstream = words.auditing.upstream;
     if words.tracing.json {
         let printer = AuditJsonPrinter {
-            names,
+            names: &names.ports,
+            files: &names.files,
             filter,
             upstream,
         };
@@ -101,7 +102,8 @@ pub(crate) fn audit_by<F: Family, R: Feed + Drop, W: Drain>(
         return audit_into(&options, writer, merge, router, end_of(captures));
     }
     let printer = AuditTextPrinter {
-        names,
+        names: &names.ports,
+        files: &names.files,
         form: words.tracing.form,
         filter,
         upstream,

@@ -9,25 +9,24 @@
 //!   `pim_trace`, `pim_audit` or `pim_exchange`. Warnings follow on a device for errors.
 //!
 //! The file of routes is opened first, then that of local joins, then the files of the ports in the
-//! order of the words. A device's count of failures rises exactly where its failure is the result.
-//! By a law, `trace` ends with the router whose state `replay` prints. Callers: `pim_main`.
+//! order of the words, but further ones when they are read. A device's count of failures rises
+//! exactly where its failure is the result. By a law, `trace` ends with the router whose state
+//! `replay` prints. Callers: `pim_main`.
 #![tactic(auto)]
 
 mod answers;
 mod auditing;
 mod build;
-mod census;
 mod check;
 mod check_partial;
 pub mod laws;
-mod naming;
 mod one_router;
 mod opening;
 mod routers;
 mod running;
+mod shown;
 mod tracing;
 mod two_routers;
-mod warnings;
 
 pub use build::{build_into, build_task};
 pub use check::{check_into, check_task};

@@ -10,7 +10,7 @@ ghost use Rattle.pim_faults.specs.Ending.{IsReported};
 ghost use Rattle.pim_exchange.specs.Fault.{failures_of_exchange};
 ghost use Rattle.pim_words.specs.Plan.{AreNames, IsBounded, IsLimited, IsWritable};
 ghost use Rattle.pim_commands.specs.Commands.{engine_of, engine_seen, upstream_of, Fits};
-ghost use Rattle.pim_commands.specs.Engines.{of_replayed, of_traced, begun_for, Does};
+ghost use Rattle.pim_commands.specs.Engines.{of_replayed, of_traced, Does};
 ghost use Rattle.pim_commands.specs.Engines.{RunsBy, RunsOne};
 ghost use Rattle.pim_commands.specs.Opening.{AuditsFiles, EmitsFiles, MirrorsFiles, ReplaysFiles};
 ghost use Rattle.pim_commands.specs.Opening.{OneRuns, TracesFiles};
@@ -18,22 +18,21 @@ ghost use Rattle.pim_commands.specs.declared.one_router.OneRouter.TheVariants.{R
 
 use crate::answers::answer_of;
 use crate::auditing::{AuditWords, audit_by};
-use crate::census::begin_census;
 use crate::opening::open_one;
 use crate::routers::{configs, end_of, router_of, writer_of};
-use crate::tracing::{names_of, trace_by};
-use crate::warnings::warn_of_one;
+use crate::shown::{ShownNames, shown_names};
+use crate::tracing::trace_by;
 use pim_addr::{Drain, Family, Feed, Routes};
 use pim_exchange::{ExchangeFault, ExchangeOptions, emit_into, mirror_into};
 use pim_faults::Fault;
 use pim_files::Opener;
 use pim_form::Writer;
-use pim_lines::Name;
 use pim_local::LocalJoins;
 use pim_merge::Merge;
 use pim_replay::replay_into;
 use pim_router::Router;
 use pim_run::RunFault;
+use pim_warnings::{begin_census, warn_of_one};
 use pim_words::{Auditing, Captures, Tracing, Writing};
 use std::alloc::Global;
 
@@ -57,10 +56,10 @@ pub(crate) enum OneRouter<'t, A> {
 enum Made<'t, F: Family> {
     /// The report.
     Report,
-    /// The trace, with the names of the ports.
-    Trace(&'t [Name], &'t Tracing<'t, F::Addr>),
-    /// The audit, with the names of the ports, and what local receivers have joined.
-    Audit(&'t [Name], AuditWords<'t, F::Addr>, &'t LocalJoins<F>),
+    /// The trace, with the names that its lines have.
+    Trace(&'t ShownNames, &'t Tracing<'t, F::Addr>),
+    /// The audit, with the names that its lines have, and what local receivers have joined.
+    Audit(&'t ShownNames, AuditWords<'t, F::Addr>, &'t LocalJoins<F>),
     /// The messages as text.
     Mirror(&'t Writer<F>),
     /// The messages as bytes.
@@ -83,25 +82,6 @@ fn upstream_of<A: Copy>(command: OneRouter<'_, A>) -> Option<A>
         OneRouter::Audit(words) => Some(words.auditing.upstream),
         OneRouter::Mirror(writing) => Some(writing.upstream),
         OneRouter::Emit(writing) => Some(writing.upstream),
-    }
-}
-
-/// Begins the census of the captures, if ports of the words have links. A trace and an audit have
-/// none.
-fn begin_for<F: Family, R: Feed + Drop>(
-    captures: &Captures<'_, F::Addr>,
-    command: OneRouter<'_, F::Addr>,
-    merge: &mut Merge<R>,
-)
-    ensures census { (joins : List Join) → merge.new ≡ begun_for F.family F.bytes_of captures.now
-        (engine_of F.family F.bytes_of command.entry joins) merge.old }
-    ensures length { length merge.new.lanes ≡ length merge.old.lanes }
-{
-    match command {
-        OneRouter::Trace(_) | OneRouter::Audit(_) => {}
-        OneRouter::Report | OneRouter::Mirror(_) | OneRouter::Emit(_) => {
-            begin_census::<F, R>(captures, merge);
-        }
     }
 }
 
@@ -223,7 +203,8 @@ fn run_command<'a, 't, F: Family, R: Feed + Drop, W: Drain>(
     requires fits { Fits captures.now command }
     requires ports { length merge.old.lanes ≡ length captures.now.ports.items }
     ensures runs { RunsOne F.family F.bytes_of captures.now
-        (engine_of F.family F.bytes_of command.entry tables.entry.1.now) tables.entry.0.now
+        (engine_of F.family F.bytes_of captures.now command.entry tables.entry.1.now)
+        tables.entry.0.now
         merge.old merge.new (W.contents writer.old) (W.contents writer.new) result }
     ensures count { W.failures writer.new ≡ write_failures_after (W.failures writer.old) result }
 {
@@ -233,14 +214,14 @@ fn run_command<'a, 't, F: Family, R: Feed + Drop, W: Drain>(
             let made: Made<'t, F> = Made::Report;
             run_made::<F, R, W>(alloc, captures, made, routes, merge, writer)
         }
-        OneRouter::Trace(tracing) => match names_of(alloc, &tracing.names) {
+        OneRouter::Trace(tracing) => match shown_names(alloc, captures, tracing) {
             Ok(names) => {
                 let made = Made::Trace(&names, tracing);
                 run_made::<F, R, W>(alloc, captures, made, routes, merge, writer)
             }
             Err(_) => Err(Fault::Memory),
         },
-        OneRouter::Audit(words) => match names_of(alloc, &words.tracing.names) {
+        OneRouter::Audit(words) => match shown_names(alloc, captures, words.tracing) {
             Ok(names) => {
                 let made = Made::Audit(&names, words, local);
                 run_made::<F, R, W>(alloc, captures, made, routes, merge, writer)
@@ -278,7 +259,8 @@ fn run_one<'a, F: Family, O: Opener, W: Drain, E: Drain>(
     requires fits { Fits files.0.now command }
     ensures runs { OneRuns F.family F.bytes_of O.Reader.remaining O.Reader.failures
         (O.known opener.old) (O.known opener.new) files.entry.0.now
-        (upstream_of command.entry) files.entry.1 (engine_of F.family F.bytes_of command.entry)
+        (upstream_of command.entry) files.entry.1
+        (engine_of F.family F.bytes_of files.entry.0.now command.entry)
         (λ text. IsReported text (E.contents errors.old) (E.contents errors.new)
         (E.failures errors.old) (E.failures errors.new))
         (W.contents writer.old) (W.contents writer.new) result }
@@ -289,11 +271,12 @@ fn run_one<'a, F: Family, O: Opener, W: Drain, E: Drain>(
         Ok(opened) => opened,
         Err(fault) => return Err(fault),
     };
-    begin_for::<F, _>(captures, command, &mut opened.merge);
+    begin_census::<F, _>(captures, None, &mut opened.merge);
     let tables = (&opened.routes, &opened.local);
     let merge = &mut opened.merge;
     let answer = run_command::<F, _, W>(alloc, captures, command, tables, merge, writer);
-    warn_of_one::<F, E, _>(errors, captures, &opened.routes, &opened.merge);
+    let is_whole = answer.is_ok();
+    warn_of_one::<F, E, _>(errors, captures, &opened.routes, &opened.merge, is_whole);
     answer
 }
 

@@ -6,16 +6,16 @@ ghost use Rattle.pim_router.specs.Config.{config_faults};
 ghost use Rattle.pim_router.specs.Seen.{setup_seen};
 ghost use Rattle.pim_router.specs.State.{new_router};
 ghost use Rattle.pim_words.specs.Plan.{IsBounded, IsWritable};
-ghost use Rattle.pim_commands.specs.Naming.{is_in};
+ghost use Rattle.pim_warnings.specs.Naming.{is_in};
 ghost use Rattle.pim_commands.specs.Routers.{end_of, config_of, config_fault};
 ghost use Rattle.pim_commands.specs.Routers.{config_causes, writing_of, IsFirstCause, IsWriterOf};
 
-use crate::naming::is_in;
 use pim_addr::{Family, Routes};
 use pim_faults::Fault;
 use pim_form::{Writer, WriterFault};
 use pim_merge::End;
 use pim_router::{Config, ConfigFault, PortConfig, Router};
+use pim_warnings::is_in;
 use pim_words::{Captures, ConfigCause, Port, RouterSide, Writing};
 use std::alloc::{AllocError, Global};
 

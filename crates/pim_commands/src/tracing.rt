@@ -10,6 +10,7 @@ ghost use Rattle.pim_commands.specs.Routers.{end_of};
 ghost use Rattle.pim_commands.specs.Tracing.{name_of, names_of, line_of, TracesAsAsked};
 
 use crate::routers::end_of;
+use crate::shown::ShownNames;
 use pim_addr::{Drain, Family, Feed};
 use pim_event_lines::{JsonPrinter, TextPrinter};
 use pim_events::{EventWriter, Filter};
@@ -94,7 +95,7 @@ fn trace_on<F: Family, R: Feed + Drop, W, T: EventWriter<F, W>>(
 pub(crate) fn trace_by<F: Family, R: Feed + Drop, W: Drain>(
     alloc: Global,
     requested: (&Captures<'_, F::Addr>, &Tracing<'_, F::Addr>),
-    names: &[Name],
+    names: &ShownNames,
     merge: &mut Merge<R>,
     router: &mut Router<'_, F>,
     writer: &mut W,
@@ -103,7 +104,8 @@ pub(crate) fn trace_by<F: Family, R: Feed + Drop, W: Drain>(
     requires ports { length merge.old.lanes ≡ length router.old.ports }
     requires moment { router.old.machines.moment ≤ latest_moment }
     ensures events { TracesAsAsked requested.entry.1.now.state
-        (line_of F.family F.bytes_of names.now requested.entry.1.now) F.family
+        (line_of F.family F.bytes_of names.now.ports.items names.now.files.items
+        requested.entry.1.now) F.family
         (end_of requested.entry.0.now)
         merge.old merge.new router.old router.new
         (W.contents writer.old) (W.contents writer.new) result }
@@ -112,11 +114,16 @@ pub(crate) fn trace_by<F: Family, R: Feed + Drop, W: Drain>(
     let (_, tracing) = requested;
     let filter = filter_of(tracing);
     if tracing.json {
-        let printer = JsonPrinter { names, filter };
+        let printer = JsonPrinter {
+            names: &names.ports,
+            files: &names.files,
+            filter,
+        };
         return trace_on::<F, R, W, _>(alloc, requested, &printer, merge, router, writer);
     }
     let printer = TextPrinter {
-        names,
+        names: &names.ports,
+        files: &names.files,
         form: tracing.form,
         filter,
     };

@@ -10,14 +10,13 @@ ghost use Rattle.pim_commands.specs.Opening.{BothRun, ChangesFiles, ComparesFile
 ghost use Rattle.pim_commands.specs.Routers.{writing_of};
 
 use crate::answers::answer_of;
-use crate::census::begin_both;
 use crate::opening::open_two;
 use crate::routers::{configs, end_of, router_of, writer_of};
-use crate::warnings::warn_of_both;
 use pim_addr::{Drain, Family, Feed, Routes};
 use pim_exchange::{ExchangeOptions, change_into, same_into};
 use pim_faults::Fault;
 use pim_files::{Opener, Pair};
+use pim_warnings::{begin_both, warn_of_both};
 use pim_words::{Captures, RouterSide, Writing};
 use std::alloc::Global;
 
@@ -128,7 +127,8 @@ fn run_two<'a, F: Family, O: Opener, W: Drain, E: Drain>(
     begin_both::<F, _>(captures, &mut files.pair);
     let pair = &mut files.pair;
     let answer = run_command::<F, _, W>(alloc, captures, requested, &files.routes, pair, writer);
-    warn_of_both::<F, E, _>(errors, captures, &files.routes, &files.pair);
+    let is_whole = answer.is_ok();
+    warn_of_both::<F, E, _>(errors, captures, &files.routes, &files.pair, is_whole);
     answer
 }
 

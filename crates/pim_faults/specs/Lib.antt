@@ -3,3 +3,4 @@ pub mod Words
 pub mod Ending
 pub mod Unopened
 pub mod Missing
+pub mod Unchosen

@@ -1,7 +1,8 @@
 -- The lines of the warnings on whom the messages of a capture name.
-use Rattle.std.specs.Prelude.{ℕ, List, [], ◌∷◌, ◌++◌, codes, Option, None, Some}
+use Rattle.std.specs.Prelude.{ℕ, Bool, true, false, List, [], ◌∷◌, ◌++◌, codes, Option, None, Some}
 use Rattle.pim_addr.specs.declared.family.AddressFamily.{AddressFamily}
 use Rattle.pim_addr.specs.Text.{address_text}
+use Rattle.pim_merge.specs.declared.census.Census.{Census}
 use Rattle.pim_merge.specs.Missing.{address_in}
 use Rattle.pim_lines.specs.Pieces.{line}
 
@@ -20,11 +21,20 @@ unfoldable pub listed_text : AddressFamily → List (Option (List ℕ)) → List
 listed_text family [] = []
 listed_text family (slot ∷ slots) = slot_text family (codes ", but for ") slot ++ others_text family slots
 
--- The line of the warning that no message of the capture in this file is for the address `own`, but
--- for those in the slots.
-abbrev pub missed_text : AddressFamily → List ℕ → List ℕ → List (Option (List ℕ)) → List ℕ
-missed_text family file own slots = line (codes "pimtree: warning: " ++ file ++ codes " has no Join/Prune for "
-    ++ address_text family own ++ listed_text family slots)
+-- That there are more than those in the slots.
+abbrev pub more_text : Bool → List ℕ
+more_text true = codes ", and more"
+more_text false = []
+
+-- The upstream neighbours of a census, and that there are more.
+unfoldable pub neighbours_text : AddressFamily → Census → List ℕ
+neighbours_text family census = listed_text family census.upstreams ++ more_text census.has_more
+
+-- The line of the warning that no message of the capture in this file is for the own address of this
+-- census, but for the upstream neighbours that it has.
+abbrev pub missed_text : AddressFamily → List ℕ → Census → List ℕ
+missed_text family file census = line (codes "pimtree: warning: " ++ file ++ codes " has no Join/Prune for "
+    ++ address_text family (address_in family census.own) ++ neighbours_text family census)
 
 -- The line of the warning that the capture in this file has a Join(*,G) of this group, which has no
 -- RP.

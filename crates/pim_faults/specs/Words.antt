@@ -31,7 +31,7 @@ use Rattle.pim_faults.specs.declared.fault.Fault.TheVariants.{LocalTooLong, Loca
 use Rattle.pim_faults.specs.declared.fault.Fault.TheVariants.{Frame, Hello, JoinPrune, TooBig, Full, InputTooLong}
 use Rattle.pim_faults.specs.declared.fault.Fault.TheVariants.{TextTooLong, TextLine, TextFamily, InputRead, Output, Memory}
 use Rattle.pim_faults.specs.declared.warning.Warning.{Warning}
-use Rattle.pim_faults.specs.declared.warning.Warning.TheVariants.{CutShort, Fragments, Incomplete, CutFrames, RunsBack, Jumps}
+use Rattle.pim_faults.specs.declared.warning.Warning.TheVariants.{CutShort, MoreCutShort, Fragments, Incomplete, CutFrames, RunsBack, Jumps}
 use Rattle.pim_lines.specs.Pieces.{line}
 
 -- The short text that `clap` has for a kind of error. It has none for a request for help.
@@ -175,6 +175,8 @@ ending_text fault = line (codes "fault " ++ fault_words fault)
 -- The words of a warning on the capture in this file, with its number.
 abbrev pub warning_words : Warning → List ℕ → ℕ → List ℕ
 warning_words CutShort file number = file ++ codes " ends inside record " ++ decimal number
+warning_words MoreCutShort file number =
+    file ++ codes " has " ++ decimal number ++ codes " more files that end inside a record"
 warning_words Fragments file number =
     file ++ codes " has " ++ decimal number ++ codes " fragments, which are skipped"
 warning_words (Incomplete packets) file number = file ++ codes " has " ++ decimal packets

@@ -187,7 +187,7 @@ fn put_two<W: Drain>(writer: &mut W, words: &[u8], first: u32, other: u32) -> Re
 
 /// Writes the words and a VLAN.
 #[tactic(auto, unfolding(crate::specs::Words::vlan_words))]
-fn put_vlan<W: Drain>(writer: &mut W, words: &[u8], vlan: Vlan) -> Result<(), Failed>
+pub(crate) fn put_vlan<W: Drain>(writer: &mut W, words: &[u8], vlan: Vlan) -> Result<(), Failed>
     ensures bytes { AppendsAll (W.contents writer.old) (W.contents writer.new) result
         (words.now ++ vlan_words vlan) }
     ensures count { W.failures writer.new ≡ failures_after (W.failures writer.old) result }
@@ -210,7 +210,11 @@ fn put_vlans<W: Drain>(writer: &mut W, words: &[u8], first: Vlan, other: Vlan) -
 }
 
 /// Writes the words and a name.
-fn put_name<W: Drain>(writer: &mut W, words: &[u8], name: &InterfaceName) -> Result<(), Failed>
+pub(crate) fn put_name<W: Drain>(
+    writer: &mut W,
+    words: &[u8],
+    name: &InterfaceName,
+) -> Result<(), Failed>
     ensures bytes { AppendsAll (W.contents writer.old) (W.contents writer.new) result
         (words.now ++ text_of name.now) }
     ensures count { W.failures writer.new ≡ failures_after (W.failures writer.old) result }

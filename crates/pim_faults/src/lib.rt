@@ -4,7 +4,8 @@
 //!   its line, and `report_fault` writes it on one of two devices and returns the status.
 //!   `ending_line` writes it after the lines of what precedes the fault.
 //! - `Warning` is what a command says of a capture beside its result. `warning_line` writes its
-//!   line. `missed_line` and `unserved_line` write those on whom the messages of a capture name.
+//!   line. `missed_line` and `unserved_line` write those on whom the messages of a capture name, and
+//!   `unchosen_line` that on a choice of records.
 //!
 //! A device's count of failures rises exactly where its failure is the result.
 //!
@@ -16,10 +17,12 @@ mod causes;
 mod ending;
 mod fault;
 mod missing;
+mod unchosen;
 mod unopened;
 mod warning;
 
 pub use ending::{FAULTY, report_fault};
 pub use fault::{Fault, ending_line, fault_line};
 pub use missing::{missed_line, unserved_line};
+pub use unchosen::unchosen_line;
 pub use warning::{Warning, warning_line};

@@ -5,10 +5,12 @@ ghost use Rattle.pim_device.specs.Device.{AppendsAll, failures_after};
 ghost use Rattle.pim_addr.specs.Text.{address_text};
 ghost use Rattle.pim_lines.specs.Pieces.{line};
 ghost use Rattle.pim_faults.specs.Missing.{slot_text, others_text, listed_text, missed_text};
-ghost use Rattle.pim_faults.specs.Missing.{unserved_text};
+ghost use Rattle.pim_faults.specs.Missing.{unserved_text, more_text, neighbours_text};
+ghost use Rattle.pim_merge.specs.Missing.{address_in};
 
 use crate::fault::write_plain;
 use pim_addr::{Drain, Failed, Family, write_all, write_text};
+use pim_merge::Census;
 
 /// Writes the text of an address at the start of a buffer, and returns its length.
 fn text_at_front<F: Family>(address: F::Addr, text: &mut [u8; 39]) -> usize
@@ -82,16 +84,37 @@ fn put_listed<F: Family, W: Drain>(writer: &mut W, slots: &[Option<[u8; 16]>]) -
     }
 }
 
-/// Writes the addresses in these slots, with commas between them, and ends the line.
-fn write_listed<F: Family, W: Drain>(
-    writer: &mut W,
-    slots: &[Option<[u8; 16]>],
-) -> Result<(), Failed>
+/// Writes that there are more.
+fn put_more<W: Drain>(writer: &mut W, has_more: bool) -> Result<(), Failed>
     ensures bytes { AppendsAll (W.contents writer.old) (W.contents writer.new) result
-        (line (listed_text F.family slots.now)) }
+        (more_text has_more) }
     ensures count { W.failures writer.new ≡ failures_after (W.failures writer.old) result }
 {
-    put_listed::<F, W>(writer, slots)?;
+    if has_more {
+        return write_all(writer, b", and more");
+    }
+    Ok(())
+}
+
+/// Writes that there are more, and ends the line.
+pub(crate) fn write_more<W: Drain>(writer: &mut W, has_more: bool) -> Result<(), Failed>
+    ensures bytes { AppendsAll (W.contents writer.old) (W.contents writer.new) result
+        (line (more_text has_more)) }
+    ensures count { W.failures writer.new ≡ failures_after (W.failures writer.old) result }
+{
+    put_more(writer, has_more)?;
+    write_all(writer, b"\n")
+}
+
+/// Writes the upstream neighbours of a census, and ends the line.
+#[tactic(auto, unfolding(crate::specs::Missing::neighbours_text))]
+fn write_neighbours<F: Family, W: Drain>(writer: &mut W, census: &Census) -> Result<(), Failed>
+    ensures bytes { AppendsAll (W.contents writer.old) (W.contents writer.new) result
+        (line (neighbours_text F.family census.now)) }
+    ensures count { W.failures writer.new ≡ failures_after (W.failures writer.old) result }
+{
+    put_listed::<F, W>(writer, &census.upstreams)?;
+    put_more(writer, census.has_more)?;
     write_all(writer, b"\n")
 }
 
@@ -112,23 +135,39 @@ fn put_about<F: Family, W: Drain>(
     put_address::<F, W>(writer, more, address)
 }
 
-/// Writes words, the name of a file, more words, an address and those in the slots, and ends the
-/// line.
+/// Writes words, the name of a file, more words and the own address of a census.
+fn put_own<F: Family, W: Drain>(
+    writer: &mut W,
+    words: &[u8],
+    file: &str,
+    more: &[u8],
+    census: &Census,
+) -> Result<(), Failed>
+    ensures bytes { AppendsAll (W.contents writer.old) (W.contents writer.new) result
+        (words.now ++ file.now ++ more.now
+        ++ address_text F.family (address_in F.family census.now.own)) }
+    ensures count { W.failures writer.new ≡ failures_after (W.failures writer.old) result }
+{
+    put_about::<F, W>(writer, words, file, more, F::take(&census.own))
+}
+
+/// Writes words, the name of a file, more words, and the own address and the upstream neighbours of
+/// a census, and ends the line.
 fn write_missed<F: Family, W: Drain>(
     writer: &mut W,
     words: &[u8],
     file: &str,
     more: &[u8],
-    own: F::Addr,
-    slots: &[Option<[u8; 16]>],
+    census: &Census,
 ) -> Result<(), Failed>
     ensures bytes { AppendsAll (W.contents writer.old) (W.contents writer.new) result
-        (line (words.now ++ file.now ++ more.now ++ address_text F.family (F.bytes_of own)
-        ++ listed_text F.family slots.now)) }
+        (line (words.now ++ file.now ++ more.now
+        ++ address_text F.family (address_in F.family census.now.own)
+        ++ neighbours_text F.family census.now)) }
     ensures count { W.failures writer.new ≡ failures_after (W.failures writer.old) result }
 {
-    put_about::<F, W>(writer, words, file, more, own)?;
-    write_listed::<F, W>(writer, slots)
+    put_own::<F, W>(writer, words, file, more, census)?;
+    write_neighbours::<F, W>(writer, census)
 }
 
 /// Writes words, the name of a file, more words, an address and the last words, and ends the line.
@@ -149,19 +188,18 @@ fn write_unserved<F: Family, W: Drain>(
     write_plain(writer, last)
 }
 
-/// Writes the line of the warning that no message of the capture in this file is for the address
-/// `own`, but for those in the slots.
+/// Writes the line of the warning that no message of the capture in this file is for the own address
+/// of this census, but for the upstream neighbours that it has.
 ///
 /// # Errors
 /// The writer failed: a prefix of the line was written.
 pub fn missed_line<F: Family, W: Drain>(
     writer: &mut W,
     file: &str,
-    own: F::Addr,
-    slots: &[Option<[u8; 16]>],
+    census: &Census,
 ) -> Result<(), Failed>
     ensures bytes { AppendsAll (W.contents writer.old) (W.contents writer.new) result
-        (missed_text F.family file.now (F.bytes_of own) slots.now) }
+        (missed_text F.family file.now census.now) }
     ensures count { W.failures writer.new ≡ failures_after (W.failures writer.old) result }
 {
     write_missed::<F, W>(
@@ -169,8 +207,7 @@ pub fn missed_line<F: Family, W: Drain>(
         b"pimtree: warning: ",
         file,
         b" has no Join/Prune for ",
-        own,
-        slots,
+        census,
     )
 }
 

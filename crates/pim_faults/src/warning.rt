@@ -13,6 +13,8 @@ use pim_addr::{Drain, Failed, write_all};
 pub enum Warning {
     /// The file ends inside the record with this number.
     CutShort,
+    /// The capture goes on in this number of more files that end inside a record.
+    MoreCutShort,
     /// This number of packets are fragments.
     Fragments,
     /// Of this number of packets the fragments are incomplete. The record with the number of the
@@ -87,6 +89,12 @@ fn write_warning<W: Drain>(
 {
     match warning {
         Warning::CutShort => write_about(writer, b"", file, b" ends inside record ", number),
+        Warning::MoreCutShort => write_count(
+            writer,
+            file,
+            number,
+            b" more files that end inside a record",
+        ),
         Warning::Fragments => write_count(writer, file, number, b" fragments, which are skipped"),
         Warning::Incomplete(packets) => write_counts(
             writer,

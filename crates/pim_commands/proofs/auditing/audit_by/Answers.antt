@@ -5,6 +5,7 @@ use Rattle.pim_audit_lines.specs.declared.json_printer.AuditJsonPrinter.{AuditJs
 use Rattle.pim_audit_lines.specs.declared.text_printer.AuditTextPrinter.{AuditTextPrinter}
 use Rattle.pim_audit_lines.specs.AuditJson.{audit_json}
 use Rattle.pim_audit_lines.specs.AuditText.{audit_text}
+use Rattle.pim_commands.specs.Auditing.{audit_line_of}
 use Rattle.pim_commands.proofs.Audited.{as_json, as_text, as_asked}
 use Rattle.pim_commands.proofs.auditing.audit_by.Goals as goal
 
@@ -18,8 +19,10 @@ returns-then-words-clause-audits g c =
     as_asked family bytes_of c.args.merge.now c.audit_into.new.merge c.args.router.now c.audit_into.new.router
     (g.W.Drain.contents c.args.writer.now) (g.W.Drain.contents c.audit_into.new.device) c.audit_into.result _ _ _ _ _ _ _ _ _ _ _ _ _ _
     (ap (map bytes_of) c.options_of-options.ensures.groups)
-    (ap {B = Option ℕ → Statement → List ℕ} (λ (p : AuditJsonPrinter g.row.F-Addr.Denot) begin line. if_shown (filter_seen bytes_of p.filter) begin line (audit_json family p.names.now (bytes_of p.upstream) begin line)) c.options_of-options.ensures.writer
-    ∙ as_json family bytes_of c.args.names.now upstream tracing (record { groups = c.deref.result; from = tracing.from }) c.deref.ensures.value refl c.if-words.true)
+    (ap {B = Option ℕ → Statement → List ℕ} (λ (p : AuditJsonPrinter g.row.F-Addr.Denot) begin line. if_shown (filter_seen bytes_of p.filter) begin line (audit_json family p.names.now p.files.now (bytes_of p.upstream) begin line)) c.options_of-options.ensures.writer
+    ∙ as_json family bytes_of c.deref-then-words.result.now c.deref-then-words-2.result.now upstream tracing (record { groups = c.deref.result; from = tracing.from }) c.deref.ensures.value refl c.if-words.true
+    ∙ ap (λ (ports : List (List ℕ)). audit_line_of family bytes_of ports c.deref-then-words-2.result.now upstream tracing) c.deref-then-words.ensures.value
+    ∙ ap (λ (files : List (List (List ℕ))). audit_line_of family bytes_of c.args.names.now.ports.items files upstream tracing) c.deref-then-words-2.ensures.value)
     c.end_of.ensures.end c.options_of-options.ensures.upstream c.options_of-options.ensures.grace c.options_of-options.ensures.local c.options_of-options.ensures.limit c.audit_into.ensures.audits
 
 pub returns-clause-audits : goal.returns-clause-audits
@@ -32,6 +35,8 @@ returns-clause-audits g c =
     as_asked family bytes_of c.args.merge.now c.audit_into-2.new.merge c.args.router.now c.audit_into-2.new.router
     (g.W.Drain.contents c.args.writer.now) (g.W.Drain.contents c.audit_into-2.new.device) c.audit_into-2.result _ _ _ _ _ _ _ _ _ _ _ _ _ _
     (ap (map bytes_of) c.options_of-options-2.ensures.groups)
-    (ap {B = Option ℕ → Statement → List ℕ} (λ (p : AuditTextPrinter g.row.F-Addr.Denot) begin line. if_shown (filter_seen bytes_of p.filter) begin line (audit_text family p.names.now p.form (bytes_of p.upstream) begin line)) c.options_of-options-2.ensures.writer
-    ∙ as_text family bytes_of c.args.names.now upstream tracing (record { groups = c.deref.result; from = tracing.from }) c.deref.ensures.value refl c.if-words.false)
+    (ap {B = Option ℕ → Statement → List ℕ} (λ (p : AuditTextPrinter g.row.F-Addr.Denot) begin line. if_shown (filter_seen bytes_of p.filter) begin line (audit_text family p.names.now p.files.now p.form (bytes_of p.upstream) begin line)) c.options_of-options-2.ensures.writer
+    ∙ as_text family bytes_of c.deref-2.result.now c.deref-3.result.now upstream tracing (record { groups = c.deref.result; from = tracing.from }) c.deref.ensures.value refl c.if-words.false
+    ∙ ap (λ (ports : List (List ℕ)). audit_line_of family bytes_of ports c.deref-3.result.now upstream tracing) c.deref-2.ensures.value
+    ∙ ap (λ (files : List (List (List ℕ))). audit_line_of family bytes_of c.args.names.now.ports.items files upstream tracing) c.deref-3.ensures.value)
     c.end_of-2.ensures.end c.options_of-options-2.ensures.upstream c.options_of-options-2.ensures.grace c.options_of-options-2.ensures.local c.options_of-options-2.ensures.limit c.audit_into-2.ensures.audits

@@ -1,6 +1,5 @@
 use Rattle.pim_commands.proofs.Words.{subst, inl, refl, MergeState, IsReported, engine_of, RunsOne}
-use Rattle.pim_commands.proofs.Warned.{nothing_told}
-use Rattle.pim_commands.proofs.Opened.{over_open, not_failed, answered}
+use Rattle.pim_commands.proofs.Opened.{nothing_told, over_open, not_failed, answered}
 use Rattle.pim_commands.proofs.one_router.run_one.Goals as goal
 
 pub returns-in-Err-clause-runs : goal.returns-in-Err-clause-runs
@@ -18,7 +17,7 @@ returns-clause-runs g c = rw (← c.upstream_of.ensures)
     (g.W.Drain.contents c.args.writer.now) (g.W.Drain.contents c.run_command-answer.new.writer) c.run_command-answer.result _
     (over_open g.F.Family.family g.F.Family.bytes_of g.O.Reader.Feed.remaining g.O.Reader.Feed.failures (g.O.Opener.known c.args.opener.now) (g.O.Opener.known c.open_one.new.opener)
     c.args.files.0.now c.upstream_of.result c.args.files.1 _ c.in-Ok.opened.routes c.in-Ok.opened.local c.in-Ok.opened.merge c.run_command-answer.new.merge c.in-Ok.ensures.opened (
-      subst (λ (m : MergeState). RunsOne g.F.Family.family g.F.Family.bytes_of c.args.files.0.now (engine_of g.F.Family.family g.F.Family.bytes_of c.args.command c.in-Ok.opened.local) c.in-Ok.opened.routes m c.run_command-answer.new.merge
-          (g.W.Drain.contents c.args.writer.now) (g.W.Drain.contents c.run_command-answer.new.writer) c.run_command-answer.result) (c.begin_for.ensures.census c.in-Ok.opened.local) c.run_command-answer.ensures.runs,
-      c.warn_of_one.ensures,
+      subst (λ (m : MergeState). RunsOne g.F.Family.family g.F.Family.bytes_of c.args.files.0.now (engine_of g.F.Family.family g.F.Family.bytes_of c.args.files.0.now c.args.command c.in-Ok.opened.local) c.in-Ok.opened.routes m c.run_command-answer.new.merge
+          (g.W.Drain.contents c.args.writer.now) (g.W.Drain.contents c.run_command-answer.new.writer) c.run_command-answer.result) c.begin_census.ensures.census c.run_command-answer.ensures.runs,
+      rw (← c.is_ok-is_whole.ensures.value) c.warn_of_one.ensures,
     )))

@@ -1,6 +1,6 @@
-use Rattle.pim_commands.proofs.Words.{subst, inl, refl, Some, MergeState, IsReported, begun, RunsBoth, writing_of}
-use Rattle.pim_commands.proofs.Warned.{nothing_told}
-use Rattle.pim_commands.proofs.Opened.{over_both, not_failed, answered}
+use Rattle.pim_commands.proofs.Words.{subst, inl, refl, Some, MergeState, IsReported, begun, of_router, port_files, RunsBoth, writing_of}
+use Rattle.pim_words.specs.declared.fault.RouterSide.TheVariants as side
+use Rattle.pim_commands.proofs.Opened.{nothing_told, over_both, not_failed, answered}
 use Rattle.pim_commands.proofs.two_routers.run_two.Goals as goal
 
 pub returns-in-Err-clause-runs : goal.returns-in-Err-clause-runs
@@ -19,8 +19,8 @@ returns-clause-runs g c =
     c.args.captures.now (Some c.args.requested.1.now.upstream) _ c.in-Ok.files.routes c.in-Ok.files.pair.a c.run_command-answer.new.pair.a c.in-Ok.files.pair.b c.run_command-answer.new.pair.b
     c.in-Ok.ensures.opened (
       subst (λ (m : MergeState). RunsBoth g.F.Family.family g.F.Family.bytes_of c.args.captures.now c.args.requested.0 (writing_of g.F.Family.bytes_of c.args.requested.1.now) c.in-Ok.files.routes
-          (begun g.F.Family.family c.args.captures.now c.in-Ok.files.pair.a) c.run_command-answer.new.pair.a m c.run_command-answer.new.pair.b (g.W.Drain.contents c.args.writer.now) (g.W.Drain.contents c.run_command-answer.new.writer) c.run_command-answer.result) c.begin_both.ensures.census_of_b
+          (begun g.F.Family.family g.F.Family.bytes_of (of_router side.A (port_files c.args.captures.now)) c.in-Ok.files.pair.a) c.run_command-answer.new.pair.a m c.run_command-answer.new.pair.b (g.W.Drain.contents c.args.writer.now) (g.W.Drain.contents c.run_command-answer.new.writer) c.run_command-answer.result) c.begin_both.ensures.census_of_b
           (subst (λ (m : MergeState). RunsBoth g.F.Family.family g.F.Family.bytes_of c.args.captures.now c.args.requested.0 (writing_of g.F.Family.bytes_of c.args.requested.1.now) c.in-Ok.files.routes
           m c.run_command-answer.new.pair.a c.begin_both.new.pair.b c.run_command-answer.new.pair.b (g.W.Drain.contents c.args.writer.now) (g.W.Drain.contents c.run_command-answer.new.writer) c.run_command-answer.result) c.begin_both.ensures.census_of_a c.run_command-answer.ensures.runs),
-      c.warn_of_both.ensures,
+      rw (← c.is_ok-is_whole.ensures.value) c.warn_of_both.ensures,
     ))

@@ -1,6 +1,0 @@
-use Rattle.pim_commands.proofs.Words.{◌-◌, arith, with_more}
-use Rattle.pim_commands.proofs.Named.{later_name}
-use Rattle.pim_commands.proofs.naming.name_at.Goals as goal
-
-pub loop-one-init : goal.loop-one-init
-loop-one-init g c = later_name (with_more c.args.at c.args.further.now c.args.port.now) c.args.file (c.args.file - 1) (omega arith)

@@ -1,0 +1,4 @@
+pub mod Words
+pub mod Named
+pub mod Warned
+pub mod Begun
