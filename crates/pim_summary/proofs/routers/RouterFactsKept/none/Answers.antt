@@ -1,0 +1,9 @@
+use Rattle.pim_summary.proofs.Ordered.{none_ascends}
+use Rattle.pim_summary.proofs.routers.RouterFactsKept.none.Goals as goal
+
+pub invariant_of-result : goal.invariant_of-result
+invariant_of-result c = (
+  c.in_ok-with_capacity.ensures.capacity,
+  none_ascends (λ facts. facts.to) _
+      c.in_ok-with_capacity.ensures.items,
+)
