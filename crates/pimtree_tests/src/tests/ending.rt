@@ -156,8 +156,8 @@ struct Row {
     names: &'static [&'static str],
 }
 
-/// The last row's second file isn't there.
-const ROWS: [Row; 3] = [
+/// The file `gone` isn't there. As a further file it is asked for, and those after it, too.
+const ROWS: [Row; 4] = [
     Row {
         words: &[
             "pimtree",
@@ -193,6 +193,16 @@ const ROWS: [Row; 3] = [
             "10.0.0.4@empty",
         ],
         names: &["joined", "gone"],
+    },
+    Row {
+        words: &[
+            "pimtree",
+            "trace",
+            "10.0.0.2@joined",
+            "+gone",
+            "10.0.0.3@empty",
+        ],
+        names: &["joined", "gone", "empty"],
     },
 ];
 

@@ -11,6 +11,7 @@ use std::alloc::Global;
 pub(super) const EACH: Choice = Choice {
     vlan: None,
     interface: None,
+    mixes_links: false,
 };
 
 /// The capture and the moment of a turn, or why there is none.
@@ -143,7 +144,9 @@ fn tally_of_two_records(rt: HostRuntime) {
         fragments: 0,
         incomplete: None,
         cut_frames: 0,
-        cut_short: None,
+        cut_short: [None; 16],
+        more_cut_short: 0,
+        unchosen: None,
         last: Some(100_005),
         ran_back: None,
         jumped: None,
@@ -173,13 +176,17 @@ fn tally_of_files(alloc: Global) -> Option<Tally> {
 
 #[test]
 fn tally_of_two_files(rt: HostRuntime) {
+    let mut cut_short = [None; 16];
+    cut_short[0] = Some(RecordPlace { file: 0, record: 2 });
     let tally = Tally {
         file: 1,
         records: 2,
         fragments: 0,
         incomplete: None,
         cut_frames: 0,
-        cut_short: Some(RecordPlace { file: 0, record: 2 }),
+        cut_short,
+        more_cut_short: 0,
+        unchosen: None,
         last: Some(100_005),
         ran_back: None,
         jumped: None,

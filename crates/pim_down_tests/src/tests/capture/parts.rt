@@ -33,6 +33,7 @@ fn letter(event: &Event) -> u8 {
         Event::Skipped { why, .. } => match why {
             Why::Part => b'F',
             Why::Incomplete(_) => b'I',
+            Why::OfLink(_) => b'L',
             Why::CutShort => b'C',
             _ => b'?',
         },

@@ -39,6 +39,7 @@ const FAILED: u64 = u64::MAX;
 const ALL: Choice = Choice {
     vlan: None,
     interface: None,
+    mixes_links: false,
 };
 
 /// The numbers of records that were passed on after each of three calls for a turn of a capture
