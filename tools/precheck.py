@@ -140,6 +140,13 @@ def document(name):
     return wrong + [f"{name}: no {it}" for it in sorted(set(paths)) if not is_there(it.rstrip("."))]
 
 
+def without_files(names):
+    """The names of members but `file` after `frame`, and `overrides_file` after `overrides`. Where a port has several files,
+    its records have them."""
+    return [it for before, it in zip([None, *names], names)
+            if (before, it) not in (("frame", "file"), ("overrides", "overrides_file"))]
+
+
 def has_members(line, command):
     """Whether a line is a JSON object with the members of its event, each once and in this order."""
     try:
@@ -149,8 +156,8 @@ def has_members(line, command):
     values = dict(pairs)
     event = values.get("event")
     name, names = WITHIN.get(event, ("event", None)) if command == "trace" else ("event", None)
-    within = names is None or [it for it, _ in values.get(name) or []] == names
-    return within and [it for it, _ in pairs] == OF_ALL + MEMBERS.get(command, {}).get(event, [])
+    within = names is None or without_files([it for it, _ in values.get(name) or []]) == names
+    return within and without_files([it for it, _ in pairs]) == OF_ALL + MEMBERS.get(command, {}).get(event, [])
 
 
 def json_lines():
